@@ -1112,7 +1112,7 @@ def reading(d):
 
 def read_group(word, field, tables):
     """The typed rows of a group, and the function that reads and decodes them"""
-    by_schema = word in ('First', 'Later')
+    by_schema = word in ('DeskAndCustomer', 'LaterSchema')
     schema, of_schema = ('    schema: Schema,\n', '(abstract_schema schema) ') if by_schema else ('', '')
     types = ''.join(f'    {sheet_field(d)}: {VALUES[d[0]][0] if d[0] in VALUES else f"Vec<{record_type(d)}>"},\n' for d in tables)
     reads = ''.join(f'    let {sheet_field(d)} = {reading(d)};\n' for d in tables)
@@ -1160,7 +1160,7 @@ use sqlite::{{Alter, Transaction}};
 use std::alloc::Global;
 """
     out += ''.join(read_group(word, field, tables) for word, field, _, tables in groups())
-    schema = lambda word: 'schema, ' if word in ('First', 'Later') else ''
+    schema = lambda word: 'schema, ' if word in ('DeskAndCustomer', 'LaterSchema') else ''
     out += f"""
 /// Reads and decodes all rows of the tables of `schema`, each list sorted by key. A table that it
 /// lacks has no rows. Fails with `Memory` or `Store` only.
@@ -1268,7 +1268,7 @@ are_{words_of(word)}_rows_well_formed {'desk ' if first else ''}raw = {' && '.jo
 
 def reads_group(word, field, tables):
     """What the reads of a group show and decode"""
-    desk = '(desk : Schema) ' if word in ('First', 'Later') else ''
+    desk = '(desk : Schema) ' if word in ('DeskAndCustomer', 'LaterSchema') else ''
     first, later = 'desk ' if word == 'DeskAndCustomer' else '', 'desk ' if word == 'LaterSchema' else ''
     told = f'The reads show all rows of {named(tables)}, and change nothing. If the flag `new`, which was `old` before, is still true, the rows encode the typed rows `sheets`. Vacuous for a table that the database does not define as a desk does.'
     return f"""

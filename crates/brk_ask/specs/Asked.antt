@@ -41,7 +41,8 @@ WritesViewOrFails form query (Err fault) before after result = FailsWritingNothi
 -- The desk executed this query and nothing else, and its view was written as `WritesViewOrFails`
 -- specifies. If the texts are no query, the desk is unchanged, `result` is their refusal, and
 -- nothing was written.
-abbrev pub AsksQueryAndWritesView : {S : Type 0} → Ghosts S → Held S → Held S → Form → ReadResult Query → Option Text → Option Text → Result (Unit {0}) ReportFault → Type 0
+abbrev pub AsksQueryAndWritesView : {S : Type 0} → Ghosts S → Held S → Held S → Form → ReadResult Query → Option Text → Option Text
+    → Result (Unit {0}) ReportFault → Type 0
 AsksQueryAndWritesView g old new form (Ok query) before after result =
     (seen : Result (Result View Refusal) Fault) × AskPost g old new query seen × WritesViewOrFails form query seen before after result
 AsksQueryAndWritesView g old new form (Err refusal) before after result = (new ≡ old) × FailsWritingNothing before after result (Refused refusal)
@@ -49,6 +50,7 @@ AsksQueryAndWritesView g old new form (Err refusal) before after result = (new �
 -- The postcondition of printing a view: the desk executed the query and its view was written, with
 -- the result of `AsksQueryAndWritesView`; or memory ran out before that, and the desk and the
 -- writer's content are unchanged.
-abbrev pub PrintViewPost : {S : Type 0} → Ghosts S → Held S → Held S → Form → ReadResult Query → Option Text → Option Text → Result (Unit {0}) ReportFault → Type 0
+abbrev pub PrintViewPost : {S : Type 0} → Ghosts S → Held S → Held S → Form → ReadResult Query → Option Text → Option Text → Result (Unit {0}) ReportFault
+    → Type 0
 PrintViewPost g old new form query before after result =
     AsksQueryAndWritesView g old new form query before after result ⊎ ((new ≡ old) × FailsWritingNothing before after result (Desk Memory))

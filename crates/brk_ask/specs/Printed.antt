@@ -43,4 +43,5 @@ records_to_print form query records = if form.heads then field_name_records quer
 -- The text of a query's view in this form: one line of JSON if `form.json` is true, otherwise rows
 -- of CSV.
 abbrev pub printed_view_text : Form → Query → View → Text
-printed_view_text form query records = if form.json then json_line_text (records_to_print form query records) else csv_text (records_to_print form query records)
+printed_view_text form query records =
+    if form.json then json_line_text (records_to_print form query records) else csv_text (records_to_print form query records)

@@ -55,7 +55,8 @@ pub rows_back : {X Row : Type 0} (P : X → Type 0) (Q : Row → Type 0) (f : X 
 rows_back P Q f [] h a = tt
 rows_back P Q f (x ∷ xs) h a = (h x a.0, rows_back P Q f xs h a.1)
 
--- a test that decides what holds of each row in types decides a condition that says it of the rows that they are
+-- a test that decides what holds of each row in types decides a condition that says it of the rows
+-- that they are
 pub told_by : {X Row B H : Type 0} (P : X → Type 0) (Q : Row → Type 0) (f : X → Row) (xs ys : List X) → ys ≡ xs → (B → AllByRecursion P ys) × (AllByRecursion P ys → B)
     → ((x : X) → P x → Q (f x)) → ((x : X) → Q (f x) → P x) → (H → AllByRecursion Q (map f xs)) × (AllByRecursion Q (map f xs) → H) → (B → H) × (H → B)
 told_by P Q f xs ys e told there back law = (

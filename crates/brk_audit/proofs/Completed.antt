@@ -1,4 +1,5 @@
--- Where statuses are right, a trade's row says itself whether it is completed, whether it waits, and when it came to that.
+-- Where statuses are right, a trade's row says itself whether it is completed, whether it waits,
+-- and when it came to that.
 use Rattle.std.proofs.Common.{◌≡◌, ◌++◌, true, false, sym, ◌∙◌, ap, map}
 use Rattle.std.specs.List.{AllByRecursion, list_all}
 use Rattle.std.specs.Option.{option_map_or}

@@ -1,4 +1,5 @@
--- The lots of a database's trades: what form and statuses give to a replay, and when its lots are those of the tables.
+-- The lots of a database's trades: what form and statuses give to a replay, and when its lots are
+-- those of the tables.
 use Rattle.std.proofs.Common.{◌≡◌, ℕ, zero, suc, ◌<◌, ◌≤◌, ◌==◌, ◌&&◌, ◌||◌, not, Bool, true, false, cond, List, [], ◌∷◌, refl, sym, ap, ◌∙◌, subst, map, filter, length, get_or, arith, inl, inr, Option, Some, None, Bor}
 use Rattle.std.specs.Prelude.{bytes_eq, nat_lt, nat_le, IsSome}
 use Rattle.std.specs.Bool.{Decides}

@@ -1,4 +1,5 @@
--- A trade's statuses are right just where its rows of the history, by the codes of their statuses, are a way.
+-- A trade's statuses are right just where its rows of the history, by the codes of their statuses,
+-- are a way.
 use Rattle.std.proofs.Common.{◌≡◌, ℕ, ◌<◌, ◌==◌, Bool, true, false, List, [], ◌∷◌, refl, sym, ◌∙◌, ap, map, arith}
 use Rattle.std.specs.Prelude.{◌&&◌, ◌||◌, not, nat_lt}
 use Rattle.std.specs.List.{AllByRecursion}

@@ -18,7 +18,8 @@ use Rattle.brk_audit.specs.declared.tally.Posting.{Posting}
 -- if sold short.
 abbrev pub shares_left_by_trades : Tables → ℕ → Text → ℤ
 shares_left_by_trades t account symbol =
-    total_by (λ r. signed_by_side (side_of_trade_type r.kind) r.qty) (filter (λ r. is_completed_row r && ((r.account == account) && bytes_eq r.symbol symbol)) t.trades)
+    total_by (λ r. signed_by_side (side_of_trade_type r.kind) r.qty) (filter (λ r. is_completed_row r
+    && ((r.account == account) && bytes_eq r.symbol symbol)) t.trades)
 
 -- The sum of the quantities of the summaries of the account in the symbol.
 abbrev pub shares_in_summaries : List SummaryRow → ℕ → Text → ℤ
@@ -46,7 +47,8 @@ posting_with_owned_symbol p = record { key = (p.key.0, p.key.1.now); amount = p.
 -- The posting of the signed quantity of the trade at its account and symbol, or `None` if the trade
 -- is not completed.
 abbrev pub share_posting_of_trade : TradeRow → Option (Posting (ℕ × Text))
-share_posting_of_trade r = if is_completed_row r then Some (record { key = (r.account, r.symbol); amount = signed_by_side (side_of_trade_type r.kind) r.qty }) else None
+share_posting_of_trade r =
+    if is_completed_row r then Some (record { key = (r.account, r.symbol); amount = signed_by_side (side_of_trade_type r.kind) r.qty }) else None
 
 -- The posting of the quantity of the summary at its account and symbol.
 abbrev pub share_posting_of_summary : SummaryRow → Posting (ℕ × Text)

@@ -9,7 +9,8 @@ use Rattle.brk_lots.specs.Chains.{lot_changes_of_deals}
 
 -- The deal of the completed trade `r`. A missing price counts 0.
 abbrev pub deal_of_completed_row : TradeRow → Deal
-deal_of_completed_row r = record { trade = r.id; side = side_of_trade_type r.kind; qty = r.qty; price = unwrap_or r.price 0; stamp = r.stamp; is_lifo = r.is_lifo }
+deal_of_completed_row r =
+    record { trade = r.id; side = side_of_trade_type r.kind; qty = r.qty; price = unwrap_or r.price 0; stamp = r.stamp; is_lifo = r.is_lifo }
 
 -- True if the two trades have the same account and symbol.
 abbrev pub is_same_position : TradeRow → TradeRow → Bool
@@ -45,12 +46,14 @@ holding_rows_left_by_trades r run = map (holding_row_in_position_of_trade r) (lo
 -- neighbours in the list.
 pub data AreLotsLeftByTrades : List TradeRow → List HoldingRow → Type 0 where
   nothing : AreLotsLeftByTrades [] []
-  position : (r : TradeRow) (run later : List TradeRow) (rows : List HoldingRow) → AllByRecursion (λ s. is_same_position r s ≡ true) run → AllByRecursion (λ s. is_same_position r s ≡ false) later
+  position : (r : TradeRow) (run later : List TradeRow) (rows : List HoldingRow) → AllByRecursion (λ s. is_same_position r s ≡ true) run
+      → AllByRecursion (λ s. is_same_position r s ≡ false) later
       → AreLotsLeftByTrades later rows → AreLotsLeftByTrades (r ∷ run ++ later) (holding_rows_left_by_trades r (r ∷ run) ++ rows)
 
 -- The rows are the lot changes of the trades, position by position. The trades of one position are
 -- neighbours in the list.
 pub data AreLotChangesOfTrades : List TradeRow → List HoldingHistoryRow → Type 0 where
   untouched : AreLotChangesOfTrades [] []
-  moves : (r : TradeRow) (run later : List TradeRow) (rows : List HoldingHistoryRow) → AllByRecursion (λ s. is_same_position r s ≡ true) run → AllByRecursion (λ s. is_same_position r s ≡ false) later
+  moves : (r : TradeRow) (run later : List TradeRow) (rows : List HoldingHistoryRow) → AllByRecursion (λ s. is_same_position r s ≡ true) run
+      → AllByRecursion (λ s. is_same_position r s ≡ false) later
       → AreLotChangesOfTrades later rows → AreLotChangesOfTrades (r ∷ run ++ later) (lot_changes_of_deals (map deal_of_completed_row (r ∷ run)) [] ++ rows)

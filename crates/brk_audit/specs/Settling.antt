@@ -28,7 +28,8 @@ request_row_of_trade brokers r = record { trade = r.id; kind = r.kind; symbol = 
 -- if the account pays.
 abbrev pub settlement_amount_at_tax_status : TaxStatus → TradeRow → ℤ
 settlement_amount_at_tax_status status r =
-    signed_proceeds (side_of_trade_type r.kind) (r.qty * unwrap_or r.price 0) -ℤ pos (r.charge + r.commission + (if is_withholding_status status then r.tax else 0))
+    signed_proceeds (side_of_trade_type r.kind) (r.qty * unwrap_or r.price 0) -ℤ pos (r.charge + r.commission
+    + (if is_withholding_status status then r.tax else 0))
 
 -- The trade, the due day and the amount, in cents, of a settlement.
 pub record SettlementFigures : Type 0 where
@@ -43,7 +44,8 @@ settlement_figures_of_row s = record { trade = s.trade; due_day = s.due_day; amo
 -- The trade, the due day and the amount of the settlement of the completed trade `r`, by the
 -- settlement day `rule`. The tax status of its account is given by `statuses`.
 abbrev pub settlement_figures_of_trade : SettleRule → (ℕ → TaxStatus) → TradeRow → SettlementFigures
-settlement_figures_of_trade rule statuses r = record { trade = r.id; due_day = due_day_of_completion_stamp rule r.stamp; amount = settlement_amount_at_tax_status (statuses r.account) r }
+settlement_figures_of_trade rule statuses r =
+    record { trade = r.id; due_day = due_day_of_completion_stamp rule r.stamp; amount = settlement_amount_at_tax_status (statuses r.account) r }
 
 -- The trade, the stamp and the amount, in cents, of a row of CASH_TRANSACTION.
 pub record CashRowFigures : Type 0 where
@@ -76,7 +78,8 @@ posted_figures_of_row r = option_map (λ id. record { account = r.account; trade
 -- The account, the trade, the stamp and the amount of the row of CASH_MOVE of the completed cash
 -- trade `r`. The tax status of its account is given by `statuses`.
 abbrev pub posted_figures_of_trade : (ℕ → TaxStatus) → TradeRow → MoveRowFigures
-posted_figures_of_trade statuses r = record { account = r.account; trade = r.id; stamp = r.stamp; amount = settlement_amount_at_tax_status (statuses r.account) r }
+posted_figures_of_trade statuses r =
+    record { account = r.account; trade = r.id; stamp = r.stamp; amount = settlement_amount_at_tax_status (statuses r.account) r }
 
 -- True if the rows are numbered from `n` without a gap, and their stamps are at least `stamp` and
 -- do not decrease.

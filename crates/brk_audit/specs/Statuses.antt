@@ -31,7 +31,9 @@ choice_by_last_of_two_statuses _ _ first second = false
 -- True if the history of the two rows is a valid status sequence by their stamps, and the trade's
 -- row has the status and the stamp of its last row.
 abbrev pub is_valid_two_row_history : TradeRow → HistoryRow → HistoryRow → Bool
-is_valid_two_row_history r a b = choice_by_last_of_two_statuses a.status b.status (nat_lt b.stamp a.stamp && has_status_and_stamp_of_row r a) (nat_lt a.stamp b.stamp && has_status_and_stamp_of_row r b)
+is_valid_two_row_history r a b =
+    choice_by_last_of_two_statuses a.status b.status (nat_lt b.stamp a.stamp && has_status_and_stamp_of_row r a) (nat_lt a.stamp b.stamp
+    && has_status_and_stamp_of_row r b)
 
 -- The value `nonzero` if the three statuses of a history, sorted by code, can be a valid sequence,
 -- otherwise false.
@@ -42,7 +44,8 @@ choice_if_valid_three_statuses _ _ _ told = false
 -- True if the history of the three rows is a valid status sequence by their stamps, and the trade's
 -- row has the status and the stamp of its last row.
 abbrev pub is_valid_three_row_history : TradeRow → HistoryRow → HistoryRow → HistoryRow → Bool
-is_valid_three_row_history r a b c = choice_if_valid_three_statuses a.status b.status c.status (nat_lt b.stamp c.stamp && nat_lt c.stamp a.stamp && has_status_and_stamp_of_row r a)
+is_valid_three_row_history r a b c =
+    choice_if_valid_three_statuses a.status b.status c.status (nat_lt b.stamp c.stamp && nat_lt c.stamp a.stamp && has_status_and_stamp_of_row r a)
 
 -- True if the history rows of the trade, sorted by status code, are a valid status sequence by
 -- their stamps, and the trade's row has the status and the stamp of the last one.

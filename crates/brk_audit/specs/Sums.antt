@@ -28,7 +28,8 @@ commission_posting_of_row brokers r = if is_completed_row r then Some (record { 
 -- The posting of the trade's settlement amount, in cents, at its account, or `None` if it is not a
 -- completed cash trade. The tax status of its account is given by `statuses`.
 abbrev pub cash_posting_of_row : (ℕ → TaxStatus) → TradeRow → Option (Posting ℕ)
-cash_posting_of_row statuses r = if is_completed_cash_trade r then Some (record { key = r.account; amount = settlement_amount_at_tax_status (statuses r.account) r }) else None
+cash_posting_of_row statuses r =
+    if is_completed_cash_trade r then Some (record { key = r.account; amount = settlement_amount_at_tax_status (statuses r.account) r }) else None
 
 -- The sum of the amounts of the account's deposits and withdrawals, in cents; the amount of a
 -- withdrawal is below 0.

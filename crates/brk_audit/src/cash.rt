@@ -23,7 +23,9 @@ use std::collections::BTreeMap;
 // Returns true if the row has the trade, the stamp and the settlement amount of the completed
 // trade, at the tax status of its account.
 fn cash_row_matches_trade(cash: &CashRow, trade: &TradeRow, tax_status: TaxStatus) -> bool
-    ensures { IsTrue result ↔ ((cash.now.trade ≡ trade.now.id) × (cash.now.stamp ≡ trade.now.stamp) × (cash.now.amount ≡ settlement_amount_at_tax_status tax_status (abstract_trade_row trade.now))) }
+    ensures { IsTrue result
+        ↔ ((cash.now.trade ≡ trade.now.id) × (cash.now.stamp ≡ trade.now.stamp)
+        × (cash.now.amount ≡ settlement_amount_at_tax_status tax_status (abstract_trade_row trade.now))) }
 {
     cash.trade == trade.id
         && cash.stamp == trade.stamp
@@ -68,7 +70,9 @@ fn cash_rows_match_trades(
     trades: &[TradeRow],
     terms: &BTreeMap<u64, AccountTerms>,
 ) -> bool
-    ensures { IsTrue result ↔ (map cash_figures_of_row (map abstract_cash_row cash.now) ≡ map (cash_figures_of_trade (tax_status_in_terms terms.now)) (filter is_completed_cash_trade (map abstract_trade_row trades.now))) }
+    ensures { IsTrue result
+        ↔ (map cash_figures_of_row (map abstract_cash_row cash.now)
+        ≡ map (cash_figures_of_trade (tax_status_in_terms terms.now)) (filter is_completed_cash_trade (map abstract_trade_row trades.now))) }
 {
     let mut rest = cash;
     for trade in trades {
@@ -121,7 +125,9 @@ fn posted_figures_of_move_rows(alloc: Global, moves: &[MoveRow]) -> Result<Vec<P
 // Returns true if the row has the account, the id, the stamp and the settlement amount of the
 // completed trade, at the tax status of its account.
 fn has_figures_of_trade(row: Posted, trade: &TradeRow, tax_status: TaxStatus) -> bool
-    ensures { IsTrue result ↔ ((row.account ≡ trade.now.account) × (row.trade ≡ trade.now.id) × (row.stamp ≡ trade.now.stamp) × (row.amount ≡ settlement_amount_at_tax_status tax_status (abstract_trade_row trade.now))) }
+    ensures { IsTrue result
+        ↔ ((row.account ≡ trade.now.account) × (row.trade ≡ trade.now.id) × (row.stamp ≡ trade.now.stamp)
+        × (row.amount ≡ settlement_amount_at_tax_status tax_status (abstract_trade_row trade.now))) }
 {
     row.account == trade.account
         && row.trade == trade.id
@@ -160,7 +166,9 @@ fn posted_rows_match_trades(
     trades: &[TradeRow],
     terms: &BTreeMap<u64, AccountTerms>,
 ) -> bool
-    ensures { IsTrue result ↔ (map (λ p. p) (map abstract_posted_figures rows.now) ≡ map (posted_figures_of_trade (tax_status_in_terms terms.now)) (filter is_completed_cash_trade (map abstract_trade_row trades.now))) }
+    ensures { IsTrue result
+        ↔ (map (λ p. p) (map abstract_posted_figures rows.now)
+        ≡ map (posted_figures_of_trade (tax_status_in_terms terms.now)) (filter is_completed_cash_trade (map abstract_trade_row trades.now))) }
 {
     let mut rest = rows;
     for trade in trades {

@@ -32,7 +32,8 @@ fn append_lot_changes_of_trades(
 ) -> Result<(), Fault>
     requires priced { AllByRecursion (λ row. IsSome row.now.price) run.now }
     requires deals { AreAscendingDeals (map (λ row. deal_of_completed_row (abstract_trade_row row.now)) run.now) }
-    ensures added { OnOk result (map abstract_deal_touch rows.new.items ≡ map abstract_deal_touch rows.old.items ++ lot_changes_of_deals (map (λ row. deal_of_completed_row (abstract_trade_row row.now)) run.now) []) }
+    ensures added { OnOk result (map abstract_deal_touch rows.new.items
+        ≡ map abstract_deal_touch rows.old.items ++ lot_changes_of_deals (map (λ row. deal_of_completed_row (abstract_trade_row row.now)) run.now) []) }
     ensures fault { IfErr result (λ fault. fault ≡ Memory) }
 {
     let deals = deals_of_completed_trades(alloc, run)?;

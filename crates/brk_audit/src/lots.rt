@@ -11,7 +11,9 @@ ghost use Rattle.brk_model.specs.Schemas.{Schema};
 ghost use Rattle.brk_money.specs.declared.fault.Condition.TheVariants.{Lots};
 ghost use Rattle.brk_money.specs.declared.fault.Fault.TheVariants.{Memory};
 
-use crate::positions::{completed_trades_by_position, leading_trade_count_of_position, position_after_trades};
+use crate::positions::{
+    completed_trades_by_position, leading_trade_count_of_position, position_after_trades,
+};
 use brk_changes::{HoldingRow, Sheets, TradeRow};
 use brk_lots::Lot;
 use brk_money::Fault;
@@ -19,8 +21,13 @@ use std::alloc::Global;
 
 // Appends to `held` the HOLDING rows of the lots, with the account and the symbol of the trade.
 // Fails with `Memory` only.
-fn append_holding_rows(held: &mut Vec<HoldingRow>, trade: &TradeRow, lots: &[Lot]) -> Result<(), Fault>
-    ensures added { OnOk result (map abstract_holding_row held.new.items ≡ map abstract_holding_row held.old.items ++ map (holding_row_in_position_of_trade (abstract_trade_row trade.now)) (map abstract_lot lots.now)) }
+fn append_holding_rows(
+    held: &mut Vec<HoldingRow>,
+    trade: &TradeRow,
+    lots: &[Lot],
+) -> Result<(), Fault>
+    ensures added { OnOk result (map abstract_holding_row held.new.items
+        ≡ map abstract_holding_row held.old.items ++ map (holding_row_in_position_of_trade (abstract_trade_row trade.now)) (map abstract_lot lots.now)) }
     ensures fault { IfErr result (λ fault. fault ≡ Memory) }
 {
     for lot in lots {

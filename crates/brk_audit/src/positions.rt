@@ -79,7 +79,8 @@ fn have_same_position(one: &TradeRow, other: &TradeRow) -> bool
 pub(crate) fn leading_trade_count_of_position(trade: &TradeRow, done: &[&TradeRow]) -> usize
     ensures within { result ≤ length done.now }
     ensures same { AllByRecursion (λ other. is_same_position (abstract_trade_row trade.now) (abstract_trade_row other.now) ≡ true) (take result done.now) }
-    ensures next { FirstElementSatisfies (λ other. is_same_position (abstract_trade_row trade.now) (abstract_trade_row other.now) ≡ false) (drop result done.now) }
+    ensures next { FirstElementSatisfies (λ other. is_same_position (abstract_trade_row trade.now) (abstract_trade_row other.now)
+        ≡ false) (drop result done.now) }
 {
     for (i, other) in done.iter().enumerate() {
         if !have_same_position(trade, other) {

@@ -82,7 +82,9 @@ fn requests_match_trades(
     trades: &[TradeRow],
     terms: &BTreeMap<u64, AccountTerms>,
 ) -> bool
-    ensures { IsTrue result ↔ (map (λ q. q) (map abstract_request_row requests.now) ≡ map (request_row_of_trade (broker_in_terms terms.now)) (filter is_pending_row (map abstract_trade_row trades.now))) }
+    ensures { IsTrue result
+        ↔ (map (λ q. q) (map abstract_request_row requests.now)
+        ≡ map (request_row_of_trade (broker_in_terms terms.now)) (filter is_pending_row (map abstract_trade_row trades.now))) }
 {
     let mut rest = requests;
     for trade in trades {

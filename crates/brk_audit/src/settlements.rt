@@ -82,7 +82,9 @@ fn settlements_match_trades(
     rule: &Option<Day>,
     terms: &BTreeMap<u64, AccountTerms>,
 ) -> bool
-    ensures { IsTrue result ↔ (map settlement_figures_of_row (map abstract_settlement_row settlements.now) ≡ map (settlement_figures_of_trade rule.now (tax_status_in_terms terms.now)) (filter is_completed_row (map abstract_trade_row trades.now))) }
+    ensures { IsTrue result
+        ↔ (map settlement_figures_of_row (map abstract_settlement_row settlements.now)
+        ≡ map (settlement_figures_of_trade rule.now (tax_status_in_terms terms.now)) (filter is_completed_row (map abstract_trade_row trades.now))) }
 {
     let mut rest = settlements;
     for trade in trades {

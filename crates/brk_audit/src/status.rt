@@ -73,7 +73,8 @@ fn is_valid_two_row_history(trade: &TradeRow, a: HistoryRow, b: HistoryRow) -> b
 // Returns true if the history of the three rows, sorted by status code, is a valid status sequence
 // by their stamps, and the trade's row has the status and the stamp of its last row.
 fn is_valid_three_row_history(trade: &TradeRow, a: HistoryRow, b: HistoryRow, c: HistoryRow) -> bool
-    ensures { result ≡ spec.is_valid_three_row_history (abstract_trade_row trade.now) (abstract_history_row a) (abstract_history_row b) (abstract_history_row c) }
+    ensures { result
+        ≡ spec.is_valid_three_row_history (abstract_trade_row trade.now) (abstract_history_row a) (abstract_history_row b) (abstract_history_row c) }
 {
     match (a.status, b.status, c.status) {
         (Status::Completed, Status::Pending, Status::Submitted) => {
@@ -130,7 +131,8 @@ fn all_histories_are_valid(trades: &[TradeRow], history: &[HistoryRow]) -> bool
 // was in the set before, otherwise true. Fails with `Memory` only.
 fn insert_completion_stamp(seen: &mut BTreeSet<u64>, row: &HistoryRow) -> Result<bool, Fault>
     ensures new { IfOk result (λ new. new ≡ not (is_same_trade_status row.now.status Completed && contains nat_cmp seen.old row.now.stamp)) }
-    ensures seen { OnOk result ((q : ℕ) → contains nat_cmp seen.new q ≡ contains nat_cmp seen.old q || (is_same_trade_status row.now.status Completed && (row.now.stamp == q))) }
+    ensures seen { OnOk result ((q : ℕ)
+        → contains nat_cmp seen.new q ≡ contains nat_cmp seen.old q || (is_same_trade_status row.now.status Completed && (row.now.stamp == q))) }
     ensures fault { IfErr result (λ fault. fault ≡ Memory) }
 {
     if !is_completed(row.status) {
@@ -161,7 +163,9 @@ fn has_distinct_stamps(
     history: &[HistoryRow],
     moves: &[MoveRow],
 ) -> Result<bool, Fault>
-    ensures value { IfOk result (λ apart. apart ≡ all_distinct (spec.completion_stamps_of_history (map abstract_history_row history.now) ++ spec.movement_stamps_of_cash_rows (map abstract_move_row moves.now))) }
+    ensures value { IfOk result (λ apart. apart
+        ≡ all_distinct (spec.completion_stamps_of_history (map abstract_history_row history.now)
+        ++ spec.movement_stamps_of_cash_rows (map abstract_move_row moves.now))) }
     ensures fault { IfErr result (λ fault. fault ≡ Memory) }
 {
     let mut seen = BTreeSet::new(alloc);

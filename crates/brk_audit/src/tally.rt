@@ -32,7 +32,8 @@ fn add_posting<K: Ord + Copy>(
     posting: &Posting<K>,
 ) -> Result<(), Fault>
     requires room { nat_abs (sum_at_key K.cmp tally.old posting.now.key) + 2 ^ 63 < 2 ^ 127 }
-    ensures more { OnOk result ((q : K) → sum_at_key K.cmp tally.new q ≡ sum_at_key K.cmp tally.old q +ℤ cond (is_eq (K.cmp posting.now.key q)) posting.now.amount (pos 0)) }
+    ensures more { OnOk result ((q : K)
+        → sum_at_key K.cmp tally.new q ≡ sum_at_key K.cmp tally.old q +ℤ cond (is_eq (K.cmp posting.now.key q)) posting.now.amount (pos 0)) }
     ensures small { OnOk result ((q : K) → nat_abs (sum_at_key K.cmp tally.new q) ≤ nat_abs (sum_at_key K.cmp tally.old q) + 2 ^ 63) }
     ensures fault { OnErr result (result ≡ Err Memory) }
 {

@@ -70,6 +70,9 @@ trading_rows_are_well_formed schema s =
 -- those of tax ids, of the limits of customers, and of cash rows.
 abbrev pub passes_nonallocating_form_checks : Schema → Sheets → Bool
 passes_nonallocating_form_checks schema s =
-    tables_are_sorted_by_unique_key (abstract_sheets s) && reference_rows_are_well_formed schema s && is_last_stamp_in_calendar s.last && trading_rows_are_well_formed schema s
-    && bands_are_disjoint (map abstract_band s.bands.items) && are_equal_number_lists (map (λ row. row.id) s.trades.items) (range_with_len 1 (length s.trades.items))
-    && nat_le (length (filter (λ r. is_none r.trade) s.moves.items)) greatest_id && is_settlement_day_in_calendar s.rule && lacks_rows_of_later_schemas schema (abstract_sheets s)
+    tables_are_sorted_by_unique_key (abstract_sheets s) && reference_rows_are_well_formed schema s && is_last_stamp_in_calendar s.last
+    && trading_rows_are_well_formed schema s
+    && bands_are_disjoint (map abstract_band s.bands.items)
+    && are_equal_number_lists (map (λ row. row.id) s.trades.items) (range_with_len 1 (length s.trades.items))
+    && nat_le (length (filter (λ r. is_none r.trade) s.moves.items)) greatest_id && is_settlement_day_in_calendar s.rule
+    && lacks_rows_of_later_schemas schema (abstract_sheets s)

@@ -10,7 +10,9 @@ ghost use Rattle.brk_changes.specs.Sheets.{abstract_sheets};
 ghost use Rattle.brk_audit_form.specs.Conditions.{HasSortedKeys};
 ghost use Rattle.brk_audit_form.specs.Names.{security_name_or_empty};
 
-use crate::limits::{is_balance_within_limit, is_move_id_within_limits, stamp_is_at_most_last_stamp};
+use crate::limits::{
+    is_balance_within_limit, is_move_id_within_limits, stamp_is_at_most_last_stamp,
+};
 use crate::references::{find_security, find_trade, has_account};
 use brk_changes::{CashRow, MoveRow, Sheets, TradeRow};
 use brk_money::{Cents, Fault, Id, Qty};
@@ -81,7 +83,8 @@ fn is_cash_text_of_trade_id(
     name: &str,
 ) -> Result<bool, Fault>
     requires { HasSortedKeys sheets.now }
-    ensures value { IfOk result (λ holds. holds ≡ option_map_or (form.is_cash_row_name_of_trade (abstract_sheets sheets.now) name.now) (trade_row_with_id (abstract_sheets sheets.now) id) false) }
+    ensures value { IfOk result (λ holds. holds
+        ≡ option_map_or (form.is_cash_row_name_of_trade (abstract_sheets sheets.now) name.now) (trade_row_with_id (abstract_sheets sheets.now) id) false) }
     ensures fault { IfErr result (λ fault. fault ≡ Memory) }
 {
     let Some(trade) = find_trade(sheets, id) else {
@@ -99,7 +102,11 @@ fn cash_row_is_well_formed(alloc: Global, sheets: &Sheets, row: &CashRow) -> Res
     ensures fault { IfErr result (λ fault. fault ≡ Memory) }
 {
     let is_named = is_cash_text_of_trade_id(alloc, sheets, row.trade, row.name.as_str())?;
-    Ok(is_named && stamp_is_at_most_last_stamp(sheets, row.stamp) && is_balance_within_limit(row.amount))
+    Ok(
+        is_named
+            && stamp_is_at_most_last_stamp(sheets, row.stamp)
+            && is_balance_within_limit(row.amount),
+    )
 }
 
 // Returns true if the text is "Deposit" and the amount is above 0, or the text is "Withdrawal" and
@@ -146,7 +153,8 @@ fn move_row_is_well_formed(alloc: Global, sheets: &Sheets, row: &MoveRow) -> Res
 /// Returns true if each row of CASH_TRANSACTION is well-formed. Fails with `Memory` only.
 pub(crate) fn all_cash_rows_well_formed(alloc: Global, sheets: &Sheets) -> Result<bool, Fault>
     requires { HasSortedKeys sheets.now }
-    ensures value { IfOk result (λ holds. holds ≡ list_all (form.is_well_formed_cash_row (abstract_sheets sheets.now)) (map abstract_cash_row sheets.now.cash.items)) }
+    ensures value { IfOk result (λ holds. holds
+        ≡ list_all (form.is_well_formed_cash_row (abstract_sheets sheets.now)) (map abstract_cash_row sheets.now.cash.items)) }
     ensures fault { IfErr result (λ fault. fault ≡ Memory) }
 {
     for row in &sheets.cash {
@@ -161,7 +169,8 @@ pub(crate) fn all_cash_rows_well_formed(alloc: Global, sheets: &Sheets) -> Resul
 /// Returns true if each row of CASH_MOVE is well-formed. Fails with `Memory` only.
 pub(crate) fn all_move_rows_well_formed(alloc: Global, sheets: &Sheets) -> Result<bool, Fault>
     requires { HasSortedKeys sheets.now }
-    ensures value { IfOk result (λ holds. holds ≡ list_all (form.is_well_formed_move_row (abstract_sheets sheets.now)) (map abstract_move_row sheets.now.moves.items)) }
+    ensures value { IfOk result (λ holds. holds
+        ≡ list_all (form.is_well_formed_move_row (abstract_sheets sheets.now)) (map abstract_move_row sheets.now.moves.items)) }
     ensures fault { IfErr result (λ fault. fault ≡ Memory) }
 {
     for row in &sheets.moves {

@@ -31,7 +31,10 @@ fn add_to_customer_sum(sums: &mut BTreeMap<u64, u128>, customer: Id, more: u32) 
 }
 
 // Returns a map from each customer to the number of its accounts. Fails with `Memory` only.
-fn count_accounts_by_customer(alloc: Global, accounts: &[AccountRow]) -> Result<BTreeMap<u64, u128>, Fault>
+fn count_accounts_by_customer(
+    alloc: Global,
+    accounts: &[AccountRow],
+) -> Result<BTreeMap<u64, u128>, Fault>
     ensures counts { IfOk result (λ counts. (q : ℕ) → sum_at_customer_id counts q ≡ length (filter (λ a. a.account.customer == q) accounts.now)) }
     ensures fault { IfErr result (λ fault. fault ≡ Memory) }
 {
@@ -76,7 +79,9 @@ fn customer_is_within_limits(
     sums: &BTreeMap<u64, u128>,
     customer: &Customer,
 ) -> bool
-    ensures { result ≡ (nat_le (sum_at_customer_id counts.now customer.now.id) limits.most_accounts_per_customer && nat_le (sum_at_customer_id sums.now customer.now.id) limits.greatest_tax_rate) }
+    ensures { result
+        ≡ (nat_le (sum_at_customer_id counts.now customer.now.id) limits.most_accounts_per_customer
+        && nat_le (sum_at_customer_id sums.now customer.now.id) limits.greatest_tax_rate) }
 {
     let number = customer.id.get();
     let count = counts.get(&number).copied().unwrap_or(0);
@@ -91,7 +96,9 @@ fn all_customers_within_limits(
     sums: &BTreeMap<u64, u128>,
     customers: &[Customer],
 ) -> bool
-    ensures { result ≡ list_all (λ c. nat_le (sum_at_customer_id counts.now c.id) limits.most_accounts_per_customer && nat_le (sum_at_customer_id sums.now c.id) limits.greatest_tax_rate) customers.now }
+    ensures { result
+        ≡ list_all (λ c. nat_le (sum_at_customer_id counts.now c.id) limits.most_accounts_per_customer
+        && nat_le (sum_at_customer_id sums.now c.id) limits.greatest_tax_rate) customers.now }
 {
     customers.iter().all(|customer| customer_is_within_limits(counts, sums, customer))
 }
@@ -100,7 +107,8 @@ fn all_customers_within_limits(
 /// total. Fails with `Memory` only.
 pub(crate) fn customers_are_within_limits(alloc: Global, sheets: &Sheets) -> Result<bool, Fault>
     requires { HasSortedKeys sheets.now }
-    ensures value { IfOk result (λ holds. holds ≡ list_all (form.is_within_customer_limits (abstract_sheets sheets.now)) (abstract_sheets sheets.now).customers) }
+    ensures value { IfOk result (λ holds. holds
+        ≡ list_all (form.is_within_customer_limits (abstract_sheets sheets.now)) (abstract_sheets sheets.now).customers) }
     ensures fault { IfErr result (λ fault. fault ≡ Memory) }
 {
     let counts = count_accounts_by_customer(alloc, &sheets.accounts)?;

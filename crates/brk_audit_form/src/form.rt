@@ -45,7 +45,8 @@ fn is_valid_settlement_day(rule: Option<Day>) -> bool
 fn has_no_rows_of_later_schemas(schema: Schema, sheets: &Sheets) -> bool
     ensures { result ≡ lacks_rows_of_later_schemas (abstract_schema schema) (abstract_sheets sheets.now) }
 {
-    (schema.has_cash_move_table() || sheets.moves.is_empty()) && (schema.has_settle_rule_table() || sheets.rule.is_none())
+    (schema.has_cash_move_table() || sheets.moves.is_empty())
+        && (schema.has_settle_rule_table() || sheets.rule.is_none())
 }
 
 // Returns true if the rows pass the checks of `Form` that do not allocate: of the keys, of the

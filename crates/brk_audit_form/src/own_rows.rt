@@ -27,7 +27,10 @@ fn insert_cash_row_trade(seen: &mut BTreeSet<u64>, trade: Option<Id>) -> Result<
 }
 
 /// Returns true if no trade has two rows of CASH_MOVE. Fails with `Memory` only.
-pub(crate) fn cash_rows_have_distinct_trades(alloc: Global, moves: &[MoveRow]) -> Result<bool, Fault>
+pub(crate) fn cash_rows_have_distinct_trades(
+    alloc: Global,
+    moves: &[MoveRow],
+) -> Result<bool, Fault>
     ensures value { IfOk result (λ own. own ≡ all_distinct (trade_ids_of_cash_rows (map abstract_move_row moves.now))) }
     ensures fault { IfErr result (λ fault. fault ≡ Memory) }
 {

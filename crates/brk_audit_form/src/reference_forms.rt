@@ -2,8 +2,9 @@ ghost use Rattle.brk_model.specs.Form as form;
 ghost use Rattle.brk_ref.specs.Records as of;
 
 use crate::limits::{
-    is_balance_within_limit, is_charge_within_limit, is_id_within_limits, is_price_within_limits, is_quantity_within_limits,
-    stamp_is_at_most_last_stamp, is_tier_within_limits, is_well_formed_text,
+    is_balance_within_limit, is_charge_within_limit, is_id_within_limits, is_price_within_limits,
+    is_quantity_within_limits, is_tier_within_limits, is_well_formed_text,
+    stamp_is_at_most_last_stamp,
 };
 use crate::references::{
     has_account, has_broker, has_customer, has_last_trade, has_security, has_tax_rate,
@@ -136,7 +137,9 @@ impl Formed for Tax {
 
     // Returns true if the id, the name and the rate are well-formed.
     fn is_row_well_formed(&self, _schema: Schema, _sheets: &Sheets) -> bool {
-        is_id_within_limits(self.id) && is_well_formed_text(&self.name) && self.rate.get() <= TaxRate::GREATEST
+        is_id_within_limits(self.id)
+            && is_well_formed_text(&self.name)
+            && self.rate.get() <= TaxRate::GREATEST
     }
 }
 

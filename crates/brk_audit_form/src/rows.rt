@@ -25,5 +25,6 @@ pub(crate) fn all_rows_well_formed<R: Formed>(schema: Schema, sheets: &Sheets, r
     requires { HasSortedKeys sheets.now }
     ensures { result ≡ list_all (R.form (abstract_schema schema) (abstract_sheets sheets.now)) rows.now }
 {
-    rows.iter().all(|row| row.is_row_well_formed(schema, sheets))
+    rows.iter()
+        .all(|row| row.is_row_well_formed(schema, sheets))
 }

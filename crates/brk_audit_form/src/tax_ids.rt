@@ -9,7 +9,10 @@ use std::alloc::Global;
 use std::collections::BTreeSet;
 
 /// Returns true if no two customers have the same tax id. Fails with `Memory` only.
-pub(crate) fn customers_have_distinct_tax_ids(alloc: Global, customers: &[Customer]) -> Result<bool, Fault>
+pub(crate) fn customers_have_distinct_tax_ids(
+    alloc: Global,
+    customers: &[Customer],
+) -> Result<bool, Fault>
     ensures value { IfOk result (λ holds. holds ≡ form.has_distinct_tax_ids (map abstract_customer customers.now)) }
     ensures fault { IfErr result (λ fault. fault ≡ Memory) }
 {

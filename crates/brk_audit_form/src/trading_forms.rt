@@ -5,8 +5,8 @@ ghost use Rattle.brk_changes.specs.Sheets.{abstract_sheets};
 ghost use Rattle.brk_audit_form.specs.Conditions.{HasSortedKeys};
 
 use crate::limits::{
-    is_amount_within_limit, is_balance_within_limit, is_charge_within_limit, is_id_within_limits, is_price_within_limits,
-    is_quantity_within_limits, stamp_is_at_most_last_stamp,
+    is_amount_within_limit, is_balance_within_limit, is_charge_within_limit, is_id_within_limits,
+    is_price_within_limits, is_quantity_within_limits, stamp_is_at_most_last_stamp,
 };
 use crate::references::{
     find_trade, has_account, has_broker, has_completion, has_security, has_trade,

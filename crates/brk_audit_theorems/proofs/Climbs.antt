@@ -1,4 +1,5 @@
--- Rows whose keys rise strictly: sorted, they stay as they are, and two lists of them with the same rows are one.
+-- Rows whose keys rise strictly: sorted, they stay as they are, and two lists of them with the same
+-- rows are one.
 use Rattle.std.proofs.Common.{◌≡◌, Bool, true, false, cond, List, [], ◌∷◌, ◌++◌, refl, sym, ◌∙◌, ap, subst, map, filter, inl, inr}
 use Rattle.std.specs.Prelude.{⊤, ◌⊎◌}
 use Rattle.std.specs.List.{AllByRecursion, list_all}

@@ -214,7 +214,8 @@ moves_own base books = rows_own (numbered_move_rows 1 (postings_sorted_by_stamp 
 
 -- ---- upgraded rows
 
--- what is posted to the tables of a base, in either of them: in turn it is what the base posts, a trade posts once, and movements are in turn
+-- what is posted to the tables of a base, in either of them: in turn it is what the base posts, a
+-- trade posts once, and movements are in turn
 pub record IsPosted (t : Tables) : Type 0 where
   pub turned : postings_sorted_by_stamp (postings_of_tables t) ≡ postings_sorted_by_stamp (postings_of_base (base_of_tables t))
   pub once : (id : ℕ) → find (is_posting_of_trade id) (postings_sorted_by_stamp (postings_of_tables t)) ≡ find (is_posting_of_trade id) (postings_of_tables t)

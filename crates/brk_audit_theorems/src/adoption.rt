@@ -17,7 +17,8 @@ ghost use Rattle.brk_audit_theorems.specs.Told.{HasValidHistories, base_sorted_b
 /// that the rows are the tables of this base in that schema. The conditions `Form` and `Status`
 /// suffice for the books invariant.
 pub fn passing_rows_are_tables_of_their_base()
-    ensures order { (schema : Schema) (rows : Tables) → IsTrue (satisfies_form_condition schema rows) → IsTrue (satisfies_status_condition rows) → BooksInvariant (base_of_tables rows) }
+    ensures order { (schema : Schema) (rows : Tables) → IsTrue (satisfies_form_condition schema rows) → IsTrue (satisfies_status_condition rows)
+        → BooksInvariant (base_of_tables rows) }
     ensures books { (schema : Schema) (rows : Tables) → PassesAudit schema rows → BooksInvariant (base_of_tables rows) }
     ensures tables { (schema : Schema) (rows : Tables) → PassesAudit schema rows → sheets_in_schema schema (base_of_tables rows) ≡ rows }
 {}
@@ -29,6 +30,7 @@ pub fn passing_rows_are_tables_of_their_base()
 pub fn tables_of_valid_base_pass_the_audit()
     ensures base { (base : Base) → BooksInvariant base → HasValidHistories base → base_of_tables (sheets base) ≡ base_sorted_by_keys base }
     ensures tables { (base : Base) → BooksInvariant base → HasValidHistories base → sheets (base_of_tables (sheets base)) ≡ sheets base }
-    ensures passes { (base : Base) → BooksInvariant base → HasValidHistories base → IsTrue (satisfies_form_condition third_schema (sheets base)) → PassesAudit third_schema (sheets base) }
+    ensures passes { (base : Base) → BooksInvariant base → HasValidHistories base → IsTrue (satisfies_form_condition third_schema (sheets base))
+        → PassesAudit third_schema (sheets base) }
     ensures status { (base : Base) → BooksInvariant base → HasValidHistories base → IsTrue (satisfies_status_condition (sheets base)) }
 {}

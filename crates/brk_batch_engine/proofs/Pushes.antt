@@ -153,7 +153,8 @@ answered_push {S = S} {X = X} honest stands acts form step gives batch first mid
           );
     }
 
--- a desk that answers by a list of answers, one for each call, gives just these and records just those
+-- a desk that answers by a list of answers, one for each call, gives just these and records just
+-- those
 pub recorded_turns : {X : Type 0} (calls : List (RowCall X)) (answers : List Answer) (before : RowCalls X) → length answers ≡ length calls
     → CallsHaveAnswers recording_step (answers, before) calls answers ([], before ++ map desk_call_of_row_call calls)
 recorded_turns {X} [] [] before e = ap (λ (l : RowCalls X). let both : List Answer × RowCalls X = ([], l) in both) (append-nil before)

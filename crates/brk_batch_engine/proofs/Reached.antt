@@ -226,7 +226,8 @@ tells_fault honest stands leaves acts form step gives rem first head desk place 
 tells_fault honest stands leaves acts form step gives rem first head desk place r text new later last next reader f (inr way) may wrote found h so =
     tells_failed honest (RepresentsDurably stands leaves) acts form step gives rem first head desk place r text new later last next reader f way.0 way.1 way.2 way.3 way.4 may wrote found h
 
--- what holds by all steps, over all bases that they lead from and to, is the postcondition of the batch
+-- what holds by all steps, over all bases that they lead from and to, is the postcondition of the
+-- batch
 pub comes : {D S X C R : Type 0} (honest : D → Type 0) (stands : D → S → Type 0) (leaves : D → S → S → Type 0) (acts : RowCallRelation D X) (form : Fields → ReadResult X) (step : RowStep S X)
     (gives : C → ℕ → C → Type 0) (rem : R → Option Text) (first : D) (head : BatchStart C R) (desk : D) (place : BatchPosition C R)
     (r : HasReachedPosition honest (RepresentsDurably stands leaves) acts form step gives rem first head desk place)

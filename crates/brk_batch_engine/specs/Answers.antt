@@ -51,7 +51,8 @@ IsFailedCallCrashSafe {S = S} honest stands leaves step old new now command key 
 -- Row `n` of `batch` has this answer. A malformed row is refused with its refusal, and the desk and
 -- the clock are unchanged. A command reads the clock once and is one call of the desk, under the
 -- key of the row, which refines `step`.
-abbrev pub RowHasAnswer : {D S X C : Type 0} → (D → Type 0) → (Bool → D → S → Type 0) → RowCallRelation D X → RowStep S X → (C → ℕ → C → Type 0) → ReadResult X → Text → ℕ → Answer → D → D → C → C → Type 0
+abbrev pub RowHasAnswer : {D S X C : Type 0} → (D → Type 0) → (Bool → D → S → Type 0) → RowCallRelation D X → RowStep S X → (C → ℕ → C → Type 0) → ReadResult X
+    → Text → ℕ → Answer → D → D → C → C → Type 0
 RowHasAnswer honest stands acts step gives (Err refusal) batch n answer old new clock later = (answer ≡ Refused refusal) × (new ≡ old) × (later ≡ clock)
 RowHasAnswer honest stands acts step gives (Ok command) batch n answer old new clock later =
     (moment : ℕ) × gives clock moment later × acts old moment (command, record { batch = batch; row = n }) (Did answer) new
@@ -60,8 +61,10 @@ RowHasAnswer honest stands acts step gives (Ok command) batch n answer old new c
 -- Row `n` of `batch` failed with this fault. Either the fault is `Memory`, and the desk and the
 -- clock are unchanged; or the row is a command that read the clock once and was one call of the
 -- desk, under the key of the row, which failed, with the crash safety of `IsFailedCallCrashSafe`.
-abbrev pub RowFailsWith : {D S X C : Type 0} → (D → Type 0) → (D → S → Type 0) → (D → S → S → Type 0) → RowCallRelation D X → RowStep S X → (C → ℕ → C → Type 0) → ReadResult X → Text → ℕ → Fault → D → D → C → C → Type 0
+abbrev pub RowFailsWith : {D S X C : Type 0} → (D → Type 0) → (D → S → Type 0) → (D → S → S → Type 0) → RowCallRelation D X → RowStep S X → (C → ℕ → C → Type 0)
+    → ReadResult X → Text → ℕ → Fault → D → D → C → C → Type 0
 RowFailsWith {X = X} honest stands leaves acts step gives read batch n fault old new clock later =
     ((new ≡ old) × (later ≡ clock) × (fault ≡ Memory))
-    ⊎ ((moment : ℕ) × (command : X) × (read ≡ Ok command) × gives clock moment later × acts old moment (command, record { batch = batch; row = n }) (Failed fault) new
+    ⊎ ((moment : ℕ) × (command : X) × (read ≡ Ok command) × gives clock moment later
+    × acts old moment (command, record { batch = batch; row = n }) (Failed fault) new
     × IsFailedCallCrashSafe honest stands leaves step old new moment command (record { batch = batch; row = n }))

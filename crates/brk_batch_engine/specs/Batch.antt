@@ -71,7 +71,8 @@ WritesAllLinesOrAllButLast old new told =
 -- that `told` is not empty.
 abbrev pub WritesPartOfLastLine : Option Text → Option Text → List Answer → Type 0
 WritesPartOfLastLine old new told =
-    (front : List Answer) × (last : Answer) × (k : ℕ) × (told ≡ front ++ (last ∷ [])) × Appends old new (answer_lines_from 1 front ++ take k (answer_line (length told) last))
+    (front : List Answer) × (last : Answer) × (k : ℕ) × (told ≡ front ++ (last ∷ []))
+    × Appends old new (answer_lines_from 1 front ++ take k (answer_line (length told) last))
 
 -- The lines of all answers in `told` were written, and then a prefix of the end line, perhaps empty
 -- or all of it. Vacuous if the writer's content before is unknown.
@@ -89,27 +90,32 @@ MayAddCutRowRefusal text name rows answers told = (told ≡ answers) ⊎ model.E
 -- nothing changed. `NoEnd` and `BadEnd`: the model ends so too. `Read`: the lines of all decided
 -- rows. `Write`: a part of the last line or of the end line. `Desk`: the lines of the decided rows,
 -- or of all of them but the last.
-abbrev pub BatchFailsWith : {S X C : Type 0} → (Fields → ReadResult X) → RowStep S X → (C → ℕ → C → Type 0) → Option Text → EnvironmentChange S C → ℕ → FaultKind → Type 0
+abbrev pub BatchFailsWith : {S X C : Type 0} → (Fields → ReadResult X) → RowStep S X → (C → ℕ → C → Type 0) → Option Text → EnvironmentChange S C → ℕ
+    → FaultKind → Type 0
 BatchFailsWith form step gives text span count kinds.BadHeader =
-    IsUnchangedEnvironment span × model.IsResultOfTextWithoutHeader span.base [] text (record { text = []; base = span.after; ending = model.BadHeader; rows = count })
+    IsUnchangedEnvironment span
+    × model.IsResultOfTextWithoutHeader span.base [] text (record { text = []; base = span.after; ending = model.BadHeader; rows = count })
 BatchFailsWith form step gives text span count kinds.NoEnd = BatchEndsWith form step gives text span model.NoEnd count
 BatchFailsWith form step gives text span count kinds.BadEnd = BatchEndsWith form step gives text span model.BadEnd count
 BatchFailsWith form step gives text span count kinds.Read =
     ((count ≡ 0) × IsUnchangedEnvironment span)
-    ⊎ ((s : BatchProgress form step gives text span count) × (span.later ≡ s.mid) × (s.told ≡ s.answers) × Appends span.old span.new (answer_lines_from 1 s.told))
+    ⊎ ((s : BatchProgress form step gives text span count) × (span.later ≡ s.mid) × (s.told ≡ s.answers)
+    × Appends span.old span.new (answer_lines_from 1 s.told))
 BatchFailsWith form step gives text span count kinds.Write =
     (s : BatchProgress form step gives text span count) × (span.later ≡ s.mid)
     × ((MayAddCutRowRefusal text s.name s.rows s.answers s.told × WritesPartOfLastLine span.old span.new s.told)
     ⊎ ((s.told ≡ s.answers) × BeginsWithWholeBatch text s.name s.rows × WritesPartOfEndLine span.old span.new s.told))
 BatchFailsWith form step gives text span count (kinds.Desk fault) =
     ((fault ≡ Memory) × (count ≡ 0) × IsUnchangedEnvironment span)
-    ⊎ (((s : BatchProgress form step gives text span count) × ReadsClockAtMostOnce gives s.mid span.later × IsCallFault fault × (s.told ≡ s.answers) × Appends span.old span.new (answer_lines_from 1 s.told))
+    ⊎ (((s : BatchProgress form step gives text span count) × ReadsClockAtMostOnce gives s.mid span.later × IsCallFault fault × (s.told ≡ s.answers)
+    × Appends span.old span.new (answer_lines_from 1 s.told))
     ⊎ ((s : BatchProgress form step gives text span count) × (span.later ≡ s.mid) × (fault ≡ Memory)
     × MayAddCutRowRefusal text s.name s.rows s.answers s.told × WritesAllLinesOrAllButLast span.old span.new s.told))
 
 -- The result of the batch: at `Ok` the counts of the answers to all its rows, and at an error a
 -- fault with the effect that `BatchFailsWith` specifies.
-abbrev pub IsBatchResult : {S X C : Type 0} → (Fields → ReadResult X) → RowStep S X → (C → ℕ → C → Type 0) → Option Text → EnvironmentChange S C → Result Counts BatchFault → Type 0
+abbrev pub IsBatchResult : {S X C : Type 0} → (Fields → ReadResult X) → RowStep S X → (C → ℕ → C → Type 0) → Option Text → EnvironmentChange S C
+    → Result Counts BatchFault → Type 0
 IsBatchResult form step gives text span (Ok counts) =
     (c : BatchEndsWith form step gives text span model.CorrectEnd (counts.ok + counts.again + counts.no)) × (counts ≡ counts_of_answers c.answered.answers)
 IsBatchResult form step gives text span (Err fault) = BatchFailsWith form step gives text span fault.rows fault.kind
@@ -144,18 +150,22 @@ DeskFaultIsMemory kinds.Write = Unit {0}
 -- Every call of the script has an answer. A desk of the model that returns these answers, and
 -- records its calls, receives exactly these calls from the batch, with these lines and this result.
 -- A fault of the desk is `Memory`.
-abbrev pub BatchMatchesAnsweredScript : {X C : Type 0} → (Fields → ReadResult X) → (C → ℕ → C → Type 0) → Option Text → RowCallScript X → ClockAndWriterChange C → Result Counts BatchFault → Type 0
+abbrev pub BatchMatchesAnsweredScript : {X C : Type 0} → (Fields → ReadResult X) → (C → ℕ → C → Type 0) → Option Text → RowCallScript X → ClockAndWriterChange C
+    → Result Counts BatchFault → Type 0
 BatchMatchesAnsweredScript form gives text script outside result =
-    (answers : List Answer) × (script.1 ≡ map Did answers) × IsBatchResult form recording_step gives text (change_with_bases (answers, []) ([], script.0) outside) result
+    (answers : List Answer) × (script.1 ≡ map Did answers)
+    × IsBatchResult form recording_step gives text (change_with_bases (answers, []) ([], script.0) outside) result
     × IfErr result (λ fault. DeskFaultIsMemory fault.kind)
 
 -- The last call of the script failed with a fault, which ended the batch. It is the call of the row
 -- after the decided rows, under the key of that row. All calls before it have answers, and the
 -- lines and the result follow from these answers. False if the batch completed.
-abbrev pub BatchMatchesFailedScript : {X C : Type 0} → (Fields → ReadResult X) → (C → ℕ → C → Type 0) → Option Text → RowCallScript X → ClockAndWriterChange C → Result Counts BatchFault → Type 0
+abbrev pub BatchMatchesFailedScript : {X C : Type 0} → (Fields → ReadResult X) → (C → ℕ → C → Type 0) → Option Text → RowCallScript X → ClockAndWriterChange C
+    → Result Counts BatchFault → Type 0
 BatchMatchesFailedScript form gives text script outside (Ok counts) = ⊥
 BatchMatchesFailedScript {X = X} form gives text script outside (Err fault) =
-    (answers : List Answer) × (calls : RowCalls X) × (failed : NextRowFails form recording_step gives text (change_with_bases (answers, []) ([], calls) outside) fault)
+    (answers : List Answer) × (calls : RowCalls X)
+    × (failed : NextRowFails form recording_step gives text (change_with_bases (answers, []) ([], calls) outside) fault)
     × (script.0 ≡ calls ++ ((failed.moment, (failed.command, record { batch = failed.stopped.name; row = fault.rows + 1 })) ∷ []))
     × (script.1 ≡ map Did answers ++ (Failed failed.cause ∷ []))
 
@@ -163,7 +173,8 @@ BatchMatchesFailedScript {X = X} form gives text script outside (Err fault) =
 -- and has a record after it is called once, in order, row n of batch NAME under the key (NAME, n),
 -- and one more call may have failed at the end. The clock was read exactly once for each call. The
 -- lines and the result follow from the outcomes.
-abbrev pub BatchMatchesScript : {X C : Type 0} → (Fields → ReadResult X) → (C → ℕ → C → Type 0) → Option Text → RowCallScript X → ClockAndWriterChange C → Result Counts BatchFault → Type 0
+abbrev pub BatchMatchesScript : {X C : Type 0} → (Fields → ReadResult X) → (C → ℕ → C → Type 0) → Option Text → RowCallScript X → ClockAndWriterChange C
+    → Result Counts BatchFault → Type 0
 BatchMatchesScript form gives text script outside result =
     ClockReturnsInOrder gives outside.clock (map (λ call. call.0) script.0) outside.later
     × (BatchMatchesAnsweredScript form gives text script outside result ⊎ BatchMatchesFailedScript form gives text script outside result)
@@ -171,42 +182,51 @@ BatchMatchesScript form gives text script outside result =
 -- The desk changed from `first` to `last` only by the calls of a script, with their outcomes, and
 -- the script is that of the batch (`BatchMatchesScript`). It does not depend on the disk
 -- assumption.
-abbrev pub ChangesOnlyByRowCalls : {D X C : Type 0} → RowCallRelation D X → (Fields → ReadResult X) → (C → ℕ → C → Type 0) → Option Text → D → D → ClockAndWriterChange C → Result Counts BatchFault → Type 0
+abbrev pub ChangesOnlyByRowCalls : {D X C : Type 0} → RowCallRelation D X → (Fields → ReadResult X) → (C → ℕ → C → Type 0) → Option Text → D → D
+    → ClockAndWriterChange C → Result Counts BatchFault → Type 0
 ChangesOnlyByRowCalls {X = X} acts form gives text first last outside result =
     (script : RowCallScript X) × IsCallSequence acts first script.0 script.1 last × BatchMatchesScript form gives text script outside result
 
 -- The batch refines the model: for every base that the desk represented before, the batch is
 -- answered as by `step` from this base, and the desk represents the base after it. Vacuous if the
 -- disk assumption (`honest`) fails.
-abbrev pub BatchRefinesModel : {D S X C : Type 0} → (D → Type 0) → (D → S → Type 0) → (Fields → ReadResult X) → RowStep S X → (C → ℕ → C → Type 0) → Option Text → D → D → ClockAndWriterChange C → Result Counts BatchFault → Type 0
+abbrev pub BatchRefinesModel : {D S X C : Type 0} → (D → Type 0) → (D → S → Type 0) → (Fields → ReadResult X) → RowStep S X → (C → ℕ → C → Type 0) → Option Text
+    → D → D → ClockAndWriterChange C → Result Counts BatchFault → Type 0
 BatchRefinesModel {S = S} honest stands form step gives text first last outside result =
-    honest last → (base : S) → stands first base → (after : S) × stands last after × IsBatchResult form step gives text (change_with_bases base after outside) result
+    honest last → (base : S) → stands first base
+    → (after : S) × stands last after × IsBatchResult form step gives text (change_with_bases base after outside) result
 
 -- The call of the row after the decided rows failed (`NextRowFails`), and a crash exposes only the
 -- base after the decided rows, or the base after the command of this row.
-pub record CrashMayCommitFailedRow {D S X C : Type 0} (form : Fields → ReadResult X) (step : RowStep S X) (gives : C → ℕ → C → Type 0) (leaves : D → S → S → Type 0)
+pub record CrashMayCommitFailedRow {D S X C : Type 0} (form : Fields → ReadResult X) (step : RowStep S X) (gives : C → ℕ → C → Type 0)
+    (leaves : D → S → S → Type 0)
     (text : Option Text) (span : EnvironmentChange S C) (last : D) (fault : BatchFault) : Type 0 where
   pub failed : NextRowFails form step gives text span fault
   pub may : leaves last span.after (step span.after failed.moment failed.command (record { batch = failed.stopped.name; row = fault.rows + 1 })).1
 
 -- A crash after the batch exposes only the base after it. After a fault, it may instead be that a
 -- crash also exposes the base after the row whose call failed (`CrashMayCommitFailedRow`).
-abbrev pub BoundsBatchCrashStates : {D S X C : Type 0} → (Fields → ReadResult X) → RowStep S X → (C → ℕ → C → Type 0) → (D → S → S → Type 0) → Option Text → EnvironmentChange S C → D → Result Counts BatchFault → Type 0
+abbrev pub BoundsBatchCrashStates : {D S X C : Type 0} → (Fields → ReadResult X) → RowStep S X → (C → ℕ → C → Type 0) → (D → S → S → Type 0) → Option Text
+    → EnvironmentChange S C → D → Result Counts BatchFault → Type 0
 BoundsBatchCrashStates form step gives leaves text span last (Ok counts) = leaves last span.after span.after
-BoundsBatchCrashStates form step gives leaves text span last (Err fault) = leaves last span.after span.after ⊎ CrashMayCommitFailedRow form step gives leaves text span last fault
+BoundsBatchCrashStates form step gives leaves text span last (Err fault) =
+    leaves last span.after span.after ⊎ CrashMayCommitFailedRow form step gives leaves text span last fault
 
 -- Crash safety of a batch: for every base that the desk represented before, if a crash before the
 -- batch exposed only this base, the batch is answered as by `step`, the desk represents the base
 -- after the decided rows, and a crash exposes only this base, or after a fault also the base after
 -- the row whose call failed. Vacuous if the disk assumption (`honest`) fails.
-abbrev pub IsBatchCrashSafe : {D S X C : Type 0} → (D → Type 0) → (D → S → Type 0) → (D → S → S → Type 0) → (Fields → ReadResult X) → RowStep S X → (C → ℕ → C → Type 0) → Option Text → D → D → ClockAndWriterChange C → Result Counts BatchFault → Type 0
+abbrev pub IsBatchCrashSafe : {D S X C : Type 0} → (D → Type 0) → (D → S → Type 0) → (D → S → S → Type 0) → (Fields → ReadResult X) → RowStep S X
+    → (C → ℕ → C → Type 0) → Option Text → D → D → ClockAndWriterChange C → Result Counts BatchFault → Type 0
 IsBatchCrashSafe {S = S} honest stands leaves form step gives text first last outside result =
     honest last → (base : S) → stands first base → leaves first base base → (after : S) × stands last after
-    × IsBatchResult form step gives text (change_with_bases base after outside) result × BoundsBatchCrashStates form step gives leaves text (change_with_bases base after outside) last result
+    × IsBatchResult form step gives text (change_with_bases base after outside) result
+    × BoundsBatchCrashStates form step gives leaves text (change_with_bases base after outside) last result
 
 -- The postcondition of a run of a batch: the desk changed only by the calls of its rows, the batch
 -- refines the model, and it is crash-safe.
-pub record BatchPost {D S X C : Type 0} (honest : D → Type 0) (stands : D → S → Type 0) (leaves : D → S → S → Type 0) (acts : RowCallRelation D X) (form : Fields → ReadResult X) (step : RowStep S X)
+pub record BatchPost {D S X C : Type 0} (honest : D → Type 0) (stands : D → S → Type 0) (leaves : D → S → S → Type 0) (acts : RowCallRelation D X)
+    (form : Fields → ReadResult X) (step : RowStep S X)
     (gives : C → ℕ → C → Type 0) (text : Option Text) (first last : D) (outside : ClockAndWriterChange C) (result : Result Counts BatchFault) : Type 0 where
   pub changed_only_by_calls : ChangesOnlyByRowCalls acts form gives text first last outside result
   pub refines_model : BatchRefinesModel honest stands form step gives text first last outside result

@@ -16,7 +16,8 @@ use crate::answer::{RowAnswer, execute_row};
 use crate::counts::Counts;
 use crate::lines::{end_line_of_counts, row_answer_line};
 use crate::records::{
-    MAXIMUM_INPUT_BYTES, begins_with_end_field, batch_name_in_header, is_correct_end_record, new_record_reader, read_record,
+    MAXIMUM_INPUT_BYTES, batch_name_in_header, begins_with_end_field, is_correct_end_record,
+    new_record_reader, read_record,
 };
 use crate::rows::Rows;
 use brk_io::{BatchFault, Clock, FaultKind, write_all_bytes};
@@ -142,7 +143,9 @@ fn execute_rows_and_write_lines<R: Read, W: Write, C: Clock, D: Rows>(
     }
     for settled in 0..MAXIMUM_INPUT_BYTES {
         if begins_with_end_field(&row) {
-            if let Err(kind) = check_end_record_and_write_end_line(alloc, writer, &row, settled, counts) {
+            if let Err(kind) = check_end_record_and_write_end_line(
+                alloc, writer, &row, settled, counts,
+            ) {
                 return Err(BatchFault {
                     rows: settled,
                     kind,
@@ -206,7 +209,14 @@ pub fn execute_batch_on_desk<R: Read + Drop, W: Write, C: Clock, D: Rows>(
 {
     let mut records = new_record_reader(alloc, reader);
     match read_batch_name(alloc, &mut records) {
-        Ok(name) => execute_rows_and_write_lines::<Take<R>, W, C, D>(alloc, &mut records, &name, writer, clock, desk),
+        Ok(name) => execute_rows_and_write_lines::<Take<R>, W, C, D>(
+            alloc,
+            &mut records,
+            &name,
+            writer,
+            clock,
+            desk,
+        ),
         Err(kind) => Err(BatchFault { rows: 0, kind }),
     }
 }

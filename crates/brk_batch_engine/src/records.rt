@@ -19,8 +19,8 @@ use std::io::{Read, Take};
 /// The greatest number of bytes of an input that are read. The rest of a longer input is ignored.
 pub const MAXIMUM_INPUT_BYTES: u64 = 67_108_864;
 
-/// Returns a reader of the records in the first `MAXIMUM_INPUT_BYTES` bytes of an input. Records are
-/// comma-separated, have any number of fields, and none of them is a header row.
+/// Returns a reader of the records in the first `MAXIMUM_INPUT_BYTES` bytes of an input. Records
+/// are comma-separated, have any number of fields, and none of them is a header row.
 pub fn new_record_reader<R: Read + Drop>(alloc: Global, reader: R) -> Reader<Take<R>>
     ensures setup { IsBatchReader result }
     ensures start { ReaderIsAfterRecords (option_map input_text (R.remaining reader)) [] (reader_state result) (source_of (take_remaining R.remaining) result) }

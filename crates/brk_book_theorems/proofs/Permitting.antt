@@ -1,4 +1,5 @@
--- The permission of an account for the executor's tax id decides whether the account's permissions name the executor.
+-- The permission of an account for the executor's tax id decides whether the account's permissions
+-- name the executor.
 use Rattle.std.proofs.Common.{◌≡◌, ℕ, ◌==◌, ◌&&◌, Bool, true, false, cond, List, [], ◌∷◌, refl, sym, ◌∙◌, ap, filter, Some}
 use Rattle.std.specs.Prelude.{◌||◌, find, bytes_eq, option_to_list}
 use Rattle.std.specs.List.{AllByRecursion, list_any}

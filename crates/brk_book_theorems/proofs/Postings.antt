@@ -1,4 +1,5 @@
--- Postings with one more among them, and their rows: the one with the last stamp has the last number.
+-- Postings with one more among them, and their rows: the one with the last stamp has the last
+-- number.
 use Rattle.std.proofs.Common.{◌≡◌, ◌<◌, ◌≤◌, ℕ, ◌+◌, ◌==◌, Bool, true, false, cond, List, [], ◌∷◌, ◌++◌, refl, sym, ◌∙◌, ap, subst, map, filter, length, arith, ℤ, ◌+ℤ◌, Option, Some, None}
 use Rattle.std.specs.Prelude.{nat_lt}
 use Rattle.std.specs.List.{AllByRecursion}

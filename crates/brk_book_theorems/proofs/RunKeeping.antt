@@ -174,7 +174,8 @@ books_command base now (SetOneDay day) = books_one_day base now day
 
 -- ---- a call
 
--- what holds of the base after each accepted command, where it holds before, holds of it after a call
+-- what holds of the base after each accepted command, where it holds before, holds of it after a
+-- call
 acted_keeps : (P : Base → Type 0) (base : Base) (now : ℕ) (command : Command) (key : Option Key) → ((after : Base) (reply : Reply) → P after → P (base_with_stored_reply key command reply after))
     → P base → (refusal_of_command base now command ≡ None → P (base_after_command base now command)) → P (answer_and_base_of_step base key command (step base now command)).1
 unfolding step

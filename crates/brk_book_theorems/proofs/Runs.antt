@@ -1,4 +1,5 @@
--- The shares that deals leave are runs of those that each deal opened, and a run is told by its lot.
+-- The shares that deals leave are runs of those that each deal opened, and a run is told by its
+-- lot.
 use Rattle.std.proofs.Common.{◌≡◌, ℕ, ◌-◌, ◌==◌, zero, suc, Bool, true, false, cond, List, [], ◌∷◌, ◌++◌, refl, sym, ◌∙◌, ap, subst, length, take, drop, replicate, arith, pos, ◌+ℤ◌}
 use Rattle.std.specs.Prelude.{fold}
 use Rattle.std.specs.List.{AllByRecursion}

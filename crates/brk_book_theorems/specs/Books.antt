@@ -59,7 +59,8 @@ TradeStampIsAtMostLast (Some last) t = last_status_stamp_of_trade t ≤ last
 -- No two trades of the list have the same stamp of their last status change.
 abbrev pub HasDistinctLastStatusStamps : List Trade → Type 0
 HasDistinctLastStatusStamps [] = ⊤
-HasDistinctLastStatusStamps (t ∷ ts) = AllByRecursion (λ u. (last_status_stamp_of_trade u == last_status_stamp_of_trade t) ≡ false) ts × HasDistinctLastStatusStamps ts
+HasDistinctLastStatusStamps (t ∷ ts) =
+    AllByRecursion (λ u. (last_status_stamp_of_trade u == last_status_stamp_of_trade t) ≡ false) ts × HasDistinctLastStatusStamps ts
 
 -- The account of the movement is one of `accounts`.
 abbrev pub MovementAccountExists : List Account → Movement → Type 0
@@ -78,7 +79,8 @@ HasLastStatusAtOtherStamp stamp t = (last_status_stamp_of_trade t == stamp) ≡ 
 -- status change of a trade of `done`.
 abbrev pub HasDistinctMovementStamps : List Trade → List Movement → Type 0
 HasDistinctMovementStamps done [] = ⊤
-HasDistinctMovementStamps done (m ∷ ms) = AllByRecursion (HasLastStatusAtOtherStamp m.stamp) done × AllByRecursion (λ n. (n.stamp == m.stamp) ≡ false) ms × HasDistinctMovementStamps done ms
+HasDistinctMovementStamps done (m ∷ ms) =
+    AllByRecursion (HasLastStatusAtOtherStamp m.stamp) done × AllByRecursion (λ n. (n.stamp == m.stamp) ≡ false) ms × HasDistinctMovementStamps done ms
 
 -- The part of the books invariant that concerns movements. The accounts of `all_movements` exist.
 -- Their stamps are at most the last stamp `last`, and differ from one another and from the stamps
@@ -118,7 +120,8 @@ TradeSecurityExists securities t = is_some (security_with_symbol_in_list securit
 
 -- The part of the books invariant that concerns accounts and permissions: brokers and customers of
 -- accounts exist, and ids of accounts and permissions of an account are unique.
-pub record AccountBooksInvariant (all_brokers : List Broker) (all_customers : List Customer) (all_accounts : List Account) (all_permissions : List Permission) : Type 0 where
+pub record AccountBooksInvariant (all_brokers : List Broker) (all_customers : List Customer) (all_accounts : List Account)
+    (all_permissions : List Permission) : Type 0 where
   -- The broker and the customer of each account exist.
   pub brokers : AllByRecursion (AccountBrokerExists all_brokers) all_accounts
   pub customers : AllByRecursion (AccountCustomerExists all_customers) all_accounts

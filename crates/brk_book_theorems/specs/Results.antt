@@ -37,7 +37,8 @@ pub record ResultRows : Type 0 where
 -- The tables with the trade of the row `r` completed at its stamp, price, commission and tax, and
 -- with its completion added to TRADE_HISTORY.
 abbrev pub tables_with_trade_completed_and_history : TradeRow → Tables → Tables
-tables_with_trade_completed_and_history r t = tables_with_history_row (history_row_of_status r.id Completed r.stamp) (tables_with_trade_completed r.id r.stamp (unwrap_or r.price 0) r.commission r.tax t)
+tables_with_trade_completed_and_history r t =
+    tables_with_history_row (history_row_of_status r.id Completed r.stamp) (tables_with_trade_completed r.id r.stamp (unwrap_or r.price 0) r.commission r.tax t)
 
 -- ---- its lots
 
@@ -53,7 +54,8 @@ tables_with_lot_reduced touch t = if is_zero touch.after then tables_without_lot
 -- The tables with each lot of `touched` reduced or deleted, in order, and a row of HOLDING_HISTORY
 -- by the trade `trade` added for it.
 abbrev pub tables_with_lots_touched : ℕ → List Touch → Tables → Tables
-tables_with_lots_touched trade touched t = fold (λ t touch. tables_with_lot_change (history_row_of_touch trade touch) (tables_with_lot_reduced touch t)) t touched
+tables_with_lots_touched trade touched t =
+    fold (λ t touch. tables_with_lot_change (history_row_of_touch trade touch) (tables_with_lot_reduced touch t)) t touched
 
 -- The row of HOLDING of the lot `lot`, with the account and the symbol of the trade `r`.
 abbrev pub holding_row_of_lot : TradeRow → Lot → HoldingRow

@@ -18,19 +18,22 @@ base_after_command base now command = base_after_accepted_command base (stamp_of
 -- If the base satisfies the books invariant and the command is accepted at the clock reading `now`,
 -- the base after the command satisfies the books invariant. Vacuous otherwise.
 abbrev pub PreservesBooksInvariant : Base → ℕ → Command → Type 0
-PreservesBooksInvariant base now command = BooksInvariant base → refusal_of_command base now command ≡ None → BooksInvariant (base_after_command base now command)
+PreservesBooksInvariant base now command =
+    BooksInvariant base → refusal_of_command base now command ≡ None → BooksInvariant (base_after_command base now command)
 
 -- If the base satisfies the books invariant and the command is accepted at the clock reading `now`,
 -- the tables after it are the tables before it with `change` applied and the command's stamp set as
 -- the last stamp. Vacuous otherwise.
 abbrev pub HasTableEffect : Base → ℕ → Command → (Tables → Tables) → Type 0
 HasTableEffect base now command change =
-    BooksInvariant base → refusal_of_command base now command ≡ None → sheets (base_after_command base now command) ≡ tables_with_last_stamp (stamp_of_next_command base now) (change (sheets base))
+    BooksInvariant base → refusal_of_command base now command ≡ None
+    → sheets (base_after_command base now command) ≡ tables_with_last_stamp (stamp_of_next_command base now) (change (sheets base))
 
 -- The tables with the security of the listing `l` and its row of LAST_TRADE at the stamp `stamp`
 -- added.
 abbrev pub tables_with_listing : ℕ → Listing → Tables → Tables
-tables_with_listing stamp l t = tables_with_last_trade (last_trade_row (security_of_listing stamp l)) (tables_with_security (security_row (security_of_listing stamp l)) t)
+tables_with_listing stamp l t =
+    tables_with_last_trade (last_trade_row (security_of_listing stamp l)) (tables_with_security (security_row (security_of_listing stamp l)) t)
 
 -- The row of KEPT that stores the text of the command and of its reply under `key`.
 abbrev pub stored_reply_row : Key → Command → Reply → Kept

@@ -14,7 +14,8 @@ use Rattle.brk_book_theorems.specs.TradeReads.{lots_of_position, summary_row_of_
 
 -- True if the trade `r` is completed and the broker of its account is `broker`.
 abbrev pub is_completed_trade_of_broker : Tables → ℕ → TradeRow → Bool
-is_completed_trade_of_broker t broker r = is_same_trade_status r.status Completed && (option_map_or (λ a. a.broker) (account_row_with_id t r.account) 0 == broker)
+is_completed_trade_of_broker t broker r =
+    is_same_trade_status r.status Completed && (option_map_or (λ a. a.broker) (account_row_with_id t r.account) 0 == broker)
 
 -- The completed trades of the broker's accounts, in the order of the table.
 abbrev pub completed_trade_rows_of_broker : Tables → ℕ → List TradeRow

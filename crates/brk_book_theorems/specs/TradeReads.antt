@@ -49,7 +49,8 @@ requests_of_symbol t symbol = filter (λ r. bytes_eq r.symbol symbol) t.requests
 
 -- The rows of HOLDING of the account in the symbol, the oldest first.
 abbrev pub holding_rows_of_position : Tables → ℕ → Text → List HoldingRow
-holding_rows_of_position t account symbol = rows_sorted_by_key (λ r. number r.stamp ∷ number r.trade ∷ []) (filter (λ r. (r.account == account) && bytes_eq r.symbol symbol) t.holdings)
+holding_rows_of_position t account symbol =
+    rows_sorted_by_key (λ r. number r.stamp ∷ number r.trade ∷ []) (filter (λ r. (r.account == account) && bytes_eq r.symbol symbol) t.holdings)
 
 -- The shares of the lot: as many equal shares as the absolute value of its quantity.
 abbrev pub shares_of_lot_row : HoldingRow → List Share

@@ -25,14 +25,16 @@ tables_with_request_if_pending waits r t = if waits then tables_with_request r t
 -- The tables with the trade `r` and its first status added, and also its request if it is pending
 -- (`waits`).
 abbrev pub tables_after_order : TradeRow → (waits : Bool) → (broker : ℕ) → Tables → Tables
-tables_after_order r waits broker t = tables_with_request_if_pending waits (request_row_of_pending_trade r broker) (tables_with_history_row (history_row_of_status r.id r.status r.stamp) (tables_with_trade r t))
+tables_after_order r waits broker t =
+    tables_with_request_if_pending waits (request_row_of_pending_trade r broker) (tables_with_history_row (history_row_of_status r.id r.status r.stamp) (tables_with_trade r t))
 
 -- ---- a trade that is no longer pending
 
 -- The tables with the trade's status set to `status` at the stamp `stamp`, the row of TRADE_HISTORY
 -- added, and its request deleted.
 abbrev pub tables_after_change_from_pending : ℕ → Status → ℕ → Tables → Tables
-tables_after_change_from_pending id status stamp t = tables_without_request id (tables_with_history_row (history_row_of_status id status stamp) (tables_with_trade_status id status stamp t))
+tables_after_change_from_pending id status stamp t =
+    tables_without_request id (tables_with_history_row (history_row_of_status id status stamp) (tables_with_trade_status id status stamp t))
 
 -- The tables with the trade canceled at the stamp `stamp`: its status set, a row of TRADE_HISTORY
 -- added, and its request deleted.
@@ -77,4 +79,5 @@ tables_after_feed stamp ticks t = fold (λ t tick. tables_after_tick stamp tick 
 -- after the ticks before it.
 abbrev pub trade_ids_triggered_by_feed : ℕ → List Tick → Tables → List ℕ
 trade_ids_triggered_by_feed stamp [] t = []
-trade_ids_triggered_by_feed stamp (tick ∷ ticks) t = trade_ids_triggered_by_tick tick t ++ trade_ids_triggered_by_feed stamp ticks (tables_after_tick stamp tick t)
+trade_ids_triggered_by_feed stamp (tick ∷ ticks) t =
+    trade_ids_triggered_by_tick tick t ++ trade_ids_triggered_by_feed stamp ticks (tables_after_tick stamp tick t)

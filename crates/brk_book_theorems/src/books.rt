@@ -58,5 +58,6 @@ pub fn movements_and_settlement_day_preserve_books_invariant()
 /// Proves that storing a command and its reply, under a key or under none, preserves the books
 /// invariant.
 pub fn stored_replies_preserve_books_invariant()
-    ensures { (base : Base) (key : Option Key) (command : Command) (reply : Reply) → BooksInvariant base → BooksInvariant (base_with_stored_reply key command reply base) }
+    ensures { (base : Base) (key : Option Key) (command : Command) (reply : Reply) → BooksInvariant base
+        → BooksInvariant (base_with_stored_reply key command reply base) }
 {}

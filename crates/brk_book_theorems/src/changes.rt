@@ -34,7 +34,8 @@ pub fn reference_records_add_only_their_rows()
     ensures customer { (base : Base) (now : ℕ) (c : Customer) → HasTableEffect base now (AddCustomer c) (tables_with_customer c) }
     ensures account { (base : Base) (now : ℕ) (a : Account) → HasTableEffect base now (AddAccount a) (tables_with_account a) }
     ensures permission { (base : Base) (now : ℕ) (p : Permission) → HasTableEffect base now (AddPermission p) (tables_with_permission p) }
-    ensures security { (base : Base) (now : ℕ) (l : Listing) → HasTableEffect base now (AddSecurity l) (tables_with_listing (stamp_of_next_command base now) l) }
+    ensures security { (base : Base) (now : ℕ) (l : Listing)
+        → HasTableEffect base now (AddSecurity l) (tables_with_listing (stamp_of_next_command base now) l) }
     ensures charge { (base : Base) (now : ℕ) (c : Charge) → HasTableEffect base now (AddCharge c) (tables_with_charge c) }
     ensures band { (base : Base) (now : ℕ) (b : Band) → HasTableEffect base now (AddBand b) (tables_with_band b) }
     ensures tax_rate { (base : Base) (now : ℕ) (r : TaxRate) → HasTableEffect base now (AddTaxRate r) (tables_with_tax_rate r) }
@@ -60,7 +61,8 @@ pub fn cancels_change_only_their_rows()
 /// trades whose requests the price triggers, and sets the last stamp. No other row changes, if the
 /// base satisfies the books invariant. The submitted trades are the triggered trades of the model.
 pub fn feeds_change_only_their_rows()
-    ensures rows { (base : Base) (now : ℕ) (ticks : List Tick) → HasTableEffect base now (FeedTicks ticks) (tables_after_feed (stamp_of_next_command base now) ticks) }
+    ensures rows { (base : Base) (now : ℕ) (ticks : List Tick)
+        → HasTableEffect base now (FeedTicks ticks) (tables_after_feed (stamp_of_next_command base now) ticks) }
     ensures triggered { (base : Base) (now : ℕ) (ticks : List Tick) → BooksInvariant base → refusal_of_command base now (FeedTicks ticks) ≡ None
         → triggered_trade_ids (stamp_of_next_command base now) base ticks ≡ trade_ids_triggered_by_feed (stamp_of_next_command base now) ticks (sheets base) }
 {}

@@ -33,9 +33,11 @@ ghost use Rattle.brk_book_theorems.specs.Trading.{trade_ids_triggered_by_tick};
 /// Proves that the row with an id, of a broker, a customer, an account or a tax rate, is the row of
 /// the base's record with this id, and that neither exists without the other.
 pub fn rows_by_id_match_records()
-    ensures broker { (base : Base) (id : ℕ) → find (λ r. r.id == id) (sheets base).brokers ≡ option_map (broker_row base.accounts (completed_trades base)) (broker_with_id base id) }
+    ensures broker { (base : Base) (id : ℕ)
+        → find (λ r. r.id == id) (sheets base).brokers ≡ option_map (broker_row base.accounts (completed_trades base)) (broker_with_id base id) }
     ensures customer { (base : Base) (id : ℕ) → find (λ r. r.id == id) (sheets base).customers ≡ customer_with_id base id }
-    ensures account { (base : Base) (id : ℕ) → find (λ r. r.id == id) (sheets base).accounts ≡ option_map (account_row base.accounts (postings_of_base base)) (account_with_id base id) }
+    ensures account { (base : Base) (id : ℕ)
+        → find (λ r. r.id == id) (sheets base).accounts ≡ option_map (account_row base.accounts (postings_of_base base)) (account_with_id base id) }
     ensures tax_rate { (base : Base) (id : ℕ) → find (λ r. r.id == id) (sheets base).tax_rates ≡ tax_rate_record_with_id base id }
 {}
 
@@ -44,12 +46,17 @@ pub fn rows_by_id_match_records()
 /// and a customer with a tax.
 pub fn rows_by_key_match_records()
     ensures permission { (base : Base) (account : ℕ) (tax_id : Text)
-        → find (λ r. (r.account == account) && bytes_eq r.tax_id tax_id) (sheets base).permissions ≡ find (λ p. (p.account == account) && bytes_eq p.tax_id tax_id) base.permissions }
-    ensures security { (base : Base) (symbol : Text) → find (λ r. bytes_eq r.symbol symbol) (sheets base).securities ≡ option_map security_row (security_with_symbol base symbol) }
-    ensures last_trade { (base : Base) (symbol : Text) → find (λ r. bytes_eq r.symbol symbol) (sheets base).last_trades ≡ option_map last_trade_row (security_with_symbol base symbol) }
-    ensures charge { (base : Base) (kind : TradeType) (tier : ℕ) → find (λ r. is_same_trade_type r.kind kind && (r.tier == tier)) (sheets base).charges ≡ charge_for_type_and_tier base kind tier }
+        → find (λ r. (r.account == account) && bytes_eq r.tax_id tax_id) (sheets base).permissions
+        ≡ find (λ p. (p.account == account) && bytes_eq p.tax_id tax_id) base.permissions }
+    ensures security { (base : Base) (symbol : Text)
+        → find (λ r. bytes_eq r.symbol symbol) (sheets base).securities ≡ option_map security_row (security_with_symbol base symbol) }
+    ensures last_trade { (base : Base) (symbol : Text)
+        → find (λ r. bytes_eq r.symbol symbol) (sheets base).last_trades ≡ option_map last_trade_row (security_with_symbol base symbol) }
+    ensures charge { (base : Base) (kind : TradeType) (tier : ℕ)
+        → find (λ r. is_same_trade_type r.kind kind && (r.tier == tier)) (sheets base).charges ≡ charge_for_type_and_tier base kind tier }
     ensures customer_tax { (base : Base) (customer tax : ℕ)
-        → find (λ r. (r.customer == customer) && (r.tax == tax)) (sheets base).customer_taxes ≡ find (λ x. (x.customer == customer) && (x.tax == tax)) base.customer_taxes }
+        → find (λ r. (r.customer == customer) && (r.tax == tax)) (sheets base).customer_taxes
+        ≡ find (λ x. (x.customer == customer) && (x.tax == tax)) base.customer_taxes }
 {}
 
 /// Proves that a band shares a quantity with a band of the base that has its tier, type and
@@ -61,7 +68,8 @@ pub fn band_overlaps_match_the_base()
 /// Proves that if a list has the tax rate of each tax that a customer pays in the tables, the rates
 /// of the list sum to the customer's rates in the tables.
 pub fn tax_rates_sum_to_customer_rates()
-    ensures { (t : Tables) (customer : ℕ) (taxes : List Tax) → map (λ tax. Some (abstract_tax_rate tax)) taxes ≡ map (λ r. tax_rate_with_id t r.tax) (filter (λ r. r.customer == customer) t.customer_taxes)
+    ensures { (t : Tables) (customer : ℕ) (taxes : List Tax)
+        → map (λ tax. Some (abstract_tax_rate tax)) taxes ≡ map (λ r. tax_rate_with_id t r.tax) (filter (λ r. r.customer == customer) t.customer_taxes)
         → sum_by (λ tax. tax.rate) taxes ≡ customer_tax_rate_sum t customer }
 {}
 
@@ -89,7 +97,8 @@ pub fn last_stamp_matches_the_base()
 /// Proves that the row of KEPT with a key is the row that the base stores under the key, and that
 /// neither exists without the other.
 pub fn stored_replies_match_the_base()
-    ensures { (base : Base) (key : Key) → find (λ k. bytes_eq k.key.batch key.batch && (k.key.row == key.row)) (sheets base).kept ≡ stored_row_with_key base key }
+    ensures { (base : Base) (key : Key)
+        → find (λ k. bytes_eq k.key.batch key.batch && (k.key.row == key.row)) (sheets base).kept ≡ stored_row_with_key base key }
 {}
 
 /// Proves that the row of TRADE with a number is the row of the base's trade with this number, and
@@ -114,7 +123,8 @@ pub fn cash_row_counts_match_the_base()
 /// Proves that the requests that a tick triggers belong to the trades that the tick triggers in the
 /// base, in ascending order of their numbers, if the base satisfies the books invariant.
 pub fn triggered_requests_match_trades()
-    ensures trades { (base : Base) (tick : Tick) → BooksInvariant base → trade_ids_triggered_by_tick tick (sheets base) ≡ map (λ t. t.id) (filter (is_triggered_by_tick tick) base.trades) }
+    ensures trades { (base : Base) (tick : Tick) → BooksInvariant base
+        → trade_ids_triggered_by_tick tick (sheets base) ≡ map (λ t. t.id) (filter (is_triggered_by_tick tick) base.trades) }
     ensures ascending { (base : Base) (tick : Tick) → BooksInvariant base → is_strictly_ascending (trade_ids_triggered_by_tick tick (sheets base)) ≡ true }
 {}
 
@@ -127,32 +137,37 @@ pub fn requests_belong_to_distinct_trades()
 /// is permitted, if the base satisfies the books invariant.
 pub fn one_permission_decides_on_executor()
     ensures { (base : Base) (account : ℕ) (c : Customer) (e : Executor) → BooksInvariant base
-        → is_customer_or_has_permission c (permission_list_for_tax_id (sheets base) account e.tax_id) e ≡ is_customer_or_has_permission c (filter (λ p. p.account == account) base.permissions) e }
+        → is_customer_or_has_permission c (permission_list_for_tax_id (sheets base) account e.tax_id) e
+        ≡ is_customer_or_has_permission c (filter (λ p. p.account == account) base.permissions) e }
 {}
 
 /// Proves that an executor is permitted by the permissions of an account in the tables if and only
 /// if by its permissions in the base.
 pub fn account_permissions_match_the_base()
     ensures { (base : Base) (account : ℕ) (c : Customer) (e : Executor)
-        → is_customer_or_has_permission c (permissions_of_account (sheets base) account) e ≡ is_customer_or_has_permission c (filter (λ p. p.account == account) base.permissions) e }
+        → is_customer_or_has_permission c (permissions_of_account (sheets base) account) e
+        ≡ is_customer_or_has_permission c (filter (λ p. p.account == account) base.permissions) e }
 {}
 
 /// Proves that the band of a quantity in the tables, by tier, type and exchange, equals the band in
 /// the base, if the base satisfies the books invariant.
 pub fn commission_bands_match_the_base()
-    ensures { (base : Base) (tier : ℕ) (kind : TradeType) (exchange : Text) (qty : ℕ) → BooksInvariant base → band_of_quantity (sheets base) tier kind exchange qty ≡ commission_band_for_quantity base tier kind exchange qty }
+    ensures { (base : Base) (tier : ℕ) (kind : TradeType) (exchange : Text) (qty : ℕ) → BooksInvariant base
+        → band_of_quantity (sheets base) tier kind exchange qty ≡ commission_band_for_quantity base tier kind exchange qty }
 {}
 
 /// Proves that the assets of an account in the base equal the balance of its row plus the market
 /// value of its summaries at last prices, if the base satisfies the books invariant.
 pub fn assets_equal_balance_plus_holdings()
-    ensures { (base : Base) (id : ℕ) (r : AccountRow) → BooksInvariant base → account_row_with_id (sheets base) id ≡ Some r → r.balance +ℤ market_value_of_account_row (sheets base) r ≡ assets_of_account base id }
+    ensures { (base : Base) (id : ℕ) (r : AccountRow) → BooksInvariant base → account_row_with_id (sheets base) id ≡ Some r
+        → r.balance +ℤ market_value_of_account_row (sheets base) r ≡ assets_of_account base id }
 {}
 
 /// Proves that the shares of the lots of an account in a symbol, the oldest first, equal the shares
 /// that the account holds in the base, if the base satisfies the books invariant.
 pub fn lot_shares_match_the_base()
-    ensures { (base : Base) (account : ℕ) (symbol : Text) → BooksInvariant base → flat_map shares_of_lot_row (holding_rows_of_position (sheets base) account symbol) ≡ shares_of_position (completed_trades base) account symbol }
+    ensures { (base : Base) (account : ℕ) (symbol : Text) → BooksInvariant base
+        → flat_map shares_of_lot_row (holding_rows_of_position (sheets base) account symbol) ≡ shares_of_position (completed_trades base) account symbol }
 {}
 
 /// Proves that the lots of an account in a symbol, the oldest first, form a position whose shares
@@ -160,8 +175,10 @@ pub fn lot_shares_match_the_base()
 /// next stamp, and none by a trade that is not completed.
 pub fn lots_form_a_position()
     ensures position { (base : Base) (account : ℕ) (symbol : Text) → BooksInvariant base → IsPosition (lots_of_position (sheets base) account symbol) }
-    ensures shares { (base : Base) (account : ℕ) (symbol : Text) → BooksInvariant base → shares_of_lots (lots_of_position (sheets base) account symbol) ≡ shares_of_position (completed_trades base) account symbol }
-    ensures later { (base : Base) (now account : ℕ) (symbol : Text) → BooksInvariant base → AreOpenedBeforeStamp (stamp_of_next_command base now) (lots_of_position (sheets base) account symbol) }
+    ensures shares { (base : Base) (account : ℕ) (symbol : Text) → BooksInvariant base
+        → shares_of_lots (lots_of_position (sheets base) account symbol) ≡ shares_of_position (completed_trades base) account symbol }
+    ensures later { (base : Base) (now account : ℕ) (symbol : Text) → BooksInvariant base
+        → AreOpenedBeforeStamp (stamp_of_next_command base now) (lots_of_position (sheets base) account symbol) }
     ensures fresh { (base : Base) (id account : ℕ) (symbol : Text) (t : Trade) → BooksInvariant base → trade_with_id base id ≡ Some t → is_completed t ≡ false
         → AreOpenedByOtherTrades id (lots_of_position (sheets base) account symbol) }
 {}
@@ -169,9 +186,12 @@ pub fn lots_form_a_position()
 /// Proves that the summary row of an existing account in an existing symbol has the quantity of the
 /// base, and that there is no row if that is 0, if the base satisfies the books invariant.
 pub fn summary_rows_match_the_base()
-    ensures row { (base : Base) (account : ℕ) (symbol : Text) → BooksInvariant base → is_some (account_with_id base account) ≡ true → is_some (security_with_symbol base symbol) ≡ true
-        → summary_row_of_position (sheets base) account symbol ≡ summary_row_if_nonzero account symbol (holding_summary_quantity (completed_trades base) account symbol) }
-    ensures number { (base : Base) (account : ℕ) (symbol : Text) → BooksInvariant base → is_some (account_with_id base account) ≡ true → is_some (security_with_symbol base symbol) ≡ true
+    ensures row { (base : Base) (account : ℕ) (symbol : Text) → BooksInvariant base → is_some (account_with_id base account) ≡ true
+        → is_some (security_with_symbol base symbol) ≡ true
+        → summary_row_of_position (sheets base) account symbol
+        ≡ summary_row_if_nonzero account symbol (holding_summary_quantity (completed_trades base) account symbol) }
+    ensures number { (base : Base) (account : ℕ) (symbol : Text) → BooksInvariant base → is_some (account_with_id base account) ≡ true
+        → is_some (security_with_symbol base symbol) ≡ true
         → summary_quantity_or_zero (summary_row_of_position (sheets base) account symbol) ≡ holding_summary_quantity (completed_trades base) account symbol }
 {}
 

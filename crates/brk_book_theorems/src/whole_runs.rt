@@ -61,7 +61,8 @@ pub fn lot_sums_match_deals()
     ensures costs { (base after : Base) (calls : List (ℕ × Call)) (outcomes : List Outcome) (account : ℕ) (symbol : Text)
         → BooksInvariant base → Run base calls outcomes after
         → lot_cost_basis (lots_of_position (sheets after) account symbol)
-        ≡ realised_gain_sum (deals_of_position (completed_trades after) account symbol) [] +ℤ purchases_minus_sales (deals_of_position (completed_trades after) account symbol) }
+        ≡ realised_gain_sum (deals_of_position (completed_trades after) account symbol) []
+        +ℤ purchases_minus_sales (deals_of_position (completed_trades after) account symbol) }
 {}
 
 /// Proves that the sums in the tables of a base that satisfies the books invariant match their

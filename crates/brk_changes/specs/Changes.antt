@@ -82,7 +82,8 @@ tables_without_request trade t = record t { requests = filter (λ r. not (r.trad
 -- those of `l`. They are unchanged if the symbol has no row.
 abbrev pub tables_with_last_trade_replaced : LastTradeRow → Tables → Tables
 tables_with_last_trade_replaced l t =
-    record t { last_trades = update_where (λ r. bytes_eq r.symbol l.symbol) (λ r. record r { stamp = l.stamp; price = l.price; volume = l.volume }) t.last_trades }
+    record t
+    { last_trades = update_where (λ r. bytes_eq r.symbol l.symbol) (λ r. record r { stamp = l.stamp; price = l.price; volume = l.volume }) t.last_trades }
 
 -- The tables `t` with the status of the trade `id` set to `Completed` and its stamp, price,
 -- commission and tax to these. They are unchanged if there is no such trade.

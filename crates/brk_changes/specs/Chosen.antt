@@ -14,9 +14,11 @@ first_twenty_completed_trade_rows test t = take 20 (trade_rows_oldest_first (fil
 -- The first twenty trades of `account` that were completed from the stamp `first` to the stamp
 -- `last`, both included, sorted by stamp, then by id, ascending.
 abbrev pub first_twenty_completed_trade_rows_of_account : (account first last : ℕ) → Tables → List TradeRow
-first_twenty_completed_trade_rows_of_account account first last = first_twenty_completed_trade_rows (λ r. (r.account == account) && row_stamp_is_between first last r)
+first_twenty_completed_trade_rows_of_account account first last =
+    first_twenty_completed_trade_rows (λ r. (r.account == account) && row_stamp_is_between first last r)
 
 -- The first twenty cash trades of `symbol` that were completed from the stamp `first` to the stamp
 -- `last`, both included, sorted by stamp, then by id, ascending.
 abbrev pub first_twenty_completed_cash_trade_rows_of_symbol : Text → (first last : ℕ) → Tables → List TradeRow
-first_twenty_completed_cash_trade_rows_of_symbol symbol first last = first_twenty_completed_trade_rows (λ r. (r.is_cash && bytes_eq r.symbol symbol) && row_stamp_is_between first last r)
+first_twenty_completed_cash_trade_rows_of_symbol symbol first last =
+    first_twenty_completed_trade_rows (λ r. (r.is_cash && bytes_eq r.symbol symbol) && row_stamp_is_between first last r)

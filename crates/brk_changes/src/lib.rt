@@ -24,7 +24,7 @@ pub use broker_numbers::BrokerTotals;
 pub use cash_row::CashRow;
 pub use cash_type::CashType;
 pub use change::Change;
-pub use due::{due_day_after_completion, days_to_settlement};
+pub use due::{days_to_settlement, due_day_after_completion};
 pub use history_row::HistoryRow;
 pub use holding_row::HoldingRow;
 pub use lot_change::LotChange;

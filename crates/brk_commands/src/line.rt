@@ -25,7 +25,8 @@ fn booked_reply_text(alloc: Global, stamp: Stamp) -> Result<String, AllocError>
 
 // Appends the seven fields of an estimate, each after a comma. Fails if memory runs out.
 fn append_estimate_fields(line: &mut String, estimate: &Estimate) -> Result<(), AllocError>
-    ensures { OnOk result (string_bytes line.new ≡ string_bytes line.old ++ fields_after_separators 44 (model.estimate_fields (abstract_estimate estimate.now))) }
+    ensures { OnOk result (string_bytes line.new
+        ≡ string_bytes line.old ++ fields_after_separators 44 (model.estimate_fields (abstract_estimate estimate.now))) }
 {
     write!(
         line,
@@ -43,7 +44,8 @@ fn append_estimate_fields(line: &mut String, estimate: &Estimate) -> Result<(), 
 // Returns the stamp, the id and the status of a placed order, joined by commas. Fails if memory
 // runs out.
 fn placed_order_text(alloc: Global, ordered: &Ordered) -> Result<String, AllocError>
-    ensures { IfOk result (λ line. string_bytes line ≡ model.comma_separated_text (decimal ordered.now.stamp ∷ decimal ordered.now.trade ∷ trade_status_code ordered.now.status ∷ [])) }
+    ensures { IfOk result (λ line. string_bytes line
+        ≡ model.comma_separated_text (decimal ordered.now.stamp ∷ decimal ordered.now.trade ∷ trade_status_code ordered.now.status ∷ [])) }
 {
     format!(in alloc;
         "{},{},{}",
@@ -55,7 +57,8 @@ fn placed_order_text(alloc: Global, ordered: &Ordered) -> Result<String, AllocEr
 
 // Returns the line of an `Ordered` reply. Fails if memory runs out.
 fn ordered_reply_text(alloc: Global, ordered: &Ordered) -> Result<String, AllocError>
-    ensures { IfOk result (λ line. string_bytes line ≡ model.line_text (replies.Ordered ordered.now.stamp ordered.now.trade ordered.now.status (abstract_estimate ordered.now.estimate))) }
+    ensures { IfOk result (λ line. string_bytes line
+        ≡ model.line_text (replies.Ordered ordered.now.stamp ordered.now.trade ordered.now.status (abstract_estimate ordered.now.estimate))) }
 {
     let mut line = placed_order_text(alloc, ordered)?;
     append_estimate_fields(&mut line, &ordered.estimate)?;
@@ -106,7 +109,8 @@ fn append_commission_tax_and_amount(
     line: &mut String,
     completed: &Completed,
 ) -> Result<(), AllocError>
-    ensures { OnOk result (string_bytes line.new ≡ string_bytes line.old ++ fields_after_separators 44 (take 3 (model.completion_fields (abstract_completion completed.now)))) }
+    ensures { OnOk result (string_bytes line.new
+        ≡ string_bytes line.old ++ fields_after_separators 44 (take 3 (model.completion_fields (abstract_completion completed.now)))) }
 {
     write!(
         line,
@@ -127,7 +131,8 @@ fn append_day_field(line: &mut String, day: &str) -> Result<(), AllocError>
 // Appends the buy value and the sell value of the closed shares, and the balance, each after a
 // comma. Fails if memory runs out.
 fn append_values_and_balance(line: &mut String, completed: &Completed) -> Result<(), AllocError>
-    ensures { OnOk result (string_bytes line.new ≡ string_bytes line.old ++ fields_after_separators 44 (drop 4 (model.completion_fields (abstract_completion completed.now)))) }
+    ensures { OnOk result (string_bytes line.new
+        ≡ string_bytes line.old ++ fields_after_separators 44 (drop 4 (model.completion_fields (abstract_completion completed.now)))) }
 {
     write!(
         line,

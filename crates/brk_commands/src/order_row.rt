@@ -45,7 +45,8 @@ fn first_order_fields_text(alloc: Global, order: &Order) -> Result<String, Alloc
 // Appends byte 31 and the price that an order asks for, or byte 31 alone if it asks for none. Fails
 // if memory runs out.
 fn append_price_field(row: &mut String, order_type: OrderType) -> Result<(), AllocError>
-    ensures { OnOk result (string_bytes row.new ≡ string_bytes row.old ++ fields_after_separators 31 (option_map_or model.nonnegative_cents_text (price_of_order order_type) [] ∷ [])) }
+    ensures { OnOk result (string_bytes row.new
+        ≡ string_bytes row.old ++ fields_after_separators 31 (option_map_or model.nonnegative_cents_text (price_of_order order_type) [] ∷ [])) }
 {
     match order_type.price() {
         Some(price) => write!(row, "\x1f{}", Wide::from(price)),

@@ -122,8 +122,14 @@ fn parse_customer_tax_command(fields: &[&[u8]]) -> Result<Command, Refusal>
 // Parses a command of the kind `permission`, `security`, `charge`, `band`, `taxrate` or `custtax`,
 // or of a kind of `parse_trading_or_later_kind`. Refuses any other kind with `BadText`. Fails with
 // `Memory` only.
-fn parse_other_reference_or_later_kind(alloc: Global, kind: &[u8], fields: &[&[u8]]) -> Planned<Command>
-    ensures read { IfOk result (λ read. ParsesAs abstract_command read (parse_by_first_field (other_reference_row_parsers ++ order_row_parsers ++ result_row_parsers ++ update_row_parsers ++ movement_row_parsers) (kind.now ∷ texts_of_fields fields.now))) }
+fn parse_other_reference_or_later_kind(
+    alloc: Global,
+    kind: &[u8],
+    fields: &[&[u8]],
+) -> Planned<Command>
+    ensures read { IfOk result (λ read. ParsesAs abstract_command read (parse_by_first_field (other_reference_row_parsers ++ order_row_parsers
+        ++ result_row_parsers ++ update_row_parsers ++ movement_row_parsers) (kind.now
+        ∷ texts_of_fields fields.now))) }
     ensures fault { OnErr result (result ≡ Err Memory) }
 {
     if kind == b"permission".as_slice() {

@@ -8,7 +8,7 @@ ghost use Rattle.brk_commands.specs.Commands.{abstract_command};
 use crate::command::Command;
 use crate::parse_update::parse_update_or_later_kind;
 use brk_money::{Planned, Refusal};
-use brk_orders::{parse_canceled_trade_id, parse_market_feed, parse_trade_order, parse_completion};
+use brk_orders::{parse_canceled_trade_id, parse_completion, parse_market_feed, parse_trade_order};
 use std::alloc::Global;
 
 // Parses the command of an order, or returns the refusal of malformed fields. Fails with `Memory`
@@ -62,7 +62,9 @@ pub(crate) fn parse_trading_or_later_kind(
     kind: &[u8],
     fields: &[&[u8]],
 ) -> Planned<Command>
-    ensures read { IfOk result (λ read. ParsesAs abstract_command read (parse_by_first_field (order_row_parsers ++ result_row_parsers ++ update_row_parsers ++ movement_row_parsers) (kind.now ∷ texts_of_fields fields.now))) }
+    ensures read { IfOk result (λ read. ParsesAs abstract_command read (parse_by_first_field (order_row_parsers ++ result_row_parsers ++ update_row_parsers
+        ++ movement_row_parsers) (kind.now
+        ∷ texts_of_fields fields.now))) }
     ensures fault { OnErr result (result ≡ Err Memory) }
 {
     if kind == b"order".as_slice() {

@@ -9,7 +9,9 @@ ghost use Rattle.brk_commands.specs.Commands.{abstract_command};
 use crate::command::Command;
 use crate::parse_movement::parse_movement_or_settlement_day;
 use brk_money::{Planned, Refusal};
-use brk_orders::{parse_update_of_cash_types, parse_update_of_executor_names, parse_update_of_cash_texts};
+use brk_orders::{
+    parse_update_of_cash_texts, parse_update_of_cash_types, parse_update_of_executor_names,
+};
 use std::alloc::Global;
 
 // Parses the command that updates executors' names, or returns the refusal of malformed fields.
@@ -54,7 +56,8 @@ pub(crate) fn parse_update_or_later_kind(
     kind: &[u8],
     fields: &[&[u8]],
 ) -> Planned<Command>
-    ensures read { IfOk result (λ read. ParsesAs abstract_command read (parse_by_first_field (update_row_parsers ++ movement_row_parsers) (kind.now ∷ texts_of_fields fields.now))) }
+    ensures read { IfOk result (λ read. ParsesAs abstract_command read (parse_by_first_field (update_row_parsers ++ movement_row_parsers) (kind.now
+        ∷ texts_of_fields fields.now))) }
     ensures fault { OnErr result (result ≡ Err Memory) }
 {
     if kind == b"upname".as_slice() {

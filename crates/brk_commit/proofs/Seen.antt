@@ -1,4 +1,5 @@
--- What is known after reads of a store, one after another: nothing was changed, and something is so of the rows.
+-- What is known after reads of a store, one after another: nothing was changed, and something is so
+-- of the rows.
 use Rattle.std.proofs.Common.{◌≡◌, Option, Some, None, Ok, IsTrue, arith, inl, refl, sym, subst}
 use Rattle.std.specs.Prelude.{option_map}
 use Rattle.sqlite_trees.specs.declared.store.Store.{Ghosts}

@@ -45,7 +45,8 @@ IsDiskContentAfterCommand g old now command key trees =
 -- The postcondition of a call that executes a command. At `Ok` the call refines the model's step
 -- for the command. At an error the open store is unchanged, although a crash may expose the command
 -- as committed. `brk_store/specs/Holds.antt` explains the terms of the clauses.
-pub record CallPost {S : Type 0} (g : Ghosts S) (old new : Held S) (now : ℕ) (command : Command) (key : Option Key) (result : Result booked.Answer Fault) : Type 0 where
+pub record CallPost {S : Type 0} (g : Ghosts S) (old new : Held S) (now : ℕ) (command : Command) (key : Option Key)
+    (result : Result booked.Answer Fault) : Type 0 where
   -- At `Ok` the call refines the model's step. Vacuous if the disk assumption fails.
   pub answered : HasCleanDisk (state g new) → IfOk result (RefinesStep g old new now command key)
   -- At an error the store represents every base that it represented.
@@ -56,9 +57,11 @@ pub record CallPost {S : Type 0} (g : Ghosts S) (old new : Held S) (now : ℕ) (
   -- command.
   pub survives : Survives (state g old) (state g new) (IsDiskContentAfterCommand g old now command key)
   -- At `Done` a crash exposes only the tables after the command.
-  pub durable : HasCleanDisk (state g new) → IsDoneResult result → (base : Base) → Represents g old base → CrashStatesSatisfy g new (IsDiskContentOfRows (sheets (base_after_call base now command key)))
+  pub durable : HasCleanDisk (state g new) → IsDoneResult result → (base : Base) → Represents g old base
+      → CrashStatesSatisfy g new (IsDiskContentOfRows (sheets (base_after_call base now command key)))
   -- At `Done` the store was open, is open, and has committed its current state.
-  pub opened : HasCleanDisk (state g new) → IsDoneResult result → IsTrue (state g old).is_open × IsTrue (state g new).is_open × ((state g new).committed ≡ (state g new).now)
+  pub opened : HasCleanDisk (state g new) → IsDoneResult result
+      → IsTrue (state g old).is_open × IsTrue (state g new).is_open × ((state g new).committed ≡ (state g new).now)
   -- If the result is a refusal, a stored reply or a fault, and the database is open after the call,
   -- it was open before and is unchanged.
   pub same : HasCleanDisk (state g new) → IsTrue (state g new).is_open → IsNotDoneResult result → WasOpenAndIsUnchanged (state g old) (state g new)

@@ -11,7 +11,7 @@ ghost use Rattle.brk_invariant_theorems.specs.InForm.{MeetsAuditFormats, IsWellF
 use crate::answer::Answer;
 use crate::deciding::decide_command;
 use crate::in_form::{prove_command_is_well_formed, prove_key_is_well_formed};
-use crate::keeping::{answer_retry, read_stored_reply, plan_with_stored_reply};
+use crate::keeping::{answer_retry, plan_with_stored_reply, read_stored_reply};
 use brk_commands::Command;
 use brk_money::{Fault, Stamp};
 use brk_ref::Key;

@@ -8,8 +8,8 @@ ghost use Rattle.brk_store.specs.Holds.{ReadPost};
 
 use brk_commands::Command;
 use brk_decisions::{
-    decide_cancel, decide_feed, decide_movement, decide_settlement_day, decide_order, decide_reference_record,
-    decide_result,
+    decide_cancel, decide_feed, decide_movement, decide_order, decide_reference_record,
+    decide_result, decide_settlement_day,
 };
 use brk_money::{Planned, Stamp};
 use brk_store::Store;

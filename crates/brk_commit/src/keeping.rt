@@ -43,7 +43,8 @@ pub(crate) fn read_stored_reply<S: Alter>(
 // Returns the answer to a command under whose key `kept` is stored: the stored reply if the command
 // is the same, otherwise refusal 19. Fails with `Memory` only.
 pub(crate) fn answer_retry(alloc: Global, command: &Command, kept: Kept) -> Result<Answer, Fault>
-    ensures answer { IfOk result (λ answer. (base : Base) → answer_to_repeated_row base (abstract_command command.now) (abstract_kept_row kept) ≡ (model_answer answer, base)) }
+    ensures answer { IfOk result (λ answer. (base : Base)
+        → answer_to_repeated_row base (abstract_command command.now) (abstract_kept_row kept) ≡ (model_answer answer, base)) }
     ensures fault { OnErr result (result ≡ Err Memory) }
 {
     let row = row_text(alloc, command)?;

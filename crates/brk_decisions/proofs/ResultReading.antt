@@ -1,4 +1,5 @@
--- What was found of a trade's account, of its security and of what is held is what is found for its result.
+-- What was found of a trade's account, of its security and of what is held is what is found for its
+-- result.
 use Rattle.std.proofs.Common.{◌≡◌, ◌==◌, ◌∙◌, ℕ, ℤ, Option, Some, None, ap, find, option_map, refl, subst, sym}
 use Rattle.std.specs.Prelude.{IfSome}
 use Rattle.brk_model.specs.Joins.{account_row_with_id, security_row_with_symbol, trade_row_with_id}

@@ -23,7 +23,8 @@ use Rattle.brk_trade_theorems.specs.Plans.{PlanImplementsCommand}
 -- tables of no such base.
 abbrev pub DecidesCommand : ℕ → Command → Result Plan Refusal → Tables → Type 0
 DecidesCommand now command planned t =
-    (base : Base) → BooksInvariant base → t ≡ sheets base → MatchResult planned (PlanImplementsCommand base now command) (λ refusal. step base now command ≡ Err refusal)
+    (base : Base) → BooksInvariant base → t ≡ sheets base
+    → MatchResult planned (PlanImplementsCommand base now command) (λ refusal. step base now command ≡ Err refusal)
 
 -- `planned` is the result of the model for the estimate of `order`, for every base that satisfies
 -- the books invariant and has the tables `t`: an estimate equals the model's estimate, and its

@@ -26,9 +26,11 @@ IsCustomerWithId t id customer = find (λ r. r.id == id) t.customers ≡ Some (a
 -- specified only if the order's security exists.
 pub record CustomerOrderFactsMatchTables (t : Tables) (order : Order) (customer : Customer) (tested : OrderFacts) : Type 0 where
   pub last_price : tested.last_price ≡ last_price_of_symbol t order.symbol
-  pub is_permitted : tested.is_permitted ≡ is_customer_or_has_permission (abstract_customer customer) (permission_list_for_tax_id t order.account order.executor.tax_id) (abstract_executor order.executor)
+  pub is_permitted : tested.is_permitted
+      ≡ is_customer_or_has_permission (abstract_customer customer) (permission_list_for_tax_id t order.account order.executor.tax_id) (abstract_executor order.executor)
   pub charge : tested.charge ≡ charge_of_type_and_tier t (trade_type_of_order order.order_type) customer.tier
-  pub rate : IfSome (security_row_with_symbol t order.symbol) (λ s. tested.rate ≡ option_map (λ b. b.rate) (band_of_quantity t customer.tier (trade_type_of_order order.order_type) s.exchange order.qty))
+  pub rate : IfSome (security_row_with_symbol t order.symbol) (λ s. tested.rate
+      ≡ option_map (λ b. b.rate) (band_of_quantity t customer.tier (trade_type_of_order order.order_type) s.exchange order.qty))
 
 -- The market value of a holding summary in cents: its shares times the last price of its symbol.
 -- Shares sold short count below 0.
@@ -49,7 +51,8 @@ pub record EstimateAmountsMatchTables (t : Tables) (account : AccountRow) (order
 
 -- The facts for the decision on an order whose account does not exist.
 abbrev pub order_facts_without_account : OrderPlanFacts
-order_facts_without_account = record { account = None; last_price = None; is_permitted = false; charge = None; rate = None; rates = 0; assets = pos 0; summary = None; last_trade = None }
+order_facts_without_account =
+    record { account = None; last_price = None; is_permitted = false; charge = None; rate = None; rates = 0; assets = pos 0; summary = None; last_trade = None }
 
 -- The facts for the decision on an order of the account: its broker and its tax status, the facts
 -- `tested`, the amounts `amounts`, and no last trade.
@@ -69,4 +72,5 @@ order_facts_with_account account tested amounts = record {
 -- If `account` is the row of the order's account, the facts `found` for the estimate of the order
 -- equal those of the tables `t` (`EstimateFactsMatchTables`). Vacuous otherwise.
 abbrev pub EstimateFactsMatchIfAccountOfOrder : Tables → Order → AccountRow → OrderPlanFacts → Type 0
-EstimateFactsMatchIfAccountOfOrder t order account found = Some (abstract_account_row account) ≡ account_row_with_id t order.account → EstimateFactsMatchTables t order found
+EstimateFactsMatchIfAccountOfOrder t order account found =
+    Some (abstract_account_row account) ≡ account_row_with_id t order.account → EstimateFactsMatchTables t order found

@@ -35,7 +35,8 @@ fn plan_estimate_over_lots<S: Alter>(
         (EstimatesCheckedOrder order.now found.now (AreLotsBeforeReads S.Store lots.old lots.new))
         (λ refusal. first_refusal (order_checks found.now) ≡ Some refusal)) }
     ensures refused { IfOk result (λ planned. OnErr planned (lots.new ≡ lots.old)) }
-    ensures few_rows_read { OrderReadsAtMostOneLotMore (terms_of_order order.now found.now) (AreLotsBeforeReads S.Store lots.old lots.new) (number_of_rows_read lots.old + 15) (number_of_rows_read lots.new) }
+    ensures few_rows_read { OrderReadsAtMostOneLotMore (terms_of_order order.now found.now) (AreLotsBeforeReads S.Store lots.old lots.new) (number_of_rows_read lots.old
+        + 15) (number_of_rows_read lots.new) }
     ensures no_lot_read { closes_lots (terms_of_order order.now found.now).side (terms_of_order order.now found.now).held ≡ false → lots.new ≡ lots.old }
     ensures fault { IfErr result IsCallFault }
 {

@@ -14,7 +14,9 @@ ghost use Rattle.brk_plans.specs.Feed.{states_of_quotes, state_of_quote};
 use brk_money::{Fault, Planned, Stamp, TradeType};
 use brk_orders::{Feed, Tick};
 use brk_store::Store;
-use brk_trade::{Plan, Quote, create_quote, has_no_quote_of_symbol, plan_feed, first_symbol_price_span};
+use brk_trade::{
+    Plan, Quote, create_quote, first_symbol_price_span, has_no_quote_of_symbol, plan_feed,
+};
 use sqlite::Alter;
 use std::alloc::Global;
 
@@ -55,7 +57,8 @@ fn read_last_stamp_and_quotes<S: Alter>(
     store: &mut Store<S>,
     ticks: &[Tick],
 ) -> Result<(Option<Stamp>, Vec<Quote>), Fault>
-    ensures read { ReadPost S.Store store.old store.new result (λ market t. (market.0 ≡ t.last) × AreQuotesOfTicks t ticks.now ticks.now (states_of_quotes market.1.items)) }
+    ensures read { ReadPost S.Store store.old store.new result (λ market t. (market.0 ≡ t.last)
+        × AreQuotesOfTicks t ticks.now ticks.now (states_of_quotes market.1.items)) }
     ensures fault { IfErr result IsCallFault }
 {
     let last = store.last_stamp()?;

@@ -85,7 +85,10 @@ fn read_broker_facts<S: Alter>(
     ensures fault { IfErr result IsCallFault }
 {
     let same_id = broker_exists(store, broker.id)?;
-    Ok(ReferenceFacts { same_id, ..NO_REFERENCE_FACTS })
+    Ok(ReferenceFacts {
+        same_id,
+        ..NO_REFERENCE_FACTS
+    })
 }
 
 // Reads the facts that decide on a customer. Fails with `Memory` or `Store` only.
@@ -93,7 +96,8 @@ fn read_customer_facts<S: Alter>(
     store: &mut Store<S>,
     customer: &Customer,
 ) -> Result<ReferenceFacts, Fault>
-    ensures read { ReadPost S.Store store.old store.new result (λ found t. (found.same_id ≡ has_customer t customer.now.id) × (found.same_tax_id ≡ contains_tax_id t customer.now.tax_id)) }
+    ensures read { ReadPost S.Store store.old store.new result (λ found t. (found.same_id ≡ has_customer t customer.now.id)
+        × (found.same_tax_id ≡ contains_tax_id t customer.now.tax_id)) }
     ensures fault { IfErr result IsCallFault }
 {
     let same_id = customer_exists(store, customer.id)?;
@@ -136,7 +140,10 @@ fn read_listing_facts<S: Alter>(
     ensures fault { IfErr result IsCallFault }
 {
     let same_id = security_exists(store, symbol)?;
-    Ok(ReferenceFacts { same_id, ..NO_REFERENCE_FACTS })
+    Ok(ReferenceFacts {
+        same_id,
+        ..NO_REFERENCE_FACTS
+    })
 }
 
 // Reads the facts that decide on a tax rate. Fails with `Memory` or `Store` only.
@@ -145,7 +152,10 @@ fn read_tax_facts<S: Alter>(store: &mut Store<S>, id: Id) -> Result<ReferenceFac
     ensures fault { IfErr result IsCallFault }
 {
     let same_id = tax_exists(store, id)?;
-    Ok(ReferenceFacts { same_id, ..NO_REFERENCE_FACTS })
+    Ok(ReferenceFacts {
+        same_id,
+        ..NO_REFERENCE_FACTS
+    })
 }
 
 /// Reads the facts that decide on a reference record. Fails with `Memory` or `Store` only.

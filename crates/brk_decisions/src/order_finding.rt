@@ -35,7 +35,11 @@ fn facts_without_account() -> OrderPlanFacts
 }
 
 // Returns the facts for an order of the account. They have no last trade.
-fn order_facts_with_account(account: &AccountRow, tested: OrderFacts, amounts: Amounts) -> OrderPlanFacts
+fn order_facts_with_account(
+    account: &AccountRow,
+    tested: OrderFacts,
+    amounts: Amounts,
+) -> OrderPlanFacts
     ensures { result ≡ order_facts_with_account account.now tested amounts }
 {
     OrderPlanFacts {

@@ -40,7 +40,8 @@ fn plan_result_over_lots<S: Alter>(
     ensures planned { IfOk result (λ planned. MatchResult planned
         (CompletesExistingTrade (Some found.now) price (AreLotsBeforeReads S.Store lots.old lots.new) last now)
         (IsResultRefusal (Some found.now) price (AreLotsBeforeReads S.Store lots.old lots.new) last now)) }
-    ensures few_rows_read { ResultReadsAtMostOneLotMore (Some found.now) price (stamp_or_clock_reading (moments.stamp_after last now) now) (AreLotsBeforeReads S.Store lots.old lots.new) (number_of_rows_read lots.old + 15) (number_of_rows_read lots.new) }
+    ensures few_rows_read { ResultReadsAtMostOneLotMore (Some found.now) price (stamp_or_clock_reading (moments.stamp_after last now) now) (AreLotsBeforeReads S.Store lots.old lots.new) (number_of_rows_read lots.old
+        + 15) (number_of_rows_read lots.new) }
     ensures no_lot_read { ClosesNoHeldShares found.now → lots.new ≡ lots.old }
     ensures fault { IfErr result IsCallFault }
 {

@@ -125,7 +125,8 @@ pub(crate) fn read_tax_rate_sum_within_limit<S: Alter>(
     store: &mut Store<S>,
     customer: Id,
 ) -> Result<Option<TaxRate>, Fault>
-    ensures read { ReadPost S.Store store.old store.new result (λ rates t. SomeIff rates (customer_tax_rate_sum t customer ≤ greatest_tax_rate) (customer_tax_rate_sum t customer)) }
+    ensures read { ReadPost S.Store store.old store.new result (λ rates t. SomeIff rates (customer_tax_rate_sum t customer
+        ≤ greatest_tax_rate) (customer_tax_rate_sum t customer)) }
     ensures fault { IfErr result IsCallFault }
 {
     let taxes = read_taxes_of_customer(alloc, store, customer)?;
@@ -159,7 +160,10 @@ pub(crate) fn read_charge_facts<S: Alter>(
     ensures fault { IfErr result IsCallFault }
 {
     let same_id = charge_exists(store, charge.kind, charge.tier)?;
-    Ok(ReferenceFacts { same_id, ..NO_REFERENCE_FACTS })
+    Ok(ReferenceFacts {
+        same_id,
+        ..NO_REFERENCE_FACTS
+    })
 }
 
 // Reads the facts that decide on a band. Fails with `Memory` or `Store` only.

@@ -56,7 +56,8 @@ fn is_executor_permitted<S: Alter>(
     executor: &Executor,
 ) -> Result<bool, Fault>
     ensures read { ReadPost S.Store store.old store.new result (λ is_permitted t.
-        is_permitted ≡ is_customer_or_has_permission (abstract_customer customer.now) (permission_list_for_tax_id t account executor.now.tax_id) (abstract_executor executor.now)) }
+        is_permitted
+        ≡ is_customer_or_has_permission (abstract_customer customer.now) (permission_list_for_tax_id t account executor.now.tax_id) (abstract_executor executor.now)) }
     ensures fault { IfErr result IsCallFault }
 {
     let permission = store.permission(account, &executor.tax_id)?;
@@ -105,7 +106,8 @@ fn read_commission_rate_of_order<S: Alter>(
     tier: Tier,
 ) -> Result<Option<Rate>, Fault>
     ensures read { ReadPost S.Store store.old store.new result (λ rate t.
-        IfSome (security_row_with_symbol t order.now.symbol) (λ s. rate ≡ option_map (λ b. b.rate) (band_of_quantity t tier (trade_type_of_order order.now.order_type) s.exchange order.now.qty))) }
+        IfSome (security_row_with_symbol t order.now.symbol) (λ s. rate
+        ≡ option_map (λ b. b.rate) (band_of_quantity t tier (trade_type_of_order order.now.order_type) s.exchange order.now.qty))) }
     ensures fault { IfErr result IsCallFault }
 {
     match store.security(&order.symbol)? {

@@ -1,4 +1,5 @@
--- Queries over what was read: each has the view of the definitions, or is refused for the same reason.
+-- Queries over what was read: each has the view of the definitions, or is refused for the same
+-- reason.
 use Rattle.std.proofs.Common.{Result, Ok, Err, IfErr, IfOk, refl}
 use Rattle.sqlite_trees.specs.declared.store.Store.{Ghosts}
 use Rattle.sqlite.specs.Held.{Held, state}

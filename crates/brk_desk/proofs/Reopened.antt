@@ -67,7 +67,8 @@ module _ {S : Type 0} (g : Ghosts S) (settled : RecoversOnlyLastCommit g) where
       let o = opened.opens clean in
       settled conn.store left o.is_open may ∙ sym (ap (λ (db : Database). db.trees) o.clean) ∙ opened.over.same clean
 
-  -- trees with the tables of the third schema: what is adopted over them is audited, and nothing is written
+  -- trees with the tables of the third schema: what is adopted over them is audited, and nothing is
+  -- written
   module _ (trees : Trees) (conn store : Held S) (result : Result (Unit {0}) Fault) (opened : IsNewConnectionToDiskContent g trees conn) (audited : AuditPost g conn store result) (clean : HasCleanDisk (state g store)) where
     clean_conn : HasCleanDisk (state g conn)
     clean_conn = clean_before (state g conn) (state g store) (λ _. ⊥) audited.survives clean

@@ -1,4 +1,5 @@
--- Rows of whichever schema that passed, upgraded to the third: their texts can be read, and their base is sound.
+-- Rows of whichever schema that passed, upgraded to the third: their texts can be read, and their
+-- base is sound.
 use Rattle.std.proofs.Common.{◌≡◌, ◌∙◌, ℕ, ◌+◌, Bool, true, false, List, [], ◌∷◌, ◌++◌, IsTrue, arith, refl, sym, subst, ap, map}
 use Rattle.std.specs.Prelude.{◌&&◌}
 use Rattle.std.specs.List.{AllByRecursion, list_all}

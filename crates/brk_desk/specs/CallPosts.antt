@@ -52,7 +52,8 @@ pub record AskPost {S : Type 0} (g : Ghosts S) (old new : Held S) (query : Query
   pub answered : HasCleanDisk (state g new) → IfOk result (λ seen. (base : Base) → Represents g old base → ask base query ≡ model_query_result seen)
   -- A returned view has the variant of the query, and carries the rows that the query selects from
   -- the tables of the base. Vacuous if the disk assumption fails.
-  pub carried : HasCleanDisk (state g new) → IfOk result (λ seen. IfOk seen (λ view. (base : Base) → Represents g old base → HasRowsOfQuery query view (sheets base)))
+  pub carried : HasCleanDisk (state g new)
+      → IfOk result (λ seen. IfOk seen (λ view. (base : Base) → Represents g old base → HasRowsOfQuery query view (sheets base)))
   -- The store represents every base that it represented, whatever the result.
   pub same_bases : PreservesRepresentation g old new
   -- A fault is `Memory` or `Store`, whether or not the disk assumption holds. A refusal is no
@@ -71,7 +72,8 @@ pub record AskPost {S : Type 0} (g : Ghosts S) (old new : Held S) (query : Query
 -- with a result whose outcome is `execute_call`.
 abbrev pub OutcomePost : {S : Type 0} → Ghosts S → Held S → Held S → ℕ → Call → Outcome → Type 0
 OutcomePost g old new now (call.Do command key) outcome =
-    (result : Result desk.Answer Fault) × (outcome ≡ outcome_of_command result) × CallPost g old new now (abstract_command command) (optional_model_key key) result
+    (result : Result desk.Answer Fault) × (outcome ≡ outcome_of_command result)
+    × CallPost g old new now (abstract_command command) (optional_model_key key) result
 OutcomePost g old new now (call.Ask query) outcome =
     (result : Result (Result View Refusal) Fault) × (outcome ≡ outcome_of_query result) × AskPost g old new (abstract_query query) result
 
@@ -86,17 +88,19 @@ FailsOnlyWithMemoryOrStore (came.Failed fault) = IsCallFault fault
 FailsOnlyWithMemoryOrStore _ = Unit {0}
 
 -- A database with the disk contents `trees` contains the tables of some base that a crash may
--- expose after the calls from `base` (`CrashMayExposeBase`), and the texts of these tables are UTF-8.
--- That base has the change of every acknowledged command, and of at most one command more, which
--- returned a fault and after which no change was acknowledged.
+-- expose after the calls from `base` (`CrashMayExposeBase`), and the texts of these tables are
+-- UTF-8. That base has the change of every acknowledged command, and of at most one command more,
+-- which returned a fault and after which no change was acknowledged.
 abbrev pub IsRecoverableDiskContent : Base → List (ℕ × Call) → List Outcome → Trees → Type 0
 IsRecoverableDiskContent base calls outcomes trees =
-    (after : Base) × CrashMayExposeBase base (map model_call calls) (map model_outcome outcomes) after × IsDiskContentOfRows (sheets after) trees × IsTrue (has_utf8_texts (sheets after))
+    (after : Base) × CrashMayExposeBase base (map model_call calls) (map model_outcome outcomes) after × IsDiskContentOfRows (sheets after) trees
+    × IsTrue (has_utf8_texts (sheets after))
 
 -- The store was open before the calls, and for each base that it represented, `trees` are disk
 -- contents that a crash may expose after the calls from this base (`IsRecoverableDiskContent`).
 abbrev pub CrashMayExposeDiskContent : {S : Type 0} → Ghosts S → Held S → List (ℕ × Call) → List Outcome → Trees → Type 0
-CrashMayExposeDiskContent g old calls outcomes trees = IsTrue (state g old).is_open × ((base : Base) → Represents g old base → IsRecoverableDiskContent base calls outcomes trees)
+CrashMayExposeDiskContent g old calls outcomes trees =
+    IsTrue (state g old).is_open × ((base : Base) → Represents g old base → IsRecoverableDiskContent base calls outcomes trees)
 
 -- The postcondition of a sequence of calls that were executed in order, from the state `old` to the
 -- state `new`. For every base that the store represented, the calls with their outcomes are a run
@@ -136,7 +140,9 @@ pub record RunPost {S : Type 0} (g : Ghosts S) (old new : Held S) (calls : List 
 -- that an accepted `CompleteTrade` completed has the tax of its completion, on exactly the shares
 -- that it closed (`IsRunWithSumsAndTaxes`).
 abbrev pub ReachesAuditedState : {S : Type 0} → Ghosts S → Held S → Base → List (ℕ × Call) → List Outcome → Type 0
-ReachesAuditedState g new base calls outcomes = (after : Base) × Represents g new after × PassesAudit third_schema (sheets after) × IsRunWithSumsAndTaxes base (map model_call calls) (map model_outcome outcomes) after
+ReachesAuditedState g new base calls outcomes =
+    (after : Base) × Represents g new after × PassesAudit third_schema (sheets after)
+    × IsRunWithSumsAndTaxes base (map model_call calls) (map model_outcome outcomes) after
 
 -- The guarantee of a run: under the disk assumption the calls reach an audited state
 -- (`ReachesAuditedState`), from any base that the store represented, from tables without rows, and
@@ -149,7 +155,8 @@ pub record RunGuarantee {S : Type 0} (g : Ghosts S) (old new : Held S) (calls : 
   -- From the base that the rows `rows` of any schema determine, if the store held these rows
   -- upgraded to schema 3, and the rows before the upgrade pass the audit of their schema and have
   -- texts in UTF-8.
-  pub from_audited_rows : HasCleanDisk (state g new) → (schema : known.Schema) (rows : Tables) → HoldsRows g old (tables_upgraded_from_schema (abstract_schema schema) rows) → IsTrue (has_utf8_texts rows) → PassesAudit (abstract_schema schema) rows
+  pub from_audited_rows : HasCleanDisk (state g new) → (schema : known.Schema) (rows : Tables)
+      → HoldsRows g old (tables_upgraded_from_schema (abstract_schema schema) rows) → IsTrue (has_utf8_texts rows) → PassesAudit (abstract_schema schema) rows
       → ReachesAuditedState g new (base_of_tables rows) calls outcomes
 
 -- The postcondition of an audit of the desk's store, which writes nothing: it satisfies

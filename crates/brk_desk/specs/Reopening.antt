@@ -26,8 +26,8 @@ pub record IsNewConnectionToDiskContent {S : Type 0} (g : Ghosts S) (trees : Tre
   pub over : IsConnectionToDiskContent g trees conn
   pub opens : HasCleanDisk (state g conn) → Opens (state g conn)
 
--- `conn` is in the state of a new connection (`IsNewConnectionToDiskContent`) to disk contents that a crash in the
--- state `left` of a store may expose.
+-- `conn` is in the state of a new connection (`IsNewConnectionToDiskContent`) to disk contents that
+-- a crash in the state `left` of a store may expose.
 abbrev pub IsNewConnectionAfterCrash : {S : Type 0} → Ghosts S → Held S → Held S → Type 0
 IsNewConnectionAfterCrash g left conn = (trees : Trees) × (state g left).may_leave trees × IsNewConnectionToDiskContent g trees conn
 
@@ -35,7 +35,9 @@ IsNewConnectionAfterCrash g left conn = (trees : Trees) × (state g left).may_le
 -- UTF-8. `store` represents the base that these rows determine, and a crash exposes only the tables
 -- of this base.
 abbrev pub RepresentsPassingRowsDurably : {S : Type 0} → Ghosts S → Held S → Held S → Type 0
-RepresentsPassingRowsDurably g conn store = (schema : known.Schema) × (rows : Tables) × StoresRowsWithAuditResult (abstract_schema schema) rows (state g conn).now None × RepresentsDurableBase g store (base_of_tables rows)
+RepresentsPassingRowsDurably g conn store =
+    (schema : known.Schema) × (rows : Tables) × StoresRowsWithAuditResult (abstract_schema schema) rows (state g conn).now None
+    × RepresentsDurableBase g store (base_of_tables rows)
 
 -- The adoption with this result did not fail with `Damaged`; at `Ok` the store represents `base`,
 -- and a crash exposes only its tables. If the adoption failed with `Memory` or `Store`, the store

@@ -39,16 +39,18 @@ pub fn new_stores_represent_the_empty_base<S: Alter>()
 pub fn adopted_rows_represent_their_base<S: Alter>()
     ensures rows { (store : Held S) (rows : Tables) → HoldsRows S.Store store rows → IsTrue (has_utf8_texts rows) → PassesAudit third_schema rows
         → Represents S.Store store (base_of_tables rows) }
-    ensures upgraded { (store : Held S) (schema : Schema) (rows : Tables) → HoldsRows S.Store store (tables_upgraded_from_schema (abstract_schema schema) rows) → IsTrue (has_utf8_texts rows)
+    ensures upgraded { (store : Held S) (schema : Schema) (rows : Tables) → HoldsRows S.Store store (tables_upgraded_from_schema (abstract_schema schema) rows)
+        → IsTrue (has_utf8_texts rows)
         → PassesAudit (abstract_schema schema) rows → Represents S.Store store (base_of_tables rows) }
 {}
 
 /// Proves that a store that is opened on the tables of a base represents this base, if a crash
-/// after a run may expose the base (`CrashMayExposeBase`), its texts are UTF-8, the calls of the run
-/// are well-formed, and the base before the run satisfies the books invariant and the audit
+/// after a run may expose the base (`CrashMayExposeBase`), its texts are UTF-8, the calls of the
+/// run are well-formed, and the base before the run satisfies the books invariant and the audit
 /// invariant.
 pub fn reopened_store_represents_exposed_base<S: Alter>()
-    ensures { (base : Base) (calls : List (ℕ × Call)) (outcomes : List Outcome) (after : Base) (trees : Trees) (conn : Held S) → BooksInvariant base → AuditInvariant base
+    ensures { (base : Base) (calls : List (ℕ × Call)) (outcomes : List Outcome) (after : Base) (trees : Trees) (conn : Held S) → BooksInvariant base
+        → AuditInvariant base
         → AllByRecursion CallMeetsAuditFormats calls → CrashMayExposeBase base calls outcomes after → IsTrue (has_utf8_texts (sheets after))
         → IsDiskContentOfRows (sheets after) trees → IsConnectionToDiskContent S.Store trees conn → Represents S.Store conn after }
 {}

@@ -164,8 +164,8 @@ impl<S: Alter> Desk<S> {
     ///
     /// A crash exposes only states that a crash before the call could expose.
     ///
-    /// The result is specified only if the database satisfies `StoreNamedTablesMatchThirdSchema` (see
-    /// `Store::audit`). The store of every desk that represents a base satisfies it.
+    /// The result is specified only if the database satisfies `StoreNamedTablesMatchThirdSchema`
+    /// (see `Store::audit`). The store of every desk that represents a base satisfies it.
     #[tactic(auto, using(crate::proofs::Audits::audits))]
     pub fn audit(&mut self, alloc: Global) -> Result<(), Fault>
         ensures audited { DeskAuditPost S.Store self.old self.new result }
@@ -181,7 +181,11 @@ impl<S: Alter> Desk<S> {
     /// Fails with `Memory` or `Store` only. The open database is unchanged, whatever the result.
     ///
     /// A crash exposes only states that a crash before the call could expose.
-    pub fn statement_head(&mut self, alloc: Global, account: Id) -> Result<Option<StatementHead>, Fault>
+    pub fn statement_head(
+        &mut self,
+        alloc: Global,
+        account: Id,
+    ) -> Result<Option<StatementHead>, Fault>
         ensures read { ReadPost S.Store self.old self.new result (IsStatementHeadOfAccount account) }
         ensures fault { IfErr result IsCallFault }
     {
@@ -196,7 +200,11 @@ impl<S: Alter> Desk<S> {
     /// unchanged, whatever the result.
     ///
     /// A crash exposes only states that a crash before the call could expose.
-    pub fn trade_explanation_rows(&mut self, alloc: Global, trade: Id) -> Result<Option<TradeStory>, Fault>
+    pub fn trade_explanation_rows(
+        &mut self,
+        alloc: Global,
+        trade: Id,
+    ) -> Result<Option<TradeStory>, Fault>
         ensures read { ReadPost S.Store self.old self.new result (IsStoryOfTrade trade) }
         ensures fault { IfErr result IsCallFault }
     {
@@ -296,7 +304,8 @@ impl<S: Alter> Desk<S> {
         ensures leads { V.leads visitor.old visitor.new }
         ensures walked { WalkPost S.Store self.old self.new abstract_move_row (cash_rows_in_span account from to) V.takes V.stops visitor.old visitor.new result }
     {
-        self.store.visit_cash_rows::<E, V>(account, from, to, visitor)
+        self.store
+            .visit_cash_rows::<E, V>(account, from, to, visitor)
     }
 
     /// Passes the lots of an account to a visitor, sorted by symbol, then by opening stamp. Returns

@@ -19,7 +19,9 @@ use sqlite::Alter;
 /// of all their calls.
 pub fn call_sequences_are_runs<S: Alter>()
     ensures one_run { (old new : Held S) (calls : List (ℕ × made.Call)) (outcomes : List came.Outcome)
-        → IsCallSequence (λ before now call outcome after. OutcomePost S.Store before after now call outcome) old calls outcomes new → IsRunWithOutcomes S.Store old new calls outcomes }
+        → IsCallSequence (λ before now call outcome after. OutcomePost S.Store before after now call outcome) old calls outcomes new
+        → IsRunWithOutcomes S.Store old new calls outcomes }
     ensures joined_runs { (old mid new : Held S) (calls others : List (ℕ × made.Call)) (outcomes more : List came.Outcome)
-        → IsRunWithOutcomes S.Store old mid calls outcomes → IsRunWithOutcomes S.Store mid new others more → IsRunWithOutcomes S.Store old new (calls ++ others) (outcomes ++ more) }
+        → IsRunWithOutcomes S.Store old mid calls outcomes → IsRunWithOutcomes S.Store mid new others more
+        → IsRunWithOutcomes S.Store old new (calls ++ others) (outcomes ++ more) }
 {}

@@ -32,22 +32,28 @@ use sqlite::Alter;
 pub fn recovery_never_reports_damage<S: Alter>()
     // After the creation of the tables, the store represents the empty base, and a crash exposes
     // only its tables.
-    ensures created { (conn store : Held S) → CreatePost S.Store conn store (Ok tt) → HasCleanDisk (state S.Store store) → RepresentsDurableBase S.Store store empty_base }
-    // After the adoption of a newly opened database that satisfies `StoreNamedTablesMatchDeskDefinitions`,
-    // the store represents the base that its rows determine, and a crash exposes only the tables of
-    // this base.
-    ensures adopted { (trees : Trees) (conn store : Held S) → IsNewConnectionToDiskContent S.Store trees conn → StoreNamedTablesMatchDeskDefinitions S.Store conn → AdoptPost S.Store conn store (Ok tt)
+    ensures created { (conn store : Held S) → CreatePost S.Store conn store (Ok tt) → HasCleanDisk (state S.Store store)
+        → RepresentsDurableBase S.Store store empty_base }
+    // After the adoption of a newly opened database that satisfies
+    // `StoreNamedTablesMatchDeskDefinitions`, the store represents the base that its rows
+    // determine, and a crash exposes only the tables of this base.
+    ensures adopted { (trees : Trees) (conn store : Held S) → IsNewConnectionToDiskContent S.Store trees conn
+        → StoreNamedTablesMatchDeskDefinitions S.Store conn → AdoptPost S.Store conn store (Ok tt)
         → HasCleanDisk (state S.Store store) → RepresentsPassingRowsDurably S.Store conn store }
     // After a crash in the adoption of a newly opened database whose rows pass the audit of their
     // schema, perhaps an older one, a later adoption does not fail with `Damaged`. If it succeeds,
     // the store represents the base that the same rows determine.
     ensures crash_in_adoption { (trees : Trees) (first left conn store : Held S) (stopped result : Result (Unit {0}) faults.Fault) (schema : Schema) (rows : Tables)
-        → IsNewConnectionToDiskContent S.Store trees first → StoresRowsWithAuditResult (abstract_schema schema) rows (state S.Store first).now None → AdoptPost S.Store first left stopped → HasCleanDisk (state S.Store left)
-        → IsNewConnectionAfterCrash S.Store left conn → AdoptPost S.Store conn store result → HasCleanDisk (state S.Store store) → AdoptsBaseWithoutDamage S.Store store result (base_of_tables rows) }
+        → IsNewConnectionToDiskContent S.Store trees first → StoresRowsWithAuditResult (abstract_schema schema) rows (state S.Store first).now None
+        → AdoptPost S.Store first left stopped → HasCleanDisk (state S.Store left)
+        → IsNewConnectionAfterCrash S.Store left conn → AdoptPost S.Store conn store result → HasCleanDisk (state S.Store store)
+        → AdoptsBaseWithoutDamage S.Store store result (base_of_tables rows) }
     // After a crash in the creation of the tables, the adopted store represents the empty base.
     // This says nothing of a state that a crash before the creation could expose.
-    ensures crash_in_creation { (first left conn store : Held S) (created result : Result (Unit {0}) faults.Fault) (trees : Trees) → CreatePost S.Store first left created
-        → HasCleanDisk (state S.Store left) → (state S.Store left).may_leave trees → IsNewConnectionToDiskContent S.Store trees conn → AdoptPost S.Store conn store result
+    ensures crash_in_creation { (first left conn store : Held S) (created result : Result (Unit {0}) faults.Fault) (trees : Trees)
+        → CreatePost S.Store first left created
+        → HasCleanDisk (state S.Store left) → (state S.Store left).may_leave trees → IsNewConnectionToDiskContent S.Store trees conn
+        → AdoptPost S.Store conn store result
         → HasCleanDisk (state S.Store store) → (state S.Store first).may_leave trees ⊎ IsRecovered S.Store store result (λ base. base ≡ empty_base) }
     // Suppose that a store represents a base and that a crash exposes only the tables of this base
     // (`RepresentsDurableBase`), as after a creation or an adoption. After a crash that follows a
@@ -55,13 +61,16 @@ pub fn recovery_never_reports_damage<S: Alter>()
     // after it. A crash then exposes only the tables of the base that it represents, so this clause
     // and the next one apply again after each further crash.
     ensures crash_after_call { (first left conn store : Held S) (base : Base) (result : Result (Unit {0}) faults.Fault) (now : ℕ) (command : Command) (key : Option Key)
-        (answer : Result given.Answer faults.Fault) → RepresentsDurableBase S.Store first base → CallPost S.Store first left now command key answer → HasCleanDisk (state S.Store left)
+        (answer : Result given.Answer faults.Fault) → RepresentsDurableBase S.Store first base → CallPost S.Store first left now command key answer
+        → HasCleanDisk (state S.Store left)
         → IsNewConnectionAfterCrash S.Store left conn → AdoptPost S.Store conn store result → HasCleanDisk (state S.Store store)
         → IsRecovered S.Store store result (λ stood. (stood ≡ base) ⊎ (stood ≡ base_after_call base now command key)) }
     // For such a store, after a crash that follows a run, the adopted store represents the base
     // with every acknowledged command, or with one command more (`CrashMayExposeBase`).
-    ensures crash_after_run { (first left conn store : Held S) (base : Base) (result : Result (Unit {0}) faults.Fault) (calls : List (ℕ × made.Call)) (outcomes : List came.Outcome)
-        → RepresentsDurableBase S.Store first base → RunPost S.Store first left calls outcomes → HasCleanDisk (state S.Store left) → IsNewConnectionAfterCrash S.Store left conn
+    ensures crash_after_run { (first left conn store : Held S) (base : Base) (result : Result (Unit {0}) faults.Fault) (calls : List (ℕ
+        × made.Call)) (outcomes : List came.Outcome)
+        → RepresentsDurableBase S.Store first base → RunPost S.Store first left calls outcomes → HasCleanDisk (state S.Store left)
+        → IsNewConnectionAfterCrash S.Store left conn
         → AdoptPost S.Store conn store result → HasCleanDisk (state S.Store store)
         → IsRecovered S.Store store result (CrashMayExposeBase base (map model_call calls) (map model_outcome outcomes)) }
 {}

@@ -47,4 +47,5 @@ broker_trade_lines t broker = trade_commission_lines (completed_trades_of_broker
 -- its completed trades are those of the tables `t`.
 abbrev pub all_broker_lines : Tables → ℕ → BrokerStory → List Text
 all_broker_lines t broker story =
-    broker_header_lines (abstract_broker_row story.broker) ++ (broker_trade_lines t broker ++ broker_total_lines (abstract_broker_row story.broker) story.accounts (length (completed_trades_of_broker t broker)))
+    broker_header_lines (abstract_broker_row story.broker)
+    ++ (broker_trade_lines t broker ++ broker_total_lines (abstract_broker_row story.broker) story.accounts (length (completed_trades_of_broker t broker)))

@@ -20,12 +20,14 @@ use Rattle.brk_report_lines.specs.declared.fault.ReportFault.TheVariants.{Refuse
 abbrev pub WritesLinesOrRefuses : Result (List Text) Refusal → Option Text → Option Text → Result (Unit {0}) ReportFault → Type 0
 WritesLinesOrRefuses told old new (Ok u) = (lines : List Text) × (told ≡ Ok lines) × Appends old new (text_of_lines lines)
 WritesLinesOrRefuses told old new (Err (Refused refusal)) = told ≡ Err refusal
-WritesLinesOrRefuses told old new (Err (Desk fault)) = IsCallFault fault × (Appends old new [] ⊎ ((lines : List Text) × (told ≡ Ok lines) × WritesLinesButNotLast lines old new))
+WritesLinesOrRefuses told old new (Err (Desk fault)) =
+    IsCallFault fault × (Appends old new [] ⊎ ((lines : List Text) × (told ≡ Ok lines) × WritesLinesButNotLast lines old new))
 WritesLinesOrRefuses told old new (Err Write) = (lines : List Text) × (told ≡ Ok lines) × WritesLinesAndPartOfNext lines old new
 
 -- The postcondition of writing the lines that `told` gives for the tables of a desk, or of
 -- returning its refusal. The desk is unchanged.
-pub record WriteLinesPost {S : Type 0} (g : Ghosts S) (old new : Held S) (told : Tables → Result (List Text) Refusal) (before after : Option Text) (result : Result (Unit {0}) ReportFault) : Type 0 where
+pub record WriteLinesPost {S : Type 0} (g : Ghosts S) (old new : Held S) (told : Tables → Result (List Text) Refusal) (before after : Option Text)
+    (result : Result (Unit {0}) ReportFault) : Type 0 where
   -- The output is as specified for the rows that the store holds, whatever they are.
   pub written : HoldsForStoredTables g old new (λ t. WritesLinesOrRefuses (told t) before after result)
   pub keeps : PreservesDesk g old new

@@ -65,8 +65,8 @@ fn parse_broker_request(words: &[&[u8]]) -> Result<ExplainRequest, Refusal>
     }
 }
 
-// Parses the words after `holding_table`: the id of an account and a symbol. Refuses any others with
-// `BadText`. Fails with `Memory` only.
+// Parses the words after `holding_table`: the id of an account and a symbol. Refuses any others
+// with `BadText`. Fails with `Memory` only.
 fn parse_holding_request(alloc: Global, words: &[&[u8]]) -> Planned<ExplainRequest>
     ensures read { IfOk result (λ read. ParsesAs abstract_explain_request read (model.read_holding_request (texts_of_fields words.now))) }
     ensures fault { OnErr result (result ≡ Err Memory) }

@@ -56,9 +56,11 @@ impl<W: Write> Visitor<MoveRow, LinesFault> for CashPostingWriter<'_, W> {
 
     ghost leads = { λ p q. q.writer.ghost_name ≡ p.writer.ghost_name };
 
-    ghost takes = { λ p r q. (q.balance ≡ p.balance +ℤ r.amount) × (q.count ≡ p.count + 1) × Appends (W.contents p.writer.now) (W.contents q.writer.now) (line_with_line_feed (cash_posting_line (abstract_move_row r) (p.balance +ℤ r.amount))) };
+    ghost takes = { λ p r q. (q.balance ≡ p.balance +ℤ r.amount) × (q.count ≡ p.count + 1)
+        × Appends (W.contents p.writer.now) (W.contents q.writer.now) (line_with_line_feed (cash_posting_line (abstract_move_row r) (p.balance +ℤ r.amount))) };
 
-    ghost stops = { λ p r e q. FailsWithinLines (cash_posting_line (abstract_move_row r) (p.balance +ℤ r.amount) ∷ []) (W.contents p.writer.now) (W.contents q.writer.now) e };
+    ghost stops = { λ p r e q. FailsWithinLines (cash_posting_line (abstract_move_row r) (p.balance +ℤ r.amount)
+        ∷ []) (W.contents p.writer.now) (W.contents q.writer.now) e };
 
     /// Writes the line of the cash row with the balance after it, and counts it. Fails with `Desk`
     /// or `Write`; the balance and the count are then unchanged.
@@ -98,7 +100,8 @@ impl<W: Write> Visitor<HoldingRow, LinesFault> for OpenLotWriter<'_, W> {
 
     ghost leads = { λ p q. q.writer.ghost_name ≡ p.writer.ghost_name };
 
-    ghost takes = { λ p r q. (q.count ≡ p.count + 1) × Appends (W.contents p.writer.now) (W.contents q.writer.now) (line_with_line_feed (open_lot_line (abstract_holding_row r))) };
+    ghost takes = { λ p r q. (q.count ≡ p.count + 1)
+        × Appends (W.contents p.writer.now) (W.contents q.writer.now) (line_with_line_feed (open_lot_line (abstract_holding_row r))) };
 
     ghost stops = { λ p r e q. FailsWithinLines (open_lot_line (abstract_holding_row r) ∷ []) (W.contents p.writer.now) (W.contents q.writer.now) e };
 
@@ -140,9 +143,12 @@ impl<W: Write> Visitor<TradeRow, LinesFault> for TradeCommissionWriter<'_, W> {
 
     ghost leads = { λ p q. q.writer.ghost_name ≡ p.writer.ghost_name };
 
-    ghost takes = { λ p r q. (q.total ≡ p.total +ℤ pos r.commission) × (q.count ≡ p.count + 1) × Appends (W.contents p.writer.now) (W.contents q.writer.now) (line_with_line_feed (trade_commission_line (abstract_trade_row r) (p.total +ℤ pos r.commission))) };
+    ghost takes = { λ p r q. (q.total ≡ p.total +ℤ pos r.commission) × (q.count ≡ p.count + 1)
+        × Appends (W.contents p.writer.now) (W.contents q.writer.now) (line_with_line_feed (trade_commission_line (abstract_trade_row r) (p.total
+        +ℤ pos r.commission))) };
 
-    ghost stops = { λ p r e q. FailsWithinLines (trade_commission_line (abstract_trade_row r) (p.total +ℤ pos r.commission) ∷ []) (W.contents p.writer.now) (W.contents q.writer.now) e };
+    ghost stops = { λ p r e q. FailsWithinLines (trade_commission_line (abstract_trade_row r) (p.total +ℤ pos r.commission)
+        ∷ []) (W.contents p.writer.now) (W.contents q.writer.now) e };
 
     /// Writes the line of the trade with the running total of the commissions, and counts it. Fails
     /// with `Desk` or `Write`; the total and the count are then unchanged.

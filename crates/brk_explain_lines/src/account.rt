@@ -18,7 +18,7 @@ use brk_explain_columns::{
 use brk_explain_rows::PricedHolding;
 use brk_money::{Cents, Fault, Id, Price, Wide, write_cents};
 use brk_ref::AccountRow;
-use brk_report_lines::{lot_line, append_left_aligned, append_right_aligned};
+use brk_report_lines::{append_left_aligned, append_right_aligned, lot_line};
 use itoa::Buffer;
 use std::alloc::Global;
 
@@ -254,7 +254,8 @@ pub fn holding_and_total_text(
     cash: u64,
     lots: u64,
 ) -> Result<Vec<u8>, Fault>
-    ensures text { IfOk result (λ text. text.items ≡ text_of_lines (lines.holding_and_total_lines (abstract_account_row row.now) (map abstract_priced_holding held.now) cash lots)) }
+    ensures text { IfOk result (λ text. text.items
+        ≡ text_of_lines (lines.holding_and_total_lines (abstract_account_row row.now) (map abstract_priced_holding held.now) cash lots)) }
     ensures fault { IfErr result IsCallFault }
 {
     let holdings = market_value_of_holdings(held)?;

@@ -18,8 +18,8 @@ use brk_explain_rows::{OrderStory, ResultStory};
 use brk_money::{Fault, Wide};
 use std::alloc::Global;
 
-// Appends the line of the cash row of a trade, or of `before_first_trade` if it has none. Fails with `Memory`
-// only.
+// Appends the line of the cash row of a trade, or of `before_first_trade` if it has none. Fails
+// with `Memory` only.
 #[tactic(auto, unfolding(brk_explain_model::specs::TradeLines::trade_cash_row_line))]
 fn put_cash_row_line(out: &mut Vec<u8>, row: &Option<MoveRow>) -> Result<(), Fault>
     ensures ok { OnOk result (out.new.items ≡ out.old.items ++ line_with_line_feed (lines.trade_cash_row_line (option_map abstract_move_row row.now))) }
@@ -44,7 +44,8 @@ pub(crate) fn put_balance_lines(
     order: &OrderStory,
     story: &ResultStory,
 ) -> Result<(), Fault>
-    ensures ok { OnOk result (out.new.items ≡ out.old.items ++ text_of_lines (lines.trade_balance_lines (abstract_order_story order.now) (abstract_result_story story.now))) }
+    ensures ok { OnOk result (out.new.items
+        ≡ out.old.items ++ text_of_lines (lines.trade_balance_lines (abstract_order_story order.now) (abstract_result_story story.now))) }
     ensures fault { IfErr result IsCallFault }
 {
     let opening = Wide::from(order.account.account.opening);
@@ -89,7 +90,8 @@ pub(crate) fn put_trade_counts_lines(
     order: &OrderStory,
     story: &ResultStory,
 ) -> Result<(), Fault>
-    ensures ok { OnOk result (out.new.items ≡ out.old.items ++ text_of_lines (lines.trade_counts_lines (abstract_order_story order.now) (abstract_result_story story.now))) }
+    ensures ok { OnOk result (out.new.items
+        ≡ out.old.items ++ text_of_lines (lines.trade_counts_lines (abstract_order_story order.now) (abstract_result_story story.now))) }
     ensures fault { OnErr result (result ≡ Err Memory) }
 {
     put_trade_counts_line(

@@ -98,7 +98,8 @@ fn put_opened_lot_line(
     price: Price,
     lot: &LotChange,
 ) -> Result<(), Fault>
-    ensures ok { OnOk result (out.new.items ≡ out.old.items ++ line_with_line_feed (lines.opened_lot_line (abstract_trade_row trade.now) price (abstract_lot_change_row lot.now))) }
+    ensures ok { OnOk result (out.new.items
+        ≡ out.old.items ++ line_with_line_feed (lines.opened_lot_line (abstract_trade_row trade.now) price (abstract_lot_change_row lot.now))) }
     ensures fault { OnErr result (result ≡ Err Memory) }
 {
     let moment = format_timestamp(alloc, trade.stamp)?;
@@ -125,7 +126,8 @@ fn put_opened_lot_lines(
     price: Price,
     lot: &Option<LotChange>,
 ) -> Result<(), Fault>
-    ensures ok { OnOk result (out.new.items ≡ out.old.items ++ text_of_lines (lines.opened_lot_lines (abstract_trade_row trade.now) price (option_map abstract_lot_change_row lot.now))) }
+    ensures ok { OnOk result (out.new.items
+        ≡ out.old.items ++ text_of_lines (lines.opened_lot_lines (abstract_trade_row trade.now) price (option_map abstract_lot_change_row lot.now))) }
     ensures fault { OnErr result (result ≡ Err Memory) }
 {
     match lot {
@@ -165,7 +167,8 @@ fn put_realised_gain_lines(
     order: &OrderStory,
     story: &ResultStory,
 ) -> Result<(), Fault>
-    ensures ok { OnOk result (out.new.items ≡ out.old.items ++ text_of_lines (lines.realised_gain_lines (abstract_order_story order.now) (abstract_result_story story.now))) }
+    ensures ok { OnOk result (out.new.items
+        ≡ out.old.items ++ text_of_lines (lines.realised_gain_lines (abstract_order_story order.now) (abstract_result_story story.now))) }
     ensures fault { IfErr result IsCallFault }
 {
     let side = order.trade.kind.side();
@@ -186,7 +189,8 @@ pub(crate) fn put_lot_and_gain_lines(
     order: &OrderStory,
     story: &ResultStory,
 ) -> Result<(), Fault>
-    ensures ok { OnOk result (out.new.items ≡ out.old.items ++ text_of_lines (lines.lot_and_gain_lines (abstract_order_story order.now) (abstract_result_story story.now))) }
+    ensures ok { OnOk result (out.new.items
+        ≡ out.old.items ++ text_of_lines (lines.lot_and_gain_lines (abstract_order_story order.now) (abstract_result_story story.now))) }
     ensures fault { IfErr result IsCallFault }
 {
     let side = order.trade.kind.side();

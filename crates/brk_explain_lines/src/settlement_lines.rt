@@ -26,7 +26,8 @@ pub(crate) fn put_settlement_lines(
     order: &OrderStory,
     story: &ResultStory,
 ) -> Result<(), Fault>
-    ensures ok { OnOk result (out.new.items ≡ out.old.items ++ text_of_lines (lines.trade_settlement_lines (abstract_order_story order.now) (abstract_result_story story.now))) }
+    ensures ok { OnOk result (out.new.items
+        ≡ out.old.items ++ text_of_lines (lines.trade_settlement_lines (abstract_order_story order.now) (abstract_result_story story.now))) }
     ensures fault { OnErr result (result ≡ Err Memory) }
 {
     put_labeled_amount_line(alloc, out, "Value", signed_trade_value(order, story))?;
@@ -68,8 +69,8 @@ fn format_day_or_none(alloc: Global, rule: Option<Day>) -> Result<Vec<u8>, Fault
     }
 }
 
-/// Appends the lines of the day of completion, of the settlement day or `before_first_trade`, of the number of
-/// days to settle, and of the due day.
+/// Appends the lines of the day of completion, of the settlement day or `before_first_trade`, of
+/// the number of days to settle, and of the due day.
 #[tactic(auto, unfolding(brk_explain_model::specs::TradeLines::due_day_lines))]
 pub(crate) fn put_due_day_lines(
     alloc: Global,
@@ -77,7 +78,8 @@ pub(crate) fn put_due_day_lines(
     order: &OrderStory,
     story: &ResultStory,
 ) -> Result<(), Fault>
-    ensures ok { OnOk result (out.new.items ≡ out.old.items ++ text_of_lines (lines.due_day_lines (abstract_order_story order.now) (abstract_result_story story.now))) }
+    ensures ok { OnOk result (out.new.items
+        ≡ out.old.items ++ text_of_lines (lines.due_day_lines (abstract_order_story order.now) (abstract_result_story story.now))) }
     ensures fault { OnErr result (result ≡ Err Memory) }
 {
     let completed = day_of(order.trade.stamp);

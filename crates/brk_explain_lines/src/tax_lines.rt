@@ -71,7 +71,8 @@ fn put_current_and_recorded_tax_lines(
     order: &OrderStory,
     story: &ResultStory,
 ) -> Result<(), Fault>
-    ensures ok { OnOk result (out.new.items ≡ out.old.items ++ text_of_lines (lines.current_and_recorded_tax_lines (abstract_order_story order.now) (abstract_result_story story.now))) }
+    ensures ok { OnOk result (out.new.items
+        ≡ out.old.items ++ text_of_lines (lines.current_and_recorded_tax_lines (abstract_order_story order.now) (abstract_result_story story.now))) }
     ensures fault { IfErr result IsCallFault }
 {
     let rates = sum_of_tax_rates(&story.rates)?;
@@ -92,7 +93,8 @@ pub(crate) fn put_tax_lines(
     order: &OrderStory,
     story: &ResultStory,
 ) -> Result<(), Fault>
-    ensures ok { OnOk result (out.new.items ≡ out.old.items ++ text_of_lines (lines.trade_tax_lines (abstract_order_story order.now) (abstract_result_story story.now))) }
+    ensures ok { OnOk result (out.new.items
+        ≡ out.old.items ++ text_of_lines (lines.trade_tax_lines (abstract_order_story order.now) (abstract_result_story story.now))) }
     ensures fault { IfErr result IsCallFault }
 {
     put_tax_status_lines(out, order)?;
@@ -126,8 +128,8 @@ fn put_band_tier_and_exchange(out: &mut Vec<u8>, band: &Band) -> Result<(), Faul
     Ok(())
 }
 
-// Appends the line of the current commission band, or of `before_first_trade` if there is none. Fails with
-// `Memory` only.
+// Appends the line of the current commission band, or of `before_first_trade` if there is none.
+// Fails with `Memory` only.
 #[tactic(auto, unfolding(brk_explain_model::specs::TradeLines::commission_band_line))]
 fn put_commission_band_line(out: &mut Vec<u8>, band: &Option<Band>) -> Result<(), Fault>
     ensures ok { OnOk result (out.new.items ≡ out.old.items ++ line_with_line_feed (lines.commission_band_line (option_map abstract_band band.now))) }
@@ -143,8 +145,8 @@ fn put_commission_band_line(out: &mut Vec<u8>, band: &Option<Band>) -> Result<()
     Ok(())
 }
 
-// Appends the line of the commission at the rate of the current band, or of `before_first_trade` if there is no
-// band. Fails with `Memory` only.
+// Appends the line of the commission at the rate of the current band, or of `before_first_trade` if
+// there is no band. Fails with `Memory` only.
 #[tactic(auto, unfolding(brk_explain_model::specs::TradeLines::current_commission_line))]
 fn put_current_commission_line(
     alloc: Global,
@@ -169,7 +171,8 @@ pub(crate) fn put_band_and_commission_lines(
     order: &OrderStory,
     story: &ResultStory,
 ) -> Result<(), Fault>
-    ensures ok { OnOk result (out.new.items ≡ out.old.items ++ text_of_lines (lines.band_and_commission_lines (abstract_order_story order.now) (abstract_result_story story.now))) }
+    ensures ok { OnOk result (out.new.items
+        ≡ out.old.items ++ text_of_lines (lines.band_and_commission_lines (abstract_order_story order.now) (abstract_result_story story.now))) }
     ensures fault { OnErr result (result ≡ Err Memory) }
 {
     put_commission_band_line(out, &story.band)?;

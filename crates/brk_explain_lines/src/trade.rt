@@ -24,7 +24,8 @@ fn put_completed_trade_lines(
     order: &OrderStory,
     story: &ResultStory,
 ) -> Result<(), Fault>
-    ensures ok { OnOk result (out.new.items ≡ out.old.items ++ text_of_lines (lines.completed_trade_lines (abstract_order_story order.now) (abstract_result_story story.now))) }
+    ensures ok { OnOk result (out.new.items
+        ≡ out.old.items ++ text_of_lines (lines.completed_trade_lines (abstract_order_story order.now) (abstract_result_story story.now))) }
     ensures fault { IfErr result IsCallFault }
 {
     put_lot_and_gain_lines(alloc, out, order, story)?;
@@ -45,7 +46,8 @@ fn put_lines_after_statuses(
     order: &OrderStory,
     story: &Option<ResultStory>,
 ) -> Result<(), Fault>
-    ensures ok { OnOk result (out.new.items ≡ out.old.items ++ text_of_lines (lines.lines_after_statuses (abstract_order_story order.now) (option_map abstract_result_story story.now))) }
+    ensures ok { OnOk result (out.new.items
+        ≡ out.old.items ++ text_of_lines (lines.lines_after_statuses (abstract_order_story order.now) (option_map abstract_result_story story.now))) }
     ensures fault { IfErr result IsCallFault }
 {
     match story {

@@ -39,7 +39,8 @@ trade_id_or_hyphen trade = option_map_or decimal trade (codes "-")
 -- a hyphen, its amount, `balance`, and its text.
 unfoldable pub cash_posting_line : MoveRow → ℤ → Text
 cash_posting_line row balance =
-    left_aligned_text 6 (codes "Posted") ++ 32 ∷ timestamp_text row.stamp ++ 32 ∷ right_aligned_text 13 (decimal row.id) ++ 32 ∷ right_aligned_text 13 (trade_id_or_hyphen row.trade)
+    left_aligned_text 6 (codes "Posted") ++ 32 ∷ timestamp_text row.stamp ++ 32 ∷ right_aligned_text 13 (decimal row.id) ++ 32
+    ∷ right_aligned_text 13 (trade_id_or_hyphen row.trade)
     ++ amount_column row.amount ++ amount_column balance ++ 32 ∷ row.name
 
 -- One line for each of `rows`, with the running balance: `opening` plus the amounts of the rows up
@@ -49,7 +50,8 @@ cash_posting_lines opening rows = lines_with_running_total (λ row. row.amount) 
 
 -- The line of the balance of the account `a`, and the column headings of its lots and holdings.
 unfoldable pub balance_header_lines : AccountRow → List Text
-balance_header_lines a = labeled_amount (codes "Balance") a.balance ∷ codes "#      symbol                    lot      shares      price                  worth" ∷ []
+balance_header_lines a =
+    labeled_amount (codes "Balance") a.balance ∷ codes "#      symbol                    lot      shares      price                  worth" ∷ []
 
 -- The line of the lot `row`: the word `Lot`, and the columns of its line in a statement.
 unfoldable pub open_lot_line : HoldingRow → Text
@@ -80,7 +82,8 @@ quantity_and_price_columns qty price = 32 ∷ right_aligned_text 11 (signed_deci
 
 -- The line of the holding `held`: its symbol, quantity, last price and market value.
 unfoldable pub holding_line : PricedHolding → Text
-holding_line held = holding_line_start held.summary.symbol ++ quantity_and_price_columns held.summary.qty held.price ++ amount_column (market_value_of_holding held)
+holding_line held =
+    holding_line_start held.summary.symbol ++ quantity_and_price_columns held.summary.qty held.price ++ amount_column (market_value_of_holding held)
 
 -- The holding summary `row` with the last price of its symbol in `tables`, or with price 0 if the
 -- symbol has none.

@@ -25,13 +25,15 @@ broker_of_account_or_zero tables account = option_map_or (λ a. a.broker) (accou
 
 -- The completed trades of the accounts of `broker`, sorted by the stamp of completion, ascending.
 abbrev pub completed_trades_of_broker : Tables → ℕ → List TradeRow
-completed_trades_of_broker tables broker = sort_by_key (λ u. u.stamp) (filter (λ u. has_completed_status u && (broker_of_account_or_zero tables u.account == broker)) tables.trades)
+completed_trades_of_broker tables broker =
+    sort_by_key (λ u. u.stamp) (filter (λ u. has_completed_status u && (broker_of_account_or_zero tables u.account == broker)) tables.trades)
 
 -- The line of the completed trade `u`: the word `Trade`, its timestamp, id, account and commission,
 -- and `total`.
 unfoldable pub trade_commission_line : TradeRow → ℤ → Text
 trade_commission_line u total =
-    left_aligned_text 6 (codes "Trade") ++ 32 ∷ timestamp_text u.stamp ++ 32 ∷ right_aligned_text 13 (decimal u.id) ++ 32 ∷ right_aligned_text 13 (decimal u.account)
+    left_aligned_text 6 (codes "Trade") ++ 32 ∷ timestamp_text u.stamp ++ 32 ∷ right_aligned_text 13 (decimal u.id) ++ 32
+    ∷ right_aligned_text 13 (decimal u.account)
     ++ amount_column (pos u.commission) ++ amount_column total
 
 -- The first lines of the explanation of the broker `b`: the title, its name, and the column
@@ -55,7 +57,8 @@ broker_counts_line accounts trades = codes "Accounts " ++ decimal accounts ++ co
 -- numbers of its accounts and of its trades.
 unfoldable pub broker_total_lines : BrokerRow → ℕ → ℕ → List Text
 broker_total_lines b accounts trades =
-    labeled_amount (codes "Commissions") (pos b.commissions) ∷ labeled_value (codes "Trades") (signed_decimal b.trades) ∷ broker_counts_line accounts trades ∷ []
+    labeled_amount (codes "Commissions") (pos b.commissions) ∷ labeled_value (codes "Trades") (signed_decimal b.trades) ∷ broker_counts_line accounts trades
+    ∷ []
 
 -- All lines of the explanation of the broker `b` with the number of its accounts and its completed
 -- trades `done`.

@@ -29,7 +29,9 @@ holding_header_lines a s =
 -- it.
 unfoldable pub holding_trade_line : TradeRow → ℤ → Text
 holding_trade_line u held =
-    leading_row_columns (codes "Trade") (timestamp_text u.stamp) u.id (signed_qty u) (completion_price_or_zero u) ++ value_column (signed_value u) ++ shares_column held ++ 32 ∷ trade_type_code u.kind
+    leading_row_columns (codes "Trade") (timestamp_text u.stamp) u.id (signed_qty u) (completion_price_or_zero u) ++ value_column (signed_value u)
+    ++ shares_column held ++ 32
+    ∷ trade_type_code u.kind
 
 -- The column headings of the lines of lots.
 abbrev pub lot_columns_header : Text
@@ -39,19 +41,23 @@ lot_columns_header = codes "#      opened or changed               trade      sh
 -- opened it, the opened quantity, the price, and their product.
 unfoldable pub lot_opening_line : LotStory → Text
 lot_opening_line lot =
-    leading_row_columns (codes "Lot") (timestamp_text lot.trade.stamp) lot.trade.id lot.opened (completion_price_or_zero lot.trade) ++ value_column (lot.opened *ℤ pos (completion_price_or_zero lot.trade))
+    leading_row_columns (codes "Lot") (timestamp_text lot.trade.stamp) lot.trade.id lot.opened (completion_price_or_zero lot.trade)
+    ++ value_column (lot.opened *ℤ pos (completion_price_or_zero lot.trade))
 
 -- The line of the change `c` of a lot that was opened at `price`: the word `Change`, the timestamp
 -- and the id of the trade, the change of the quantity, the price of the trade, the realised gain,
 -- and the quantity of the lot after it.
 unfoldable pub lot_change_line : ℕ → LotChange → Text
 lot_change_line price c =
-    leading_row_columns (codes "Change") (timestamp_text c.stamp) c.trade (c.after -ℤ c.before) c.price ++ value_column (realised_gain_of_change price c) ++ shares_column c.after
+    leading_row_columns (codes "Change") (timestamp_text c.stamp) c.trade (c.after -ℤ c.before) c.price ++ value_column (realised_gain_of_change price c)
+    ++ shares_column c.after
 
 -- The line of the remaining shares of `lot`: the word `Left`, the id of the trade that opened it,
 -- the remaining quantity, the price, and their product.
 unfoldable pub lot_remainder_line : LotStory → Text
-lot_remainder_line lot = leading_row_columns (codes "Left") blank_timestamp_text lot.trade.id (remaining_quantity_of_lot lot) (completion_price_or_zero lot.trade) ++ value_column (remaining_cost_of_lot lot)
+lot_remainder_line lot =
+    leading_row_columns (codes "Left") blank_timestamp_text lot.trade.id (remaining_quantity_of_lot lot) (completion_price_or_zero lot.trade)
+    ++ value_column (remaining_cost_of_lot lot)
 
 -- A line for each of the later `changes` of a lot that was opened at `price`.
 abbrev pub lot_change_lines : ℕ → List LotChange → List Text
@@ -65,7 +71,8 @@ lot_history_lines lot = lot_opening_line lot ∷ lot_change_lines (completion_pr
 -- the cost basis `cost` of a holding, in cents.
 unfoldable pub purchase_sale_and_cost_lines : ℤ → ℤ → ℤ → ℤ → List Text
 purchase_sale_and_cost_lines bought sold gain cost =
-    labeled_amount (codes "Purchases") bought ∷ labeled_amount (codes "Sales") sold ∷ labeled_amount (codes "Realised gain") gain ∷ labeled_amount (codes "Cost basis") cost ∷ []
+    labeled_amount (codes "Purchases") bought ∷ labeled_amount (codes "Sales") sold ∷ labeled_amount (codes "Realised gain") gain
+    ∷ labeled_amount (codes "Cost basis") cost ∷ []
 
 -- The lines of the quantity `shares` of a holding, of the last price `price`, of the market value,
 -- which is their product, and of the unrealised gain, which is the market value minus the cost
@@ -102,7 +109,8 @@ holding_trade_lines done = lines_with_running_total signed_qty holding_trade_lin
 -- All lines of the explanation of the holding of the account `a` in the security `s`, from its
 -- completed trades `done`, its `lots`, its quantity `shares` and the last price `price`.
 unfoldable pub holding_story_lines : AccountRow → SecurityRow → List TradeRow → List LotStory → ℤ → ℕ → List Text
-holding_story_lines a s done lots shares price = holding_header_lines a s ++ holding_trade_lines done ++ lot_columns_header ∷ flat_map lot_history_lines lots ++ holding_total_lines done lots shares price
+holding_story_lines a s done lots shares price =
+    holding_header_lines a s ++ holding_trade_lines done ++ lot_columns_header ∷ flat_map lot_history_lines lots ++ holding_total_lines done lots shares price
 
 -- All lines of the explanation of the holding of the account `a` in the security `s`: the first
 -- lines, its completed trades, its lots with their changes, and the last lines.

@@ -36,7 +36,8 @@ pub record LotChange : Type 0 where
 -- The change of a lot that the HOLDING_HISTORY row `row` records, with the stamp and the price of
 -- the trade that made it; each is 0 if this trade does not exist.
 abbrev pub recorded_lot_change : Tables → HoldingHistoryRow → LotChange
-recorded_lot_change tables row = record { trade = row.trade; stamp = trade_stamp_or_zero tables row.trade; price = trade_price_or_zero tables row.trade; before = row.before; after = row.after }
+recorded_lot_change tables row =
+    record { trade = row.trade; stamp = trade_stamp_or_zero tables row.trade; price = trade_price_or_zero tables row.trade; before = row.before; after = row.after }
 
 -- True if `row` records a change of `lot` by another trade than the one that opened it.
 abbrev pub is_later_change_of_lot : ℕ → HoldingHistoryRow → Bool
@@ -71,7 +72,8 @@ lot_with_later_changes tables u = record { trade = u; opened = quantity_opened_b
 -- The lots that the completed trades of `account` in `symbol` opened, sorted by the stamp of
 -- completion, ascending.
 abbrev pub lots_opened_in_symbol : Tables → ℕ → Text → List LotStory
-lots_opened_in_symbol tables account symbol = map (lot_with_later_changes tables) (filter (λ u. is_some (opened_lot_row tables u.id)) (completed_trades_in_symbol tables account symbol))
+lots_opened_in_symbol tables account symbol =
+    map (lot_with_later_changes tables) (filter (λ u. is_some (opened_lot_row tables u.id)) (completed_trades_in_symbol tables account symbol))
 
 -- The remaining quantity of `lot`: its quantity after the last change, or the opened quantity if it
 -- has no change.

@@ -39,7 +39,8 @@ labeled_amount label amount = labeled_value label (cents_text amount)
 -- right-aligned, `id` in 13, `shares` in 11, and `price` in 10 places.
 unfoldable pub leading_row_columns : Text → Text → ℕ → ℤ → ℕ → Text
 leading_row_columns word moment id shares price =
-    left_aligned_text 6 word ++ 32 ∷ moment ++ 32 ∷ right_aligned_text 13 (decimal id) ++ 32 ∷ right_aligned_text 11 (signed_decimal shares) ++ 32 ∷ right_aligned_text 10 (nonnegative_cents_text price)
+    left_aligned_text 6 word ++ 32 ∷ moment ++ 32 ∷ right_aligned_text 13 (decimal id) ++ 32 ∷ right_aligned_text 11 (signed_decimal shares) ++ 32
+    ∷ right_aligned_text 10 (nonnegative_cents_text price)
 
 -- A space, and `amount`, an amount in cents, right-aligned in 16 places.
 unfoldable pub value_column : ℤ → Text

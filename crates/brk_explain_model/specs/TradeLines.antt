@@ -26,7 +26,8 @@ closing_order_words is_lifo = if is_lifo then codes "last in first out" else cod
 -- The line of the status change `row`: the word `Status`, its timestamp, and the code and the name
 -- of the status.
 unfoldable pub status_change_line : HistoryRow → Text
-status_change_line row = left_aligned_text 6 (codes "Status") ++ 32 ∷ timestamp_text row.stamp ++ 32 ∷ trade_status_code row.status ++ 32 ∷ trade_status_name row.status
+status_change_line row =
+    left_aligned_text 6 (codes "Status") ++ 32 ∷ timestamp_text row.stamp ++ 32 ∷ trade_status_code row.status ++ 32 ∷ trade_status_name row.status
 
 -- The title of the explanation of a trade, with its id.
 abbrev pub trade_title_line : OrderStory → Text
@@ -120,7 +121,8 @@ uncompleted_trade_lines o =
 -- the sell value of these shares, and the lot's quantity after it.
 unfoldable pub closed_lot_line : Side → ℕ → Closing → Text
 closed_lot_line side price c =
-    leading_row_columns (codes "Closed") (timestamp_text c.stamp) c.lot (pos (shares_of_closing c)) c.price ++ value_column (pos (buy_value_of_closing side price c))
+    leading_row_columns (codes "Closed") (timestamp_text c.stamp) c.lot (pos (shares_of_closing c)) c.price
+    ++ value_column (pos (buy_value_of_closing side price c))
     ++ value_column (pos (sell_value_of_closing side price c)) ++ shares_column c.after
 
 -- The line of the lot that the trade `u` opened at `price`: the word `Opened`, the timestamp and
@@ -146,7 +148,8 @@ closed_lot_lines o r = map (closed_lot_line (side_of_trade_type o.trade.kind) r.
 
 -- The lines of the number of closed shares and of the number of opened shares.
 unfoldable pub share_count_lines : ResultStory → List Text
-share_count_lines r = labeled_number (codes "Shares closed") (total_closed_shares r.closings) ∷ labeled_number (codes "Shares opened") (nat_abs (opened_quantity r)) ∷ []
+share_count_lines r =
+    labeled_number (codes "Shares closed") (total_closed_shares r.closings) ∷ labeled_number (codes "Shares opened") (nat_abs (opened_quantity r)) ∷ []
 
 -- The lines of the buy value, the sell value and the realised gain of the closed shares.
 unfoldable pub realised_gain_lines : OrderStory → ResultStory → List Text
@@ -159,12 +162,14 @@ realised_gain_lines o r =
 -- The lines of the price, of the lots that the trade closed and opened, of the numbers of shares,
 -- and of the realised gain.
 unfoldable pub lot_and_gain_lines : OrderStory → ResultStory → List Text
-lot_and_gain_lines o r = price_and_lot_header_lines r ++ closed_lot_lines o r ++ opened_lot_lines o.trade r.price r.own_lot ++ share_count_lines r ++ realised_gain_lines o r
+lot_and_gain_lines o r =
+    price_and_lot_header_lines r ++ closed_lot_lines o r ++ opened_lot_lines o.trade r.price r.own_lot ++ share_count_lines r ++ realised_gain_lines o r
 
 -- The line of the tax rate `rate`: the word `Rate`, its id, the rate in hundred-thousandths, and
 -- its name.
 unfoldable pub tax_rate_line : TaxRate → Text
-tax_rate_line rate = left_aligned_text 6 (codes "Rate") ++ 32 ∷ right_aligned_text 13 (decimal rate.id) ++ 32 ∷ right_aligned_text 11 (decimal rate.rate) ++ 32 ∷ rate.name
+tax_rate_line rate =
+    left_aligned_text 6 (codes "Rate") ++ 32 ∷ right_aligned_text 13 (decimal rate.id) ++ 32 ∷ right_aligned_text 11 (decimal rate.rate) ++ 32 ∷ rate.name
 
 -- The line of the number of the account's tax status.
 unfoldable pub account_tax_status_lines : OrderStory → List Text
@@ -199,7 +204,8 @@ unfoldable pub commission_band_line : Option Band → Text
 commission_band_line None = labeled_value (codes "Band now") (codes "none")
 commission_band_line (Some b) = labeled_number (codes "Band now") b.rate ++ band_bounds_text b ++ band_tier_and_exchange_text b
 
--- The line of the commission at the rate of the current band, or of `before_first_trade` if there is no band.
+-- The line of the commission at the rate of the current band, or of `before_first_trade` if there
+-- is no band.
 unfoldable pub current_commission_line : Option ℕ → Text
 current_commission_line None = labeled_value (codes "Commission now") (codes "none")
 current_commission_line (Some amount) = labeled_amount (codes "Commission now") (pos amount)
@@ -220,8 +226,8 @@ trade_settlement_lines o r =
     ∷ labeled_text (codes "Cash type") r.settlement.cash_type
     ∷ []
 
--- The lines of the day of completion, of the settlement day or `before_first_trade`, of the number of days to
--- settle, and of the due day.
+-- The lines of the day of completion, of the settlement day or `before_first_trade`, of the number
+-- of days to settle, and of the due day.
 unfoldable pub due_day_lines : OrderStory → ResultStory → List Text
 due_day_lines o r =
     labeled_text (codes "Completed on") (day_text (day_of o.trade.stamp))
@@ -230,8 +236,8 @@ due_day_lines o r =
     ∷ labeled_text (codes "Due on") (day_text r.settlement.due_day)
     ∷ []
 
--- The line of the cash row of the trade: its id and its text, or `before_first_trade` if the trade has no cash
--- row.
+-- The line of the cash row of the trade: its id and its text, or `before_first_trade` if the trade
+-- has no cash row.
 unfoldable pub trade_cash_row_line : Option MoveRow → Text
 trade_cash_row_line None = labeled_value (codes "Cash row") (codes "none")
 trade_cash_row_line (Some row) = labeled_number (codes "Cash row") row.id ++ 32 ∷ row.name
@@ -251,7 +257,8 @@ trade_balance_lines o r =
 -- The last line of the explanation of a completed trade, with the numbers of `statuses`, of closed
 -- `lots` and of earlier cash rows (`cash`).
 abbrev pub trade_counts_line : ℕ → ℕ → ℕ → Text
-trade_counts_line statuses lots cash = codes "Statuses " ++ decimal statuses ++ codes ", lots closed " ++ decimal lots ++ codes ", cash rows before " ++ decimal cash
+trade_counts_line statuses lots cash =
+    codes "Statuses " ++ decimal statuses ++ codes ", lots closed " ++ decimal lots ++ codes ", cash rows before " ++ decimal cash
 
 -- The last line of the explanation of a completed trade, with its counts.
 unfoldable pub trade_counts_lines : OrderStory → ResultStory → List Text
@@ -261,7 +268,8 @@ trade_counts_lines o r = trade_counts_line (length o.statuses) (length r.closing
 -- settlement, due day, balance and counts.
 unfoldable pub completed_trade_lines : OrderStory → ResultStory → List Text
 completed_trade_lines o r =
-    lot_and_gain_lines o r ++ trade_tax_lines o r ++ band_and_commission_lines o r ++ trade_settlement_lines o r ++ due_day_lines o r ++ trade_balance_lines o r ++ trade_counts_lines o r
+    lot_and_gain_lines o r ++ trade_tax_lines o r ++ band_and_commission_lines o r ++ trade_settlement_lines o r ++ due_day_lines o r ++ trade_balance_lines o r
+    ++ trade_counts_lines o r
 
 -- The lines after the status changes of a trade: those of a completed trade if it has results, and
 -- otherwise those of a trade that is not completed.

@@ -103,7 +103,8 @@ trade_stamp_or_zero tables lot = option_map_or (λ t. t.stamp) (trade_row_with_i
 -- The closing that the HOLDING_HISTORY row `row` records, with the stamp and the price of the trade
 -- that opened the lot; each is 0 if this trade does not exist.
 abbrev pub recorded_closing : Tables → HoldingHistoryRow → Closing
-recorded_closing tables row = record { lot = row.lot; stamp = trade_stamp_or_zero tables row.lot; price = trade_price_or_zero tables row.lot; before = row.before; after = row.after }
+recorded_closing tables row =
+    record { lot = row.lot; stamp = trade_stamp_or_zero tables row.lot; price = trade_price_or_zero tables row.lot; before = row.before; after = row.after }
 
 -- The list `xs`, reversed if `is_lifo`.
 abbrev pub reversed_if_lifo : {X : Type 0} → Bool → List X → List X
@@ -133,7 +134,8 @@ tax_rates_of_customer tables customer =
 -- contain the quantity of the trade, or none.
 abbrev pub band_for_tier_and_exchange : Tables → TradeRow → ℕ → Text → Option Band
 band_for_tier_and_exchange tables u tier exchange =
-    find (λ b. (b.tier == tier) && is_same_trade_type b.kind u.kind && bytes_eq b.exchange exchange && nat_le b.from_qty u.qty && nat_le u.qty b.to_qty) tables.bands
+    find (λ b. (b.tier == tier) && is_same_trade_type b.kind u.kind && bytes_eq b.exchange exchange && nat_le b.from_qty u.qty
+    && nat_le u.qty b.to_qty) tables.bands
 
 -- The commission band of the trade `u` for the tier of a customer and the exchange of a security,
 -- or none if the customer, the security or the band does not exist.
@@ -144,7 +146,8 @@ band_for_customer_and_security tables u (Some c) (Some s) = band_for_tier_and_ex
 
 -- The commission band of the trade `u` for its customer and its security, or none.
 abbrev pub band_of_trade : Tables → TradeRow → Option Band
-band_of_trade tables u = band_for_customer_and_security tables u (find (λ c. c.id == (order_details_of_trade tables u).customer) tables.customers) (security_row_with_symbol tables u.symbol)
+band_of_trade tables u =
+    band_for_customer_and_security tables u (find (λ c. c.id == (order_details_of_trade tables u).customer) tables.customers) (security_row_with_symbol tables u.symbol)
 
 -- A SETTLEMENT row whose numbers are 0 and whose cash type is empty.
 abbrev pub zero_settlement_row : SettlementRow
@@ -176,7 +179,8 @@ result_details_of_trade tables u = record {
 -- The facts that the explanation of the trade `u` reads from `tables`: the trade as ordered, and
 -- its results if it is completed.
 unfoldable pub details_of_trade : Tables → TradeRow → TradeStory
-details_of_trade tables u = record { order = order_details_of_trade tables u; result = if has_completed_status u then Some (result_details_of_trade tables u) else None }
+details_of_trade tables u =
+    record { order = order_details_of_trade tables u; result = if has_completed_status u then Some (result_details_of_trade tables u) else None }
 
 -- ---- amounts
 
@@ -224,7 +228,8 @@ sum_of_tax_rates rates = sum_by (λ rate. rate.rate) rates
 -- The tax on the realised gain of the trade at its customer's current tax rates, in cents; 0 if the
 -- account is not taxable.
 abbrev pub tax_at_current_rates : OrderStory → ResultStory → ℕ
-tax_at_current_rates o r = if is_taxable_status o.tax_status then tax (realised_gain_of_closings (side_of_trade_type o.trade.kind) r.price r.closings) (sum_of_tax_rates r.rates) else 0
+tax_at_current_rates o r =
+    if is_taxable_status o.tax_status then tax (realised_gain_of_closings (side_of_trade_type o.trade.kind) r.price r.closings) (sum_of_tax_rates r.rates) else 0
 
 -- The commission of the trade at the rate of its current band, in cents; none if there is no band.
 abbrev pub commission_in_current_band : OrderStory → ResultStory → Option ℕ

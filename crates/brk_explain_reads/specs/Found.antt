@@ -23,18 +23,21 @@ cash_rows_before_stamp t account until = filter (λ r. nat_lt r.stamp until) (ca
 -- `sum` has the number and the total of the cash rows of `account` in the tables `t` with stamps
 -- before `until`.
 abbrev pub IsCashSumBeforeStamp : Tables → ℕ → ℕ → CashSum → Type 0
-IsCashSumBeforeStamp t account until sum = (sum.rows ≡ length (cash_rows_before_stamp t account until)) × (sum.total ≡ cash_row_total (cash_rows_before_stamp t account until))
+IsCashSumBeforeStamp t account until sum =
+    (sum.rows ≡ length (cash_rows_before_stamp t account until)) × (sum.total ≡ cash_row_total (cash_rows_before_stamp t account until))
 
 -- `lots` has the closings by `trade`, in the order of the table HOLDING_HISTORY, and the lot that
 -- the trade opened, if any, as the tables `t` record them.
 abbrev pub AreTradeLotsByKey : Tables → ℕ → TradeLots → Type 0
 AreTradeLotsByKey t trade lots =
-    (map abstract_closing lots.closings.items ≡ map (recorded_closing t) (filter (is_closing_by trade) t.holding_history)) × (option_map abstract_lot_change_row lots.own_lot ≡ opened_lot_row t trade)
+    (map abstract_closing lots.closings.items ≡ map (recorded_closing t) (filter (is_closing_by trade) t.holding_history))
+    × (option_map abstract_lot_change_row lots.own_lot ≡ opened_lot_row t trade)
 
 -- `lots` has the closings by the trade `u`, in the order of closing, and the lot that the trade
 -- opened, if any, as the tables `t` record them.
 abbrev pub AreTradeLotsInClosingOrder : Tables → TradeRow → TradeLots → Type 0
-AreTradeLotsInClosingOrder t u lots = (map abstract_closing lots.closings.items ≡ closings_of_trade t u) × (option_map abstract_lot_change_row lots.own_lot ≡ opened_lot_row t u.id)
+AreTradeLotsInClosingOrder t u lots =
+    (map abstract_closing lots.closings.items ≡ closings_of_trade t u) × (option_map abstract_lot_change_row lots.own_lot ≡ opened_lot_row t u.id)
 
 -- `order` has the trade `row`, the rows of its account and of its security in the tables `t`, and
 -- its status changes, the oldest first.
@@ -49,13 +52,15 @@ pub record IsOrderOfTrade (row : trade.TradeRow) (order : OrderStory) (t : Table
 abbrev pub AreTaxRatesAndBand : Tables → OrderStory → TaxRatesAndBand → Type 0
 AreTaxRatesAndBand t order terms =
     (map abstract_tax_rate terms.rates.items ≡ tax_rates_of_customer t order.account.account.customer)
-    × (option_map abstract_band terms.band ≡ band_for_customer_and_security t (abstract_trade_row order.trade) (find (λ c. c.id == order.account.account.customer) t.customers) (Some (abstract_security_row order.security)))
+    × (option_map abstract_band terms.band
+    ≡ band_for_customer_and_security t (abstract_trade_row order.trade) (find (λ c. c.id == order.account.account.customer) t.customers) (Some (abstract_security_row order.security)))
 
 -- `settled` has the SETTLEMENT row of `trade` (a row of zeros if there is none), its cash row, if
 -- any, and the settlement day of the tables `t`, if any.
 abbrev pub IsSettlementOfTrade : Tables → ℕ → SettlementAndCash → Type 0
 IsSettlementOfTrade t trade settled =
-    (abstract_settlement_row settled.settlement ≡ settlement_of_trade_or_zeros t trade) × (option_map abstract_move_row settled.cash ≡ find (is_cash_row_of_trade trade) t.moves) × (settled.rule ≡ t.rule)
+    (abstract_settlement_row settled.settlement ≡ settlement_of_trade_or_zeros t trade)
+    × (option_map abstract_move_row settled.cash ≡ find (is_cash_row_of_trade trade) t.moves) × (settled.rule ≡ t.rule)
 
 -- `story` has the results of the order's trade in the tables `t`. Vacuous if `order` is not the
 -- order of its trade in these tables (`IsOrderOfTrade`).

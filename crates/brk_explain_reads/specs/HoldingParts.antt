@@ -18,12 +18,15 @@ use Rattle.brk_explain_reads.specs.declared.lot_changes.OpeningAndLaterChanges.{
 abbrev pub AreLotChangesByTradeId : Tables → ℕ → OpeningAndLaterChanges → Type 0
 AreLotChangesByTradeId t lot all =
     (option_map rows.abstract_lot_change_row all.opening ≡ opened_lot_row t lot)
-    × (map abstract_priced_lot_change all.later_changes.items ≡ map (recorded_lot_change t) (filter (λ h. not (h.trade == lot)) (filter (λ h. h.lot == lot) t.holding_history)))
+    × (map abstract_priced_lot_change all.later_changes.items
+    ≡ map (recorded_lot_change t) (filter (λ h. not (h.trade == lot)) (filter (λ h. h.lot == lot) t.holding_history)))
 
 -- `all` has the change with which `lot` was opened, if any, and its changes by later trades, sorted
 -- by the stamp of completion, as the tables `t` record them.
 abbrev pub AreLotChangesByCompletion : Tables → ℕ → OpeningAndLaterChanges → Type 0
-AreLotChangesByCompletion t lot all = (option_map rows.abstract_lot_change_row all.opening ≡ opened_lot_row t lot) × (map abstract_priced_lot_change all.later_changes.items ≡ later_changes_of_lot t lot)
+AreLotChangesByCompletion t lot all =
+    (option_map rows.abstract_lot_change_row all.opening ≡ opened_lot_row t lot)
+    × (map abstract_priced_lot_change all.later_changes.items ≡ later_changes_of_lot t lot)
 
 -- The optional value `lot`, or `None` if there is no row of an opening.
 abbrev pub lot_if_opened : Option HoldingHistoryRow → Option LotStory → Option LotStory
@@ -36,12 +39,15 @@ lot_opened_by_trade t trade = lot_if_opened (opened_lot_row t trade) (option_map
 
 -- `one` has the row of `trade` in the tables `t` and the lot that it opened, if any.
 abbrev pub IsTradeWithLot : Tables → ℕ → TradeAndLot → Type 0
-IsTradeWithLot t trade one = (trade_row_with_id t trade ≡ Some (abstract_trade_row one.trade)) × (option_map abstract_lot_story one.lot ≡ lot_opened_by_trade t trade)
+IsTradeWithLot t trade one =
+    (trade_row_with_id t trade ≡ Some (abstract_trade_row one.trade)) × (option_map abstract_lot_story one.lot ≡ lot_opened_by_trade t trade)
 
 -- `held` has the completed trades of `account` in the security `symbol`, and the lots that they
 -- opened, as the tables `t` record them.
 abbrev pub AreTradesAndLotsOfHolding : Tables → ℕ → Text → TradesAndLots → Type 0
-AreTradesAndLotsOfHolding t account symbol held = (map abstract_trade_row held.done.items ≡ completed_trades_in_symbol t account symbol) × (map abstract_lot_story held.lots.items ≡ lots_opened_in_symbol t account symbol)
+AreTradesAndLotsOfHolding t account symbol held =
+    (map abstract_trade_row held.done.items ≡ completed_trades_in_symbol t account symbol)
+    × (map abstract_lot_story held.lots.items ≡ lots_opened_in_symbol t account symbol)
 
 -- `held` has the quantity of the holding summary of `account` in the security `symbol`, and the
 -- last price of this security, as the tables `t` record them.

@@ -10,7 +10,7 @@ ghost use Rattle.brk_store.specs.Holds.{ReadPost};
 use crate::known::read_existing_trade;
 use crate::lot_changes::{OpeningAndLaterChanges, read_lot_changes_by_completion};
 use brk_changes::{LotChange, TradeRow};
-use brk_explain_rows::{PricedLotChange, LotStory};
+use brk_explain_rows::{LotStory, PricedLotChange};
 use brk_money::{Fault, Id};
 use brk_ref::Symbol;
 use brk_store::Store;
@@ -35,7 +35,11 @@ pub struct TradesAndLots {
 }
 
 // Returns the lot that `trade` opened with the change `opening`, and its later changes.
-fn lot_story_of_opening(trade: TradeRow, opening: &LotChange, changes: Vec<PricedLotChange>) -> LotStory
+fn lot_story_of_opening(
+    trade: TradeRow,
+    opening: &LotChange,
+    changes: Vec<PricedLotChange>,
+) -> LotStory
     ensures { result ≡ record { trade = trade; opened = opening.now.after; changes = changes } }
 {
     LotStory {
@@ -57,7 +61,10 @@ fn read_lot_of_trade<S: Alter>(
     ensures fault { IfErr result IsCallFault }
 {
     let all = read_lot_changes_by_completion(alloc, store, trade)?;
-    let OpeningAndLaterChanges { opening, later_changes } = all;
+    let OpeningAndLaterChanges {
+        opening,
+        later_changes,
+    } = all;
     let Some(first) = opening else {
         return Ok(None);
     };
@@ -82,7 +89,8 @@ fn read_trade_and_lot<S: Alter>(
 
 // Appends a lot, if there is one. Fails with `Memory` only.
 fn push_lot_if_any(lots: &mut Vec<LotStory>, lot: Option<LotStory>) -> Result<(), Fault>
-    ensures added { OnOk result (map abstract_lot_story lots.new.items ≡ map abstract_lot_story lots.old.items ++ option_to_list (option_map abstract_lot_story lot)) }
+    ensures added { OnOk result (map abstract_lot_story lots.new.items
+        ≡ map abstract_lot_story lots.old.items ++ option_to_list (option_map abstract_lot_story lot)) }
     ensures fault { OnErr result (result ≡ Err Memory) }
 {
     if let Some(lot) = lot {

@@ -86,7 +86,8 @@ pub(crate) fn read_existing_settlement<S: Alter>(
     store: &mut Store<S>,
     trade: Id,
 ) -> Result<SettlementRow, Fault>
-    ensures read { ReadPost S.Store store.old store.new result (λ settlement t. find (λ r. r.trade == trade) t.settlements ≡ Some (abstract_settlement_row settlement)) }
+    ensures read { ReadPost S.Store store.old store.new result (λ settlement t. find (λ r. r.trade == trade) t.settlements
+        ≡ Some (abstract_settlement_row settlement)) }
     ensures fault { IfErr result IsCallFault }
 {
     match store.settlement(trade)? {

@@ -54,7 +54,8 @@ fn push_unless_by_opening_trade(
     change: &LotChange,
     lot: Id,
 ) -> Result<(), Fault>
-    ensures added { OnOk result (map abstract_lot_change_row later.new.items ≡ map abstract_lot_change_row later.old.items ++ filter (λ h. not (h.trade == lot)) (abstract_lot_change_row change.now ∷ [])) }
+    ensures added { OnOk result (map abstract_lot_change_row later.new.items
+        ≡ map abstract_lot_change_row later.old.items ++ filter (λ h. not (h.trade == lot)) (abstract_lot_change_row change.now ∷ [])) }
     ensures fault { OnErr result (result ≡ Err Memory) }
 {
     if is_change_by_opening_trade(change, lot) {
@@ -71,7 +72,8 @@ fn changes_by_later_trades(
     changes: &[LotChange],
     lot: Id,
 ) -> Result<Vec<LotChange>, Fault>
-    ensures later { IfOk result (λ later. map abstract_lot_change_row later.items ≡ filter (λ h. not (h.trade == lot)) (map abstract_lot_change_row changes.now)) }
+    ensures later { IfOk result (λ later. map abstract_lot_change_row later.items
+        ≡ filter (λ h. not (h.trade == lot)) (map abstract_lot_change_row changes.now)) }
     ensures fault { OnErr result (result ≡ Err Memory) }
 {
     let mut later = Vec::new(alloc);
@@ -96,8 +98,12 @@ fn priced_lot_change(change: &LotChange, stamp: Stamp, price: Price) -> PricedLo
 
 // Returns a change of a lot with the stamp and the price of its trade. Fails with `Memory` or
 // `Store`; with `Store` also if the trade does not exist or has no price.
-fn read_priced_lot_change<S: Alter>(store: &mut Store<S>, change: &LotChange) -> Result<PricedLotChange, Fault>
-    ensures read { ReadPost S.Store store.old store.new result (λ priced_change t. abstract_priced_lot_change priced_change ≡ model.recorded_lot_change t (abstract_lot_change_row change.now)) }
+fn read_priced_lot_change<S: Alter>(
+    store: &mut Store<S>,
+    change: &LotChange,
+) -> Result<PricedLotChange, Fault>
+    ensures read { ReadPost S.Store store.old store.new result (λ priced_change t. abstract_priced_lot_change priced_change
+        ≡ model.recorded_lot_change t (abstract_lot_change_row change.now)) }
     ensures fault { IfErr result IsCallFault }
 {
     let trade = read_existing_trade(store, change.trade)?;
@@ -126,12 +132,19 @@ fn read_lot_changes_by_trade_id<S: Alter>(
         let priced_change = read_priced_lot_change(store, change)?;
         later_changes.push(priced_change)?;
     }
-    Ok(OpeningAndLaterChanges { opening, later_changes })
+    Ok(OpeningAndLaterChanges {
+        opening,
+        later_changes,
+    })
 }
 
 // Returns the changes sorted by the stamps of their trades, ascending. Fails with `Memory` only.
-fn sort_changes_by_stamp(alloc: Global, later_changes: Vec<PricedLotChange>) -> Result<Vec<PricedLotChange>, Fault>
-    ensures order { IfOk result (λ all. map abstract_priced_lot_change all.items ≡ sort_by_key (λ c. c.stamp) (map abstract_priced_lot_change later_changes.items)) }
+fn sort_changes_by_stamp(
+    alloc: Global,
+    later_changes: Vec<PricedLotChange>,
+) -> Result<Vec<PricedLotChange>, Fault>
+    ensures order { IfOk result (λ all. map abstract_priced_lot_change all.items
+        ≡ sort_by_key (λ c. c.stamp) (map abstract_priced_lot_change later_changes.items)) }
     ensures fault { OnErr result (result ≡ Err Memory) }
 {
     let sorted = sort_by_age(alloc, later_changes)?;

@@ -51,7 +51,8 @@ fn band_contains_quantity(band: &Band, qty: Qty) -> bool
 
 // Returns `band` if its bounds contain the quantity, otherwise `other`.
 fn band_or_other(band: Band, qty: Qty, other: Option<Band>) -> Option<Band>
-    ensures { option_map abstract_band result ≡ (if nat_le band.from_qty qty && nat_le qty band.to_qty then Some (abstract_band band) else option_map abstract_band other) }
+    ensures { option_map abstract_band result
+        ≡ (if nat_le band.from_qty qty && nat_le qty band.to_qty then Some (abstract_band band) else option_map abstract_band other) }
 {
     if band_contains_quantity(&band, qty) {
         Some(band)
@@ -80,7 +81,8 @@ fn read_band_for_tier<S: Alter>(
     order: &OrderStory,
     tier: Tier,
 ) -> Result<Option<Band>, Fault>
-    ensures read { ReadPost S.Store store.old store.new result (λ band t. option_map abstract_band band ≡ band_for_tier_and_exchange t (abstract_trade_row order.now.trade) tier order.now.security.exchange) }
+    ensures read { ReadPost S.Store store.old store.new result (λ band t. option_map abstract_band band
+        ≡ band_for_tier_and_exchange t (abstract_trade_row order.now.trade) tier order.now.security.exchange) }
     ensures fault { IfErr result IsCallFault }
 {
     let bands = store.commission_bands(alloc, tier, order.trade.kind, &order.security.exchange)?;

@@ -72,7 +72,8 @@ abstract_priced_holding h = record { summary = abstract_summary_row h.summary; p
 -- last prices. They are `None` exactly if the account does not exist.
 abbrev pub IsStoryOfAccount : ℕ → Option account_story.AccountStory → Tables → Type 0
 IsStoryOfAccount account None t = account_row_with_id t account ≡ None
-IsStoryOfAccount account (Some s) t = (account_row_with_id t account ≡ Some (abstract_account_row s.account)) × (map abstract_priced_holding s.held.items ≡ priced_holdings_of_account t account)
+IsStoryOfAccount account (Some s) t =
+    (account_row_with_id t account ≡ Some (abstract_account_row s.account)) × (map abstract_priced_holding s.held.items ≡ priced_holdings_of_account t account)
 
 -- The model's later change of a lot with the values of the typed change `c`.
 abbrev pub abstract_priced_lot_change : priced_lot_change.PricedLotChange → LotChange
@@ -91,11 +92,13 @@ IsStoryOfHolding account symbol (Err refusal) t =
     ⊎ ((a : AccountRow) × (account_row_with_id t account ≡ Some a) × (security_row_with_symbol t symbol ≡ None) × (refusal ≡ NoSecurity))
 IsStoryOfHolding account symbol (Ok s) t =
     (account_row_with_id t account ≡ Some (abstract_account_row s.account)) × (security_row_with_symbol t symbol ≡ Some (abstract_security_row s.security))
-    × (map abstract_trade_row s.done.items ≡ completed_trades_in_symbol t account symbol) × (map abstract_lot_story s.lots.items ≡ lots_opened_in_symbol t account symbol)
+    × (map abstract_trade_row s.done.items ≡ completed_trades_in_symbol t account symbol)
+    × (map abstract_lot_story s.lots.items ≡ lots_opened_in_symbol t account symbol)
     × (s.shares ≡ summary_quantity_in_symbol t account symbol) × (s.price ≡ last_price_in_tables t symbol)
 
 -- The facts `s` are the row of `broker` in the tables `t` and the number of its accounts. They are
 -- `None` exactly if the broker does not exist.
 abbrev pub IsStoryOfBroker : ℕ → Option broker_story.BrokerStory → Tables → Type 0
 IsStoryOfBroker broker None t = find (λ b. b.id == broker) t.brokers ≡ None
-IsStoryOfBroker broker (Some s) t = (find (λ b. b.id == broker) t.brokers ≡ Some (abstract_broker_row s.broker)) × (s.accounts ≡ length (accounts_with_broker t broker))
+IsStoryOfBroker broker (Some s) t =
+    (find (λ b. b.id == broker) t.brokers ≡ Some (abstract_broker_row s.broker)) × (s.accounts ≡ length (accounts_with_broker t broker))

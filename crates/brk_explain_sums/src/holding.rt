@@ -40,7 +40,8 @@ fn put_holding_header_lines(
     row: &AccountRow,
     security: &Security,
 ) -> Result<(), Fault>
-    ensures ok { OnOk result (out.new.items ≡ out.old.items ++ text_of_lines (lines.holding_header_lines (abstract_account_row row.now) (abstract_security_row security.now))) }
+    ensures ok { OnOk result (out.new.items
+        ≡ out.old.items ++ text_of_lines (lines.holding_header_lines (abstract_account_row row.now) (abstract_security_row security.now))) }
     ensures fault { OnErr result (result ≡ Err Memory) }
 {
     let account = &row.account;

@@ -100,7 +100,8 @@ pub(crate) fn put_holding_total_lines(
     shares: i64,
     price: Price,
 ) -> Result<(), Fault>
-    ensures ok { OnOk result (out.new.items ≡ out.old.items ++ text_of_lines (lines.holding_total_lines (map abstract_trade_row done.now) (map abstract_lot_story lots.now) shares price)) }
+    ensures ok { OnOk result (out.new.items
+        ≡ out.old.items ++ text_of_lines (lines.holding_total_lines (map abstract_trade_row done.now) (map abstract_lot_story lots.now) shares price)) }
     ensures fault { IfErr result IsCallFault }
 {
     let bought = total_purchase_value(done)?;

@@ -1,4 +1,5 @@
--- What no accepted command changes: the trades that were completed by a stamp, but for their words, the movements by it, and the accounts.
+-- What no accepted command changes: the trades that were completed by a stamp, but for their words,
+-- the movements by it, and the accounts.
 use Rattle.std.proofs.Common.{◌≡◌, ◌≤◌, ◌<◌, ℕ, ◌+◌, ◌==◌, ◌&&◌, max, Bool, true, false, cond, List, [], ◌∷◌, ◌++◌, Option, Some, None, refl, sym, ◌∙◌, ap, subst, map, filter, arith}
 use Rattle.std.specs.Prelude.{nat_le, nat_lt}
 use Rattle.std.specs.Option.{option_map_or}

@@ -49,15 +49,18 @@ last_printed_balance tables a = last_number_or_default a.opening (running_totals
 -- The printed balance before the trade is its account's balance by the postings before its
 -- completion. The printed balance after it also counts the postings at the stamp of its completion.
 pub record PrintedBalancesMatchBase (base : Base) (t : Trade) : Type 0 where
-  pub before : printed_balance_before (sheets base) t ≡ balance_of_account base.accounts (postings_before_stamp (last_status_stamp_of_trade t) (postings_of_base base)) t.account
+  pub before : printed_balance_before (sheets base) t
+      ≡ balance_of_account base.accounts (postings_before_stamp (last_status_stamp_of_trade t) (postings_of_base base)) t.account
   pub after : printed_balance_after (sheets base) t ≡ balance_at_stamp base (last_status_stamp_of_trade t) t.account
 
 -- After the result of the trade `id` from `base` and any run that follows it, the printed balance
 -- after the trade is the balance of its account in the base right after that result.
 abbrev pub PreservesPrintedBalanceAfter : Base → ℕ → ℕ → ℕ → Type 0
 PreservesPrintedBalanceAfter base now id price =
-    (calls : List (ℕ × Call)) (outcomes : List Outcome) (later : Base) (u : Trade) → Run (base_after_command base now (CompleteTrade id price)) calls outcomes later → trade_with_id later id ≡ Some u
-    → printed_balance_after (sheets later) u ≡ balance_of_account (base_after_command base now (CompleteTrade id price)).accounts (postings_of_base (base_after_command base now (CompleteTrade id price))) u.account
+    (calls : List (ℕ × Call)) (outcomes : List Outcome) (later : Base) (u : Trade)
+    → Run (base_after_command base now (CompleteTrade id price)) calls outcomes later → trade_with_id later id ≡ Some u
+    → printed_balance_after (sheets later) u
+    ≡ balance_of_account (base_after_command base now (CompleteTrade id price)).accounts (postings_of_base (base_after_command base now (CompleteTrade id price))) u.account
 
 -- The explanation of the account lists all its cash rows, its last printed balance is its balance,
 -- and that balance plus the market values of its holdings is its assets.

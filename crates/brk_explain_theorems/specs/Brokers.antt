@@ -10,5 +10,6 @@ use Rattle.brk_explain_theorems.specs.Balances.{last_number_or_default}
 -- The last printed running sum of the commissions of the broker's trades is its commission total,
 -- and the number of printed trades is its trade count.
 pub record PrintedBrokerMatchesTotals (base : Base) (b : BrokerRow) : Type 0 where
-  pub commissions : last_number_or_default (pos 0) (running_totals (λ u. pos u.commission) (pos 0) (completed_trades_of_broker (sheets base) b.id)) ≡ pos b.commissions
+  pub commissions : last_number_or_default (pos 0) (running_totals (λ u. pos u.commission) (pos 0) (completed_trades_of_broker (sheets base) b.id))
+      ≡ pos b.commissions
   pub trades : pos (length (completed_trades_of_broker (sheets base) b.id)) ≡ b.trades

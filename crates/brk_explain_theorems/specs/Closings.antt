@@ -29,13 +29,17 @@ result_story_of_trade base t = result_details_of_trade (sheets base) (trade_row 
 -- but the last are closed completely.
 pub record PrintedClosingsMatchDeal (base : Base) (t : Trade) : Type 0 where
   -- BUY and SELL are the buy value and the sell value of the deal, so Realised gain is its gain.
-  pub bought : buy_value_of_closings (side_of_trade_type t.kind) (completion_price t) (result_story_of_trade base t).closings ≡ buy_value (deal_of_trade t) (shares_before_trade base t)
-  pub sold : sell_value_of_closings (side_of_trade_type t.kind) (completion_price t) (result_story_of_trade base t).closings ≡ sell_value (deal_of_trade t) (shares_before_trade base t)
-  pub gained : realised_gain_of_closings (side_of_trade_type t.kind) (completion_price t) (result_story_of_trade base t).closings ≡ realised_gain (deal_of_trade t) (shares_before_trade base t)
+  pub bought : buy_value_of_closings (side_of_trade_type t.kind) (completion_price t) (result_story_of_trade base t).closings
+      ≡ buy_value (deal_of_trade t) (shares_before_trade base t)
+  pub sold : sell_value_of_closings (side_of_trade_type t.kind) (completion_price t) (result_story_of_trade base t).closings
+      ≡ sell_value (deal_of_trade t) (shares_before_trade base t)
+  pub gained : realised_gain_of_closings (side_of_trade_type t.kind) (completion_price t) (result_story_of_trade base t).closings
+      ≡ realised_gain (deal_of_trade t) (shares_before_trade base t)
   -- Shares closed is the number of shares that the deal closes.
   pub taken : total_closed_shares (result_story_of_trade base t).closings ≡ closed_share_count_of_deal (deal_of_trade t) (shares_before_trade base t)
   -- The trade's own lot has the shares that the deal opens.
-  pub lot : opened_quantity (result_story_of_trade base t) ≡ signed_by_side (side_of_trade_type t.kind) (t.qty - closed_share_count_of_deal (deal_of_trade t) (shares_before_trade base t))
+  pub lot : opened_quantity (result_story_of_trade base t)
+      ≡ signed_by_side (side_of_trade_type t.kind) (t.qty - closed_share_count_of_deal (deal_of_trade t) (shares_before_trade base t))
   -- Shares closed and Shares opened add up to the quantity of the trade.
   pub quantity : total_closed_shares (result_story_of_trade base t).closings + nat_abs (opened_quantity (result_story_of_trade base t)) ≡ t.qty
   -- All lots but the last are closed completely.

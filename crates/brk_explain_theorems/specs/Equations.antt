@@ -21,15 +21,19 @@ order_story_of_trade base t = order_details_of_trade (sheets base) (trade_row t)
 pub record PrintedSettlementMatchesBase (base : Base) (t : Trade) : Type 0 where
   -- Settlement is Value plus Charge, Commission and Tax withheld, which are printed below 0.
   pub sum : (result_story_of_trade base t).settlement.amount
-      ≡ ((signed_trade_value (order_story_of_trade base t) (result_story_of_trade base t) +ℤ neg_ℤ (pos t.charge)) +ℤ neg_ℤ (pos t.commission)) +ℤ neg_ℤ (pos (withheld_tax_of_trade (order_story_of_trade base t)))
+      ≡ ((signed_trade_value (order_story_of_trade base t) (result_story_of_trade base t) +ℤ neg_ℤ (pos t.charge)) +ℤ neg_ℤ (pos t.commission))
+      +ℤ neg_ℤ (pos (withheld_tax_of_trade (order_story_of_trade base t)))
   -- It is the settlement amount of the trade.
   pub amount : (result_story_of_trade base t).settlement.amount ≡ settlement_amount base.accounts t
   -- Cash moved is the settlement amount of a cash trade, and 0 on margin.
   pub moved : balance_change_of_trade (result_story_of_trade base t) ≡ if t.is_cash then (result_story_of_trade base t).settlement.amount else pos 0
   -- Due on is Completed on plus Days to settle, and the day on which the trade settles.
-  pub due : (result_story_of_trade base t).settlement.due_day ≡ day_of (last_status_stamp_of_trade t) + days_to_settle (order_story_of_trade base t) (result_story_of_trade base t)
+  pub due : (result_story_of_trade base t).settlement.due_day
+      ≡ day_of (last_status_stamp_of_trade t) + days_to_settle (order_story_of_trade base t) (result_story_of_trade base t)
   pub day : (result_story_of_trade base t).settlement.due_day ≡ due_day base.rule t
   -- Tax now is the tax on the gain of the deal at the rates of the base.
-  pub tax : tax_at_current_rates (order_story_of_trade base t) (result_story_of_trade base t) ≡ tax_on_deal base t.account (deal_of_trade t) (shares_before_trade base t)
+  pub tax : tax_at_current_rates (order_story_of_trade base t) (result_story_of_trade base t)
+      ≡ tax_on_deal base t.account (deal_of_trade t) (shares_before_trade base t)
   -- Commission now is the commission in the bands of the base.
-  pub commission : commission_in_current_band (order_story_of_trade base t) (result_story_of_trade base t) ≡ commission_by_band base t.account t.kind t.symbol t.qty (completion_price t)
+  pub commission : commission_in_current_band (order_story_of_trade base t) (result_story_of_trade base t)
+      ≡ commission_by_band base t.account t.kind t.symbol t.qty (completion_price t)

@@ -28,11 +28,14 @@ pub record PrintedHoldingMatchesDeals (base : Base) (account : ℕ) (symbol : Te
   pub costs : remaining_cost_of_lots (lots_opened_in_symbol (sheets base) account symbol) ≡ lot_cost_basis (lots_of_position (sheets base) account symbol)
   -- Cost basis is Realised gain plus Purchases plus Sales.
   pub balance : remaining_cost_of_lots (lots_opened_in_symbol (sheets base) account symbol)
-      ≡ (realised_gain_in_symbol (sheets base) account symbol +ℤ total_purchase_value (completed_trades_in_symbol (sheets base) account symbol)) +ℤ total_sale_value (completed_trades_in_symbol (sheets base) account symbol)
+      ≡ (realised_gain_in_symbol (sheets base) account symbol +ℤ total_purchase_value (completed_trades_in_symbol (sheets base) account symbol))
+      +ℤ total_sale_value (completed_trades_in_symbol (sheets base) account symbol)
   -- The last running sum of the trades, and the sum of the remaining shares of the lots, are the
   -- quantity of the holding.
-  pub shares : last_number_or_default (pos 0) (running_totals signed_qty (pos 0) (completed_trades_in_symbol (sheets base) account symbol)) ≡ holding_summary_quantity (completed_trades base) account symbol
-  pub left : total_by remaining_quantity_of_lot (lots_opened_in_symbol (sheets base) account symbol) ≡ holding_summary_quantity (completed_trades base) account symbol
+  pub shares : last_number_or_default (pos 0) (running_totals signed_qty (pos 0) (completed_trades_in_symbol (sheets base) account symbol))
+      ≡ holding_summary_quantity (completed_trades base) account symbol
+  pub left : total_by remaining_quantity_of_lot (lots_opened_in_symbol (sheets base) account symbol)
+      ≡ holding_summary_quantity (completed_trades base) account symbol
 
 -- The changes that the trade made to lots sum to its quantity, negative for a sale.
 abbrev pub LotChangesSumToQuantity : Base → Trade → Type 0

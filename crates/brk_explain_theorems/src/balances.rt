@@ -17,8 +17,11 @@ ghost use Rattle.brk_explain_theorems.specs.Balances.{PrintedAccountMatchesBase,
 /// completion. After an accepted result and any run, the printed balance after its trade is the
 /// balance right after the result. The base satisfies the books invariant.
 pub fn printed_balances_match_the_base()
-    ensures account { (base : Base) (id : ℕ) (r : AccountRow) → BooksInvariant base → account_row_with_id (sheets base) id ≡ Some r → PrintedAccountMatchesBase base r }
-    ensures trade { (base : Base) (t : Trade) → BooksInvariant base → trade_with_id base t.id ≡ Some t → is_completed t ≡ true → PrintedBalancesMatchBase base t }
-    ensures stays { (base : Base) (now id price : ℕ) (t : Trade) → BooksInvariant base → trade_with_id base id ≡ Some t → refusal_of_command base now (CompleteTrade id price) ≡ None
+    ensures account { (base : Base) (id : ℕ) (r : AccountRow) → BooksInvariant base → account_row_with_id (sheets base) id ≡ Some r
+        → PrintedAccountMatchesBase base r }
+    ensures trade { (base : Base) (t : Trade) → BooksInvariant base → trade_with_id base t.id ≡ Some t → is_completed t ≡ true
+        → PrintedBalancesMatchBase base t }
+    ensures stays { (base : Base) (now id price : ℕ) (t : Trade) → BooksInvariant base → trade_with_id base id ≡ Some t
+        → refusal_of_command base now (CompleteTrade id price) ≡ None
         → PreservesPrintedBalanceAfter base now id price }
 {}

@@ -11,5 +11,6 @@ ghost use Rattle.brk_explain_theorems.specs.Brokers.{PrintedBrokerMatchesTotals}
 /// total, and that the number of printed trades is its trade count, if the base satisfies the books
 /// invariant.
 pub fn printed_broker_matches_its_totals()
-    ensures { (base : Base) (id : ℕ) (b : BrokerRow) → BooksInvariant base → find (λ r. r.id == id) (sheets base).brokers ≡ Some b → PrintedBrokerMatchesTotals base b }
+    ensures { (base : Base) (id : ℕ) (b : BrokerRow) → BooksInvariant base → find (λ r. r.id == id) (sheets base).brokers ≡ Some b
+        → PrintedBrokerMatchesTotals base b }
 {}

@@ -16,7 +16,9 @@ ghost use Rattle.brk_explain_theorems.specs.Gains.{PrintedHoldingMatchesDeals, L
 /// changes of a completed trade sum to its quantity. The base satisfies the books invariant.
 pub fn printed_gains_match_the_deals()
     ensures holding { (base : Base) (account : ℕ) (symbol : Text) → BooksInvariant base → PrintedHoldingMatchesDeals base account symbol }
-    ensures trade { (base : Base) (t : Trade) → BooksInvariant base → trade_with_id base t.id ≡ Some t → is_completed t ≡ true → LotChangesSumToQuantity base t }
-    ensures quantity { (base : Base) (account : ℕ) (symbol : Text) → BooksInvariant base → is_some (account_with_id base account) ≡ true → is_some (security_with_symbol base symbol) ≡ true
+    ensures trade { (base : Base) (t : Trade) → BooksInvariant base → trade_with_id base t.id ≡ Some t → is_completed t ≡ true
+        → LotChangesSumToQuantity base t }
+    ensures quantity { (base : Base) (account : ℕ) (symbol : Text) → BooksInvariant base → is_some (account_with_id base account) ≡ true
+        → is_some (security_with_symbol base symbol) ≡ true
         → summary_quantity_in_symbol (sheets base) account symbol ≡ holding_summary_quantity (completed_trades base) account symbol }
 {}

@@ -14,8 +14,10 @@ ghost use Rattle.brk_explain_theorems.specs.Told.{PrintsReplyFigures};
 /// the commission, tax, amount, due day, buy value, sell value and balance of the reply, if the
 /// base satisfies the books invariant.
 pub fn explanations_print_reply_figures()
-    ensures result { (base after : Base) (now id price stamp : ℕ) (c : Completion) → BooksInvariant base → step base now (CompleteTrade id price) ≡ Ok (CompletedTrade stamp c, after)
+    ensures result { (base after : Base) (now id price stamp : ℕ) (c : Completion) → BooksInvariant base
+        → step base now (CompleteTrade id price) ≡ Ok (CompletedTrade stamp c, after)
         → (u : Trade) × (trade_with_id after id ≡ Some u) × PrintsReplyFigures after u c }
     ensures called { (base after : Base) (now id price stamp : ℕ) (key : Option Key) (c : Completion) → BooksInvariant base
-        → keyed_step base now (CompleteTrade id price) key ≡ (Done (CompletedTrade stamp c), after) → (u : Trade) × (trade_with_id after id ≡ Some u) × PrintsReplyFigures after u c }
+        → keyed_step base now (CompleteTrade id price) key ≡ (Done (CompletedTrade stamp c), after)
+        → (u : Trade) × (trade_with_id after id ≡ Some u) × PrintsReplyFigures after u c }
 {}

@@ -37,7 +37,8 @@ pub record FollowsRefusedCreation {D : Type 0} {g : Ghosts D} (conn : Held (File
 -- connection. It says nothing of `Memory` and `Store`.
 abbrev pub OpenPost : {D : Type 0} {g : Ghosts D} → Result (Held (FileStore D g)) Fault → Type 0
 OpenPost {D} {g} (Ok store) = (conn : Held (FileStore D g)) × IsNewConnectionToFile conn × IsAdoptionResult conn (Ok store)
-OpenPost {D} {g} (Err (fault.Damaged c)) = (c ≡ condition.Schema) ⊎ ((conn : Held (FileStore D g)) × IsNewConnectionToFile conn × IsAdoptionResult conn (Err (fault.Damaged c)))
+OpenPost {D} {g} (Err (fault.Damaged c)) =
+    (c ≡ condition.Schema) ⊎ ((conn : Held (FileStore D g)) × IsNewConnectionToFile conn × IsAdoptionResult conn (Err (fault.Damaged c)))
 OpenPost (Err fault.Memory) = Unit {0}
 OpenPost (Err fault.Store) = Unit {0}
 

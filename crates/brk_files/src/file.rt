@@ -67,7 +67,10 @@ fn adopt_connection<S: Alter>(
 
 // Adopts the database of a connection as a store. If the adoption fails, closes the file and
 // returns the fault.
-fn adopt_or_close_connection(rt: &HostRuntime, conn: Connection<FileStore<File>>) -> Result<FileDesk, Fault>
+fn adopt_or_close_connection(
+    rt: &HostRuntime,
+    conn: Connection<FileStore<File>>,
+) -> Result<FileDesk, Fault>
     ensures adopted { IsAdoptionResult conn result }
     ensures represented { IfOk result (λ store. RepresentsRowsOfFile over_files store) }
 {

@@ -55,7 +55,8 @@ module _ {S : Type 0} (g : Ghosts S) (old new : Held S) (now : ℕ) where
     pub earlier : HasCleanDisk (state g new) → HasCleanDisk (state g old)
     earlier clean = one_run.clean clean
 
-    -- the call has its outcome over each base whose books were kept, and the books of the base after it are kept
+    -- the call has its outcome over each base whose books were kept, and the books of the base
+    -- after it are kept
     pub steps : HasCleanDisk (state g new) → (base : Base) → Represents g old base → (after : Base) × Represents g new after × IsOutcomeOfCall base now call outcome after
     steps clean base keeps =
         let r = one_run.refines_model clean base keeps in

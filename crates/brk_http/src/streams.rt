@@ -50,7 +50,8 @@ pub fn serve_stream<R: Read + Drop, W: Write, C: Clock, S: Alter>(
     // holds. There is at most one call for each answered request, and one more after a fault of the
     // writer or of memory. If the reader has specified content, its requests make exactly these
     // calls, and the replies follow from their outcomes.
-    ensures changed_only_by_calls { (calls : List (ℕ × made.Call)) × (outcomes : List came.Outcome) × IsRunWithOutcomes S.Store desk.old desk.new calls outcomes × (length calls ≤ call_limit_of_stream result)
+    ensures changed_only_by_calls { (calls : List (ℕ × made.Call)) × (outcomes : List came.Outcome) × IsRunWithOutcomes S.Store desk.old desk.new calls outcomes
+        × (length calls ≤ call_limit_of_stream result)
         × IfSome (R.remaining reader) (λ input. StreamMatchesScript model_parsers C.gives input (map model_call calls, map model_outcome outcomes)
         (record { clock = clock.old; later = clock.new; old = W.contents writer.old; new = W.contents writer.new }) result) }
     // Under the disk assumption, for every base that the desk represented before the stream, the

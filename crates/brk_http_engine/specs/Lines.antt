@@ -12,4 +12,5 @@ status_text code = code_digits code ++ 32 ∷ unwrap_or (reason_phrase code) []
 -- The first three lines of a reply's head, with the text `status`: status line, content type, and
 -- content length `len`.
 unfoldable pub first_head_lines : Text → ℕ → Text
-first_head_lines status len = head_line (codes "HTTP/1.1 " ++ status) ++ head_line (codes "Content-Type: application/json") ++ head_line (codes "Content-Length: " ++ decimal len)
+first_head_lines status len =
+    head_line (codes "HTTP/1.1 " ++ status) ++ head_line (codes "Content-Type: application/json") ++ head_line (codes "Content-Length: " ++ decimal len)

@@ -11,7 +11,8 @@ use Rattle.brk_http_model.specs.Stream.{CallRelation}
 
 -- The desk changed from `old` to `new` only by a sequence of calls, at most `most` of them.
 abbrev pub ChangesOnlyByCalls : {D : Type 0} → CallRelation D → ℕ → D → D → Type 0
-ChangesOnlyByCalls acts most old new = (calls : List (ℕ × Call)) × (outcomes : List Outcome) × IsCallSequence acts old calls outcomes new × (length calls ≤ most)
+ChangesOnlyByCalls acts most old new =
+    (calls : List (ℕ × Call)) × (outcomes : List Outcome) × IsCallSequence acts old calls outcomes new × (length calls ≤ most)
 
 -- The type of a list of calls with their timestamps, together with the list of their outcomes.
 abbrev pub CallScript : Type 0
@@ -24,12 +25,16 @@ IsNextScriptedCall script now call outcome rest = (script.0 ≡ (now, call) ∷ 
 
 -- The stream makes exactly the calls of `script`, in order, and its replies and its result follow
 -- from the outcomes of `script`.
-abbrev pub StreamMatchesScript : {C : Type 0} → RequestParsers → (C → ℕ → C → Type 0) → Text → CallScript → ClockAndWriterChange C → Result ℕ ServeFault → Type 0
-StreamMatchesScript forms gives input script outside result = IsStreamResult forms IsNextScriptedCall gives input (change_with_bases script ([], []) outside) result
+abbrev pub StreamMatchesScript : {C : Type 0} → RequestParsers → (C → ℕ → C → Type 0) → Text → CallScript → ClockAndWriterChange C → Result ℕ ServeFault
+    → Type 0
+StreamMatchesScript forms gives input script outside result =
+    IsStreamResult forms IsNextScriptedCall gives input (change_with_bases script ([], []) outside) result
 
 -- The stream refines the model: for every base that the desk represented before the stream, the
 -- replies are those that `does` allows from this base, and the desk represents the base after the
 -- stream. Vacuous if the disk assumption (`honest`) fails.
-abbrev pub StreamRefinesModel : {D B C : Type 0} → (D → Type 0) → (D → B → Type 0) → RequestParsers → CallRelation B → (C → ℕ → C → Type 0) → Text → D → D → ClockAndWriterChange C → Result ℕ ServeFault → Type 0
+abbrev pub StreamRefinesModel : {D B C : Type 0} → (D → Type 0) → (D → B → Type 0) → RequestParsers → CallRelation B → (C → ℕ → C → Type 0) → Text → D → D
+    → ClockAndWriterChange C → Result ℕ ServeFault → Type 0
 StreamRefinesModel {B = B} honest stands forms does gives input first last outside result =
-    honest last → (base : B) → stands first base → (after : B) × stands last after × IsStreamResult forms does gives input (change_with_bases base after outside) result
+    honest last → (base : B) → stands first base
+    → (after : B) × stands last after × IsStreamResult forms does gives input (change_with_bases base after outside) result

@@ -19,7 +19,8 @@ use Rattle.brk_http_engine.specs.declared.stream.ServeFault.{ServeFault}
 -- After `n` replies the request at the front of `input` was executed and `reply` is its reply. The
 -- stream then ends or continues, as `next` says. The clock was read once for each of the timestamps
 -- `taken`.
-pub record ExchangeHasReply {B C : Type 0} (forms : RequestParsers) (does : CallRelation B) (gives : C → ℕ → C → Type 0) (n : ℕ) (input : Text) (span : EnvironmentChange B C) (reply : Text) (next : StreamState) : Type 0 where
+pub record ExchangeHasReply {B C : Type 0} (forms : RequestParsers) (does : CallRelation B) (gives : C → ℕ → C → Type 0) (n : ℕ) (input : Text)
+    (span : EnvironmentChange B C) (reply : Text) (next : StreamState) : Type 0 where
   pub taken : List ℕ
   pub moments : ClockReturnsInOrder gives span.clock taken span.later
   pub one : One forms does n input span.base taken reply next span.after
@@ -27,7 +28,8 @@ pub record ExchangeHasReply {B C : Type 0} (forms : RequestParsers) (does : Call
 -- The request was executed and `reply` is its reply. The reply is the last of its stream (`closes`)
 -- if it reaches the limit of replies, if the request asks to close the stream, or if the desk
 -- failed. The clock was read once for each of the timestamps `taken`.
-pub record ExecutesRequest {B C : Type 0} (forms : RequestParsers) (does : CallRelation B) (gives : C → ℕ → C → Type 0) (n : ℕ) (request : Request) (span : EnvironmentChange B C) (closes : Bool) (reply : Text) : Type 0 where
+pub record ExecutesRequest {B C : Type 0} (forms : RequestParsers) (does : CallRelation B) (gives : C → ℕ → C → Type 0) (n : ℕ) (request : Request)
+    (span : EnvironmentChange B C) (closes : Bool) (reply : Text) : Type 0 where
   pub taken : List ℕ
   pub response : Response
   pub moments : ClockReturnsInOrder gives span.clock taken span.later
@@ -38,11 +40,14 @@ pub record ExecutesRequest {B C : Type 0} (forms : RequestParsers) (does : CallR
 -- The turn after `n` replies completed with this result. `Ended`: no input was left, and nothing
 -- changed. `Closed`: the reply was written and ends the stream. `Open`: the reply was written, and
 -- `left` is the rest of the input.
-abbrev pub ExchangeCompletesWith : {B C : Type 0} → RequestParsers → CallRelation B → (C → ℕ → C → Type 0) → ℕ → Text → EnvironmentChange B C → Option Text → Turn → Type 0
+abbrev pub ExchangeCompletesWith : {B C : Type 0} → RequestParsers → CallRelation B → (C → ℕ → C → Type 0) → ℕ → Text → EnvironmentChange B C → Option Text
+    → Turn → Type 0
 ExchangeCompletesWith forms does gives n input span left turn.Ended = ReadsFirstRequest input NoBytesLeft × IsUnchangedEnvironment span
-ExchangeCompletesWith forms does gives n input span left turn.Closed = (reply : Text) × ExchangeHasReply forms does gives n input span reply Finished × Appends span.old span.new reply
+ExchangeCompletesWith forms does gives n input span left turn.Closed =
+    (reply : Text) × ExchangeHasReply forms does gives n input span reply Finished × Appends span.old span.new reply
 ExchangeCompletesWith forms does gives n input span left turn.Open =
-    (reply : Text) × (rest : Text) × ExchangeHasReply forms does gives n input span reply (Continues rest) × Appends span.old span.new reply × (left ≡ Some rest)
+    (reply : Text) × (rest : Text) × ExchangeHasReply forms does gives n input span reply (Continues rest) × Appends span.old span.new reply
+    × (left ≡ Some rest)
 
 -- The turn after `n` replies failed with this fault. `Read`: nothing changed and nothing was
 -- written. `Memory`: nothing was written, but the request may have been executed. `Write`: the
@@ -50,13 +55,15 @@ ExchangeCompletesWith forms does gives n input span left turn.Open =
 abbrev pub ExchangeFailsWith : {B C : Type 0} → RequestParsers → CallRelation B → (C → ℕ → C → Type 0) → ℕ → Text → EnvironmentChange B C → FaultKind → Type 0
 ExchangeFailsWith forms does gives n input span kinds.Read = IsUnchangedEnvironment span
 ExchangeFailsWith forms does gives n input span kinds.Memory =
-    IsUnchangedEnvironment span ⊎ ((reply : Text) × (next : StreamState) × ExchangeHasReply forms does gives n input span reply next × Appends span.old span.new [])
+    IsUnchangedEnvironment span
+    ⊎ ((reply : Text) × (next : StreamState) × ExchangeHasReply forms does gives n input span reply next × Appends span.old span.new [])
 ExchangeFailsWith forms does gives n input span kinds.Write =
     (reply : Text) × (next : StreamState) × (k : ℕ) × ExchangeHasReply forms does gives n input span reply next × Appends span.old span.new (take k reply)
 
 -- The stream completed: exactly its `count` replies were written, and the clock was read once for
 -- each of the timestamps `moments`.
-pub record StreamCompletesWith {B C : Type 0} (forms : RequestParsers) (does : CallRelation B) (gives : C → ℕ → C → Type 0) (input : Text) (span : EnvironmentChange B C) (count : ℕ) : Type 0 where
+pub record StreamCompletesWith {B C : Type 0} (forms : RequestParsers) (does : CallRelation B) (gives : C → ℕ → C → Type 0) (input : Text)
+    (span : EnvironmentChange B C) (count : ℕ) : Type 0 where
   pub moments : List ℕ
   pub replies : List Text
   pub taken : ClockReturnsInOrder gives span.clock moments span.later
@@ -66,7 +73,8 @@ pub record StreamCompletesWith {B C : Type 0} (forms : RequestParsers) (does : C
 
 -- A fault ended the stream: the first `count` replies were written, and the next turn failed with
 -- `kind`.
-pub record StreamFailsWith {B C : Type 0} (forms : RequestParsers) (does : CallRelation B) (gives : C → ℕ → C → Type 0) (input : Text) (span : EnvironmentChange B C) (kind : FaultKind) (count : ℕ) : Type 0 where
+pub record StreamFailsWith {B C : Type 0} (forms : RequestParsers) (does : CallRelation B) (gives : C → ℕ → C → Type 0) (input : Text)
+    (span : EnvironmentChange B C) (kind : FaultKind) (count : ℕ) : Type 0 where
   pub moments : List ℕ
   pub replies : List Text
   pub rest : Text
@@ -81,6 +89,7 @@ pub record StreamFailsWith {B C : Type 0} (forms : RequestParsers) (does : CallR
 
 -- The result of a stream: at `Ok` the number of its replies, and at an error a fault with the
 -- effect that `StreamFailsWith` specifies.
-abbrev pub IsStreamResult : {B C : Type 0} → RequestParsers → CallRelation B → (C → ℕ → C → Type 0) → Text → EnvironmentChange B C → Result ℕ ServeFault → Type 0
+abbrev pub IsStreamResult : {B C : Type 0} → RequestParsers → CallRelation B → (C → ℕ → C → Type 0) → Text → EnvironmentChange B C → Result ℕ ServeFault
+    → Type 0
 IsStreamResult forms does gives input span (Ok count) = StreamCompletesWith forms does gives input span count
 IsStreamResult forms does gives input span (Err fault) = StreamFailsWith forms does gives input span fault.kind fault.done

@@ -37,7 +37,8 @@ fn parse_call_of_route<D: Service>(
     route: Route,
     texts: &[String],
 ) -> Result<RequestedCall<D::Command, D::Query>, Fault>
-    ensures { IfOk result (λ asking. call_in_model D.command_of D.query_of asking ≡ demand_of_texts D.forms (route_in_model route) (map string_bytes texts.now)) }
+    ensures { IfOk result (λ asking. call_in_model D.command_of D.query_of asking
+        ≡ demand_of_texts D.forms (route_in_model route) (map string_bytes texts.now)) }
 {
     let fields = borrow_bytes_of_texts(alloc, texts)?;
     match route {

@@ -93,7 +93,11 @@ fn json_object_of_member(alloc: Global, word: MemberName, value: Value) -> Resul
 }
 
 /// Returns the JSON text `{"WORD":["TEXT",..]}` for the member name `word` and these texts.
-pub fn json_text_of_texts(alloc: Global, word: MemberName, texts: &[String]) -> Result<String, AllocError>
+pub fn json_text_of_texts(
+    alloc: Global,
+    word: MemberName,
+    texts: &[String],
+) -> Result<String, AllocError>
     ensures { IfOk result (λ s. string_bytes s ≡ spec.json_texts_object (member_name_text word) (map string_bytes texts.now)) }
 {
     let list = json_list_of_texts(alloc, texts)?;

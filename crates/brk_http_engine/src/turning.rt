@@ -14,7 +14,9 @@ use crate::asking::parse_call_of_request;
 use crate::replying::{format_problem_reply, is_fault_response, reply_text};
 use crate::router::RouteKind;
 use crate::service::Service;
-use brk_http_reader::{NextRequest, InputFault, RequestPositions, read_next_request, remove_front_bytes};
+use brk_http_reader::{
+    InputFault, NextRequest, RequestPositions, read_next_request, remove_front_bytes,
+};
 use brk_io::{Clock, write_all_bytes};
 use matchit::Router;
 use std::alloc::Global;
@@ -90,10 +92,12 @@ fn execute_and_format_reply<C: Clock, D: Service>(
     requires body { IsWithin (length buffer.now) places.body }
     ensures called { ChangesOnlyByCalls D.acts 1 desk.old desk.new }
     ensures open { IfOk result (λ draft. draft.closes ≡ Bool.false → done + 1 < most_requests_per_stream) }
-    ensures ok { (old : Option (List ℕ)) (new : Option (List ℕ)) → IfOk result (λ draft. ExecutesRequest D.forms D.acts C.gives done (request_at buffer.now places)
+    ensures ok { (old : Option (List ℕ)) (new : Option (List ℕ))
+        → IfOk result (λ draft. ExecutesRequest D.forms D.acts C.gives done (request_at buffer.now places)
         (record { base = desk.old; after = desk.new; clock = clock.old; later = clock.new; old = old; new = new }) draft.closes (string_bytes draft.text)) }
     ensures before { result ≡ Err OutOfMemoryPoint.Before → (desk.new ≡ desk.old) × (clock.new ≡ clock.old) }
-    ensures after { (old : Option (List ℕ)) (new : Option (List ℕ)) → result ≡ Err OutOfMemoryPoint.After → (closes : Bool) × (reply : List ℕ) × ExecutesRequest D.forms D.acts C.gives done (request_at buffer.now places)
+    ensures after { (old : Option (List ℕ)) (new : Option (List ℕ)) → result ≡ Err OutOfMemoryPoint.After
+        → (closes : Bool) × (reply : List ℕ) × ExecutesRequest D.forms D.acts C.gives done (request_at buffer.now places)
         (record { base = desk.old; after = desk.new; clock = clock.old; later = clock.new; old = old; new = new }) closes reply }
 {
     let method = places.method.of(buffer);

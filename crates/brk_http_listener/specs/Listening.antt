@@ -30,7 +30,8 @@ abbrev pub StreamEnd : Type 0
 StreamEnd = Option (Result ℕ ServeFault)
 
 -- The accept had this result, and changed neither the clock nor the desk.
-pub record AcceptHasResult {L C D X : Type 0} (accepts : AcceptRelation L X) (old : ListenerClockAndDesk L C D) (result : Result X AcceptFault) (new : ListenerClockAndDesk L C D) : Type 0 where
+pub record AcceptHasResult {L C D X : Type 0} (accepts : AcceptRelation L X) (old : ListenerClockAndDesk L C D) (result : Result X AcceptFault)
+    (new : ListenerClockAndDesk L C D) : Type 0 where
   pub accepted : accepts old.listener result new.listener
   pub clock : new.clock ≡ old.clock
   pub desk : new.desk ≡ old.desk
@@ -38,7 +39,8 @@ pub record AcceptHasResult {L C D X : Type 0} (accepts : AcceptRelation L X) (ol
 -- The next stream of the listener has this end. `None`: the accept failed because the peer broke
 -- the stream off, and clock and desk are unchanged. Otherwise the stream was accepted and served
 -- with this result.
-abbrev pub HandlesStream : {L C D X : Type 0} → AcceptRelation L X → ServeRelation C D X → ListenerClockAndDesk L C D → StreamEnd → ListenerClockAndDesk L C D → Type 0
+abbrev pub HandlesStream : {L C D X : Type 0} → AcceptRelation L X → ServeRelation C D X → ListenerClockAndDesk L C D → StreamEnd → ListenerClockAndDesk L C D
+    → Type 0
 HandlesStream accepts serves old None new = AcceptHasResult accepts old (Err Aborted) new
 HandlesStream {X = X} accepts serves old (Some ended) new =
     (stream : X) × accepts old.listener (Ok stream) new.listener × serves old.clock old.desk stream ended new.clock new.desk
@@ -51,7 +53,8 @@ MayAcceptNextStream (Some (Err fault)) = fault.kind ≢ Memory
 
 -- The next streams of the listener have exactly these ends, in this order, and none of them ended
 -- because memory ran out.
-abbrev pub HandlesStreamsInOrder : {L C D X : Type 0} → AcceptRelation L X → ServeRelation C D X → ListenerClockAndDesk L C D → List StreamEnd → ListenerClockAndDesk L C D → Type 0
+abbrev pub HandlesStreamsInOrder : {L C D X : Type 0} → AcceptRelation L X → ServeRelation C D X → ListenerClockAndDesk L C D → List StreamEnd
+    → ListenerClockAndDesk L C D → Type 0
 HandlesStreamsInOrder accepts serves old [] new = new ≡ old
 HandlesStreamsInOrder {L} {C} {D} accepts serves old (end ∷ ends) new =
     (mid : ListenerClockAndDesk L C D) × HandlesStream accepts serves old end mid × MayAcceptNextStream end × HandlesStreamsInOrder accepts serves mid ends new
@@ -60,10 +63,13 @@ HandlesStreamsInOrder {L} {C} {D} accepts serves old (end ∷ ends) new =
 -- streams were handled. `Stream`: fewer streams were handled, and then one more was accepted and
 -- served, and ended with this fault, because memory ran out. `Net`: fewer streams were handled, the
 -- next accept failed, and it did not change clock and desk.
-abbrev pub ServeEachStreamPost : {L C D X : Type 0} → AcceptRelation L X → ServeRelation C D X → ℕ → ListenerClockAndDesk L C D → Result (Unit {0}) ListenFault → ListenerClockAndDesk L C D → Type 0
-ServeEachStreamPost accepts serves streams old (Ok done) new = (ends : List StreamEnd) × HandlesStreamsInOrder accepts serves old ends new × (length ends ≡ streams)
+abbrev pub ServeEachStreamPost : {L C D X : Type 0} → AcceptRelation L X → ServeRelation C D X → ℕ → ListenerClockAndDesk L C D → Result (Unit {0}) ListenFault
+    → ListenerClockAndDesk L C D → Type 0
+ServeEachStreamPost accepts serves streams old (Ok done) new =
+    (ends : List StreamEnd) × HandlesStreamsInOrder accepts serves old ends new × (length ends ≡ streams)
 ServeEachStreamPost {L} {C} {D} accepts serves streams old (Err (Stream fault)) new =
     (ends : List StreamEnd) × (mid : ListenerClockAndDesk L C D) × HandlesStreamsInOrder accepts serves old ends mid × (length ends < streams)
     × HandlesStream accepts serves mid (Some (Err fault)) new × (fault.kind ≡ Memory)
 ServeEachStreamPost {L} {C} {D} accepts serves streams old (Err Net) new =
-    (ends : List StreamEnd) × (mid : ListenerClockAndDesk L C D) × HandlesStreamsInOrder accepts serves old ends mid × (length ends < streams) × AcceptHasResult accepts mid (Err Failed) new
+    (ends : List StreamEnd) × (mid : ListenerClockAndDesk L C D) × HandlesStreamsInOrder accepts serves old ends mid × (length ends < streams)
+    × AcceptHasResult accepts mid (Err Failed) new

@@ -34,7 +34,8 @@ outcome_of_query_result (Err refusal) = NoView refusal
 -- call fails. A command for which no clock reading remains has the fault `Store`.
 abbrev pub response_to_demand : Base → List ℕ → RequestDemand → ResponseAndBase
 response_to_demand base moments (ResponseOnly said) = record { response = said; moments = moments; base = base }
-response_to_demand base moments (DeskCall (Ask query)) = record { response = FromOutcome (outcome_of_query_result (ask base query)); moments = moments; base = base }
+response_to_demand base moments (DeskCall (Ask query)) =
+    record { response = FromOutcome (outcome_of_query_result (ask base query)); moments = moments; base = base }
 response_to_demand base (now ∷ moments) (DeskCall (Do command key)) = response_to_command moments (keyed_step base now command key)
 response_to_demand base [] (DeskCall (Do command key)) = record { response = FromOutcome (Failed Store); moments = []; base = base }
 
@@ -46,11 +47,13 @@ is_last_response n request response = (n + 1 == most_requests_per_stream) || req
 -- The reply to a request, followed by the replies that `more` returns for the base and the clock
 -- readings after it, unless the reply ends the stream.
 abbrev pub reply_followed_by_more : ℕ → Request → ResponseAndBase → (Base → List ℕ → List Text) → List Text
-reply_followed_by_more n request r more = reply_text r.response (is_last_response n request r.response) ∷ (if is_last_response n request r.response then [] else more r.base r.moments)
+reply_followed_by_more n request r more =
+    reply_text r.response (is_last_response n request r.response) ∷ (if is_last_response n request r.response then [] else more r.base r.moments)
 
 -- The replies to the requests, executed in sequence from `base` on with the clock readings
 -- `moments`, after `n` earlier requests of the stream. Requests after the last reply have none.
 abbrev pub replies_to_requests : ℕ → Base → List ℕ → List Request → List Text
 replies_to_requests n base moments [] = []
 replies_to_requests n base moments (request ∷ requests) =
-    reply_followed_by_more n request (response_to_demand base moments (demand_of_request model_parsers request)) (λ after left. replies_to_requests (n + 1) after left requests)
+    reply_followed_by_more n request (response_to_demand base moments (demand_of_request model_parsers request)) (λ after left. replies_to_requests (n
+    + 1) after left requests)

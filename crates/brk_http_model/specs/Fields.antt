@@ -60,4 +60,5 @@ body_length_of_values (value ∷ other ∷ more) = Err BadRequest
 -- The length of a body by the fields of its head; the problem `NotImplemented` if there is a
 -- Transfer-Encoding, which is checked first.
 abbrev pub body_length_of_fields : List HeadField → Result ℕ Problem
-body_length_of_fields pairs = if has_field_named (codes "transfer-encoding") pairs then Err NotImplemented else body_length_of_values (values_of_field (codes "content-length") pairs)
+body_length_of_fields pairs =
+    if has_field_named (codes "transfer-encoding") pairs then Err NotImplemented else body_length_of_values (values_of_field (codes "content-length") pairs)

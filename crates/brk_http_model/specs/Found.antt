@@ -37,7 +37,13 @@ abbrev pub reading_with_body_length : RequestHead → Text → Result ℕ Proble
 reading_with_body_length h rest (Err problem) = Unreadable problem
 reading_with_body_length h rest (Ok n) =
     if nat_lt (length rest) n then Unreadable BadRequest
-    else CompleteRequest (record { method = h.method; target = h.target; closes = (h.minor == 0) || asks_to_close_stream (map name_and_value h.fields); body = take n rest }) (drop n rest)
+    else CompleteRequest (record {
+      method = h.method;
+      target = h.target;
+      closes = (h.minor == 0)
+          || asks_to_close_stream (map name_and_value h.fields);
+      body = take n rest;
+    }) (drop n rest)
 
 -- The result of reading a request with the head `h` from the bytes `rest` after the head: the
 -- request and the bytes after its body, or the problem for which it cannot be read.

@@ -41,9 +41,9 @@ abbrev pub stream_after_reply : Bool → Text → StreamState
 stream_after_reply true rest = Finished
 stream_after_reply false rest = Continues rest
 
--- The bytes `reply` are the reply to `request_table`, after `n` earlier requests. The stream ends with it
--- if the request is number `most_requests_per_stream` or asks to close the stream, or if the response is a
--- fault; otherwise it continues with the bytes `rest`.
+-- The bytes `reply` are the reply to `request_table`, after `n` earlier requests. The stream ends
+-- with it if the request is number `most_requests_per_stream` or asks to close the stream, or if
+-- the response is a fault; otherwise it continues with the bytes `rest`.
 pub record IsReplyToRequest {B : Type 0} (forms : RequestParsers) (does : CallRelation B) (n : ℕ) (request : Request) (rest : Text)
     (base : B) (taken : List ℕ) (reply : Text) (next : StreamState) (after : B) : Type 0 where
   pub response : Response
@@ -60,7 +60,8 @@ abbrev pub IsReplyToReading : {B : Type 0} → RequestParsers → CallRelation B
 IsReplyToReading forms does n NoBytesLeft base taken reply next after = ⊥
 IsReplyToReading forms does n (Unreadable problem) base taken reply next after =
     (reply ≡ reply_text (FromProblem problem) true) × (next ≡ Finished) × (taken ≡ []) × (after ≡ base)
-IsReplyToReading forms does n (CompleteRequest request rest) base taken reply next after = IsReplyToRequest forms does n request rest base taken reply next after
+IsReplyToReading forms does n (CompleteRequest request rest) base taken reply next after =
+    IsReplyToRequest forms does n request rest base taken reply next after
 
 -- The bytes `reply` are the first reply to `input`, after `n` earlier requests of the stream. It
 -- takes the clock readings `taken`, `next` is the state of the stream after it, and it leads from
@@ -87,4 +88,5 @@ abbrev pub AreFirstReplies : {B : Type 0} → RequestParsers → CallRelation B 
 AreFirstReplies forms does n input base moments [] rest after = (rest ≡ input) × (moments ≡ []) × (after ≡ base)
 AreFirstReplies {B} forms does n input base moments (reply ∷ replies) rest after =
     (taken : List ℕ) × (more : List ℕ) × (left : Text) × (mid : B)
-    × (moments ≡ taken ++ more) × One forms does n input base taken reply (Continues left) mid × AreFirstReplies forms does (n + 1) left mid more replies rest after
+    × (moments ≡ taken ++ more) × One forms does n input base taken reply (Continues left) mid
+    × AreFirstReplies forms does (n + 1) left mid more replies rest after

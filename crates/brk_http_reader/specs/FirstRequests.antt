@@ -24,4 +24,5 @@ request_at buffer r = record { method = span_bytes buffer r.method; target = spa
 abbrev pub MatchesNextRequest : NextRequest → List ℕ → Option (List ℕ) → RequestReading → Type 0
 MatchesNextRequest Ended buffer left found = found ≡ NoBytesLeft
 MatchesNextRequest (Broken b) buffer left found = found ≡ Unreadable b
-MatchesNextRequest (Whole r) buffer left found = (rest : List ℕ) × (prepend_known (drop r.body.end buffer) left ≡ Some rest) × (found ≡ CompleteRequest (request_at buffer r) rest)
+MatchesNextRequest (Whole r) buffer left found =
+    (rest : List ℕ) × (prepend_known (drop r.body.end buffer) left ≡ Some rest) × (found ≡ CompleteRequest (request_at buffer r) rest)

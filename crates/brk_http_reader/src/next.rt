@@ -34,7 +34,10 @@ pub enum NextRequest {
 ///
 /// Returns `Ended` if no byte is left, and `Broken` with a problem if no request can be read. Fails
 /// with `Read` or `Memory`.
-pub fn read_next_request<R: Read>(reader: &mut R, buffer: &mut Vec<u8>) -> Result<NextRequest, InputFault>
+pub fn read_next_request<R: Read>(
+    reader: &mut R,
+    buffer: &mut Vec<u8>,
+) -> Result<NextRequest, InputFault>
     ensures moves { OnOk result (ReadsIntoBuffer (R.remaining reader.old) (R.remaining reader.new) buffer.old.items buffer.new.items) }
     ensures within { IfOk result (λ front. IsRequestWithin front (length buffer.new.items)) }
     ensures found { IfOk result (λ front. IfSome (R.remaining reader.old) (λ xs. (found : RequestReading) × ReadsFirstRequest (buffer.old.items ++ xs) found

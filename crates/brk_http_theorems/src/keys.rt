@@ -23,10 +23,12 @@ pub fn reply_line_splits_into_its_fields()
 /// batch answers the row under its key with the stored reply. Any calls may lie between, and the
 /// retry leaves the base unchanged.
 pub fn key_is_idempotent_across_interfaces()
-    ensures accepted_in_batch { (base mid after : Base) (now later : ℕ) (command : Command) (key : Key) (reply : Reply) (calls : List (ℕ × Call)) (outcomes : List Outcome)
+    ensures accepted_in_batch { (base mid after : Base) (now later : ℕ) (command : Command) (key : Key) (reply : Reply) (calls : List (ℕ
+        × Call)) (outcomes : List Outcome)
         → step_of_row base now command key ≡ (Done reply, mid) → Run mid calls outcomes after
         → IsOutcomeOfCall after later (Do command (Some key)) (Did (Again (line_text reply))) after }
-    ensures accepted_as_request { (base mid after : Base) (now later : ℕ) (command : Command) (key : Key) (reply : Reply) (calls : List (ℕ × Call)) (outcomes : List Outcome)
+    ensures accepted_as_request { (base mid after : Base) (now later : ℕ) (command : Command) (key : Key) (reply : Reply) (calls : List (ℕ
+        × Call)) (outcomes : List Outcome)
         → IsOutcomeOfCall base now (Do command (Some key)) (Did (Done reply)) mid → Run mid calls outcomes after
         → step_of_row after later command key ≡ (Again (line_text reply), after) }
 {}

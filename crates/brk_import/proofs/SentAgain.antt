@@ -268,7 +268,8 @@ module _ {S C : Type 0} (g : Ghosts S) (rests : RecoversOnlyLastCommit g) (form 
     from_how (inl (same, first)) = from_part same (part_of first)
     from_how (inr u) = from_under u
 
-    -- whatever was refused, both runs are one: the rows that the first run accepted, then the others
+    -- whatever was refused, both runs are one: the rows that the first run accepted, then the
+    -- others
     one_run_of : (front back : List Fields) (moments : List ℕ) (mid : C) (answers : List Answer) → ClockReturnsInOrder gives one.clock moments mid → c.answered.rows ≡ front ++ back
         → BatchRowsAreDecided form step_of_row c.answered.name base moments front answers stood → RunAndRetryEqualOneRun form gives (Some text) base last one two
     one_run_of front back moments mid answers taken split first = record {

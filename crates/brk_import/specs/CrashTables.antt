@@ -10,4 +10,5 @@ use Rattle.brk_store.specs.Holds.{IsDiskContentOfRows, CrashStatesSatisfy}
 -- A crash exposes only the tables of `base` or the tables of `other`; if it exposes those of
 -- `other`, then `other` is consistent.
 abbrev pub CrashExposesOnlyOneOf : {S : Type 0} → Ghosts S → Held S → Base → Base → Type 0
-CrashExposesOnlyOneOf g desk base other = CrashStatesSatisfy g desk (λ trees. IsDiskContentOfRows (sheets base) trees ⊎ (IsDiskContentOfRows (sheets other) trees × IsConsistent other))
+CrashExposesOnlyOneOf g desk base other =
+    CrashStatesSatisfy g desk (λ trees. IsDiskContentOfRows (sheets base) trees ⊎ (IsDiskContentOfRows (sheets other) trees × IsConsistent other))

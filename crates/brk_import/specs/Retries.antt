@@ -16,7 +16,8 @@ use Rattle.brk_batch_engine.specs.Batch.{BeginsWithWholeBatch}
 -- A batch whose first run began at `base` was retried in full, and the retry completed at `after`.
 -- If the first run refused none of the rows that it answered, the two runs equal one uninterrupted
 -- run of the batch.
-pub record RetryCompletesBatch {C : Type 0} (form : Fields → ReadResult Command) (gives : C → ℕ → C → Type 0) (text : Option Text) (base after : Base) (one two : ClockAndWriterChange C) : Type 0 where
+pub record RetryCompletesBatch {C : Type 0} (form : Fields → ReadResult Command) (gives : C → ℕ → C → Type 0) (text : Option Text) (base after : Base)
+    (one two : ClockAndWriterChange C) : Type 0 where
   -- All rows of the batch.
   pub name : Text
   pub rows : List Fields
@@ -34,12 +35,14 @@ pub record RetryCompletesBatch {C : Type 0} (form : Fields → ReadResult Comman
   -- If the first run refused none of these rows, both runs equal one uninterrupted run. A row that
   -- was committed but not answered is decided at its own timestamp.
   pub completed : refused_answer_count answers ≡ 0 → IsCompletedByRetry form name base moments others rows answers retry_answers after
-      ⊎ ((moment : ℕ) × (answer : Answer) × gives mid moment one.later × IsCompletedByRetry form name base (moments ++ moment ∷ []) others rows (answers ++ answer ∷ []) retry_answers after)
+      ⊎ ((moment : ℕ) × (answer : Answer) × gives mid moment one.later
+      × IsCompletedByRetry form name base (moments ++ moment ∷ []) others rows (answers ++ answer ∷ []) retry_answers after)
 
 -- A batch whose first run began at `base` was retried in full, and the retry completed at `after`.
 -- Whichever rows the two runs refused, they are equivalent to one run of calls from `base` to
 -- `after`.
-pub record RunAndRetryEqualOneRun {C : Type 0} (form : Fields → ReadResult Command) (gives : C → ℕ → C → Type 0) (text : Option Text) (base after : Base) (one two : ClockAndWriterChange C) : Type 0 where
+pub record RunAndRetryEqualOneRun {C : Type 0} (form : Fields → ReadResult Command) (gives : C → ℕ → C → Type 0) (text : Option Text) (base after : Base)
+    (one two : ClockAndWriterChange C) : Type 0 where
   -- All rows of the batch.
   pub name : Text
   pub rows : List Fields
@@ -65,8 +68,10 @@ pub record RunAndRetryEqualOneRun {C : Type 0} (form : Fields → ReadResult Com
   -- The one run: the rows that the first run accepted, at its timestamps, then the rows of the
   -- retry whose keys `mid_base` does not contain, at the timestamps of the retry.
   pub run : CallsHaveAnswers step_of_row base
-      (accepted_calls (calls_of_rows name moments (well_formed_rows_from form 1 front)) first.answered.replies ++ calls_with_new_keys mid_base (calls_of_rows name others (well_formed_rows_from form 1 rows)))
-      (accepted_answers first.answered.replies ++ answers_for_new_keys mid_base (calls_of_rows name others (well_formed_rows_from form 1 rows)) second.answered.replies) after
+      (accepted_calls (calls_of_rows name moments (well_formed_rows_from form 1 front)) first.answered.replies
+      ++ calls_with_new_keys mid_base (calls_of_rows name others (well_formed_rows_from form 1 rows)))
+      (accepted_answers first.answered.replies
+      ++ answers_for_new_keys mid_base (calls_of_rows name others (well_formed_rows_from form 1 rows)) second.answered.replies) after
   -- The base `mid_base` contains each row that the first run accepted, under its key.
   pub stored : AcceptedCallsAreStored mid_base (calls_of_rows name moments (well_formed_rows_from form 1 front)) first.answered.replies
   -- The retry answers each row whose key `mid_base` contains with the stored line, or refuses it if

@@ -33,6 +33,8 @@ pub record RowCallHasOutcome {S : Type 0} (g : Ghosts S) (old : Held S) (now : �
 
 -- The calls are exactly those of the rows of the batch, each with its command under its key, and
 -- the lines and the result of the batch follow from their outcomes.
-abbrev pub BatchMatchesRowCalls : {C : Type 0} → (C → ℕ → C → Type 0) → Option Text → List (ℕ × Call) → List Outcome → ClockAndWriterChange C → Result Counts BatchFault → Type 0
+abbrev pub BatchMatchesRowCalls : {C : Type 0} → (C → ℕ → C → Type 0) → Option Text → List (ℕ × Call) → List Outcome → ClockAndWriterChange C
+    → Result Counts BatchFault → Type 0
 BatchMatchesRowCalls gives text calls outcomes outside result =
-    (rows : RowCalls Command) × (calls ≡ map desk_call_of_row rows) × BatchMatchesScript (parse_by_first_field row_parsers) gives text (rows, outcomes) outside result
+    (rows : RowCalls Command) × (calls ≡ map desk_call_of_row rows)
+    × BatchMatchesScript (parse_by_first_field row_parsers) gives text (rows, outcomes) outside result

@@ -32,10 +32,12 @@ pub fn an_interrupted_batch_can_be_retried<S: Alter, C: Clock>()
         (taken : Result (Unit {0}) money.Fault) (counts : counted.Counts) → RepresentsDurableBase S.Store first base
         → IsBatchCrashSafe (λ desk. HasCleanDisk (state S.Store desk)) (λ desk. Represents S.Store desk) (CrashExposesOnlyOneOf S.Store) (parse_by_first_field row_parsers) step_of_row
         C.gives (Some (input_text input)) first left one ended
-        → HasCleanDisk (state S.Store left) → IsNewConnectionAfterCrash S.Store left conn → AdoptPost S.Store conn store taken → HasCleanDisk (state S.Store store)
+        → HasCleanDisk (state S.Store left) → IsNewConnectionAfterCrash S.Store left conn → AdoptPost S.Store conn store taken
+        → HasCleanDisk (state S.Store store)
         → AuditAnswerSatisfies taken (λ failing. failing ≡ None)
         × (BatchRefinesModel (λ desk. HasCleanDisk (state S.Store desk)) (λ desk. Represents S.Store desk) (parse_by_first_field row_parsers) step_of_row
         C.gives (Some (input_text input)) store last two (Ok counts) → HasCleanDisk (state S.Store last)
-        → (after : Base) × Represents S.Store last after × RetryCompletesBatch (parse_by_first_field row_parsers) C.gives (Some (input_text input)) base after one two
+        → (after : Base) × Represents S.Store last after
+        × RetryCompletesBatch (parse_by_first_field row_parsers) C.gives (Some (input_text input)) base after one two
         × RunAndRetryEqualOneRun (parse_by_first_field row_parsers) C.gives (Some (input_text input)) base after one two) }
 {}

@@ -1,4 +1,5 @@
--- Each accepted command in form leaves a sound base sound, and so does a call with a key in form. The empty base is sound.
+-- Each accepted command in form leaves a sound base sound, and so does a call with a key in form.
+-- The empty base is sound.
 use Rattle.std.proofs.Common.{◌≡◌, ℕ, List, [], ◌∷◌, refl, sym, ◌∙◌, ap, subst, arith, Option, Some, None}
 use Rattle.std.specs.Prelude.{IfSome, Result, Ok, Err, bytes_eq, find, ◌&&◌, ◌==◌}
 use Rattle.brk_money.specs.declared.refusal.Refusal.{Refusal}

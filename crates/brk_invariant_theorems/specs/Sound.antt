@@ -140,7 +140,8 @@ pub record StoredReplyAuditInvariant (all_kept : List Kept) : Type 0 where
 
 -- The part of the audit invariant that concerns brokers, customers, accounts and permissions:
 -- well-formed fields, unique keys, existing accounts, and the limit of accounts for each customer.
-pub record PartyAuditInvariant (all_brokers : List Broker) (all_customers : List Customer) (all_accounts : List Account) (all_permissions : List Permission) : Type 0 where
+pub record PartyAuditInvariant (all_brokers : List Broker) (all_customers : List Customer) (all_accounts : List Account)
+    (all_permissions : List Permission) : Type 0 where
   pub brokers : AllByRecursion (λ b. is_well_formed_broker b ≡ true) all_brokers
   pub customers : AllByRecursion (λ c. is_well_formed_customer_row c ≡ true) all_customers
   pub accounts : AllByRecursion (λ a. is_well_formed_account a ≡ true) all_accounts
@@ -156,7 +157,8 @@ pub record PartyAuditInvariant (all_brokers : List Broker) (all_customers : List
 -- The part of the audit invariant that concerns charges, bands, tax rates and customers' taxes:
 -- well-formed fields, unique keys, existing customers and tax rates, and the limit of rates for
 -- each customer.
-pub record RateAuditInvariant (all_customers : List Customer) (all_charges : List Charge) (all_bands : List Band) (all_tax_rates : List TaxRate) (all_taxes : List CustomerTax) : Type 0 where
+pub record RateAuditInvariant (all_customers : List Customer) (all_charges : List Charge) (all_bands : List Band) (all_tax_rates : List TaxRate)
+    (all_taxes : List CustomerTax) : Type 0 where
   pub charges : AllByRecursion (λ c. is_well_formed_charge_row c ≡ true) all_charges
   pub bands : AllByRecursion (λ b. is_well_formed_band_row third_schema b ≡ true) all_bands
   pub tax_rates : AllByRecursion (λ r. is_well_formed_tax_rate_row r ≡ true) all_tax_rates

@@ -35,7 +35,8 @@ pub fn audit_invariant_makes_tables_pass_audit()
     ensures form { (base : Base) → BooksInvariant base → AuditInvariant base → IsTrue (satisfies_form_condition third_schema (sheets base)) }
     ensures histories { (base : Base) → AuditInvariant base → HasValidHistories base }
     ensures passes { (base : Base) → BooksInvariant base → AuditInvariant base → PassesAudit third_schema (sheets base) }
-    ensures exact { (base : Base) → BooksInvariant base → AuditInvariant base ↔ (HasValidHistories base × IsTrue (satisfies_form_condition third_schema (sheets base))) }
+    ensures exact { (base : Base) → BooksInvariant base
+        → AuditInvariant base ↔ (HasValidHistories base × IsTrue (satisfies_form_condition third_schema (sheets base))) }
 {}
 
 /// Proves that the base of rows that pass the audit of the third schema satisfies the audit
@@ -56,7 +57,8 @@ pub fn commands_preserve_audit_invariant()
     ensures step { (base : Base) (now : ℕ) (command : Command) (reply : Reply) (after : Base)
         → AuditInvariant base → BooksInvariant base → MeetsAuditFormats command → step base now command ≡ Ok (reply, after) → AuditInvariant after }
     ensures keyed { (base : Base) (now : ℕ) (command : Command) (key : Option Key)
-        → AuditInvariant base → BooksInvariant base → MeetsAuditFormats command → IfSome key IsWellFormedKey → AuditInvariant (keyed_step base now command key).1 }
+        → AuditInvariant base → BooksInvariant base → MeetsAuditFormats command → IfSome key IsWellFormedKey
+        → AuditInvariant (keyed_step base now command key).1 }
 {}
 
 /// Proves that a run of calls that satisfy `CallMeetsAuditFormats` preserves the audit invariant,
@@ -69,7 +71,8 @@ pub fn tables_after_runs_pass_the_audit()
     ensures first { (calls : List (ℕ × Call)) (outcomes : List Outcome) (after : Base)
         → AllByRecursion CallMeetsAuditFormats calls → Run empty_base calls outcomes after → PassesAudit third_schema (sheets after) }
     ensures adopted { (rows : Tables) (calls : List (ℕ × Call)) (outcomes : List Outcome) (after : Base)
-        → PassesAudit third_schema rows → AllByRecursion CallMeetsAuditFormats calls → Run (base_of_tables rows) calls outcomes after → PassesAudit third_schema (sheets after) }
+        → PassesAudit third_schema rows → AllByRecursion CallMeetsAuditFormats calls → Run (base_of_tables rows) calls outcomes after
+        → PassesAudit third_schema (sheets after) }
     ensures formed { (calls : List (ℕ × Call)) (outcomes : List Outcome) (after : Base)
         → AllByRecursion IsWellFormedCall calls → Run empty_base calls outcomes after → PassesAudit third_schema (sheets after) }
 {}

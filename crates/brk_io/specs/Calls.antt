@@ -6,6 +6,7 @@ use Rattle.std.specs.Prelude.{◌≡◌, ℕ, List, [], ◌∷◌}
 -- `outcomes`) and the desk after it. False if the numbers of calls and of outcomes differ.
 abbrev pub IsCallSequence : {D X O : Type 0} → (D → ℕ → X → O → D → Type 0) → D → List (ℕ × X) → List O → D → Type 0
 IsCallSequence acts old [] [] new = new ≡ old
-IsCallSequence {D} acts old (made ∷ calls) (outcome ∷ outcomes) new = (mid : D) × acts old made.0 made.1 outcome mid × IsCallSequence acts mid calls outcomes new
+IsCallSequence {D} acts old (made ∷ calls) (outcome ∷ outcomes) new =
+    (mid : D) × acts old made.0 made.1 outcome mid × IsCallSequence acts mid calls outcomes new
 IsCallSequence acts old [] (outcome ∷ outcomes) new = ⊥
 IsCallSequence acts old (made ∷ calls) [] new = ⊥

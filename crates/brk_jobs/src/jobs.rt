@@ -62,7 +62,13 @@ fn execute_job<R: Read + Drop, W: Write>(
             input,
             output,
         ),
-        Place::ExistingFile(path) => execute_job_in_file(rt, file::open_desk_file(rt, path), job, input, output),
+        Place::ExistingFile(path) => execute_job_in_file(
+            rt,
+            file::open_desk_file(rt, path),
+            job,
+            input,
+            output,
+        ),
     };
     match (job, ending) {
         (Job::Audit { .. }, Ending::Done) => write_audit_ok(output),

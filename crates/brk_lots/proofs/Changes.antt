@@ -153,7 +153,8 @@ pub shares_appended : (t r : ℕ) (us : List Share) (u : Share) → u.trade ≢ 
 shares_appended t r us u h =
     sum_by-append _ us (replicate r u) ∙ ap (λ m. count_of t us + m) (ap (count_of t) (sym (append-nil (replicate r u))) ∙ shares_run_other t r u [] h) ∙ omega arith
 
--- the history rows of a trade, but for the one of the lot that it opens, are those that the walk writes lot by lot
+-- the history rows of a trade, but for the one of the lot that it opens, are those that the walk
+-- writes lot by lot
 pub changes_walk : (k r : ℕ) (u : Share) (ls : List Lot) → IsPositionInAnyOrder ls → AreOpenedByOtherTrades u.trade ls → changes (shares_of_lots ls) (drop k (shares_of_lots ls) ++ replicate r u) ≡ touches_of_first_shares k ls
 changes_walk k r u ls w fresh =
     let before = λ (t : ℕ). count_of t (shares_of_lots ls) in

@@ -156,7 +156,8 @@ first_row (suc k) (l ∷ ls) t f p e =
     let row : t ≡ record { lot = l.trade; before = l.qty; after = signed_by_side (side_of_qty l.qty) (unsigned_abs l.qty - suc k) } = rw more at e in
     ap (λ (s : Touch). s.lot) row
 
--- the first row names the oldest lot where the lots were taken from the front, and of one lot either way
+-- the first row names the oldest lot where the lots were taken from the front, and of one lot
+-- either way
 pub left_front : (lifo : Bool) (k : ℕ) (ls : List Lot) → IsPositionInAnyOrder ls → (ts : List Touch) → ts ≡ touches_of_first_shares k (list_in_closing_order lifo ls) → 0 < length ts → (s : Touch) (f : Lot) → s ≡ get_or ts 0 s → f ≡ get_or ls 0 f → s.lot ≡ f.trade
     → (t : Touch) (l : Lot) → t ≡ get_or ts (length ts - 1) t → l ≡ get_or ls (length ts - 1) l → lots_after_touches ts ls ≡ lot_with_nonzero_quantity t.after l ++ drop (length ts) ls
 left_front false k ls w ts e p s f se fe same t l te le = cut_front k ls w ts e p t l te le

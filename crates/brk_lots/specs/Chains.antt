@@ -35,7 +35,9 @@ opening_touch l = record { lot = l.trade; before = pos 0; after = l.qty }
 -- The changes of lots by the deal `d` on the shares `us`: the lots that it closes or reduces, from
 -- the end that it takes first, and then the lot that it opens.
 abbrev pub lot_changes_of_deal : Deal → List Share → List HoldingHistoryRow
-lot_changes_of_deal d us = map (holding_history_row d.trade) (list_in_closing_order d.is_lifo (touches_of_existing_lots d us) ++ map opening_touch (lots_of_shares (opened_shares d us)))
+lot_changes_of_deal d us =
+    map (holding_history_row d.trade) (list_in_closing_order d.is_lifo (touches_of_existing_lots d us)
+    ++ map opening_touch (lots_of_shares (opened_shares d us)))
 
 -- The changes of lots by the deals, executed in order from the shares `us`.
 abbrev pub lot_changes_of_deals : List Deal → List Share → List HoldingHistoryRow

@@ -22,7 +22,8 @@ abbrev pub touches_of_first_shares : ℕ → List Lot → List Touch
 touches_of_first_shares k [] = []
 touches_of_first_shares k (l ∷ ls) =
     if nat_eq k 0 then []
-    else record { lot = l.trade; before = l.qty; after = signed_by_side (side_of_qty l.qty) (unsigned_abs l.qty - k) } ∷ touches_of_first_shares (k - unsigned_abs l.qty) ls
+    else record { lot = l.trade; before = l.qty; after = signed_by_side (side_of_qty l.qty) (unsigned_abs l.qty - k) }
+    ∷ touches_of_first_shares (k - unsigned_abs l.qty) ls
 
 -- The value at which the first `k` shares of the lots were opened.
 abbrev pub cost_of_first_shares : ℕ → List Lot → ℕ

@@ -36,7 +36,8 @@ pub fn open_lot_without_closing(
     price: Price,
     stamp: Stamp,
 ) -> Closing
-    ensures closing { (ls : List Lot) (lifo : Bool) → IsPositionInAnyOrder ls → AreOpenedByOtherTrades trade ls → closes_lots side (lot_quantity_sum ls) ≡ false →
+    ensures closing { (ls : List Lot) (lifo : Bool) → IsPositionInAnyOrder ls → AreOpenedByOtherTrades trade ls
+        → closes_lots side (lot_quantity_sum ls) ≡ false →
         IsClosingOfDeal (record { trade = trade; side = side; qty = qty; price = price; stamp = stamp; is_lifo = lifo }) ls result }
     ensures bought { result.buy_value ≡ pos 0 }
     ensures sold { result.sell_value ≡ pos 0 }
@@ -51,7 +52,8 @@ pub fn open_lot_without_closing(
 
 /// Returns the buy value and the sell value of an order that would close no share: both are 0.
 pub fn zero_closing_values() -> Values
-    ensures { (d : model.Deal) (ls : List Lot) → IsPositionInAnyOrder ls → closes_lots d.side (lot_quantity_sum ls) ≡ false → result ≡ closing_values_of_deal d (shares_of_lots ls) }
+    ensures { (d : model.Deal) (ls : List Lot) → IsPositionInAnyOrder ls → closes_lots d.side (lot_quantity_sum ls) ≡ false
+        → result ≡ closing_values_of_deal d (shares_of_lots ls) }
 {
     Values {
         buy_value: Amount::new(0).unwrap(),

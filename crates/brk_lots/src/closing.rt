@@ -36,7 +36,8 @@ pub(crate) fn opened_lot(
     price: Price,
     stamp: Stamp,
 ) -> Option<Lot>
-    ensures { map abstract_lot (option_to_list result) ≡ lots_of_shares (replicate shares (record { side = side; trade = trade; price = price; stamp = stamp })) }
+    ensures { map abstract_lot (option_to_list result)
+        ≡ lots_of_shares (replicate shares (record { side = side; trade = trade; price = price; stamp = stamp })) }
 {
     if shares == 0 {
         return None;
@@ -67,7 +68,8 @@ pub fn close<L: LotSource>(
     ensures leads { L.leads source.old source.new }
     // Over the lots of a position from the trade's end, it is the effect of the trade on the shares
     // of that position.
-    ensures closing { IfOk result (λ closing. (ls : List Lot) (lifo : Bool) → YieldsPosition (AreLotsOfFaithfulSource (L.reads_faithfully source.new) (L.remaining source.old)) lifo ls → AreOpenedByOtherTrades trade ls →
+    ensures closing { IfOk result (λ closing. (ls : List Lot) (lifo : Bool)
+        → YieldsPosition (AreLotsOfFaithfulSource (L.reads_faithfully source.new) (L.remaining source.old)) lifo ls → AreOpenedByOtherTrades trade ls →
         IsClosingOfDeal (record { trade = trade; side = side; qty = qty; price = price; stamp = stamp; is_lifo = lifo }) ls closing) }
     // Both values are at least 0, and at most that of the quantity at the greatest price.
     ensures bought { IfOk result (λ closing. (pos 0 ≤ℤ closing.buy_value) × (closing.buy_value ≤ℤ pos (qty * greatest_price))) }
@@ -76,12 +78,17 @@ pub fn close<L: LotSource>(
     // Also if it fails, it has requested at most one lot a share, and at most one lot more than the
     // trade touches.
     ensures requests_at_most_shares { L.asked source.new ≤ L.asked source.old + qty }
-    ensures requests_at_most_touched { (ls : List Lot) (lifo : Bool) → YieldsPosition (AreLotsOfFaithfulSource (L.reads_faithfully source.new) (L.remaining source.old)) lifo ls → AreOpenedByOtherTrades trade ls →
-        L.asked source.new ≤ L.asked source.old + length (touches_of_existing_lots (record { trade = trade; side = side; qty = qty; price = price; stamp = stamp; is_lifo = lifo }) (shares_of_lots ls)) + 1 }
+    ensures requests_at_most_touched { (ls : List Lot) (lifo : Bool)
+        → YieldsPosition (AreLotsOfFaithfulSource (L.reads_faithfully source.new) (L.remaining source.old)) lifo ls → AreOpenedByOtherTrades trade ls →
+        L.asked source.new
+        ≤ L.asked source.old
+        + length (touches_of_existing_lots (record { trade = trade; side = side; qty = qty; price = price; stamp = stamp; is_lifo = lifo }) (shares_of_lots ls))
+        + 1 }
     // Every fault of the source is returned, unchanged.
     ensures faulted { IfOk result (λ closing. L.faulted source.new ≡ L.faulted source.old) }
     ensures fault { IfErr result (λ fault. (fault ≡ Fault.Memory) ⊎ ((before : L) × L.fails before fault source.new)) }
-    ensures remaining { (ls : List Lot) → AreLotsOfFaithfulSource (L.reads_faithfully source.new) (L.remaining source.old) ls → (n : ℕ) × L.remaining source.new (drop n ls) }
+    ensures remaining { (ls : List Lot) → AreLotsOfFaithfulSource (L.reads_faithfully source.new) (L.remaining source.old) ls
+        → (n : ℕ) × L.remaining source.new (drop n ls) }
 {
     let mut touched = Vec::new(alloc);
     let taken = close_lots_with_values(source, side, qty, price, &mut touched)?;

@@ -10,7 +10,8 @@ use crate::lot::{Lot, Touch};
 // closes that lot too if `qty` is 0. Returns the index of the first remaining lot.
 fn remove_front_lots(lots: &mut Vec<Lot>, last: usize, qty: i64) -> usize
     requires { last < vec_len lots.old }
-    ensures left { (lot : Lot) → lot ≡ slice_index_or lots.old.items last lot → drop result lots.new.items ≡ lot_with_nonzero_quantity qty lot ++ drop (last + 1) lots.old.items }
+    ensures left { (lot : Lot) → lot ≡ slice_index_or lots.old.items last lot
+        → drop result lots.new.items ≡ lot_with_nonzero_quantity qty lot ++ drop (last + 1) lots.old.items }
     ensures within { result ≤ vec_len lots.new }
     ensures capacity { vec_capacity lots.new ≡ vec_capacity lots.old }
     ensures len { vec_len lots.new ≡ vec_len lots.old }

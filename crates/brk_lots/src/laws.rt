@@ -17,7 +17,8 @@ ghost use Rattle.brk_lots.specs.Position.{AreOpenedByOtherTrades, IsPosition};
 pub fn replayed_lots_match_their_deals()
     ensures one_side { (deals : List Deal) → (side : Side) × AllByRecursion (λ u. u.side ≡ side) (replay deals) }
     ensures quantities { (deals : List Deal) (ls : List Lot) → shares_of_lots ls ≡ replay deals → lot_quantity_sum ls ≡ deal_quantity_sum deals }
-    ensures costs { (deals : List Deal) (ls : List Lot) → shares_of_lots ls ≡ replay deals → lot_cost_basis ls ≡ realised_gain_sum deals [] +ℤ purchases_minus_sales deals }
+    ensures costs { (deals : List Deal) (ls : List Lot) → shares_of_lots ls ≡ replay deals
+        → lot_cost_basis ls ≡ realised_gain_sum deals [] +ℤ purchases_minus_sales deals }
 {}
 
 /// Proves for deals of distinct trades with strictly ascending stamps that the changes of each lot
@@ -25,7 +26,8 @@ pub fn replayed_lots_match_their_deals()
 /// before it ended and ends strictly nearer to 0, and the last ends at the current quantity. Proves
 /// also that the lot of a deal's trade has the shares that the deal opens.
 pub fn lot_histories_are_chains()
-    ensures history { (deals : List Deal) (trade : ℕ) → AreAscendingDeals deals → IsLotHistory (changes_of_lot trade deals []) (lot_quantity (replay deals) trade) }
+    ensures history { (deals : List Deal) (trade : ℕ) → AreAscendingDeals deals
+        → IsLotHistory (changes_of_lot trade deals []) (lot_quantity (replay deals) trade) }
     ensures opened { (d : Deal) (ls : List Lot) → IsPosition ls → AreOpenedByOtherTrades d.trade ls →
         lot_quantity (shares_after_deal (shares_of_lots ls) d) d.trade ≡ signed_by_side d.side (d.qty - closed_share_count_of_deal d (shares_of_lots ls)) }
 {}
@@ -34,7 +36,8 @@ pub fn lot_histories_are_chains()
 /// opens, if its trade opened no lot of the position before.
 pub fn history_is_touched_and_opened_lots()
     ensures { (d : Deal) (ls : List Lot) → IsPosition ls → AreOpenedByOtherTrades d.trade ls →
-        lot_touches_of_deal d (shares_of_lots ls) ≡ touches_of_existing_lots d (shares_of_lots ls) ++ map opening_touch (lots_of_shares (opened_shares d (shares_of_lots ls))) }
+        lot_touches_of_deal d (shares_of_lots ls)
+        ≡ touches_of_existing_lots d (shares_of_lots ls) ++ map opening_touch (lots_of_shares (opened_shares d (shares_of_lots ls))) }
 {}
 
 /// Proves that the lots of a position equal the lots of its shares.

@@ -59,7 +59,8 @@ impl Lot {
     // Returns the change of the lot that closes `shares` of its shares.
     pub(crate) fn touch_closing_shares(&self, shares: u32) -> Touch
         requires { shares ≤ unsigned_abs self.now.qty }
-        ensures { result ≡ record { lot = self.now.trade; before = self.now.qty; after = signed_by_side (side_of_qty self.now.qty) (unsigned_abs self.now.qty - shares) } }
+        ensures { result
+            ≡ record { lot = self.now.trade; before = self.now.qty; after = signed_by_side (side_of_qty self.now.qty) (unsigned_abs self.now.qty - shares) } }
     {
         Touch {
             lot: self.trade,

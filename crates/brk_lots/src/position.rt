@@ -82,8 +82,10 @@ impl Position {
     /// Fails with `Memory` only. The position is then unchanged.
     pub fn apply(&mut self, closing: &Closing) -> Result<(), Fault>
         requires { (d : model.Deal) × IsApplicableClosing d self.old closing.now }
-        ensures shares { OnOk result ((d : model.Deal) → IsApplicableClosing d self.old closing.now → shares_of_lots self.new ≡ model.shares_after_deal (shares_of_lots self.old) d) }
-        ensures lots { OnOk result ((d : model.Deal) → IsApplicableClosing d self.old closing.now → map abstract_lot self.new ≡ model.lots_of_shares (model.shares_after_deal (shares_of_lots self.old) d)) }
+        ensures shares { OnOk result ((d : model.Deal) → IsApplicableClosing d self.old closing.now
+            → shares_of_lots self.new ≡ model.shares_after_deal (shares_of_lots self.old) d) }
+        ensures lots { OnOk result ((d : model.Deal) → IsApplicableClosing d self.old closing.now
+            → map abstract_lot self.new ≡ model.lots_of_shares (model.shares_after_deal (shares_of_lots self.old) d)) }
         ensures err { IfErr result (λ fault. (fault ≡ Fault.Memory) × (self.new ≡ self.old)) }
     {
         self.lots.reserve(1)?;

@@ -22,7 +22,8 @@ pub struct DealTouch {
 
 // Appends the lots that a trade touched, in order. Fails with `Memory` only.
 fn append_touched_lots(rows: &mut Vec<DealTouch>, trade: Id, touched: &[Touch]) -> Result<(), Fault>
-    ensures added { OnOk result (map abstract_deal_touch rows.new.items ≡ map abstract_deal_touch rows.old.items ++ map (holding_history_row trade) (map abstract_touch touched.now)) }
+    ensures added { OnOk result (map abstract_deal_touch rows.new.items
+        ≡ map abstract_deal_touch rows.old.items ++ map (holding_history_row trade) (map abstract_touch touched.now)) }
     ensures fault { IfErr result (λ fault. fault ≡ Fault.Memory) }
 {
     for touch in touched {
@@ -36,7 +37,8 @@ fn append_touched_lots(rows: &mut Vec<DealTouch>, trade: Id, touched: &[Touch]) 
 
 // Appends the lot that a trade opened, if it opened one. Fails with `Memory` only.
 fn append_opened_lot(rows: &mut Vec<DealTouch>, trade: Id, opened: Option<Lot>) -> Result<(), Fault>
-    ensures added { OnOk result (map abstract_deal_touch rows.new.items ≡ map abstract_deal_touch rows.old.items ++ map (holding_history_row trade) (map opening_touch (map abstract_lot (option_to_list opened)))) }
+    ensures added { OnOk result (map abstract_deal_touch rows.new.items
+        ≡ map abstract_deal_touch rows.old.items ++ map (holding_history_row trade) (map opening_touch (map abstract_lot (option_to_list opened)))) }
     ensures fault { IfErr result (λ fault. fault ≡ Fault.Memory) }
 {
     if let Some(lot) = opened {
@@ -54,7 +56,8 @@ fn append_opened_lot(rows: &mut Vec<DealTouch>, trade: Id, opened: Option<Lot>) 
 // `Memory` only.
 fn append_lot_changes(rows: &mut Vec<DealTouch>, trade: Id, closing: &Closing) -> Result<(), Fault>
     ensures added { OnOk result (map abstract_deal_touch rows.new.items ≡ map abstract_deal_touch rows.old.items
-        ++ map (holding_history_row trade) (map abstract_touch closing.now.touched.items ++ map opening_touch (map abstract_lot (option_to_list closing.now.opened)))) }
+        ++ map (holding_history_row trade) (map abstract_touch closing.now.touched.items
+        ++ map opening_touch (map abstract_lot (option_to_list closing.now.opened)))) }
     ensures fault { IfErr result (λ fault. fault ≡ Fault.Memory) }
 {
     append_touched_lots(rows, trade, &closing.touched)?;
@@ -83,7 +86,8 @@ impl Position {
     ) -> Result<Position, Fault>
         requires { AreAscendingDeals (map abstract_deal deals.now) }
         ensures shares { IfOk result (λ position. shares_of_lots position ≡ replay (map abstract_deal deals.now)) }
-        ensures rows { OnOk result (map abstract_deal_touch rows.new.items ≡ map abstract_deal_touch rows.old.items ++ lot_changes_of_deals (map abstract_deal deals.now) []) }
+        ensures rows { OnOk result (map abstract_deal_touch rows.new.items
+            ≡ map abstract_deal_touch rows.old.items ++ lot_changes_of_deals (map abstract_deal deals.now) []) }
         ensures fault { IfErr result (λ fault. fault ≡ Fault.Memory) }
     {
         let mut position = Position::new(alloc);

@@ -62,11 +62,15 @@ pub fn estimate_closing_values<L: LotSource>(
     ensures requests_at_most_shares { L.asked source.new ≤ L.asked source.old + qty }
     ensures requests_at_most_touched { (ls : List Lot) (trade stamp : ℕ) (lifo : Bool) →
         YieldsPosition (AreLotsOfFaithfulSource (L.reads_faithfully source.new) (L.remaining source.old)) lifo ls → AreOpenedByOtherTrades trade ls →
-        L.asked source.new ≤ L.asked source.old + length (touches_of_existing_lots (record { trade = trade; side = side; qty = qty; price = price; stamp = stamp; is_lifo = lifo }) (shares_of_lots ls)) + 1 }
+        L.asked source.new
+        ≤ L.asked source.old
+        + length (touches_of_existing_lots (record { trade = trade; side = side; qty = qty; price = price; stamp = stamp; is_lifo = lifo }) (shares_of_lots ls))
+        + 1 }
     // Every fault of the source is returned, unchanged.
     ensures faulted { IfOk result (λ values. L.faulted source.new ≡ L.faulted source.old) }
     ensures fault { IfErr result (λ fault. (before : L) × L.fails before fault source.new) }
-    ensures remaining { (ls : List Lot) → AreLotsOfFaithfulSource (L.reads_faithfully source.new) (L.remaining source.old) ls → (n : ℕ) × L.remaining source.new (drop n ls) }
+    ensures remaining { (ls : List Lot) → AreLotsOfFaithfulSource (L.reads_faithfully source.new) (L.remaining source.old) ls
+        → (n : ℕ) × L.remaining source.new (drop n ls) }
 {
     let taken = close_lots_with_values(source, side, qty, price, &mut TouchDiscarder)?;
     Ok(taken.values)

@@ -40,16 +40,19 @@ fn close_lots_with_cost<L: LotSource, R: TouchReceiver>(
     ensures leads { L.leads source.old source.new }
     // The rows that it passed, each for one request, are those of the lots.
     ensures taken { IfOk result (λ walked. (touched : List Touch) × R.holds rows.new touched × (L.asked source.new ≤ L.asked source.old + length touched + 1)
-        × ((ls : List Lot) → AreLotsOfFaithfulSource (L.reads_faithfully source.new) (L.remaining source.old) ls → IsPositionInAnyOrder ls → IsResultOfClosingLots side qty ls touched walked.left walked.cost)) }
+        × ((ls : List Lot) → AreLotsOfFaithfulSource (L.reads_faithfully source.new) (L.remaining source.old) ls → IsPositionInAnyOrder ls
+        → IsResultOfClosingLots side qty ls touched walked.left walked.cost)) }
     ensures left { IfOk result (λ walked. walked.left ≤ qty) }
     ensures limit { IfOk result (λ walked. walked.cost ≤ qty * greatest_price) }
     // It requests at most one lot a share, and at most one lot more than it passes rows of these
     // lots, also if it fails.
     ensures requests_at_most_shares { L.asked source.new ≤ L.asked source.old + qty }
-    ensures requests_at_most_touched { (ls : List Lot) → AreLotsOfFaithfulSource (L.reads_faithfully source.new) (L.remaining source.old) ls → IsPositionInAnyOrder ls → L.asked source.new ≤ L.asked source.old + length (touches_of_first_shares (closed_share_count side qty ls) ls) + 1 }
+    ensures requests_at_most_touched { (ls : List Lot) → AreLotsOfFaithfulSource (L.reads_faithfully source.new) (L.remaining source.old) ls
+        → IsPositionInAnyOrder ls → L.asked source.new ≤ L.asked source.old + length (touches_of_first_shares (closed_share_count side qty ls) ls) + 1 }
     ensures faulted { OnOk result (L.faulted source.new ≡ L.faulted source.old) }
     ensures fault { IfErr result (λ fault. R.fails fault ⊎ ((before : L) × L.fails before fault source.new)) }
-    ensures remaining { (ls : List Lot) → AreLotsOfFaithfulSource (L.reads_faithfully source.new) (L.remaining source.old) ls → (n : ℕ) × L.remaining source.new (drop n ls) }
+    ensures remaining { (ls : List Lot) → AreLotsOfFaithfulSource (L.reads_faithfully source.new) (L.remaining source.old) ls
+        → (n : ℕ) × L.remaining source.new (drop n ls) }
 {
     let mut left = qty.get();
     let mut cost: u64 = 0;
@@ -81,16 +84,19 @@ pub(crate) fn close_lots_with_values<L: LotSource, R: TouchReceiver>(
     ensures leads { L.leads source.old source.new }
     // The rows that it passed, each for one request, are those of the lots.
     ensures taken { IfOk result (λ taken. (touched : List Touch) × R.holds rows.new touched × (L.asked source.new ≤ L.asked source.old + length touched + 1)
-        × ((ls : List Lot) → AreLotsOfFaithfulSource (L.reads_faithfully source.new) (L.remaining source.old) ls → IsPositionInAnyOrder ls → IsResultOfTradeAgainstLots side qty price ls touched taken.left taken.values)) }
+        × ((ls : List Lot) → AreLotsOfFaithfulSource (L.reads_faithfully source.new) (L.remaining source.old) ls → IsPositionInAnyOrder ls
+        → IsResultOfTradeAgainstLots side qty price ls touched taken.left taken.values)) }
     ensures bought { IfOk result (λ taken. taken.values.buy_value ≤ qty * greatest_price) }
     ensures sold { IfOk result (λ taken. taken.values.sell_value ≤ qty * greatest_price) }
     // It requests at most one lot a share, and at most one lot more than it passes rows of these
     // lots, also if it fails.
     ensures requests_at_most_shares { L.asked source.new ≤ L.asked source.old + qty }
-    ensures requests_at_most_touched { (ls : List Lot) → AreLotsOfFaithfulSource (L.reads_faithfully source.new) (L.remaining source.old) ls → IsPositionInAnyOrder ls → L.asked source.new ≤ L.asked source.old + length (touches_of_first_shares (closed_share_count side qty ls) ls) + 1 }
+    ensures requests_at_most_touched { (ls : List Lot) → AreLotsOfFaithfulSource (L.reads_faithfully source.new) (L.remaining source.old) ls
+        → IsPositionInAnyOrder ls → L.asked source.new ≤ L.asked source.old + length (touches_of_first_shares (closed_share_count side qty ls) ls) + 1 }
     ensures faulted { OnOk result (L.faulted source.new ≡ L.faulted source.old) }
     ensures fault { IfErr result (λ fault. R.fails fault ⊎ ((before : L) × L.fails before fault source.new)) }
-    ensures remaining { (ls : List Lot) → AreLotsOfFaithfulSource (L.reads_faithfully source.new) (L.remaining source.old) ls → (n : ℕ) × L.remaining source.new (drop n ls) }
+    ensures remaining { (ls : List Lot) → AreLotsOfFaithfulSource (L.reads_faithfully source.new) (L.remaining source.old) ls
+        → (n : ℕ) × L.remaining source.new (drop n ls) }
 {
     let walked = close_lots_with_cost(source, side, qty, rows)?;
     let closed = qty.get() - walked.left;

@@ -15,7 +15,8 @@ account_of_row a = record { id = a.id; customer = a.customer; broker = a.broker;
 
 -- The status changes of the trade with the id `trade` in TRADE_HISTORY, sorted by stamp, ascending.
 abbrev pub status_changes_of_trade : Tables → ℕ → List StatusChange
-status_changes_of_trade tables trade = sort_by_key (λ m. m.stamp) (map (λ h. record { stamp = h.stamp; status = h.status }) (history_rows_with_trade_id tables trade))
+status_changes_of_trade tables trade =
+    sort_by_key (λ m. m.stamp) (map (λ h. record { stamp = h.stamp; status = h.status }) (history_rows_with_trade_id tables trade))
 
 -- The posting of a CASH_TRANSACTION row to the account of its trade; the account is 0 if the trade
 -- does not exist.

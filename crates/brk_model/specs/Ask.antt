@@ -86,7 +86,8 @@ order_view_parsers = (codes "submitted", read_no_arguments SubmittedTrades) ∷ 
 -- The parsers of the views `customer`, `taxid`, `recent` and `status`, each with its name.
 abbrev pub account_view_parsers : List (NamedParser Query)
 account_view_parsers =
-    (codes "customer", read_single_argument (read_and_wrap PositionOf read_id)) ∷ (codes "taxid", read_single_argument (read_and_wrap PositionOfTaxId read_tax_id))
+    (codes "customer", read_single_argument (read_and_wrap PositionOf read_id))
+    ∷ (codes "taxid", read_single_argument (read_and_wrap PositionOfTaxId read_tax_id))
     ∷ (codes "recent", read_single_argument (read_and_wrap RecentOf read_id)) ∷ (codes "status", read_single_argument (read_and_wrap StatusOf read_id)) ∷ []
 
 -- The parsers of the views `trades`, `accounttrades`, `symboltrades` and `lots`, each with its

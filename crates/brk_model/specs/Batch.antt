@@ -41,7 +41,8 @@ pub record BatchRowsAreDecided {B C : Type 0} (form : Fields → ReadResult C) (
 
 -- The text has no record, or its first record is no header. An unknown text always satisfies this.
 abbrev pub HasNoHeader : Option Text → Type 0
-HasNoHeader text = HasExactlyRecords text [] ⊎ ((first : Fields) × BeginsWithRecords text (first ∷ []) × ((name : Text) → IsBatchName name → first ≡ batch_header name → ⊥))
+HasNoHeader text =
+    HasExactlyRecords text [] ⊎ ((first : Fields) × BeginsWithRecords text (first ∷ []) × ((name : Text) → IsBatchName name → first ≡ batch_header name → ⊥))
 
 -- The text ends after its header, and `rows` and `told` are empty; or it ends after its header,
 -- `rows` and one record more, which is no end record, and `told` is `answers` followed by the
@@ -58,11 +59,12 @@ abbrev pub EndsWithWrongEndRecord : Option Text → Text → List Fields → Typ
 EndsWithWrongEndRecord text name rows =
     (last : Fields) × IsEndRecord last × (last ≡ correct_end_record (length rows) → ⊥) × BeginsWithRecords text (batch_header name ∷ (rows ++ (last ∷ [])))
 
--- The records of the text, the answers `told` of the rows and the output `removed` are those of a batch
--- with a header and this ending. It is false for `BadHeader`.
+-- The records of the text, the answers `told` of the rows and the output `removed` are those of a
+-- batch with a header and this ending. It is false for `BadHeader`.
 abbrev pub MatchesEnding : Option Text → BatchEnding → Text → List Fields → List Answer → List Answer → Text → Type 0
 MatchesEnding text CorrectEnd name rows answers told out =
-    BeginsWithRecords text (batch_header name ∷ (rows ++ (correct_end_record (length rows) ∷ []))) × (told ≡ answers) × (out ≡ answer_lines_from 1 answers ++ batch_end_line answers)
+    BeginsWithRecords text (batch_header name ∷ (rows ++ (correct_end_record (length rows) ∷ []))) × (told ≡ answers)
+    × (out ≡ answer_lines_from 1 answers ++ batch_end_line answers)
 MatchesEnding text NoEnd name rows answers told out = EndsWithoutEndRecord text name rows answers told × (out ≡ answer_lines_from 1 told)
 MatchesEnding text BadEnd name rows answers told out = EndsWithWrongEndRecord text name rows × (told ≡ answers) × (out ≡ answer_lines_from 1 answers)
 MatchesEnding text BadHeader name rows answers told out = ⊥
@@ -70,7 +72,8 @@ MatchesEnding text BadHeader name rows answers told out = ⊥
 -- The batch is the result of a text with a header: its output, its ending, its base and its number
 -- of decided rows follow from the rows of the text and their answers, executed by `step` from
 -- `base` on with the clock readings `moments`.
-pub record IsResultOfTextWithHeader {B C : Type 0} (form : Fields → ReadResult C) (step : RowStep B C) (base : B) (moments : List ℕ) (text : Option Text) (batch : BatchResult B) : Type 0 where
+pub record IsResultOfTextWithHeader {B C : Type 0} (form : Fields → ReadResult C) (step : RowStep B C) (base : B) (moments : List ℕ) (text : Option Text)
+    (batch : BatchResult B) : Type 0 where
   pub name : Text
   pub rows : List Fields
   pub answers : List Answer

@@ -38,7 +38,8 @@ run_interleaved_with_refusals form rows run = (answers_interleaved_with_refusals
 -- The answers to the rows of the batch `name`, executed in sequence from `base` on and numbered
 -- from 1, and the base after the last.
 abbrev pub answers_and_base_of_rows : {B C : Type 0} → (Fields → ReadResult C) → RowStep B C → Text → B → List ℕ → List Fields → AnswersAndBase B
-answers_and_base_of_rows form step name base moments rows = run_interleaved_with_refusals form rows (answers_and_base_of_calls step base (calls_of_rows name moments (well_formed_rows_from form 1 rows)))
+answers_and_base_of_rows form step name base moments rows =
+    run_interleaved_with_refusals form rows (answers_and_base_of_calls step base (calls_of_rows name moments (well_formed_rows_from form 1 rows)))
 
 -- True if the record is an end record, correct or not: its first field is the word `end`.
 abbrev pub is_end_record : Fields → Bool
@@ -95,7 +96,8 @@ batch_with_end_record form step name base moments rows last =
 -- The result of a batch without an end record: its last row is refused and not executed.
 abbrev pub batch_without_end_record : {B C : Type 0} → (Fields → ReadResult C) → RowStep B C → Text → B → List ℕ → List Fields → BatchResult B
 batch_without_end_record form step name base moments [] = batch_without_end_line (answers_and_base_of_rows form step name base moments []) NoEnd
-batch_without_end_record form step name base moments (row ∷ rows) = batch_with_refused_last_row (answers_and_base_of_rows form step name base moments (take (length rows) (row ∷ rows)))
+batch_without_end_record form step name base moments (row ∷ rows) =
+    batch_with_refused_last_row (answers_and_base_of_rows form step name base moments (take (length rows) (row ∷ rows)))
 
 -- The result of a batch with these rows, with or without an end record.
 abbrev pub batch_of_rows : {B C : Type 0} → (Fields → ReadResult C) → RowStep B C → Text → B → List ℕ → RowsAndEndRecord → BatchResult B

@@ -17,7 +17,8 @@ use Rattle.brk_model.specs.Shares.{Share, Deal, replay, signed_by_side}
 
 -- The deal of the completed trade `t` with its position, at its completion price and stamp.
 abbrev pub deal_of_trade : Trade → Deal
-deal_of_trade t = record { trade = t.id; side = side_of_trade_type t.kind; qty = t.qty; price = completion_price t; stamp = last_status_stamp_of_trade t; is_lifo = t.is_lifo }
+deal_of_trade t =
+    record { trade = t.id; side = side_of_trade_type t.kind; qty = t.qty; price = completion_price t; stamp = last_status_stamp_of_trade t; is_lifo = t.is_lifo }
 
 -- The trades of the list `done` that belong to the account `account`.
 abbrev pub trades_of_account : List Trade → ℕ → List Trade
@@ -55,7 +56,8 @@ withheld_tax accounts t = if is_withholding_status (tax_status_in_accounts accou
 -- The settlement amount of the completed trade `t`, in cents: its proceeds less charge, commission
 -- and withheld tax (SE_AMT, Trade-Result).
 abbrev pub settlement_amount : List Account → Trade → ℤ
-settlement_amount accounts t = signed_proceeds (side_of_trade_type t.kind) (t.qty * completion_price t) -ℤ pos (t.charge + t.commission + withheld_tax accounts t)
+settlement_amount accounts t =
+    signed_proceeds (side_of_trade_type t.kind) (t.qty * completion_price t) -ℤ pos (t.charge + t.commission + withheld_tax accounts t)
 
 -- The number of days from a completion on the day `day` to its settlement: 1 if `rule` has a
 -- settlement day and `day` is not before it, otherwise 2.
@@ -85,7 +87,8 @@ pub record Posting : Type 0 where
 -- The posting of the completed cash trade `t`: its settlement amount, to its account, at its
 -- completion stamp.
 abbrev pub posting_of_trade : List Account → Trade → Posting
-posting_of_trade accounts t = record { account = t.account; trade = Some t.id; stamp = last_status_stamp_of_trade t; amount = settlement_amount accounts t; name = t.cash_name }
+posting_of_trade accounts t =
+    record { account = t.account; trade = Some t.id; stamp = last_status_stamp_of_trade t; amount = settlement_amount accounts t; name = t.cash_name }
 
 -- The posting of the movement `m`, which belongs to no trade.
 abbrev pub posting_of_movement : Movement → Posting

@@ -30,12 +30,14 @@ security_after_tick stamp tick s = record s { last_price = tick.price; volume = 
 
 -- The base `base` with the last price, volume and stamp of the security of the tick `tick` updated.
 abbrev pub base_with_security_after_tick : ℕ → Tick → Base → Base
-base_with_security_after_tick stamp tick base = record base { securities = update_where (λ s. bytes_eq s.symbol tick.symbol) (security_after_tick stamp tick) base.securities }
+base_with_security_after_tick stamp tick base =
+    record base { securities = update_where (λ s. bytes_eq s.symbol tick.symbol) (security_after_tick stamp tick) base.securities }
 
 -- The base after the tick `tick`: its security is updated, and each trade that it triggers gets the
 -- status `Submitted` at `stamp`.
 abbrev pub base_after_tick : ℕ → Base → Tick → Base
-base_after_tick stamp base tick = base_with_updated_trades (is_triggered_by_tick tick) (trade_with_status_change stamp Submitted) (base_with_security_after_tick stamp tick base)
+base_after_tick stamp base tick =
+    base_with_updated_trades (is_triggered_by_tick tick) (trade_with_status_change stamp Submitted) (base_with_security_after_tick stamp tick base)
 
 -- The base after the ticks, each executed at `stamp` on the base after the one before.
 unfoldable pub base_after_ticks : ℕ → Base → List Tick → Base

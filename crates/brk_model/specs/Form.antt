@@ -292,7 +292,8 @@ is_well_formed_cash_row t c =
 -- True if `name` and `amount` are those of a movement: `Deposit` and above 0, or `Withdrawal` and
 -- below 0.
 abbrev pub is_movement_name_and_amount : Text → ℤ → Bool
-is_movement_name_and_amount name amount = (bytes_eq name (codes "Deposit") && int_lt (pos 0) amount) || (bytes_eq name (codes "Withdrawal") && int_lt amount (pos 0))
+is_movement_name_and_amount name amount =
+    (bytes_eq name (codes "Deposit") && int_lt (pos 0) amount) || (bytes_eq name (codes "Withdrawal") && int_lt amount (pos 0))
 
 -- True if the trade with the id `trade` exists, and the name of the CASH_MOVE row is one of the two
 -- that a cash row of that trade may have.
@@ -403,7 +404,8 @@ satisfies_form_condition schema t =
     && list_all (is_well_formed_holding_history_row t) t.holding_history
     && list_all (is_well_formed_settlement_row t) t.settlements
     && list_all (is_well_formed_cash_row t) t.cash
-    && list_all (is_well_formed_move_row t) t.moves && all_distinct (trade_ids_of_cash_rows t.moves) && nat_le (length (filter (λ r. is_none r.trade) t.moves)) greatest_id
+    && list_all (is_well_formed_move_row t) t.moves && all_distinct (trade_ids_of_cash_rows t.moves)
+    && nat_le (length (filter (λ r. is_none r.trade) t.moves)) greatest_id
     && is_settlement_day_in_calendar t.rule
     && lacks_rows_of_later_schemas schema t
 

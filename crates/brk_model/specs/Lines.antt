@@ -55,4 +55,7 @@ refused_answer_count answers = count_by is_refused_answer answers
 -- answers.
 abbrev pub batch_end_line : List Answer → Text
 batch_end_line answers =
-    comma_separated_text (codes "end" ∷ decimal (done_answer_count answers) ∷ decimal (repeated_answer_count answers) ∷ decimal (refused_answer_count answers) ∷ []) ++ 10 ∷ []
+    comma_separated_text (codes "end" ∷ decimal (done_answer_count answers) ∷ decimal (repeated_answer_count answers) ∷ decimal (refused_answer_count answers)
+    ∷ [])
+    ++ 10
+    ∷ []

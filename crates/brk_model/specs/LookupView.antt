@@ -40,7 +40,8 @@ trade_lookup_records tables t =
     trade_record t
     ∷ map settlement_record (filter (λ s. s.trade == t.id) tables.settlements)
     ++ map cash_record (filter (is_cash_row_of_trade t.id) tables.moves)
-    ++ map (λ h. codes "history" ∷ decimal h.stamp ∷ trade_status_code h.status ∷ []) (sort_by (λ a b. nat_lt a.stamp b.stamp) (history_rows_with_trade_id tables t.id))
+    ++ map (λ h. codes "history" ∷ decimal h.stamp ∷ trade_status_code h.status
+    ∷ []) (sort_by (λ a b. nat_lt a.stamp b.stamp) (history_rows_with_trade_id tables t.id))
 
 -- The records of the first 20 trades that pass `test`, sorted by stamp, then by id, both ascending.
 unfoldable pub trade_lookup_view : Tables → (TradeRow → Bool) → View

@@ -27,4 +27,5 @@ base_with_settlement_day base day = record base { rule = Some day }
 -- The reply to the movement `m`: its stamp, the number of its cash row (one more than `base` has
 -- postings), and the balance of its account after it.
 abbrev pub reply_to_movement : Base → Movement → Reply
-reply_to_movement base m = MovedCash m.stamp (length (postings_of_base base) + 1) (balance_of_account base.accounts (postings_of_base (base_after_movement base m)) m.account)
+reply_to_movement base m =
+    MovedCash m.stamp (length (postings_of_base base) + 1) (balance_of_account base.accounts (postings_of_base (base_after_movement base m)) m.account)

@@ -46,7 +46,8 @@ commission_by_band base account kind symbol qty price =
 -- The tax, in cents, on the gain of the deal `d` against the position `shares` of the account
 -- `account`; 0 if the account is not taxable.
 abbrev pub tax_on_deal : Base → ℕ → Deal → List Share → ℕ
-tax_on_deal base account d shares = if is_taxable_account base account then tax (realised_gain d shares) (tax_rate_sum_of_customer base (customer_id_of_account base account)) else 0
+tax_on_deal base account d shares =
+    if is_taxable_account base account then tax (realised_gain d shares) (tax_rate_sum_of_customer base (customer_id_of_account base account)) else 0
 
 -- The deal of the order `o` at its requested price, with the id of the next trade and the stamp 0.
 abbrev pub deal_of_order : Base → Order → Deal
@@ -56,7 +57,8 @@ deal_of_order base o =
 -- The balance of the account `account` plus the market value of its holdings at last prices, in
 -- cents.
 abbrev pub assets_of_account : Base → ℕ → ℤ
-assets_of_account base account = balance_of_account base.accounts (postings_of_base base) account +ℤ holdings_market_value base.securities (completed_trades base) account
+assets_of_account base account =
+    balance_of_account base.accounts (postings_of_base base) account +ℤ holdings_market_value base.securities (completed_trades base) account
 
 -- The estimate of the order `o` against the position `shares` of its account in its security. The
 -- commission is 0 if no band applies, and the charge is 0 if there is none for the type and tier.

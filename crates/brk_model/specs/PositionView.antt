@@ -13,13 +13,15 @@ use Rattle.brk_model.specs.Joins.{last_price_in_tables, trade_rows_of_account, h
 -- The market value of the account `a`, in cents: the sum over its HOLDING_SUMMARY rows of quantity
 -- times last price.
 abbrev pub market_value_of_account_row : Tables → AccountRow → ℤ
-market_value_of_account_row tables a = total_by (λ row. row.qty *ℤ pos (last_price_in_tables tables row.symbol)) (filter (λ row. row.account == a.id) tables.summaries)
+market_value_of_account_row tables a =
+    total_by (λ row. row.qty *ℤ pos (last_price_in_tables tables row.symbol)) (filter (λ row. row.account == a.id) tables.summaries)
 
 -- True if account `a` has a smaller market value than account `b`, or an equal one and a smaller
 -- id.
 abbrev pub is_before_by_market_value : Tables → AccountRow → AccountRow → Bool
 is_before_by_market_value tables a b =
-    int_lt (market_value_of_account_row tables a) (market_value_of_account_row tables b) || (not (int_lt (market_value_of_account_row tables b) (market_value_of_account_row tables a)) && nat_lt a.id b.id)
+    int_lt (market_value_of_account_row tables a) (market_value_of_account_row tables b)
+    || (not (int_lt (market_value_of_account_row tables b) (market_value_of_account_row tables a)) && nat_lt a.id b.id)
 
 -- One record (id, balance, market value) for each account of the customers that pass `test`, sorted
 -- by market value, then by id, both ascending.

@@ -20,8 +20,8 @@ deal_of_result stamp price t = record { trade = t.id; side = side_of_trade_type 
 abbrev pub cash_type_at_completion : Trade → Text
 cash_type_at_completion t = if t.is_cash then codes "Cash Account" else codes "Margin"
 
--- The name of the cash row of a trade with the type `kind` and the quantity `qty` in a security with
--- the name `security`: the name of the type, a space, the quantity, the text `words`, and
+-- The name of the cash row of a trade with the type `kind` and the quantity `qty` in a security
+-- with the name `security`: the name of the type, a space, the quantity, the text `words`, and
 -- `security`.
 abbrev pub cash_row_name_from_parts : Text → TradeType → ℕ → Text → Text
 cash_row_name_from_parts words kind qty security = trade_type_name kind ++ 32 ∷ decimal qty ++ words ++ security

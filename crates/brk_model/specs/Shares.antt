@@ -167,4 +167,5 @@ touches_of_existing_lots d shares = filter changes_lot_quantity (map (touch_of_l
 -- The holding history of the deal `d` (HOLDING_HISTORY): each lot of the position before it or
 -- after it whose quantity it changes, the lot that it opens included.
 unfoldable pub lot_touches_of_deal : Deal → List Share → List Touch
-lot_touches_of_deal d shares = filter changes_lot_quantity (map (touch_of_lot_with_share d shares) (first_shares_of_lots (shares ++ shares_after_deal shares d)))
+lot_touches_of_deal d shares =
+    filter changes_lot_quantity (map (touch_of_lot_with_share d shares) (first_shares_of_lots (shares ++ shares_after_deal shares d)))

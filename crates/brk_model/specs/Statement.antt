@@ -54,7 +54,8 @@ cash_row_line row = day_text (day_of row.stamp) ++ 32 ∷ right_aligned_text 22 
 -- The statement line of a lot: its symbol, the trade that opened it, its quantity and its price.
 abbrev pub lot_line : HoldingRow → Text
 lot_line row =
-    left_aligned_text 15 row.symbol ++ 32 ∷ right_aligned_text 13 (decimal row.trade) ++ 32 ∷ right_aligned_text 11 (signed_decimal row.qty) ++ 32 ∷ right_aligned_text 10 (nonnegative_cents_text row.price)
+    left_aligned_text 15 row.symbol ++ 32 ∷ right_aligned_text 13 (decimal row.trade) ++ 32 ∷ right_aligned_text 11 (signed_decimal row.qty) ++ 32
+    ∷ right_aligned_text 10 (nonnegative_cents_text row.price)
 
 -- The lines of the statement of account `a` over the days `from` to `to`, both included; `rows` are
 -- the cash rows of the account.
@@ -65,10 +66,12 @@ statement_lines tables a from to rows =
     ∷ (codes "From " ++ day_text from ++ codes " to " ++ day_text to)
     ∷ amount_line (codes "Opening") (a.opening +ℤ cash_row_total (cash_move_rows_before_day from rows))
     ∷ map cash_row_line (cash_move_rows_within_days from to rows)
-    ++ amount_line (codes "Closing") (a.opening +ℤ cash_row_total (cash_move_rows_before_day from rows) +ℤ cash_row_total (cash_move_rows_within_days from to rows))
+    ++ amount_line (codes "Closing") (a.opening +ℤ cash_row_total (cash_move_rows_before_day from rows)
+    +ℤ cash_row_total (cash_move_rows_within_days from to rows))
     ∷ map lot_line (holding_rows_of_account tables a.id)
     ++ amount_line (codes "Holdings") (market_value_of_account_row tables a)
-    ∷ (codes "Cash rows " ++ decimal (length (cash_move_rows_within_days from to rows)) ++ codes ", lots " ++ decimal (length (holding_rows_of_account tables a.id)))
+    ∷ (codes "Cash rows " ++ decimal (length (cash_move_rows_within_days from to rows)) ++ codes ", lots "
+    ++ decimal (length (holding_rows_of_account tables a.id)))
     ∷ []
 
 -- The text of the lines, each followed by a line feed.

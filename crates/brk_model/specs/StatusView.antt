@@ -26,8 +26,10 @@ account_name_records tables a =
 -- security does not exist.
 abbrev pub record_of_trade_status : Tables → TradeRow → List Text
 record_of_trade_status tables t =
-    decimal t.id ∷ decimal t.stamp ∷ trade_status_name t.status ∷ trade_type_name t.kind ∷ t.symbol ∷ decimal t.qty ∷ t.executor ∷ nonnegative_cents_text t.charge
-    ∷ option_map_or (λ s. s.name) (security_row_with_symbol tables t.symbol) [] ∷ option_map_or (λ s. s.exchange) (security_row_with_symbol tables t.symbol) [] ∷ []
+    decimal t.id ∷ decimal t.stamp ∷ trade_status_name t.status ∷ trade_type_name t.kind ∷ t.symbol ∷ decimal t.qty ∷ t.executor
+    ∷ nonnegative_cents_text t.charge
+    ∷ option_map_or (λ s. s.name) (security_row_with_symbol tables t.symbol) [] ∷ option_map_or (λ s. s.exchange) (security_row_with_symbol tables t.symbol) []
+    ∷ []
 
 -- One record with the names of the customer and the broker of the account `account`, then one for
 -- each of the account's 50 most recent trades, sorted by stamp, then by id, both descending.

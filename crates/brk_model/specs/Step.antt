@@ -16,7 +16,8 @@ use Rattle.brk_model.specs.Commands.{Command, Listing, Reply, Booked, Ticked, Ca
 -- The security of the listing `l`, with its first price as the last price, the volume 0 and the
 -- stamp `stamp`.
 abbrev pub security_of_listing : ℕ → Listing → Security
-security_of_listing stamp l = record { symbol = l.symbol; name = l.name; exchange = l.exchange; sector = l.sector; last_price = l.price; volume = 0; moment = stamp }
+security_of_listing stamp l =
+    record { symbol = l.symbol; name = l.name; exchange = l.exchange; sector = l.sector; last_price = l.price; volume = 0; moment = stamp }
 
 -- The base `base` in which the trade with the id `id` is completed at `price` with the stamp
 -- `stamp`; unchanged if there is no such trade.
@@ -40,7 +41,8 @@ base_after_command_unstamped base stamp (FeedTicks ticks) = base_after_ticks sta
 base_after_command_unstamped base stamp (CancelTrade id) = base_with_updated_trades (λ t. t.id == id) (trade_with_status_change stamp Canceled) base
 base_after_command_unstamped base stamp (CompleteTrade id price) = base_after_result_by_id base stamp id price
 base_after_command_unstamped base stamp (ChangeExecutors ids) = base_with_updated_executors ids base
-base_after_command_unstamped base stamp (ChangeCashTypes account first last) = base_with_updated_cash_types (selected_ids_of_account base account first last) base
+base_after_command_unstamped base stamp (ChangeCashTypes account first last) =
+    base_with_updated_cash_types (selected_ids_of_account base account first last) base
 base_after_command_unstamped base stamp (ChangeCashNames symbol first last) = base_with_updated_cash_names (selected_ids_of_symbol base symbol first last) base
 base_after_command_unstamped base stamp (DepositCash account amount) = base_after_movement base (deposit_movement stamp account amount)
 base_after_command_unstamped base stamp (WithdrawCash account amount) = base_after_movement base (withdrawal_movement stamp account amount)
@@ -61,7 +63,8 @@ reply_to_command base stamp (AddCustomerTax x) = Booked stamp
 reply_to_command base stamp (PlaceOrder o) = reply_to_order base stamp o
 reply_to_command base stamp (FeedTicks ticks) = Ticked stamp (triggered_trade_ids stamp base ticks)
 reply_to_command base stamp (CancelTrade id) = CanceledTrade stamp
-reply_to_command base stamp (CompleteTrade id price) = option_map_or (λ t. CompletedTrade stamp (completion_of_trade base stamp price t)) (trade_with_id base id) (Booked stamp)
+reply_to_command base stamp (CompleteTrade id price) =
+    option_map_or (λ t. CompletedTrade stamp (completion_of_trade base stamp price t)) (trade_with_id base id) (Booked stamp)
 reply_to_command base stamp (ChangeExecutors ids) = Changed stamp (length ids)
 reply_to_command base stamp (ChangeCashTypes account first last) = Changed stamp (length (selected_ids_of_account base account first last))
 reply_to_command base stamp (ChangeCashNames symbol first last) = Changed stamp (length (selected_ids_of_symbol base symbol first last))

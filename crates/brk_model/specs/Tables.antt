@@ -235,7 +235,8 @@ row_changes_quantity row = changes_lot_quantity (touch_of_row row)
 -- deals are applied in sequence, from the position `shares` on.
 abbrev pub holding_history_rows_of_deals : ℕ → List Share → List Deal → List HoldingHistoryRow
 holding_history_rows_of_deals lot shares [] = []
-holding_history_rows_of_deals lot shares (d ∷ deals) = holding_history_row d.trade (touch_of_lot lot d shares) ∷ holding_history_rows_of_deals lot (shares_after_deal shares d) deals
+holding_history_rows_of_deals lot shares (d ∷ deals) =
+    holding_history_row d.trade (touch_of_lot lot d shares) ∷ holding_history_rows_of_deals lot (shares_after_deal shares d) deals
 
 -- The HOLDING_HISTORY rows of the lot that the completed trade `t` opened: one for each deal of its
 -- position that changes the lot's quantity.

@@ -69,7 +69,8 @@ charge_exists_check base o = (is_none (charge_for_type_and_tier base (trade_type
 
 -- The check that refuses with `NoRate` if no commission band of `base` applies to the order `o`.
 abbrev pub commission_band_exists_check : Base → Order → RefusalCheck
-commission_band_exists_check base o = (is_none (commission_band_for_quantity base (tier_of_account base o.account) (trade_type_of_order o.order_type) (exchange_of_security base o.symbol) o.qty), NoRate)
+commission_band_exists_check base o =
+    (is_none (commission_band_for_quantity base (tier_of_account base o.account) (trade_type_of_order o.order_type) (exchange_of_security base o.symbol) o.qty), NoRate)
 
 -- The checks of the order `o`, or of its estimate, in sequence: account, security, permission,
 -- charge and commission band.
@@ -134,7 +135,8 @@ checks_of_command base stamp (FeedTicks ticks) =
     (list_any (λ tick. is_none (security_with_symbol base tick.symbol)) ticks, NoSecurity)
     ∷ (list_any (λ s. nat_lt greatest_amount s.volume) (base_after_ticks stamp base ticks).securities, Range limit.Volume) ∷ []
 checks_of_command base stamp (CancelTrade id) = checks_of_existing_trade base id (λ t. status_check (has_status Pending t) t ∷ [])
-checks_of_command base stamp (CompleteTrade id price) = checks_of_existing_trade base id (λ t. checks_of_result base (base_after_result base stamp price t) stamp t)
+checks_of_command base stamp (CompleteTrade id price) =
+    checks_of_existing_trade base id (λ t. checks_of_result base (base_after_result base stamp price t) stamp t)
 checks_of_command base stamp (ChangeExecutors ids) = (list_any (λ id. is_none (trade_with_id base id)) ids, NoTrade) ∷ []
 checks_of_command base stamp (ChangeCashTypes account first last) = account_exists_check base account ∷ []
 checks_of_command base stamp (ChangeCashNames symbol first last) = security_exists_check base symbol ∷ []
@@ -156,4 +158,5 @@ checks_of_stamp stamp command = (nat_lt greatest_stamp stamp, ClockEnd) ∷ (is_
 
 -- The refusal of the command at the clock reading `now` on `base`; none if the command is accepted.
 unfoldable pub refusal_of_command : Base → ℕ → Command → Option Refusal
-refusal_of_command base now command = first_refusal (checks_of_command base (stamp_of_next_command base now) command ++ checks_of_stamp (stamp_of_next_command base now) command)
+refusal_of_command base now command =
+    first_refusal (checks_of_command base (stamp_of_next_command base now) command ++ checks_of_stamp (stamp_of_next_command base now) command)

@@ -45,7 +45,8 @@ trade_stamp_is_between first last t = is_in_range first last (last_status_stamp_
 -- The ids of the first 20 completed trades of `base`, oldest first, that pass `test` and whose last
 -- status change is between `first` and `last`, both included.
 abbrev pub selected_trade_ids : Base → (Trade → Bool) → ℕ → ℕ → List ℕ
-selected_trade_ids base test first last = map (λ t. t.id) (take 20 (trades_oldest_first (filter (λ t. test t && trade_stamp_is_between first last t) (completed_trades base))))
+selected_trade_ids base test first last =
+    map (λ t. t.id) (take 20 (trades_oldest_first (filter (λ t. test t && trade_stamp_is_between first last t) (completed_trades base))))
 
 -- The ids of the trades that an `upcash` of the account `account` updates: the first 20 completed
 -- trades of the account between `first` and `last`, oldest first.

@@ -24,7 +24,8 @@ sector_volume_of_broker tables sector broker = sum_by (λ r. r.qty * r.bid) (sec
 abbrev pub is_before_by_volume : Tables → Text → BrokerRow → BrokerRow → Bool
 is_before_by_volume tables sector a b =
     nat_lt (sector_volume_of_broker tables sector b.id) (sector_volume_of_broker tables sector a.id)
-    || ((sector_volume_of_broker tables sector b.id == sector_volume_of_broker tables sector a.id) && (is_text_less a.name b.name || (bytes_eq a.name b.name && nat_lt a.id b.id)))
+    || ((sector_volume_of_broker tables sector b.id == sector_volume_of_broker tables sector a.id)
+    && (is_text_less a.name b.name || (bytes_eq a.name b.name && nat_lt a.id b.id)))
 
 -- One record (name, id, volume) for each broker that has one of the `names` and a pending request
 -- in the sector, sorted by volume, descending, then by name and id, ascending.

@@ -71,7 +71,8 @@ first_schema_tables_after_purchase = record tables_after_first_purchase {
 
 -- The tables after the first purchase, in which the trade has the quantity 0.
 unfoldable pub tables_with_zero_trade_quantity : Tables
-tables_with_zero_trade_quantity = record tables_after_first_purchase { trades = map {B = TradeRow} (λ t. record t { qty = 0 }) tables_after_first_purchase.trades }
+tables_with_zero_trade_quantity =
+    record tables_after_first_purchase { trades = map {B = TradeRow} (λ t. record t { qty = 0 }) tables_after_first_purchase.trades }
 
 -- The tables after the first purchase, in which the security has no LAST_TRADE row.
 unfoldable pub tables_without_last_trade : Tables
@@ -84,27 +85,33 @@ tables_without_submission = record tables_after_first_purchase { history = recor
 -- The tables after the first purchase, in which the TRADE row has another status than the last one
 -- of its history.
 unfoldable pub tables_with_changed_trade_status : Tables
-tables_with_changed_trade_status = record tables_after_first_purchase { trades = map {B = TradeRow} (λ t. record t { status = Submitted }) tables_after_first_purchase.trades }
+tables_with_changed_trade_status =
+    record tables_after_first_purchase { trades = map {B = TradeRow} (λ t. record t { status = Submitted }) tables_after_first_purchase.trades }
 
 -- The tables after the first purchase, in which the completed trade has a TRADE_REQUEST row.
 unfoldable pub tables_with_request_of_completed_trade : Tables
-tables_with_request_of_completed_trade = record tables_after_first_purchase { requests = record { trade = 1; kind = MarketBuy; symbol = codes "ABC"; qty = 100; bid = 1000; broker = 1 } ∷ [] }
+tables_with_request_of_completed_trade =
+    record tables_after_first_purchase { requests = record { trade = 1; kind = MarketBuy; symbol = codes "ABC"; qty = 100; bid = 1000; broker = 1 } ∷ [] }
 
 -- The tables after the first purchase, in which the lot has one share less.
 unfoldable pub tables_with_changed_lot_quantity : Tables
-tables_with_changed_lot_quantity = record tables_after_first_purchase { holdings = map {B = HoldingRow} (λ h. record h { qty = pos 99 }) tables_after_first_purchase.holdings }
+tables_with_changed_lot_quantity =
+    record tables_after_first_purchase { holdings = map {B = HoldingRow} (λ h. record h { qty = pos 99 }) tables_after_first_purchase.holdings }
 
 -- The tables after the first purchase, in which the lot has another price.
 unfoldable pub tables_with_changed_lot_price : Tables
-tables_with_changed_lot_price = record tables_after_first_purchase { holdings = map {B = HoldingRow} (λ h. record h { price = 1011 }) tables_after_first_purchase.holdings }
+tables_with_changed_lot_price =
+    record tables_after_first_purchase { holdings = map {B = HoldingRow} (λ h. record h { price = 1011 }) tables_after_first_purchase.holdings }
 
 -- The tables after the first purchase, in which the trade has another completion price.
 unfoldable pub tables_with_changed_trade_price : Tables
-tables_with_changed_trade_price = record tables_after_first_purchase { trades = map {B = TradeRow} (λ t. record t { price = Some 1011 }) tables_after_first_purchase.trades }
+tables_with_changed_trade_price =
+    record tables_after_first_purchase { trades = map {B = TradeRow} (λ t. record t { price = Some 1011 }) tables_after_first_purchase.trades }
 
 -- The tables after the first purchase, in which the HOLDING_HISTORY row has another quantity.
 unfoldable pub tables_with_changed_holding_history : Tables
-tables_with_changed_holding_history = record tables_after_first_purchase { holding_history = record { lot = 1; trade = 1; before = pos 0; after = pos 99 } ∷ [] }
+tables_with_changed_holding_history =
+    record tables_after_first_purchase { holding_history = record { lot = 1; trade = 1; before = pos 0; after = pos 99 } ∷ [] }
 
 -- The tables after the first purchase, in which the holding summary has one share more.
 unfoldable pub tables_with_changed_summary : Tables
@@ -117,27 +124,36 @@ tables_with_changed_trade_count = record tables_after_first_purchase { brokers =
 -- The tables after the first purchase, in which the commission total of the broker is one cent
 -- more.
 unfoldable pub tables_with_changed_commission_total : Tables
-tables_with_changed_commission_total = record tables_after_first_purchase { brokers = record { id = 1; name = codes "Bo"; trades = pos 1; commissions = 1011 } ∷ [] }
+tables_with_changed_commission_total =
+    record tables_after_first_purchase { brokers = record { id = 1; name = codes "Bo"; trades = pos 1; commissions = 1011 } ∷ [] }
 
 -- The tables after the first purchase, in which the commission of the trade is one cent more.
 unfoldable pub tables_with_changed_trade_commission : Tables
-tables_with_changed_trade_commission = record tables_after_first_purchase { trades = map {B = TradeRow} (λ t. record t { commission = 1011 }) tables_after_first_purchase.trades }
+tables_with_changed_trade_commission =
+    record tables_after_first_purchase { trades = map {B = TradeRow} (λ t. record t { commission = 1011 }) tables_after_first_purchase.trades }
 
 -- The tables after the first purchase, in which the settlement amount is one cent off.
 unfoldable pub tables_with_changed_settlement : Tables
-tables_with_changed_settlement = record tables_after_first_purchase { settlements = map {B = SettlementRow} (λ s. record s { amount = negsuc 102508 }) tables_after_first_purchase.settlements }
+tables_with_changed_settlement =
+    record tables_after_first_purchase { settlements = map {B = SettlementRow} (λ s. record s { amount = negsuc 102508 }) tables_after_first_purchase.settlements }
 
 -- The tables after the first purchase, in which the amount of the cash row is one cent off.
 unfoldable pub tables_with_changed_cash_amount : Tables
-tables_with_changed_cash_amount = record tables_after_first_purchase { moves = map {B = MoveRow} (λ r. record r { amount = negsuc 102508 }) tables_after_first_purchase.moves }
+tables_with_changed_cash_amount =
+    record tables_after_first_purchase { moves = map {B = MoveRow} (λ r. record r { amount = negsuc 102508 }) tables_after_first_purchase.moves }
 
 -- The tables after the first purchase, in which the cash row has another number.
 unfoldable pub tables_with_changed_cash_row_number : Tables
-tables_with_changed_cash_row_number = record tables_after_first_purchase { moves = map {B = MoveRow} (λ r. record r { id = 2 }) tables_after_first_purchase.moves }
+tables_with_changed_cash_row_number =
+    record tables_after_first_purchase { moves = map {B = MoveRow} (λ r. record r { id = 2 }) tables_after_first_purchase.moves }
 
 -- The tables after the first purchase, in which the trade has a second cash row.
 unfoldable pub tables_with_second_cash_row_of_trade : Tables
-tables_with_second_cash_row_of_trade = record tables_after_first_purchase { moves = tables_after_first_purchase.moves ++ map {B = MoveRow} (λ r. record r { id = 2 }) tables_after_first_purchase.moves }
+tables_with_second_cash_row_of_trade =
+    record tables_after_first_purchase {
+      moves = tables_after_first_purchase.moves
+          ++ map {B = MoveRow} (λ r. record r { id = 2 }) tables_after_first_purchase.moves;
+    }
 
 -- The tables after the first purchase, in which CASH_TRANSACTION, the cash table of the first
 -- schema, still has its row.
@@ -147,12 +163,17 @@ tables_with_cash_row_of_older_schema = record tables_after_first_purchase { cash
 -- The tables after the first purchase, in which the trade has a quantity above the limit of the
 -- schemas before the third.
 unfoldable pub tables_with_trade_above_older_limit : Tables
-tables_with_trade_above_older_limit = record tables_after_first_purchase { trades = map {B = TradeRow} (λ t. record t { qty = 1000000 }) tables_after_first_purchase.trades }
+tables_with_trade_above_older_limit =
+    record tables_after_first_purchase { trades = map {B = TradeRow} (λ t. record t { qty = 1000000 }) tables_after_first_purchase.trades }
 
 -- The tables after the first purchase with only one commission band, whose greatest quantity is
 -- above the limit of the schemas before the third.
 unfoldable pub tables_with_band_above_older_limit : Tables
-tables_with_band_above_older_limit = record tables_after_first_purchase { bands = record { tier = 1; kind = MarketBuy; exchange = codes "NYSE"; from_qty = 1; to_qty = 9999999; rate = 100 } ∷ [] }
+tables_with_band_above_older_limit =
+    record tables_after_first_purchase {
+      bands = record { tier = 1; kind = MarketBuy; exchange = codes "NYSE"; from_qty = 1; to_qty = 9999999; rate = 100 }
+          ∷ [];
+    }
 
 -- The tables after the first purchase, with the day after the completion as the settlement day.
 unfoldable pub tables_with_settlement_day_after_completion : Tables
@@ -174,7 +195,11 @@ tables_with_movement stamp amount name = record tables_after_first_purchase {
 
 -- The tables after the first purchase, in which the balance of the account is one cent more.
 unfoldable pub tables_with_changed_account_balance : Tables
-tables_with_changed_account_balance = record tables_after_first_purchase { accounts = record { id = 100; customer = 10; broker = 1; name = codes "Main"; tax_status = Withheld; opening = pos 1000000; balance = pos 897491 } ∷ [] }
+tables_with_changed_account_balance =
+    record tables_after_first_purchase {
+      accounts = record { id = 100; customer = 10; broker = 1; name = codes "Main"; tax_status = Withheld; opening = pos 1000000; balance = pos 897491 }
+          ∷ [];
+    }
 
 -- The tables after the first purchase without lots and holding summaries, so that two conditions
 -- fail.

@@ -16,13 +16,16 @@ base_at_greatest_stamp = record setting_base { last = Some greatest_stamp }
 -- The setting with ten accounts of its customer.
 unfoldable pub setting_with_ten_accounts : Base
 setting_with_ten_accounts = record setting_base {
-  accounts = map {B = Account} (λ id. record { id = id; customer = 10; broker = 1; name = codes "Main"; tax_status = Untaxed; opening = pos 0 }) (range_with_len 100 10);
+  accounts =
+      map {B = Account} (λ id. record { id = id; customer = 10; broker = 1; name = codes "Main"; tax_status = Untaxed; opening = pos 0 }) (range_with_len 100 10);
 }
 
 -- The setting with a security whose volume is one hundred shares below its limit.
 unfoldable pub setting_with_volume_near_limit : Base
 setting_with_volume_near_limit = record setting_base {
-  securities = record { symbol = codes "ABC"; name = codes "Acme"; exchange = codes "NYSE"; sector = codes "Tech"; last_price = 1000; volume = 99999999999999900; moment = 1709251200003 } ∷ [];
+  securities =
+      record { symbol = codes "ABC"; name = codes "Acme"; exchange = codes "NYSE"; sector = codes "Tech"; last_price = 1000; volume = 99999999999999900; moment = 1709251200003 }
+      ∷ [];
 }
 
 -- A completed trade of another security with the commission `commission`, in cents.

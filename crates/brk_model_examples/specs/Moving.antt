@@ -17,7 +17,8 @@ base_after_sale_and_movements = record base_after_fifo_sale {
 
 -- The first purchase with both of its stamps one millisecond later.
 abbrev pub purchase_one_millisecond_later : Trade
-purchase_one_millisecond_later = record first_purchase { marks = record { stamp = 1709251200017; status = Submitted } ∷ record { stamp = 1709251200018; status = Completed } ∷ [] }
+purchase_one_millisecond_later =
+    record first_purchase { marks = record { stamp = 1709251200017; status = Submitted } ∷ record { stamp = 1709251200018; status = Completed } ∷ [] }
 
 -- The setting with the first purchase one millisecond later, and with the settlement day
 -- 2024-03-02.

@@ -32,7 +32,9 @@ setting_base = record {
   customers = record { id = 10; tier = 1; tax_id = codes "T10"; last_name = codes "Lee"; first_name = codes "Ann" } ∷ [];
   accounts = record { id = 100; customer = 10; broker = 1; name = codes "Main"; tax_status = Withheld; opening = pos 1000000 } ∷ [];
   permissions = [];
-  securities = record { symbol = codes "ABC"; name = codes "Acme"; exchange = codes "NYSE"; sector = codes "Tech"; last_price = 1000; volume = 0; moment = 1709251200003 } ∷ [];
+  securities =
+      record { symbol = codes "ABC"; name = codes "Acme"; exchange = codes "NYSE"; sector = codes "Tech"; last_price = 1000; volume = 0; moment = 1709251200003 }
+      ∷ [];
   charges =
       record { kind = MarketBuy; tier = 1; amount = 500 }
       ∷ record { kind = MarketSell; tier = 1; amount = 500 }

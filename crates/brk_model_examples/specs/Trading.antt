@@ -181,8 +181,10 @@ base_after_short_sale = setting_with_trades (first_purchase ∷ second_purchase 
 -- The base `base_after_short_sale` after the purchase that closes the short position and opens a
 -- long one.
 unfoldable pub base_after_covering_purchase : Base
-base_after_covering_purchase = setting_with_trades (first_purchase ∷ second_purchase ∷ sale_first_in_first_out ∷ short_sale ∷ short_covering_purchase ∷ []) 1709251200025
+base_after_covering_purchase =
+    setting_with_trades (first_purchase ∷ second_purchase ∷ sale_first_in_first_out ∷ short_sale ∷ short_covering_purchase ∷ []) 1709251200025
 
 -- The base `base_after_covering_purchase` after the sale of all shares.
 unfoldable pub base_after_sale_of_all : Base
-base_after_sale_of_all = setting_with_trades (first_purchase ∷ second_purchase ∷ sale_first_in_first_out ∷ short_sale ∷ short_covering_purchase ∷ sale_of_all ∷ []) 1709251200027
+base_after_sale_of_all =
+    setting_with_trades (first_purchase ∷ second_purchase ∷ sale_first_in_first_out ∷ short_sale ∷ short_covering_purchase ∷ sale_of_all ∷ []) 1709251200027

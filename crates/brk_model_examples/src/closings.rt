@@ -16,11 +16,23 @@ pub fn deals_close_shares_of_two_lots()
     ensures first_lot { effect_of_deal (deal_against_two_lots Sell 100 false)
         ≡ record { touched = record { lot = 1; before = pos 100; after = pos 0 } ∷ []; opened = 0; buy_value = 101000; sell_value = 130000 } }
     ensures part_of_second_lot { effect_of_deal (deal_against_two_lots Sell 150 false)
-        ≡ record { touched = record { lot = 1; before = pos 100; after = pos 0 } ∷ record { lot = 2; before = pos 200; after = pos 150 } ∷ []; opened = 0; buy_value = 161000; sell_value = 195000 } }
+        ≡ record {
+          touched = record { lot = 1; before = pos 100; after = pos 0 } ∷ record { lot = 2; before = pos 200; after = pos 150 }
+              ∷ [];
+          opened = 0;
+          buy_value = 161000;
+          sell_value = 195000;
+        } }
     ensures last_in_first_out { effect_of_deal (deal_against_two_lots Sell 150 true)
         ≡ record { touched = record { lot = 2; before = pos 200; after = pos 50 } ∷ []; opened = 0; buy_value = 180000; sell_value = 195000 } }
     ensures more_than_all_shares { effect_of_deal (deal_against_two_lots Sell 301 false)
-        ≡ record { touched = record { lot = 1; before = pos 100; after = pos 0 } ∷ record { lot = 2; before = pos 200; after = pos 0 } ∷ []; opened = 1; buy_value = 341000; sell_value = 390000 } }
+        ≡ record {
+          touched = record { lot = 1; before = pos 100; after = pos 0 } ∷ record { lot = 2; before = pos 200; after = pos 0 }
+              ∷ [];
+          opened = 1;
+          buy_value = 341000;
+          sell_value = 390000;
+        } }
     ensures purchase { effect_of_deal (deal_against_two_lots Buy 5 false)
         ≡ record { touched = []; opened = 5; buy_value = 0; sell_value = 0 } }
 {}

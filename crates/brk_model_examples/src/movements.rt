@@ -36,7 +36,8 @@ pub fn movements_respect_balance_limit()
 /// statement. The lookup of a trade has only its own cash row, and `uptext` changes no movement.
 pub fn cash_rows_of_movements()
     ensures numbers { map {B = ℕ} (λ row. row.id) (tables_of_base base_after_sale_and_movements).moves ≡ 1 ∷ 2 ∷ 3 ∷ 4 ∷ 5 ∷ [] }
-    ensures amounts { map {B = ℤ} (λ row. row.amount) (tables_of_base base_after_sale_and_movements).moves ≡ negsuc 102509 ∷ negsuc 242899 ∷ pos 185750 ∷ pos 10000 ∷ negsuc 899999 ∷ [] }
+    ensures amounts { map {B = ℤ} (λ row. row.amount) (tables_of_base base_after_sale_and_movements).moves
+        ≡ negsuc 102509 ∷ negsuc 242899 ∷ pos 185750 ∷ pos 10000 ∷ negsuc 899999 ∷ [] }
     ensures balances { map {B = ℤ} (λ row. row.balance) (tables_of_base base_after_sale_and_movements).accounts ≡ negsuc 49659 ∷ [] }
     ensures no_cash_transactions { (tables_of_base base_after_sale_and_movements).cash ≡ [] }
     ensures statement { statement (tables_of_base base_after_sale_and_movements) 100 19783 19813 ≡ Ok (text_with_line_ends (codes "Statement of account 100"

@@ -36,13 +36,17 @@ pub fn bid_price_triggers_trade()
 /// Shows that tax is withheld from the settlement amount of a sale at the tax status `Withheld`
 /// only.
 pub fn tax_is_withheld_at_one_status()
-    ensures { map {B = ℤ} (λ status. settlement_amount (account_with_tax_status status ∷ []) sale_first_in_first_out) (Untaxed ∷ Withheld ∷ Reported ∷ []) ≡ pos 192550 ∷ pos 185750 ∷ pos 192550 ∷ [] }
+    ensures { map {B = ℤ} (λ status. settlement_amount (account_with_tax_status status ∷ []) sale_first_in_first_out) (Untaxed ∷ Withheld ∷ Reported ∷ [])
+        ≡ pos 192550 ∷ pos 185750 ∷ pos 192550 ∷ [] }
 {}
 
 /// Shows that a cash trade changes the balance, and a margin trade does not.
 pub fn only_cash_trades_change_balance()
-    ensures cash { balance_of_account (account_with_tax_status Withheld ∷ []) (postings (account_with_tax_status Withheld ∷ []) (first_purchase ∷ []) []) 100 ≡ pos 897490 }
-    ensures margin { balance_of_account (account_with_tax_status Withheld ∷ []) (postings (account_with_tax_status Withheld ∷ []) (first_purchase_on_margin ∷ []) []) 100 ≡ pos 1000000 }
+    ensures cash { balance_of_account (account_with_tax_status Withheld ∷ []) (postings (account_with_tax_status Withheld ∷ []) (first_purchase ∷ []) []) 100
+        ≡ pos 897490 }
+    ensures margin { balance_of_account (account_with_tax_status Withheld
+        ∷ []) (postings (account_with_tax_status Withheld ∷ []) (first_purchase_on_margin ∷ []) []) 100
+        ≡ pos 1000000 }
 {}
 
 /// Shows that a completion settles after two days, and from the settlement day on after one.
@@ -59,7 +63,8 @@ pub fn executor_matches_customer_or_permission()
     ensures customer { is_customer_or_has_permission customer_ann_lee [] executor_with_customer_identity ≡ true }
     ensures namesake { is_customer_or_has_permission customer_ann_lee [] executor_with_other_tax_id ≡ false }
     ensures permitted_namesake { is_customer_or_has_permission customer_ann_lee (permission_with_other_tax_id ∷ []) executor_with_other_tax_id ≡ true }
-    ensures permission_with_other_name { is_customer_or_has_permission customer_ann_lee (permission_with_other_last_name ∷ []) executor_with_other_tax_id ≡ false }
+    ensures permission_with_other_name { is_customer_or_has_permission customer_ann_lee (permission_with_other_last_name ∷ []) executor_with_other_tax_id
+        ≡ false }
 {}
 
 /// Shows that the stamp of a command is the clock reading if this is after the last stamp,

@@ -52,7 +52,8 @@ left-over base after calls answers r = left base base after calls answers ([], s
 
 -- ---- two sendings
 
--- a row that is answered again or refused leaves the base, so that the accepted rows alone lead to it
+-- a row that is answered again or refused leaves the base, so that the accepted rows alone lead to
+-- it
 done-alone : (base after : Base) (calls : List (RowCall Command)) (answers : List Answer) → CallsHaveAnswers step_of_row base calls answers after
     → CallsHaveAnswers step_of_row base (accepted_calls calls answers) (accepted_answers answers) after
 done-alone base after [] [] r = r

@@ -66,7 +66,8 @@ base_after_outcome base now call (Failed fault) = base
 abbrev pub base_after_accepted_commands : Base → List (ℕ × Call) → List Outcome → Base
 base_after_accepted_commands base [] outcomes = base
 base_after_accepted_commands base (call ∷ calls) [] = base
-base_after_accepted_commands base (call ∷ calls) (outcome ∷ outcomes) = base_after_accepted_commands (base_after_outcome base call.0 call.1 outcome) calls outcomes
+base_after_accepted_commands base (call ∷ calls) (outcome ∷ outcomes) =
+    base_after_accepted_commands (base_after_outcome base call.0 call.1 outcome) calls outcomes
 
 -- The call of a row of a batch, with its clock reading and its key.
 abbrev pub call_of_batch_row : RowCall Command → ℕ × Call
@@ -93,7 +94,8 @@ IsReachableFromEmptyBase base = SomeRunLeadsTo empty_base base
 
 -- The batch over the input is complete, its rows have the answers `answers`, and none of them is a
 -- refusal. The format check of the rows is `form`.
-pub record IsBatchWithoutRefusals (form : Fields → ReadResult Command) (base : Base) (moments : List ℕ) (input : Text) (answers : List Answer) (batch : BatchResult Base) : Type 0 where
+pub record IsBatchWithoutRefusals (form : Fields → ReadResult Command) (base : Base) (moments : List ℕ) (input : Text) (answers : List Answer)
+    (batch : BatchResult Base) : Type 0 where
   pub answered : IsResultOfTextWithHeader form step_of_row base moments (Some (input_text input)) batch
   pub ended : batch.ending ≡ CorrectEnd
   pub these : answered.answers ≡ answers
@@ -128,7 +130,8 @@ AnswerMatchesStoredReply base (Some k) call answer = answer ≡ (answer_to_repea
 -- Each call whose key is stored in the base is answered with the stored line if the row texts are
 -- equal, and refused otherwise. Vacuous for other calls, and for calls without an answer.
 abbrev pub AnswersMatchStoredReplies : Base → List (RowCall Command) → List Answer → Type 0
-AnswersMatchStoredReplies base (call ∷ calls) (answer ∷ answers) = AnswerMatchesStoredReply base (stored_row_with_key base call.key) call answer × AnswersMatchStoredReplies base calls answers
+AnswersMatchStoredReplies base (call ∷ calls) (answer ∷ answers) =
+    AnswerMatchesStoredReply base (stored_row_with_key base call.key) call answer × AnswersMatchStoredReplies base calls answers
 AnswersMatchStoredReplies base calls answers = ⊤
 
 -- ---- rows that were accepted
@@ -150,7 +153,8 @@ accepted_answers (Refused refusal ∷ answers) = accepted_answers answers
 -- If the answer is `Done`, the base stores the row text and the reply of the call under its key.
 -- Vacuous for other answers.
 abbrev pub IsStoredIfAccepted : Base → RowCall Command → Answer → Type 0
-IsStoredIfAccepted base call (Done reply) = stored_row_with_key base call.key ≡ Some (record { key = call.key; row_text = row_text call.command; line = line_text reply })
+IsStoredIfAccepted base call (Done reply) =
+    stored_row_with_key base call.key ≡ Some (record { key = call.key; row_text = row_text call.command; line = line_text reply })
 IsStoredIfAccepted base call (Again line) = ⊤
 IsStoredIfAccepted base call (Refused refusal) = ⊤
 
@@ -164,7 +168,8 @@ AcceptedCallsAreStored base calls answers = ⊤
 
 -- The row after the rows `front` of the batch `name` is well-formed. Executed from `mid` at the
 -- clock reading `moment` under its key, it has the answer `answer` and leads to the base `stood`.
-pub record NextRowLeadsTo (form : Fields → ReadResult Command) (name : Text) (mid : Base) (front more : List Fields) (moment : ℕ) (answer : Answer) (stood : Base) : Type 0 where
+pub record NextRowLeadsTo (form : Fields → ReadResult Command) (name : Text) (mid : Base) (front more : List Fields) (moment : ℕ) (answer : Answer)
+    (stood : Base) : Type 0 where
   pub row : Fields
   pub rest : List Fields
   pub next : more ≡ row ∷ rest
@@ -175,12 +180,14 @@ pub record NextRowLeadsTo (form : Fields → ReadResult Command) (name : Text) (
 
 -- The base `stood` is the base `mid` after the rows `front`, or the base after one more row.
 abbrev pub IsBaseAfterInterruption : (Fields → ReadResult Command) → Text → Base → List Fields → List Fields → Base → Type 0
-IsBaseAfterInterruption form name mid front more stood = (stood ≡ mid) ⊎ ((moment : ℕ) × (answer : Answer) × NextRowLeadsTo form name mid front more moment answer stood)
+IsBaseAfterInterruption form name mid front more stood =
+    (stood ≡ mid) ⊎ ((moment : ℕ) × (answer : Answer) × NextRowLeadsTo form name mid front more moment answer stood)
 
 -- The rows of the batch `name` are decided as by one uninterrupted run to the base `last`. The
 -- first rows have `answers`, at the clock readings `earlier`, and their retry has the answers that
 -- `answer_to_retry` gives. The other rows have the answers in `told`, at the clock readings
 -- `later`.
-pub record IsCompletedByRetry (form : Fields → ReadResult Command) (name : Text) (base : Base) (earlier later : List ℕ) (rows : List Fields) (answers told : List Answer) (last : Base) : Type 0 where
+pub record IsCompletedByRetry (form : Fields → ReadResult Command) (name : Text) (base : Base) (earlier later : List ℕ) (rows : List Fields)
+    (answers told : List Answer) (last : Base) : Type 0 where
   pub again : take (length answers) told ≡ map answer_to_retry answers
   pub settled : BatchRowsAreDecided form step_of_row name base (earlier ++ drop (length earlier) later) rows (answers ++ drop (length answers) told) last

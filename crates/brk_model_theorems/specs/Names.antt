@@ -24,7 +24,8 @@ TradeReferencesResolve base t = AccountOfTradeExists base t × SecurityOfTradeEx
 
 -- Every record that the records of these lists refer to exists in `base`, and the trades are
 -- numbered 1, 2, 3 and so on.
-pub record ReferencesResolve (base : Base) (accounts : List Account) (permissions : List Permission) (taxes : List CustomerTax) (trades : List Trade) (movements : List Movement) : Type 0 where
+pub record ReferencesResolve (base : Base) (accounts : List Account) (permissions : List Permission) (taxes : List CustomerTax) (trades : List Trade)
+    (movements : List Movement) : Type 0 where
   pub parties : AllByRecursion (AccountReferencesResolve base) accounts
   pub permitted : AllByRecursion (AccountOfPermissionExists base) permissions
   pub taxed : AllByRecursion (CustomerTaxReferencesResolve base) taxes

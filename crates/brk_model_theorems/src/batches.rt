@@ -33,8 +33,11 @@ pub fn batch_rows_form_a_run()
 /// answered with the stored lines. The retry may start from the base after the batch, or from any
 /// base that a run reaches from it, at any clock readings. It holds for any format check of rows.
 pub fn a_retried_batch_changes_nothing()
-    ensures { (form : Fields → ReadResult Command) (base later : Base) (moments others : List ℕ) (input : List ℕ) (answers : List Answer) (first second : BatchResult Base) → IsBatchWithoutRefusals form base moments input answers first
-        → SomeRunLeadsTo first.base later → IsResultOfBatch form step_of_row later others input second → second ≡ complete_batch (map answer_to_retry answers, later) }
+    ensures { (form : Fields
+        → ReadResult Command) (base later : Base) (moments others : List ℕ) (input : List ℕ) (answers : List Answer) (first second : BatchResult Base)
+        → IsBatchWithoutRefusals form base moments input answers first
+        → SomeRunLeadsTo first.base later → IsResultOfBatch form step_of_row later others input second
+        → second ≡ complete_batch (map answer_to_retry answers, later) }
 {}
 
 /// Proves that the rows that a retry of a complete batch without refusals decides change nothing
@@ -54,7 +57,8 @@ pub fn retried_rows_change_nothing()
 /// row under its key is refused.
 pub fn rows_with_stored_keys_change_nothing()
     ensures { (base after : Base) (calls : List (RowCall Command)) (answers : List Answer) → CallsHaveAnswers step_of_row base calls answers after
-        → CallsHaveAnswers step_of_row base (calls_with_new_keys base calls) (answers_for_new_keys base calls answers) after × AnswersMatchStoredReplies base calls answers }
+        → CallsHaveAnswers step_of_row base (calls_with_new_keys base calls) (answers_for_new_keys base calls answers) after
+        × AnswersMatchStoredReplies base calls answers }
 {}
 
 /// Proves that two attempts at rows equal one run, whichever rows either attempt refuses. The run
@@ -62,9 +66,11 @@ pub fn rows_with_stored_keys_change_nothing()
 /// were not yet stored, each with the clock reading of its attempt. Every row that the first
 /// attempt accepted is stored under its key.
 pub fn two_attempts_equal_one_run()
-    ensures run { (base mid last : Base) (first again : List (RowCall Command)) (answers told : List Answer) → CallsHaveAnswers step_of_row base first answers mid
+    ensures run { (base mid last : Base) (first again : List (RowCall Command)) (answers told : List Answer)
+        → CallsHaveAnswers step_of_row base first answers mid
         → CallsHaveAnswers step_of_row mid again told last
-        → CallsHaveAnswers step_of_row base (accepted_calls first answers ++ calls_with_new_keys mid again) (accepted_answers answers ++ answers_for_new_keys mid again told) last }
+        → CallsHaveAnswers step_of_row base (accepted_calls first answers ++ calls_with_new_keys mid again) (accepted_answers answers
+        ++ answers_for_new_keys mid again told) last }
     ensures stored { (base mid : Base) (first : List (RowCall Command)) (answers : List Answer) → CallsHaveAnswers step_of_row base first answers mid
         → AcceptedCallsAreStored mid first answers }
 {}

@@ -22,7 +22,8 @@ pub fn retry_returns_the_stored_line()
 /// Proves that a row with another text under the key of an accepted row, from the base after it, is
 /// refused with `KeyReused` and changes nothing.
 pub fn other_row_under_same_key_is_refused()
-    ensures { (base after : Base) (now later : ℕ) (command other : Command) (key : Key) (reply : Reply) → keyed_step base now command (Some key) ≡ (Done reply, after)
+    ensures { (base after : Base) (now later : ℕ) (command other : Command) (key : Key) (reply : Reply)
+        → keyed_step base now command (Some key) ≡ (Done reply, after)
         → bytes_eq (row_text command) (row_text other) ≡ false → keyed_step after later other (Some key) ≡ (Refused KeyReused, after) }
 {}
 
@@ -31,12 +32,15 @@ pub fn other_row_under_same_key_is_refused()
 /// accepts no row under it. Under a key that the base does not store, a row is accepted if `step`
 /// accepts its command.
 pub fn refused_row_stores_no_key()
-    ensures stores_nothing { (base after : Base) (now : ℕ) (command : Command) (key : Key) (refusal : Refusal) → keyed_step base now command (Some key) ≡ (Refused refusal, after)
+    ensures stores_nothing { (base after : Base) (now : ℕ) (command : Command) (key : Key) (refusal : Refusal)
+        → keyed_step base now command (Some key) ≡ (Refused refusal, after)
         → stored_row_with_key base key ≡ None → (after ≡ base) × (stored_row_with_key after key ≡ None) }
-    ensures key_was_unused { (base after : Base) (now : ℕ) (command : Command) (key : Key) (refusal : Refusal) → keyed_step base now command (Some key) ≡ (Refused refusal, after)
+    ensures key_was_unused { (base after : Base) (now : ℕ) (command : Command) (key : Key) (refusal : Refusal)
+        → keyed_step base now command (Some key) ≡ (Refused refusal, after)
         → ¬ (refusal ≡ KeyReused) → stored_row_with_key base key ≡ None }
     ensures key_stays_unused { (base later : Base) (key : Key) (calls : List (ℕ × Call)) (outcomes : List Outcome) → stored_row_with_key base key ≡ None
         → Run base calls outcomes later → AcceptsNothingUnderKey key calls outcomes → stored_row_with_key later key ≡ None }
     ensures is_accepted_later { (later booked : Base) (now : ℕ) (command : Command) (key : Key) (reply : Reply) → stored_row_with_key later key ≡ None
-        → step later now command ≡ Ok (reply, booked) → keyed_step later now command (Some key) ≡ (Done reply, base_with_stored_reply (Some key) command reply booked) }
+        → step later now command ≡ Ok (reply, booked)
+        → keyed_step later now command (Some key) ≡ (Done reply, base_with_stored_reply (Some key) command reply booked) }
 {}

@@ -22,8 +22,10 @@ pub fn all_shares_have_one_side()
 /// from a base that satisfies `BaseReferencesResolve`.
 pub fn lots_sum_to_the_summary()
     ensures numbered { (base : Base) (account : ℕ) (symbol : List ℕ) → TradesAreNumberedFrom 1 base.trades
-        → total_by (λ row. row.qty) (filter (is_row_of_position account symbol) (tables_of_base base).holdings) ≡ holding_summary_quantity (completed_trades base) account symbol }
+        → total_by (λ row. row.qty) (filter (is_row_of_position account symbol) (tables_of_base base).holdings)
+        ≡ holding_summary_quantity (completed_trades base) account symbol }
     ensures run { (base after : Base) (calls : List (ℕ × Call)) (outcomes : List Outcome) (account : ℕ) (symbol : List ℕ)
         → BaseReferencesResolve base → Run base calls outcomes after
-        → total_by (λ row. row.qty) (filter (is_row_of_position account symbol) (tables_of_base after).holdings) ≡ holding_summary_quantity (completed_trades after) account symbol }
+        → total_by (λ row. row.qty) (filter (is_row_of_position account symbol) (tables_of_base after).holdings)
+        ≡ holding_summary_quantity (completed_trades after) account symbol }
 {}

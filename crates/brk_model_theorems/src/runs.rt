@@ -11,17 +11,21 @@ ghost use Rattle.brk_model_theorems.specs.Laws.{StampsAscendFrom, base_after_acc
 
 /// Proves that a command that is refused, or answered with a stored line, does not change the base.
 pub fn refusals_and_retries_change_nothing()
-    ensures refused { (base after : Base) (now : ℕ) (command : Command) (key : Option Key) (refusal : Refusal) → keyed_step base now command key ≡ (Refused refusal, after) → after ≡ base }
-    ensures again { (base after : Base) (now : ℕ) (command : Command) (key : Option Key) (line : List ℕ) → keyed_step base now command key ≡ (Again line, after) → after ≡ base }
+    ensures refused { (base after : Base) (now : ℕ) (command : Command) (key : Option Key) (refusal : Refusal)
+        → keyed_step base now command key ≡ (Refused refusal, after) → after ≡ base }
+    ensures again { (base after : Base) (now : ℕ) (command : Command) (key : Option Key) (line : List ℕ) → keyed_step base now command key ≡ (Again line, after)
+        → after ≡ base }
 {}
 
 /// Proves that the base after a run of calls equals the base after its accepted commands alone.
 pub fn accepted_commands_determine_the_base()
-    ensures { (base after : Base) (calls : List (ℕ × Call)) (outcomes : List Outcome) → Run base calls outcomes after → after ≡ base_after_accepted_commands base calls outcomes }
+    ensures { (base after : Base) (calls : List (ℕ × Call)) (outcomes : List Outcome) → Run base calls outcomes after
+        → after ≡ base_after_accepted_commands base calls outcomes }
 {}
 
 /// Proves that the stamps of a run's accepted commands are strictly ascending, and greater than the
 /// last stamp before the run if there is one.
 pub fn accepted_stamps_ascend_strictly()
-    ensures { (base after : Base) (calls : List (ℕ × Call)) (outcomes : List Outcome) → Run base calls outcomes after → StampsAscendFrom base.last (accepted_stamps outcomes) }
+    ensures { (base after : Base) (calls : List (ℕ × Call)) (outcomes : List Outcome) → Run base calls outcomes after
+        → StampsAscendFrom base.last (accepted_stamps outcomes) }
 {}

@@ -77,7 +77,8 @@ day_text day = date_text (civil_date_of_day day)
 -- The civil date whose year, month and day are the digits of the text at the places of a canonical
 -- date; whether the calendar has it is not checked.
 abbrev pub civil_date_from_ascii_digits : Text → Civil
-civil_date_from_ascii_digits text = record { year = number_from_ascii_digits (take 4 text); month = number_from_ascii_digits (take 2 (drop 5 text)); day = number_from_ascii_digits (take 2 (drop 8 text)) }
+civil_date_from_ascii_digits text =
+    record { year = number_from_ascii_digits (take 4 text); month = number_from_ascii_digits (take 2 (drop 5 text)); day = number_from_ascii_digits (take 2 (drop 8 text)) }
 
 -- The day that a text parses as; none if the text is not canonical.
 abbrev pub day_of_text : Text → Option ℕ

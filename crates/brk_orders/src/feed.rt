@@ -87,7 +87,8 @@ fn append_parsed_tick(
     ticks: Result<Vec<Tick>, Refusal>,
     tick: Result<Tick, Refusal>,
 ) -> Planned<Vec<Tick>>
-    ensures read { IfOk result (λ read. abstract_parse_result abstract_ticks_of_vector read ≡ appended_parse_results (abstract_parse_result abstract_ticks_of_vector ticks) (abstract_parse_result abstract_tick_as_list tick)) }
+    ensures read { IfOk result (λ read. abstract_parse_result abstract_ticks_of_vector read
+        ≡ appended_parse_results (abstract_parse_result abstract_ticks_of_vector ticks) (abstract_parse_result abstract_tick_as_list tick)) }
     ensures fault { OnErr result (result ≡ Err Memory) }
 {
     match (ticks, tick) {

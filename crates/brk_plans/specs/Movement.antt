@@ -48,7 +48,8 @@ movement_checks m found =
 -- The CASH_MOVE row of the movement `m` with the id `number` and the stamp `stamp`. It has no
 -- trade.
 abbrev pub cash_row_of_movement : Movement → (number stamp : ℕ) → tables.MoveRow
-cash_row_of_movement m number stamp = record { id = number; account = m.account; trade = None; stamp = stamp; amount = signed_amount_of_movement m; name = cash_text_of_direction m.direction }
+cash_row_of_movement m number stamp =
+    record { id = number; account = m.account; trade = None; stamp = stamp; amount = signed_amount_of_movement m; name = cash_text_of_direction m.direction }
 
 -- The row changes of a movement: the cash row `row` is added, the balance of `account` is set to
 -- `balance`, and the last stamp to `stamp`.

@@ -20,7 +20,8 @@ use Rattle.brk_plans.specs.declared.reply.Reply.TheVariants.{Booked}
 -- is new, and its customer has fewer accounts than the greatest number.
 abbrev pub account_checks : ReferenceFacts → List RefusalCheck
 account_checks found =
-    (not found.customer, NoCustomer) ∷ (not found.broker, NoBroker) ∷ duplicate_check found.same_id ∷ (nat_le most_accounts_per_customer found.accounts, Range limit.Accounts) ∷ []
+    (not found.customer, NoCustomer) ∷ (not found.broker, NoBroker) ∷ duplicate_check found.same_id
+    ∷ (nat_le most_accounts_per_customer found.accounts, Range limit.Accounts) ∷ []
 
 -- The checks of a new permission against the facts `found`: its account exists, and its key is new.
 abbrev pub permission_checks : ReferenceFacts → List RefusalCheck
@@ -42,7 +43,8 @@ exceeds_greatest_tax_rate (Some rates) rate = nat_lt greatest_tax_rate (rates + 
 -- the customer does not pay it yet, and the sum of its rates does not exceed the greatest rate.
 abbrev pub customer_tax_checks : ReferenceFacts → List RefusalCheck
 customer_tax_checks found =
-    (not found.customer, NoCustomer) ∷ (is_none found.rate, NoTax) ∷ duplicate_check found.same_id ∷ (exceeds_greatest_tax_rate found.rates found.rate, TaxSum) ∷ []
+    (not found.customer, NoCustomer) ∷ (is_none found.rate, NoTax) ∷ duplicate_check found.same_id ∷ (exceeds_greatest_tax_rate found.rates found.rate, TaxSum)
+    ∷ []
 
 -- The checks of a new record of reference data against the facts `found`, by its kind.
 abbrev pub reference_checks : Reference → ReferenceFacts → List RefusalCheck
@@ -80,7 +82,8 @@ first_last_trade_of_listing stamp listing = record { symbol = listing.security.s
 -- The row changes that add the record at `stamp`. For a listing, they add its SECURITY row and its
 -- first LAST_TRADE row; for any other record, its one row.
 abbrev pub row_changes_adding_record : ℕ → Reference → List Change
-row_changes_adding_record stamp (reference.Security listing) = change.AddSecurity listing.security ∷ change.AddLastTrade (first_last_trade_of_listing stamp listing) ∷ []
+row_changes_adding_record stamp (reference.Security listing) =
+    change.AddSecurity listing.security ∷ change.AddLastTrade (first_last_trade_of_listing stamp listing) ∷ []
 row_changes_adding_record stamp other = row_change_adding_record other ∷ []
 
 -- `plan` adds the record `reference` at the stamp of the command. The record passes its checks

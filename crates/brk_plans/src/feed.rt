@@ -45,22 +45,31 @@ fn is_quote_of_symbol(quote: &Quote, symbol: &Symbol) -> bool
 pub fn has_no_quote_of_symbol(quotes: &[Quote], tick: &Tick) -> bool
     ensures { result ≡ lacks_state_of_symbol (states_of_quotes quotes.now) tick.now }
 {
-    !quotes.iter().any(|quote| is_quote_of_symbol(quote, &tick.symbol))
+    !quotes
+        .iter()
+        .any(|quote| is_quote_of_symbol(quote, &tick.symbol))
 }
 
 // Returns true if the symbol of at least one tick has no quote.
 fn has_tick_without_quote(quotes: &[Quote], ticks: &[Tick]) -> bool
     ensures { result ≡ list_any (lacks_state_of_symbol (states_of_quotes quotes.now)) ticks.now }
 {
-    ticks.iter().any(|tick| has_no_quote_of_symbol(quotes, tick))
+    ticks
+        .iter()
+        .any(|tick| has_no_quote_of_symbol(quotes, tick))
 }
 
 // Returns the last trade of the symbol after the tick: its price is that of the tick, its stamp is
 // `stamp`, and its volume is greater by the quantity of the tick. Refuses with `Range(Volume)` if
 // the volume would exceed its limit.
-fn checked_last_trade_after_tick(stamp: Stamp, tick: &Tick, last: LastTrade) -> Result<LastTrade, Refusal>
+fn checked_last_trade_after_tick(
+    stamp: Stamp,
+    tick: &Tick,
+    last: LastTrade,
+) -> Result<LastTrade, Refusal>
     ensures after { IfOk result (λ after. after ≡ spec.last_trade_after_tick stamp tick.now last) }
-    ensures refusal { IfErr result (λ refusal. (refusal ≡ Range limit.Volume) × (exceeds_volume_limit (record { last = spec.last_trade_after_tick stamp tick.now last; requests = [] }) ≡ true)) }
+    ensures refusal { IfErr result (λ refusal. (refusal ≡ Range limit.Volume)
+        × (exceeds_volume_limit (record { last = spec.last_trade_after_tick stamp tick.now last; requests = [] }) ≡ true)) }
 {
     let shares = last.volume.get() + u64::from(tick.qty.get());
     let Some(volume) = Volume::new(shares) else {
@@ -139,10 +148,12 @@ fn apply_tick_to_quote(
     ids: &mut Vec<Id>,
 ) -> Planned<Quote>
     ensures quote { IfOk result (λ taken. IfOk taken (λ after. state_of_quote after ∷ [] ≡ states_after_tick stamp (state_of_quote quote ∷ []) tick.now)) }
-    ensures changes { IfOk result (λ taken. IfOk taken (λ _. changes.new.items ≡ changes.old.items ++ row_changes_of_tick stamp tick.now (state_of_quote quote ∷ []))) }
+    ensures changes { IfOk result (λ taken. IfOk taken (λ _. changes.new.items
+        ≡ changes.old.items ++ row_changes_of_tick stamp tick.now (state_of_quote quote ∷ []))) }
     ensures ids { IfOk result (λ taken. IfOk taken (λ _. ids.new.items ≡ ids.old.items ++ trades_triggered_by_tick tick.now (state_of_quote quote ∷ []))) }
     ensures within { IfOk result (λ taken. IfOk taken (λ after. exceeds_volume_limit (state_of_quote after) ≡ false)) }
-    ensures refusal { IfOk result (λ taken. IfErr taken (λ refusal. (refusal ≡ Range limit.Volume) × (list_any exceeds_volume_limit (states_after_tick stamp (state_of_quote quote ∷ []) tick.now) ≡ true))) }
+    ensures refusal { IfOk result (λ taken. IfErr taken (λ refusal. (refusal ≡ Range limit.Volume)
+        × (list_any exceeds_volume_limit (states_after_tick stamp (state_of_quote quote ∷ []) tick.now) ≡ true))) }
     ensures fault { OnErr result (result ≡ Err Memory) }
 {
     if !is_quote_of_symbol(&quote, &tick.symbol) {
@@ -170,11 +181,14 @@ fn apply_tick_to_quotes(
     changes: &mut Vec<Change>,
     ids: &mut Vec<Id>,
 ) -> Planned<Vec<Quote>>
-    ensures quotes { IfOk result (λ taken. IfOk taken (λ after. states_of_quotes after.items ≡ states_after_tick stamp (states_of_quotes quotes.items) tick.now)) }
-    ensures changes { IfOk result (λ taken. IfOk taken (λ _. changes.new.items ≡ changes.old.items ++ row_changes_of_tick stamp tick.now (states_of_quotes quotes.items))) }
+    ensures quotes { IfOk result (λ taken. IfOk taken (λ after. states_of_quotes after.items
+        ≡ states_after_tick stamp (states_of_quotes quotes.items) tick.now)) }
+    ensures changes { IfOk result (λ taken. IfOk taken (λ _. changes.new.items
+        ≡ changes.old.items ++ row_changes_of_tick stamp tick.now (states_of_quotes quotes.items))) }
     ensures ids { IfOk result (λ taken. IfOk taken (λ _. ids.new.items ≡ ids.old.items ++ trades_triggered_by_tick tick.now (states_of_quotes quotes.items))) }
     ensures within { IfOk result (λ taken. IfOk taken (λ after. list_any exceeds_volume_limit (states_of_quotes after.items) ≡ false)) }
-    ensures refusal { IfOk result (λ taken. IfErr taken (λ refusal. (refusal ≡ Range limit.Volume) × (list_any exceeds_volume_limit (states_after_tick stamp (states_of_quotes quotes.items) tick.now) ≡ true))) }
+    ensures refusal { IfOk result (λ taken. IfErr taken (λ refusal. (refusal ≡ Range limit.Volume)
+        × (list_any exceeds_volume_limit (states_after_tick stamp (states_of_quotes quotes.items) tick.now) ≡ true))) }
     ensures fault { OnErr result (result ≡ Err Memory) }
 {
     let mut after = Vec::new(alloc);
@@ -208,10 +222,14 @@ fn apply_ticks_to_quotes(
     changes: &mut Vec<Change>,
     ids: &mut Vec<Id>,
 ) -> Planned<()>
-    ensures changes { IfOk result (λ taken. OnOk taken (changes.new.items ≡ changes.old.items ++ row_changes_of_ticks stamp ticks.now (states_of_quotes quotes.items))) }
-    ensures ids { IfOk result (λ taken. OnOk taken (ids.new.items ≡ ids.old.items ++ trades_triggered_by_ticks stamp ticks.now (states_of_quotes quotes.items))) }
-    ensures within { IfOk result (λ taken. OnOk taken (list_any exceeds_volume_limit (states_after_ticks stamp ticks.now (states_of_quotes quotes.items)) ≡ false)) }
-    ensures refusal { IfOk result (λ taken. IfErr taken (λ refusal. (refusal ≡ Range limit.Volume) × (list_any exceeds_volume_limit (states_after_ticks stamp ticks.now (states_of_quotes quotes.items)) ≡ true))) }
+    ensures changes { IfOk result (λ taken. OnOk taken (changes.new.items
+        ≡ changes.old.items ++ row_changes_of_ticks stamp ticks.now (states_of_quotes quotes.items))) }
+    ensures ids { IfOk result (λ taken. OnOk taken (ids.new.items
+        ≡ ids.old.items ++ trades_triggered_by_ticks stamp ticks.now (states_of_quotes quotes.items))) }
+    ensures within { IfOk result (λ taken. OnOk taken (list_any exceeds_volume_limit (states_after_ticks stamp ticks.now (states_of_quotes quotes.items))
+        ≡ false)) }
+    ensures refusal { IfOk result (λ taken. IfErr taken (λ refusal. (refusal ≡ Range limit.Volume)
+        × (list_any exceeds_volume_limit (states_after_ticks stamp ticks.now (states_of_quotes quotes.items)) ≡ true))) }
     ensures fault { OnErr result (result ≡ Err Memory) }
 {
     prove_volumes_are_within_limit(&quotes);
@@ -244,7 +262,8 @@ pub fn plan_feed(
 ) -> Planned<Plan>
     ensures planned { IfOk result (λ planned. MatchResult planned
         (IsFeedPlan feed.now (states_of_quotes quotes.items) last now)
-        (λ refusal. (stamp : ℕ) → first_refusal (feed_checks stamp feed.now (states_of_quotes quotes.items) ++ later_stamp_check last now ∷ []) ≡ Some refusal)) }
+        (λ refusal. (stamp : ℕ)
+        → first_refusal (feed_checks stamp feed.now (states_of_quotes quotes.items) ++ later_stamp_check last now ∷ []) ≡ Some refusal)) }
     ensures fault { OnErr result (result ≡ Err Memory) }
 {
     let ticks = feed.ticks();

@@ -58,7 +58,10 @@ pub fn add_within_balance_limit(balance: Cents, amount: Cents) -> Option<Cents>
 
 // Returns the balance of the account after the movement, or the first refusal that applies of
 // `NoAccount`, `Range(Balance)` and `Range(Moves)`.
-fn checked_balance_after_movement(movement: &Movement, found: &MovementPlanFacts) -> Result<Cents, Refusal>
+fn checked_balance_after_movement(
+    movement: &Movement,
+    found: &MovementPlanFacts,
+) -> Result<Cents, Refusal>
     ensures { MatchResult result
         (λ balance. (first_refusal (movement_checks movement.now found.now) ≡ None) × (balance ≡ spec.balance_after_movement movement.now found.now))
         (λ refusal. first_refusal (movement_checks movement.now found.now) ≡ Some refusal) }

@@ -1,4 +1,5 @@
--- What is at the market, and what an order would come to: what was read is the view of the definitions.
+-- What is at the market, and what an order would come to: what was read is the view of the
+-- definitions.
 use Rattle.std.proofs.Common.{◌≡◌, ◌∙◌, List, [], ◌∷◌, Ok, Err, refl, sym, ap, filter, map}
 use Rattle.std.specs.Global.{Vec}
 use Rattle.brk_plans.specs.Replies.{estimate_from_model}

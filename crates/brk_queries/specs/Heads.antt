@@ -9,4 +9,6 @@ use Rattle.brk_model.specs.Tables.{AccountRow, Tables}
 -- the id `account`. It is `None` if the account does not exist.
 abbrev pub IsStatementHeadOfAccount : ℕ → Option StatementHead → Tables → Type 0
 IsStatementHeadOfAccount account None t = account_row_with_id t account ≡ None
-IsStatementHeadOfAccount account (Some head) t = (a : AccountRow) × (account_row_with_id t account ≡ Some a) × (head.name ≡ a.name) × (head.opening ≡ a.opening) × (head.holdings ≡ market_value_of_account_row t a)
+IsStatementHeadOfAccount account (Some head) t =
+    (a : AccountRow) × (account_row_with_id t account ≡ Some a) × (head.name ≡ a.name) × (head.opening ≡ a.opening)
+    × (head.holdings ≡ market_value_of_account_row t a)

@@ -20,4 +20,6 @@ stamped_changes_of_lot t lot = map (stamped_lot_change t) (filter (λ r. r.lot =
 -- lots that this trade touched.
 abbrev pub AreTouchedLotsOfTrade : ℕ → TouchedLots → Tables → Type 0
 AreTouchedLotsOfTrade trade lots t =
-    (lots.trade ≡ trade) × (lots.changes.items ≡ take 20 (sort_by is_earlier_lot_change (flat_map (λ r. stamped_changes_of_lot t r.lot) (filter (λ r. r.trade == trade) t.holding_history))))
+    (lots.trade ≡ trade)
+    × (lots.changes.items
+    ≡ take 20 (sort_by is_earlier_lot_change (flat_map (λ r. stamped_changes_of_lot t r.lot) (filter (λ r. r.trade == trade) t.holding_history))))

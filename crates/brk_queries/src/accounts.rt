@@ -41,7 +41,8 @@ fn read_balances_and_market_values<S: Alter>(
     store: &mut Store<S>,
     customer: Id,
 ) -> Result<Vec<AccountWorth>, Fault>
-    ensures read { ReadPost S.Store store.old store.new result (λ worths t. worths.items ≡ map (worth_of_account t) (filter (λ a. a.customer == customer) t.accounts)) }
+    ensures read { ReadPost S.Store store.old store.new result (λ worths t. worths.items
+        ≡ map (worth_of_account t) (filter (λ a. a.customer == customer) t.accounts)) }
     ensures fault { IfErr result IsCallFault }
 {
     let mut worths = Vec::new(alloc);

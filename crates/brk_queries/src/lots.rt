@@ -33,7 +33,8 @@ fn read_stamped_changes_of_lot<S: Alter>(
     store: &mut Store<S>,
     lot: Id,
 ) -> Result<Vec<LotTouch>, Fault>
-    ensures read { ReadPost S.Store store.old store.new result (λ touches t. touches.items ≡ map (stamped_lot_change t) (filter (λ r. r.lot == lot) t.holding_history)) }
+    ensures read { ReadPost S.Store store.old store.new result (λ touches t. touches.items
+        ≡ map (stamped_lot_change t) (filter (λ r. r.lot == lot) t.holding_history)) }
     ensures fault { IfErr result IsCallFault }
 {
     let rows = store.lot_changes_of_lot(alloc, lot)?;

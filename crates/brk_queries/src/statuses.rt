@@ -23,7 +23,8 @@ fn read_trade_with_security<S: Alter>(
     store: &mut Store<S>,
     trade: TradeRow,
 ) -> Result<TradeStatus, Fault>
-    ensures read { ReadPost S.Store store.old store.new result (λ status t. rows_of_trade_status status ≡ trade_row_with_security t (abstract_trade_row trade)) }
+    ensures read { ReadPost S.Store store.old store.new result (λ status t. rows_of_trade_status status
+        ≡ trade_row_with_security t (abstract_trade_row trade)) }
     ensures fault { IfErr result IsCallFault }
 {
     match store.security(&trade.symbol)? {
@@ -39,7 +40,8 @@ fn read_recent_trades_with_securities<S: Alter>(
     store: &mut Store<S>,
     account: Id,
 ) -> Result<Vec<TradeStatus>, Fault>
-    ensures read { ReadPost S.Store store.old store.new result (λ statuses t. map rows_of_trade_status statuses.items ≡ map (trade_row_with_security t) (take 50 (trade_rows_recent_first (trade_rows_of_account t account)))) }
+    ensures read { ReadPost S.Store store.old store.new result (λ statuses t. map rows_of_trade_status statuses.items
+        ≡ map (trade_row_with_security t) (take 50 (trade_rows_recent_first (trade_rows_of_account t account)))) }
     ensures fault { IfErr result IsCallFault }
 {
     let mut rest = store.last_fifty_trades_of_account(alloc, account)?;

@@ -61,7 +61,8 @@ fn read_requests_in_sector<S: Alter>(
     sector: &Name,
     broker: Id,
 ) -> Result<Vec<RequestRow>, Fault>
-    ensures read { ReadPost S.Store store.old store.new result (λ found t. map abstract_request_row found.items ≡ sector_requests_of_broker t sector.now broker) }
+    ensures read { ReadPost S.Store store.old store.new result (λ found t. map abstract_request_row found.items
+        ≡ sector_requests_of_broker t sector.now broker) }
     ensures fault { IfErr result IsCallFault }
 {
     let mut rest = store.requests_of_broker(alloc, broker)?;
@@ -82,7 +83,8 @@ fn append_broker_volume<S: Alter>(
     row: &BrokerRow,
     found: &mut Vec<BrokerVolume>,
 ) -> Result<(), Fault>
-    ensures read { ReadPost S.Store store.old store.new result (λ _ t. found.new.items ≡ found.old.items ++ volumes_of_brokers_in_sector t sector.now (abstract_broker_row row.now ∷ [])) }
+    ensures read { ReadPost S.Store store.old store.new result (λ _ t. found.new.items
+        ≡ found.old.items ++ volumes_of_brokers_in_sector t sector.now (abstract_broker_row row.now ∷ [])) }
     ensures fault { IfErr result IsCallFault }
 {
     let requests = read_requests_in_sector(alloc, store, sector, row.broker.id)?;
@@ -108,7 +110,8 @@ fn append_volumes_of_brokers_named<S: Alter>(
     name: &Name,
     found: &mut Vec<BrokerVolume>,
 ) -> Result<(), Fault>
-    ensures read { ReadPost S.Store store.old store.new result (λ _ t. found.new.items ≡ found.old.items ++ volumes_of_brokers_in_sector t sector.now (filter (λ b. bytes_eq b.name name.now) t.brokers)) }
+    ensures read { ReadPost S.Store store.old store.new result (λ _ t. found.new.items
+        ≡ found.old.items ++ volumes_of_brokers_in_sector t sector.now (filter (λ b. bytes_eq b.name name.now) t.brokers)) }
     ensures fault { IfErr result IsCallFault }
 {
     let rows = store.brokers_named(alloc, name)?;
@@ -126,7 +129,8 @@ fn read_volumes_of_brokers_named<S: Alter>(
     sector: &Name,
     names: &[Name],
 ) -> Result<Vec<BrokerVolume>, Fault>
-    ensures read { ReadPost S.Store store.old store.new result (λ found t. found.items ≡ map (volume.volume_of_broker_in_sector t sector.now) (flat_map (brokers_of_name_in_sector t sector.now) names.now)) }
+    ensures read { ReadPost S.Store store.old store.new result (λ found t. found.items
+        ≡ map (volume.volume_of_broker_in_sector t sector.now) (flat_map (brokers_of_name_in_sector t sector.now) names.now)) }
     ensures fault { IfErr result IsCallFault }
 {
     let _last = store.last_stamp()?;

@@ -34,7 +34,9 @@ byte_equal_to_ascii_is_ascii mark c below h = let k : c ≡ mark = eqb-true c ma
 -- An ASCII letter or digit is below 128.
 alphanumeric_byte_is_ascii : (c : ℕ) → is_ascii_alphanumeric c ≡ true → c < 128
 alphanumeric_byte_is_ascii c h =
-    holds_by_either_disjunct _ _ (c < 128) (holds_by_either_disjunct _ _ (c < 128) (byte_in_ascii_range_is_ascii 48 57 c (omega arith)) (byte_in_ascii_range_is_ascii 65 90 c (omega arith))) (byte_in_ascii_range_is_ascii 97 122 c (omega arith)) h
+    holds_by_either_disjunct _ _ (c
+    < 128) (holds_by_either_disjunct _ _ (c
+    < 128) (byte_in_ascii_range_is_ascii 48 57 c (omega arith)) (byte_in_ascii_range_is_ascii 65 90 c (omega arith))) (byte_in_ascii_range_is_ascii 97 122 c (omega arith)) h
 
 -- A text is ASCII if each byte passes `test`, which only bytes below 128 pass.
 text_is_ascii_if_each_byte_is : (test : ℕ → Bool) → ((c : ℕ) → test c ≡ true → c < 128) → (text : List ℕ) → list_all test text ≡ true → IsAscii text
@@ -53,14 +55,17 @@ name_is_utf8 text h = IsUtf8-from_is_utf8 text (second_conjunct_is_true _ (is_ut
 
 -- A text that has the format of a tax id is UTF-8.
 pub tax_id_is_utf8 : (text : List ℕ) → is_tax_id text ≡ true → IsUtf8 text
-tax_id_is_utf8 = word_is_utf8 20 _ (λ c. holds_by_either_disjunct _ _ (c < 128) (alphanumeric_byte_is_ascii c) (byte_equal_to_ascii_is_ascii 45 c (omega arith)))
+tax_id_is_utf8 =
+    word_is_utf8 20 _ (λ c. holds_by_either_disjunct _ _ (c < 128) (alphanumeric_byte_is_ascii c) (byte_equal_to_ascii_is_ascii 45 c (omega arith)))
 
 -- A text that has the format of a symbol is UTF-8.
 pub symbol_is_utf8 : (text : List ℕ) → is_symbol text ≡ true → IsUtf8 text
 symbol_is_utf8 =
     word_is_utf8 15 _
     (λ c. holds_by_either_disjunct _ _ (c < 128)
-    (holds_by_either_disjunct _ _ (c < 128) (holds_by_either_disjunct _ _ (c < 128) (byte_in_ascii_range_is_ascii 65 90 c (omega arith)) (byte_in_ascii_range_is_ascii 48 57 c (omega arith))) (byte_equal_to_ascii_is_ascii 46 c (omega arith)))
+    (holds_by_either_disjunct _ _ (c
+    < 128) (holds_by_either_disjunct _ _ (c
+    < 128) (byte_in_ascii_range_is_ascii 65 90 c (omega arith)) (byte_in_ascii_range_is_ascii 48 57 c (omega arith))) (byte_equal_to_ascii_is_ascii 46 c (omega arith)))
     (byte_equal_to_ascii_is_ascii 45 c (omega arith)))
 
 -- A text that has the format of an exchange is UTF-8.
@@ -72,10 +77,14 @@ pub batch_name_is_utf8 : (text : List ℕ) → is_batch_name text ≡ true → I
 batch_name_is_utf8 =
     word_is_utf8 40 _
     (λ c. holds_by_either_disjunct _ _ (c < 128)
-    (holds_by_either_disjunct _ _ (c < 128) (holds_by_either_disjunct _ _ (c < 128) (alphanumeric_byte_is_ascii c) (byte_equal_to_ascii_is_ascii 46 c (omega arith))) (byte_equal_to_ascii_is_ascii 45 c (omega arith))) (byte_equal_to_ascii_is_ascii 95 c (omega arith)))
+    (holds_by_either_disjunct _ _ (c
+    < 128) (holds_by_either_disjunct _ _ (c
+    < 128) (alphanumeric_byte_is_ascii c) (byte_equal_to_ascii_is_ascii 46 c (omega arith))) (byte_equal_to_ascii_is_ascii 45 c (omega arith))) (byte_equal_to_ascii_is_ascii 95 c (omega arith)))
 
 -- A text that has the format of the rights of a permission is UTF-8.
 pub acl_is_utf8 : (text : List ℕ) → is_acl text ≡ true → IsUtf8 text
 acl_is_utf8 text h =
     IsUtf8-from_ascii text
-    (text_is_ascii_if_each_byte_is (λ c. (c == 48) || (c == 49)) (λ c. holds_by_either_disjunct _ _ (c < 128) (byte_equal_to_ascii_is_ascii 48 c (omega arith)) (byte_equal_to_ascii_is_ascii 49 c (omega arith))) text (second_conjunct_is_true _ _ h))
+    (text_is_ascii_if_each_byte_is (λ c. (c == 48)
+    || (c == 49)) (λ c. holds_by_either_disjunct _ _ (c
+    < 128) (byte_equal_to_ascii_is_ascii 48 c (omega arith)) (byte_equal_to_ascii_is_ascii 49 c (omega arith))) text (second_conjunct_is_true _ _ h))

@@ -39,7 +39,8 @@ fn parse_account_fields(
     tax_status: &[u8],
     opening: &[u8],
 ) -> Planned<Account>
-    ensures read { IfOk result (λ read. ParsesAs abstract_account read (read_account (id.now ∷ customer.now ∷ broker.now ∷ name.now ∷ tax_status.now ∷ opening.now ∷ []))) }
+    ensures read { IfOk result (λ read. ParsesAs abstract_account read (read_account (id.now ∷ customer.now ∷ broker.now ∷ name.now ∷ tax_status.now
+        ∷ opening.now ∷ []))) }
     ensures fault { OnErr result (result ≡ Err Memory) }
 {
     let Some(id) = parse_id(id) else {

@@ -55,7 +55,8 @@ fn parse_band_fields(
     high: &[u8],
     rate: &[u8],
 ) -> Planned<Band>
-    ensures read { IfOk result (λ read. ParsesAs abstract_band read (read_commission_band (tier.now ∷ kind.now ∷ exchange.now ∷ low.now ∷ high.now ∷ rate.now ∷ []))) }
+    ensures read { IfOk result (λ read. ParsesAs abstract_band read (read_commission_band (tier.now ∷ kind.now ∷ exchange.now ∷ low.now ∷ high.now ∷ rate.now
+        ∷ []))) }
     ensures fault { OnErr result (result ≡ Err Memory) }
 {
     let Some(tier) = Tier::parse(tier) else {

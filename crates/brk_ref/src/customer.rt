@@ -31,7 +31,8 @@ fn parse_customer_fields(
     last_name: &[u8],
     first_name: &[u8],
 ) -> Planned<Customer>
-    ensures read { IfOk result (λ read. ParsesAs abstract_customer read (read_customer (id.now ∷ tier.now ∷ tax_id.now ∷ last_name.now ∷ first_name.now ∷ []))) }
+    ensures read { IfOk result (λ read. ParsesAs abstract_customer read (read_customer (id.now ∷ tier.now ∷ tax_id.now ∷ last_name.now ∷ first_name.now
+        ∷ []))) }
     ensures fault { OnErr result (result ≡ Err Memory) }
 {
     let Some(id) = parse_id(id) else {

@@ -32,7 +32,8 @@ fn parse_permission_fields(
     last_name: &[u8],
     first_name: &[u8],
 ) -> Planned<Permission>
-    ensures read { IfOk result (λ read. ParsesAs abstract_permission read (read_permission (account.now ∷ acl.now ∷ tax_id.now ∷ last_name.now ∷ first_name.now ∷ []))) }
+    ensures read { IfOk result (λ read. ParsesAs abstract_permission read (read_permission (account.now ∷ acl.now ∷ tax_id.now ∷ last_name.now ∷ first_name.now
+        ∷ []))) }
     ensures fault { OnErr result (result ≡ Err Memory) }
 {
     let Some(account) = parse_id(account) else {

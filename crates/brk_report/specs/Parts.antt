@@ -12,26 +12,32 @@ use Rattle.brk_report_lines.specs.declared.fault.LinesFault.{LinesFault}
 -- and the last day, and the amount `opening`.
 abbrev pub statement_header_lines : ℕ → Text → ℕ → ℕ → ℤ → List Text
 statement_header_lines account name from to opening =
-    (codes "Statement of account " ++ decimal account) ∷ name ∷ (codes "From " ++ day_text from ++ codes " to " ++ day_text to) ∷ amount_line (codes "Opening") opening ∷ []
+    (codes "Statement of account " ++ decimal account) ∷ name ∷ (codes "From " ++ day_text from ++ codes " to " ++ day_text to)
+    ∷ amount_line (codes "Opening") opening ∷ []
 
 -- A line for each cash row of `account` from the day `from` to the day `to`, and the line of the
 -- closing amount, which is `opening` plus these rows.
 abbrev pub cash_and_closing_lines : Tables → ℕ → ℕ → ℕ → ℤ → List Text
 cash_and_closing_lines t account from to opening =
-    map cash_row_line (cash_move_rows_within_days from to (cash_move_rows_of_account t account)) ++ amount_line (codes "Closing") (opening +ℤ cash_row_total (cash_move_rows_within_days from to (cash_move_rows_of_account t account))) ∷ []
+    map cash_row_line (cash_move_rows_within_days from to (cash_move_rows_of_account t account))
+    ++ amount_line (codes "Closing") (opening +ℤ cash_row_total (cash_move_rows_within_days from to (cash_move_rows_of_account t account)))
+    ∷ []
 
 -- `Ok`: exactly the lines of the cash rows of the days and of the closing amount
 -- (`cash_and_closing_lines`) were written, and the count is the number of these cash rows. `Err`:
 -- writing them failed as `FailsWithinLines` specifies.
 abbrev pub WritesCashAndClosingLines : Tables → ℕ → ℕ → ℕ → ℤ → Option Text → Option Text → Result ℕ LinesFault → Type 0
-WritesCashAndClosingLines t account from to opening old new (Ok count) = Appends old new (text_of_lines (cash_and_closing_lines t account from to opening)) × (count ≡ length (cash_move_rows_within_days from to (cash_move_rows_of_account t account)))
+WritesCashAndClosingLines t account from to opening old new (Ok count) =
+    Appends old new (text_of_lines (cash_and_closing_lines t account from to opening))
+    × (count ≡ length (cash_move_rows_within_days from to (cash_move_rows_of_account t account)))
 WritesCashAndClosingLines t account from to opening old new (Err e) = FailsWithinLines (cash_and_closing_lines t account from to opening) old new e
 
 -- A line for each lot of `account`, the line of the market value `holdings`, and the line of the
 -- numbers of cash rows (`cash`) and lots.
 abbrev pub lot_and_total_lines : Tables → ℕ → ℤ → ℕ → List Text
 lot_and_total_lines t account holdings cash =
-    map lot_line (holding_rows_of_account t account) ++ amount_line (codes "Holdings") holdings ∷ (codes "Cash rows " ++ decimal cash ++ codes ", lots " ++ decimal (length (holding_rows_of_account t account))) ∷ []
+    map lot_line (holding_rows_of_account t account) ++ amount_line (codes "Holdings") holdings
+    ∷ (codes "Cash rows " ++ decimal cash ++ codes ", lots " ++ decimal (length (holding_rows_of_account t account))) ∷ []
 
 -- All lines of the statement of `account` from the day `from` to the day `to`, with the name, the
 -- opening balance and the market value of `head`.

@@ -53,14 +53,17 @@ IsTotalOrFault total (Err e) = (f : Fault) × (e ≡ lines.Desk f) × IsCallFaul
 -- writing them failed as `FailsWithinFirstLines` specifies.
 abbrev pub WritesCashLines : Tables → ℕ → ℕ → ℕ → ℤ → Option Text → Option Text → Result CashCountAndTotal LinesFault → Type 0
 WritesCashLines t account from to amount old new (Ok moved) =
-    Appends old new (text_of_lines (map cash_row_line (cash_move_rows_within_days from to (cash_move_rows_of_account t account)))) × (moved.count ≡ length (cash_move_rows_within_days from to (cash_move_rows_of_account t account)))
+    Appends old new (text_of_lines (map cash_row_line (cash_move_rows_within_days from to (cash_move_rows_of_account t account))))
+    × (moved.count ≡ length (cash_move_rows_within_days from to (cash_move_rows_of_account t account)))
     × (moved.total ≡ amount +ℤ cash_row_total (cash_move_rows_within_days from to (cash_move_rows_of_account t account)))
-WritesCashLines t account from to amount old new (Err e) = FailsWithinFirstLines (map cash_row_line (cash_move_rows_within_days from to (cash_move_rows_of_account t account))) old new e
+WritesCashLines t account from to amount old new (Err e) =
+    FailsWithinFirstLines (map cash_row_line (cash_move_rows_within_days from to (cash_move_rows_of_account t account))) old new e
 
 -- `Ok`: exactly the lines of the lots of `account` were written, and the count is their number.
 -- `Err`: writing them failed as `FailsWithinFirstLines` specifies.
 abbrev pub WritesLotLines : Tables → ℕ → Option Text → Option Text → Result ℕ LinesFault → Type 0
-WritesLotLines t account old new (Ok count) = Appends old new (text_of_lines (map lot_line (holding_rows_of_account t account))) × (count ≡ length (holding_rows_of_account t account))
+WritesLotLines t account old new (Ok count) =
+    Appends old new (text_of_lines (map lot_line (holding_rows_of_account t account))) × (count ≡ length (holding_rows_of_account t account))
 WritesLotLines t account old new (Err e) = FailsWithinFirstLines (map lot_line (holding_rows_of_account t account)) old new e
 
 -- ---- the whole
@@ -68,7 +71,9 @@ WritesLotLines t account old new (Err e) = FailsWithinFirstLines (map lot_line (
 -- The statement of `account` from the day `from` to the day `to` is not refused, and `lines` are
 -- its lines.
 abbrev pub AreStatementLines : Tables → ℕ → ℕ → ℕ → List Text → Type 0
-AreStatementLines t account from to lines = (nat_lt to from ≡ false) × ((a : AccountRow) × (account_row_with_id t account ≡ Some a) × (lines ≡ statement_lines t a from to (cash_move_rows_of_account t account)))
+AreStatementLines t account from to lines =
+    (nat_lt to from ≡ false)
+    × ((a : AccountRow) × (account_row_with_id t account ≡ Some a) × (lines ≡ statement_lines t a from to (cash_move_rows_of_account t account)))
 
 -- The result of writing the statement of `account` from the day `from` to the day `to`. `Ok`:
 -- exactly the text of the model's statement was written. `Refused`: the model refuses the statement
@@ -77,7 +82,8 @@ AreStatementLines t account from to lines = (nat_lt to from ≡ false) × ((a : 
 abbrev pub WritesStatement : Tables → ℕ → ℕ → ℕ → Option Text → Option Text → Result (Unit {0}) ReportFault → Type 0
 WritesStatement t account from to old new (Ok u) = (text : Text) × (statement t account from to ≡ Ok text) × Appends old new text
 WritesStatement t account from to old new (Err (Refused refusal)) = statement t account from to ≡ Err refusal
-WritesStatement t account from to old new (Err (Desk fault)) = IsCallFault fault × (Appends old new [] ⊎ ((lines : List Text) × AreStatementLines t account from to lines × WritesLinesButNotLast lines old new))
+WritesStatement t account from to old new (Err (Desk fault)) =
+    IsCallFault fault × (Appends old new [] ⊎ ((lines : List Text) × AreStatementLines t account from to lines × WritesLinesButNotLast lines old new))
 WritesStatement t account from to old new (Err Write) = (lines : List Text) × AreStatementLines t account from to lines × WritesLinesAndPartOfNext lines old new
 
 -- If the fault is one of the desk, it is `Memory` or `Store`. Vacuous for a refusal and for a fault
@@ -89,7 +95,8 @@ IsRefusalOrMemoryStoreOrWriteFault Write = Unit {0}
 
 -- The postcondition of writing the statement of `account` from the day `from` to the day `to`. The
 -- desk is unchanged.
-pub record StatementPost {S : Type 0} (g : Ghosts S) (old new : Held S) (account from to : ℕ) (before after : Option Text) (result : Result (Unit {0}) ReportFault) : Type 0 where
+pub record StatementPost {S : Type 0} (g : Ghosts S) (old new : Held S) (account from to : ℕ) (before after : Option Text)
+    (result : Result (Unit {0}) ReportFault) : Type 0 where
   -- The output is that of `WritesStatement` for all rows that the store held before the call.
   -- Vacuous if the disk assumption fails after the call.
   pub written : HoldsForStoredTables g old new (λ t. WritesStatement t account from to before after result)

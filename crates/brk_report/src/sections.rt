@@ -6,7 +6,7 @@ ghost use Rattle.brk_model.specs.Statement.{cash_move_rows_before_day, cash_move
 ghost use Rattle.brk_report.specs.Stated.{IsTotalOrFault, PreservesDesk, IsMemoryStoreOrWriteFault, HoldsForStoredTables, WritesCashLines, WritesLotLines};
 ghost use Rattle.brk_report.specs.WalkFaults.{fault_of_walk_error};
 
-use crate::visitors::{CashLines, Lines, CashCountAndTotal, Sum};
+use crate::visitors::{CashCountAndTotal, CashLines, Lines, Sum};
 use brk_desk::{Desk, WalkError};
 use brk_money::{Cents, Day, Id, Stamp, Wide};
 use brk_report_lines::{LinesFault, first_stamp_of_day, last_stamp_before_day, last_stamp_of_day};
@@ -35,7 +35,8 @@ pub(crate) fn read_balance_before_day<S: Alter>(
 ) -> Result<Wide, LinesFault>
     ensures keeps { PreservesDesk S.Store desk.old desk.new }
     ensures fault { IfErr result IsMemoryStoreOrWriteFault }
-    ensures sum { HoldsForStoredTables S.Store desk.old desk.new (λ t. IsTotalOrFault (opening +ℤ cash_row_total (cash_move_rows_before_day from (cash_move_rows_of_account t account))) result) }
+    ensures sum { HoldsForStoredTables S.Store desk.old desk.new (λ t. IsTotalOrFault (opening
+        +ℤ cash_row_total (cash_move_rows_before_day from (cash_move_rows_of_account t account))) result) }
 {
     let Some(last) = last_stamp_before_day(from) else {
         return Ok(Wide::from(opening));

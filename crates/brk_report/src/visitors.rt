@@ -165,7 +165,8 @@ impl<W: Write> Visitor<MoveRow, LinesFault> for CashLines<'_, W> {
 
     ghost leads = { λ p q. q.writer.ghost_name ≡ p.writer.ghost_name };
 
-    ghost takes = { λ p r q. (q.moved.total ≡ p.moved.total +ℤ r.amount) × (q.moved.count ≡ p.moved.count + 1) × Appends (W.contents p.writer.now) (W.contents q.writer.now) (line_with_line_feed (cash_row_line (abstract_move_row r))) };
+    ghost takes = { λ p r q. (q.moved.total ≡ p.moved.total +ℤ r.amount) × (q.moved.count ≡ p.moved.count + 1)
+        × Appends (W.contents p.writer.now) (W.contents q.writer.now) (line_with_line_feed (cash_row_line (abstract_move_row r))) };
 
     ghost stops = { λ p r e q. FailsWithinLines (cash_row_line (abstract_move_row r) ∷ []) (W.contents p.writer.now) (W.contents q.writer.now) e };
 

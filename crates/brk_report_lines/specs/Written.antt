@@ -14,12 +14,15 @@ line_with_line_feed line = line ++ 10 ∷ []
 -- The first lines of `lines` were written whole, perhaps none of them, and at least the last line
 -- was not.
 abbrev pub WritesLinesButNotLast : List Text → Option Text → Option Text → Type 0
-WritesLinesButNotLast lines old new = (first : List Text) × (next : Text) × (rest : List Text) × (first ++ next ∷ rest ≡ lines) × Appends old new (text_of_lines first)
+WritesLinesButNotLast lines old new =
+    (first : List Text) × (next : Text) × (rest : List Text) × (first ++ next ∷ rest ≡ lines) × Appends old new (text_of_lines first)
 
 -- The first lines of `lines` were written whole, perhaps none of them, and then a prefix of the
 -- next line, perhaps empty or all of it.
 abbrev pub WritesLinesAndPartOfNext : List Text → Option Text → Option Text → Type 0
-WritesLinesAndPartOfNext lines old new = (first : List Text) × (next : Text) × (rest : List Text) × (k : ℕ) × (first ++ next ∷ rest ≡ lines) × Appends old new (text_of_lines first ++ take k (line_with_line_feed next))
+WritesLinesAndPartOfNext lines old new =
+    (first : List Text) × (next : Text) × (rest : List Text) × (k : ℕ) × (first ++ next ∷ rest ≡ lines)
+    × Appends old new (text_of_lines first ++ take k (line_with_line_feed next))
 
 -- Writing `lines` failed with this fault. `Desk`: its fault is `Memory` or `Store`, and the first
 -- lines were written whole, without the last one. `Write`: the first lines were written whole, and
@@ -32,7 +35,8 @@ FailsWithinLines lines old new Write = WritesLinesAndPartOfNext lines old new
 -- fault is `Memory` or `Store`, and the first lines were written whole, perhaps all of `lines`.
 -- `Write`: the first lines were written whole, and then a prefix of the next one of `lines`.
 abbrev pub FailsWithinFirstLines : List Text → Option Text → Option Text → LinesFault → Type 0
-FailsWithinFirstLines lines old new (Desk fault) = IsCallFault fault × ((first : List Text) × (rest : List Text) × (first ++ rest ≡ lines) × Appends old new (text_of_lines first))
+FailsWithinFirstLines lines old new (Desk fault) =
+    IsCallFault fault × ((first : List Text) × (rest : List Text) × (first ++ rest ≡ lines) × Appends old new (text_of_lines first))
 FailsWithinFirstLines lines old new Write = WritesLinesAndPartOfNext lines old new
 
 -- `Ok`: exactly `lines` were written. `Err`: writing them failed as `FailsWithinLines` specifies.

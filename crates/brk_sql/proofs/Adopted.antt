@@ -1,4 +1,5 @@
--- A table of any database is that of some records, where the program has read its rows and tested them.
+-- A table of any database is that of some records, where the program has read its rows and tested
+-- them.
 use Rattle.std.proofs.Common.{◌≡◌, ◌⊎◌, inl, inr, ℕ, ℤ, List, [], ◌∷◌, map, true, false, not, Some, None, Ordering, Less, Equal, Greater, is_eq, is_lt, int_cmp, refl, sym, ap, ap₂, subst, ◌∙◌, IsTrue}
 use Rattle.std.specs.Cmp.{IsTotalOrder}
 use Rattle.std.specs.List.{AllByRecursion, IsDistinct}

@@ -1,4 +1,5 @@
--- A foreign key may act on the rows of its own table, and on no table whose own foreign keys do not act.
+-- A foreign key may act on the rows of its own table, and on no table whose own foreign keys do not
+-- act.
 use Rattle.std.proofs.Common.{◌≡◌, ◌≢◌, ◌⊎◌, inl, inr, ℕ, ℤ, zero, suc, ◌+◌, ◌==◌, List, [], ◌∷◌, ◌++◌, length, cond, nat_lt, Bool, true, false, not, ◌&&◌, ◌||◌, Some, None, Option, Ok, refl, sym, ap, subst, ◌∙◌, eq-eqb}
 use Rattle.std.specs.Prelude.{MatchBool}
 use Rattle.std.specs.List.{list_all, list_any, filter_map, flat_map, cons_option, AllByRecursion}

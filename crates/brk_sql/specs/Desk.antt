@@ -44,7 +44,8 @@ nullable_integer_column name = record (integer_column name) { not_null = false }
 -- The foreign key of the column at `place` to the column `column` of the table `parent`, with NO
 -- ACTION on delete and on update, and not deferred.
 abbrev pub foreign_key : ℕ → List ℕ → List ℕ → Reference
-foreign_key place parent column = record { columns = place ∷ []; parent = parent; parent_columns = column ∷ []; on_delete = NoAction; on_update = NoAction; is_deferred = false }
+foreign_key place parent column =
+    record { columns = place ∷ []; parent = parent; parent_columns = column ∷ []; on_delete = NoAction; on_update = NoAction; is_deferred = false }
 
 -- A table with this name, tree, columns, keys and foreign keys, and without checks and computed
 -- columns.
@@ -161,14 +162,16 @@ pub record HasSelectedTables {W T : Type 0} (desk : ProgramTables W T) (In : W �
 -- `tree` are unchanged, unless a foreign key of that table changes or deletes rows.
 pub record PreservesUnrelatedTables {W : Type 0} (tree : W → ℕ) (old new : Database) : Type 0 where
   pub schema : new.schema ≡ old.schema
-  pub rows : AllByRecursion (λ k. ((w : W) → k.tree ≢ tree w) → HasNoWritingForeignKeysAt old.schema k.tree → new.trees k.tree ≡ old.trees k.tree) old.schema.tables
+  pub rows : AllByRecursion (λ k. ((w : W) → k.tree ≢ tree w) → HasNoWritingForeignKeysAt old.schema k.tree
+      → new.trees k.tree ≡ old.trees k.tree) old.schema.tables
 
 -- For all records `t` and trees `tree`: if the database `old` contains the tables with the records
 -- `t` at these trees, `new` contains them with the records `f t` at the same trees. Other tables
 -- are unchanged, unless a foreign key of their own writes their rows. Vacuous if `old` does not
 -- contain the tables.
 abbrev pub ChangesTablesBy : {W T : Type 0} → ProgramTables W T → (T → T) → Database → Database → Type 0
-ChangesTablesBy {W} {T} desk f old new = (t : T) (tree : W → ℕ) → HasTables desk t tree old → HasTables desk (f t) tree new × PreservesUnrelatedTables tree old new
+ChangesTablesBy {W} {T} desk f old new =
+    (t : T) (tree : W → ℕ) → HasTables desk t tree old → HasTables desk (f t) tree new × PreservesUnrelatedTables tree old new
 
 -- `P` holds of the records that the database contains in the program's tables. Vacuous if the
 -- database does not contain these tables.

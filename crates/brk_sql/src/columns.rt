@@ -31,7 +31,8 @@ pub fn statement_has_columns<S: Alter>(
     names: &[&str],
 ) -> Result<bool, Error>
     ensures same_reference { tx.new.conn.ghost_name ≡ tx.old.conn.ghost_name }
-    ensures step { IsConnectionStep S.Store tx.old tx.new result (λ has old new. IsTrue old.is_open × (new.now ≡ old.now) × MatchesResultColumns text.now (map (λ (name : Bor (List ℕ)). name.now) names.now) has old.now.schema) }
+    ensures step { IsConnectionStep S.Store tx.old tx.new result (λ has old new. IsTrue old.is_open × (new.now ≡ old.now)
+        × MatchesResultColumns text.now (map (λ (name : Bor (List ℕ)). name.now) names.now) has old.now.schema) }
 {
     let statement = tx.prepare(text)?;
     Ok(columns_have_names(statement.column_names(), names))

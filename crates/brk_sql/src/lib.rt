@@ -47,7 +47,8 @@ pub fn integers_in_column(alloc: Global, rows: &[Row], at: usize) -> Result<Vec<
 /// returns a value, the database was open and is unchanged. Fails with the error of the database.
 pub fn statement_compiles<S: Alter>(tx: &mut Transaction<'_, S>, text: &str) -> Result<bool, Error>
     ensures same_reference { tx.new.conn.ghost_name ≡ tx.old.conn.ghost_name }
-    ensures step { IsConnectionStep S.Store tx.old tx.new result (λ has old new. IsTrue old.is_open × (new.now ≡ old.now) × IsCompilationOutcome text.now has old.now.schema) }
+    ensures step { IsConnectionStep S.Store tx.old tx.new result (λ has old new. IsTrue old.is_open × (new.now ≡ old.now)
+        × IsCompilationOutcome text.now has old.now.schema) }
 {
     match tx.prepare(text) {
         Ok(_) => Ok(true),

@@ -44,8 +44,8 @@ audited_of schema db c there h = (schema, h)
 abbrev pub FindsSchemaOfDatabase : Option known.Schema → State → State → Type 0
 FindsSchemaOfDatabase found a b = IsTrue a.is_open × (b.now ≡ a.now) × (NamedTablesMatchDeskDefinitions a.now → IsSchemaOfDatabase found a.now)
 
--- A read of an open database left it unchanged and showed that it satisfies `before_first_trade`. This is
--- specified only if tables with the names of a desk's tables have their definitions.
+-- A read of an open database left it unchanged and showed that it satisfies `before_first_trade`.
+-- This is specified only if tables with the names of a desk's tables have their definitions.
 abbrev ShowsDatabaseSatisfies : (Database → Type 0) → Unit {0} → State → State → Type 0
 ShowsDatabaseSatisfies none _ a b = IsTrue a.is_open × (b.now ≡ a.now) × (NamedTablesMatchDeskDefinitions a.now → none a.now)
 

@@ -1,10 +1,10 @@
 -- The result of an audit of a database, and the postconditions of an audit and of an adoption. In
 -- this file a desk of a schema is a set of tables, not a value of the type `Desk`. A database has a
--- desk of a schema (`HasDeskOfSchema`) if it has each table of the schema, with its name and exactly its
--- columns, no table that a later schema adds, and one row of the table DESK, with the number of the
--- schema. `brk_store/specs/Holds.antt` explains the other terms of the clauses. A clause with the
--- premise `HasCleanDisk` for the new state, and the promise on crashes in `survives`, are vacuous
--- if the disk assumption fails after the call.
+-- desk of a schema (`HasDeskOfSchema`) if it has each table of the schema, with its name and
+-- exactly its columns, no table that a later schema adds, and one row of the table DESK, with the
+-- number of the schema. `brk_store/specs/Holds.antt` explains the other terms of the clauses. A
+-- clause with the premise `HasCleanDisk` for the new state, and the promise on crashes in
+-- `survives`, are vacuous if the disk assumption fails after the call.
 use Rattle.std.specs.Prelude.{◌≡◌, ◌≢◌, ◌⊎◌, ⊤, Option, Some, None, Result, Ok, Err, OnOk, OnErr, IsTrue}
 use Rattle.sqlite_trees.specs.declared.store.Store.{Ghosts}
 use Rattle.sqlite_trees.specs.Tree.{Trees}
@@ -82,8 +82,8 @@ AuditAnswerSatisfies (Err Store) P = ⊤
 
 -- For each schema: if the current database has all tables of a desk of this schema, by their names
 -- and columns, these tables have the definitions of the desk's tables: their types, keys and
--- foreign keys (`NamedTablesMatchDeskDefinitions`). So a database without these tables, for example an
--- empty one, satisfies it. Vacuous if the disk assumption fails, or once the database is closed.
+-- foreign keys (`NamedTablesMatchDeskDefinitions`). So a database without these tables, for example
+-- an empty one, satisfies it. Vacuous if the disk assumption fails, or once the database is closed.
 abbrev pub StoreNamedTablesMatchDeskDefinitions : {S : Type 0} → Ghosts S → Held S → Type 0
 StoreNamedTablesMatchDeskDefinitions g held = HasCleanDisk (state g held) → IsTrue (state g held).is_open → NamedTablesMatchDeskDefinitions (state g held).now
 
@@ -91,7 +91,8 @@ StoreNamedTablesMatchDeskDefinitions g held = HasCleanDisk (state g held) → Is
 -- the definitions of the desk's tables: their types, keys and foreign keys. Vacuous if the disk
 -- assumption fails, or once the database is closed.
 abbrev pub StoreNamedTablesMatchThirdSchema : {S : Type 0} → Ghosts S → Held S → Type 0
-StoreNamedTablesMatchThirdSchema g held = HasCleanDisk (state g held) → IsTrue (state g held).is_open → NamedTablesMatchSchemaDefinitions third_schema (state g held).now
+StoreNamedTablesMatchThirdSchema g held =
+    HasCleanDisk (state g held) → IsTrue (state g held).is_open → NamedTablesMatchSchemaDefinitions third_schema (state g held).now
 
 -- The current database has a desk of schema 3. Vacuous if the disk assumption fails, or once the
 -- database is closed.
@@ -105,7 +106,8 @@ pub record AuditPost {S : Type 0} (g : Ghosts S) (old new : Held S) (result : Re
   -- `Ok` is returned only if the rows pass, and `Damaged` only with the first condition that fails.
   -- Vacuous if the disk assumption fails after the call, or if the old database does not satisfy
   -- `StoreNamedTablesMatchThirdSchema`.
-  pub answered : HasCleanDisk (state g new) → StoreNamedTablesMatchThirdSchema g old → AuditAnswerSatisfies result (IsDatabaseAuditResultBySchema third_schema (state g old).now)
+  pub answered : HasCleanDisk (state g new) → StoreNamedTablesMatchThirdSchema g old
+      → AuditAnswerSatisfies result (IsDatabaseAuditResultBySchema third_schema (state g old).now)
   -- `Ok` and `Damaged` are returned only if the database was open.
   pub opened : HasCleanDisk (state g new) → AuditAnswerSatisfies result (λ _. IsTrue (state g old).is_open)
   -- The store holds after the call the rows that it held before, whatever the result.
@@ -123,18 +125,21 @@ pub record AuditPost {S : Type 0} (g : Ghosts S) (old new : Held S) (result : Re
 -- changes or deletes the rows by CASCADE, SET NULL or SET DEFAULT.
 abbrev pub UpgradesPassingRows : Database → Database → Type 0
 UpgradesPassingRows db after =
-    (schema : known.Schema) × (t : Tables) × (passed : StoresRowsWithAuditResult (abstract_schema schema) t db None) × HasDeskTables (sheets (base_of_tables t)) after × PreservesTablesOutside (IsTableOfSchema (abstract_schema schema)) passed.0.0 db after
+    (schema : known.Schema) × (t : Tables) × (passed : StoresRowsWithAuditResult (abstract_schema schema) t db None)
+    × HasDeskTables (sheets (base_of_tables t)) after × PreservesTablesOutside (IsTableOfSchema (abstract_schema schema)) passed.0.0 db after
 
 -- The database `db` contains rows of a schema older than 3 that pass the audit of this schema, and
 -- `trees` are the disk contents of a database that contains the tables of schema 3 with the rows of
 -- the base that these rows determine.
 abbrev pub IsUpgradedDiskContent : Database → Trees → Type 0
-IsUpgradedDiskContent db trees = (schema : known.Schema) × (t : Tables) × (schema ≢ Third) × StoresRowsWithAuditResult (abstract_schema schema) t db None × IsDiskContentOfRows (sheets (base_of_tables t)) trees
+IsUpgradedDiskContent db trees =
+    (schema : known.Schema) × (t : Tables) × (schema ≢ Third) × StoresRowsWithAuditResult (abstract_schema schema) t db None
+    × IsDiskContentOfRows (sheets (base_of_tables t)) trees
 
 -- The postcondition of an adoption: an audit by the conditions of the schema whose desk the
 -- database has and, at `Ok`, a store that holds the rows, converted to schema 3. The clauses with
--- the premise `StoreNamedTablesMatchDeskDefinitions` are vacuous for a database that has all tables of a desk
--- by their names and columns, but with other definitions.
+-- the premise `StoreNamedTablesMatchDeskDefinitions` are vacuous for a database that has all tables
+-- of a desk by their names and columns, but with other definitions.
 pub record AdoptPost {S : Type 0} (g : Ghosts S) (old new : Held S) (result : Result (Unit {0}) Fault) : Type 0 where
   -- `Ok` is returned only if the rows pass, and `Damaged` only with the first condition that fails.
   -- Vacuous if the disk assumption fails after the call, or if the old database does not satisfy
@@ -144,12 +149,15 @@ pub record AdoptPost {S : Type 0} (g : Ghosts S) (old new : Held S) (result : Re
   pub opened : HasCleanDisk (state g new) → AuditAnswerSatisfies result (λ _. IsTrue (state g old).is_open)
   -- At `Ok` the store holds rows that pass the audit of schema 3, with texts in UTF-8. Vacuous if
   -- the old database does not satisfy `StoreNamedTablesMatchDeskDefinitions`.
-  pub adopted : StoreNamedTablesMatchDeskDefinitions g old → OnOk result ((t : Tables) × HoldsRows g new t × PassesAudit third_schema t × IsTrue (has_utf8_texts t))
+  pub adopted : StoreNamedTablesMatchDeskDefinitions g old
+      → OnOk result ((t : Tables) × HoldsRows g new t × PassesAudit third_schema t × IsTrue (has_utf8_texts t))
   -- At `Ok`, if the store is open, it has committed the tables of the base that the old rows
   -- determine.
-  pub upgraded : HasCleanDisk (state g new) → IsTrue (state g new).is_open → StoreNamedTablesMatchDeskDefinitions g old → OnOk result (UpgradesPassingRows (state g old).now (state g new).now × ((state g new).committed ≡ (state g new).now))
+  pub upgraded : HasCleanDisk (state g new) → IsTrue (state g new).is_open → StoreNamedTablesMatchDeskDefinitions g old
+      → OnOk result (UpgradesPassingRows (state g old).now (state g new).now × ((state g new).committed ≡ (state g new).now))
   -- At `Ok` the store is open, unless the database had a desk of schema 3.
-  pub open_after_upgrade : HasCleanDisk (state g new) → StoreNamedTablesMatchDeskDefinitions g old → OnOk result (StoreHasDeskOfThirdSchema g old ⊎ IsTrue (state g new).is_open)
+  pub open_after_upgrade : HasCleanDisk (state g new) → StoreNamedTablesMatchDeskDefinitions g old
+      → OnOk result (StoreHasDeskOfThirdSchema g old ⊎ IsTrue (state g new).is_open)
   -- At an error: if the database is open after the call, it was open before and is unchanged.
   pub same : HasCleanDisk (state g new) → IsTrue (state g new).is_open → OnErr result (WasOpenAndIsUnchanged (state g old) (state g new))
   -- A crash exposes a state that a crash before the call could expose or, if rows of an older

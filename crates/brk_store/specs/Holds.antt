@@ -45,11 +45,11 @@ pub record WasOpenAndIsUnchanged (old new : State) : Type 0 where
   pub now : new.now ≡ old.now
   pub committed : new.committed ≡ old.committed
 
--- The postcondition of a read, which writes nothing. `AuditsByThirdSchema` relates the returned value to the rows
--- that the store holds.
+-- The postcondition of a read, which writes nothing. `AuditsByThirdSchema` relates the returned
+-- value to the rows that the store holds.
 pub record ReadPost {S V E : Type 0} (g : Ghosts S) (old new : Held S) (result : Result V E) (Told : V → Tables → Type 0) : Type 0 where
-  -- A returned value satisfies `AuditsByThirdSchema` with the rows that the store held before the call. Vacuous if
-  -- the disk assumption fails after the call.
+  -- A returned value satisfies `AuditsByThirdSchema` with the rows that the store held before the
+  -- call. Vacuous if the disk assumption fails after the call.
   pub answered : HasCleanDisk (state g new) → IfOk result (λ answer. (t : Tables) → HoldsRows g old t → Told answer t)
   -- A value is returned only if the store was open.
   pub opened : HasCleanDisk (state g new) → OnOk result (IsTrue (state g old).is_open)
@@ -65,17 +65,21 @@ pub record ApplyPost {S V E : Type 0} (g : Ghosts S) (old new : Held S) (result 
   -- At `Ok` the store holds the changed rows.
   pub applied : OnOk result ((t : Tables) → HoldsRows g old t → HoldsRows g new (after t))
   -- At `Ok` the store was open, is open, and has committed its current state.
-  pub opened : HasCleanDisk (state g new) → OnOk result (IsTrue (state g old).is_open × IsTrue (state g new).is_open × ((state g new).committed ≡ (state g new).now))
+  pub opened : HasCleanDisk (state g new)
+      → OnOk result (IsTrue (state g old).is_open × IsTrue (state g new).is_open × ((state g new).committed ≡ (state g new).now))
   -- At `Ok` the database schema is unchanged. The rows of each other table are unchanged too,
   -- unless a foreign key of that table changes or deletes them by CASCADE, SET NULL or SET DEFAULT.
-  pub others : HasCleanDisk (state g new) → OnOk result ((t : Tables) (tree : DeskTable → ℕ) → HasTables desk_tables t tree (state g old).now → PreservesUnrelatedTables tree (state g old).now (state g new).now)
+  pub others : HasCleanDisk (state g new)
+      → OnOk result ((t : Tables) (tree : DeskTable → ℕ) → HasTables desk_tables t tree (state g old).now
+      → PreservesUnrelatedTables tree (state g old).now (state g new).now)
   -- At an error the store holds the rows that it held before.
   pub same_rows_at_error : OnErr result ((t : Tables) → HoldsRows g old t → HoldsRows g new t)
   -- At an error: if the database is open after the call, it was open before and is unchanged.
   pub same : HasCleanDisk (state g new) → IsTrue (state g new).is_open → OnErr result (WasOpenAndIsUnchanged (state g old) (state g new))
   -- A crash exposes a state that a crash before the call could expose, or the changed rows; the
   -- changed rows only if the store was open.
-  pub survives : Survives (state g old) (state g new) (λ trees. IsTrue (state g old).is_open × ((t : Tables) → HasDeskTables t (state g old).now → IsDiskContentOfRows (after t) trees))
+  pub survives : Survives (state g old) (state g new) (λ trees. IsTrue (state g old).is_open
+      × ((t : Tables) → HasDeskTables t (state g old).now → IsDiskContentOfRows (after t) trees))
   -- At `Ok` a crash exposes only the changed rows.
   pub durable : HasCleanDisk (state g new) → OnOk result ((t : Tables) → HoldsRows g old t → CrashStatesSatisfy g new (IsDiskContentOfRows (after t)))
 
@@ -84,7 +88,8 @@ pub record CreatePost {S : Type 0} (g : Ghosts S) (old new : Held S) (result : R
   -- At `Ok` the store holds the tables without rows.
   pub created : OnOk result (HoldsRows g new tables_without_rows)
   -- At `Ok` the store was open, is open, and has committed its current state.
-  pub opened : HasCleanDisk (state g new) → OnOk result (IsTrue (state g old).is_open × IsTrue (state g new).is_open × ((state g new).committed ≡ (state g new).now))
+  pub opened : HasCleanDisk (state g new)
+      → OnOk result (IsTrue (state g old).is_open × IsTrue (state g new).is_open × ((state g new).committed ≡ (state g new).now))
   -- At `Ok` no table with the name of a desk's table existed.
   pub absent : HasCleanDisk (state g new) → OnOk result (has_table_of_desk (state g old).now.schema ≡ false)
   -- At `Ok` each table that existed still exists, with its rows.

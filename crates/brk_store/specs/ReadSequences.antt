@@ -34,7 +34,8 @@ module _ {S : Type 0} {g : Ghosts S} where
   }
 
   -- A call that satisfies `ReadPost` satisfies `IsUnchangedByReads`.
-  pub single_read_changes_nothing : {V E : Type 0} (old new : Held S) (result : _) (Told : _) → ReadPost {V = V} {E = E} g old new result Told → IsUnchangedByReads g old new
+  pub single_read_changes_nothing : {V E : Type 0} (old new : Held S) (result : _) (Told : _) → ReadPost {V = V} {E = E} g old new result Told
+      → IsUnchangedByReads g old new
   single_read_changes_nothing old new result Told r = record { same_rows = r.same_rows; same = r.same; survives = r.survives }
 
 -- No read at all satisfies `IsUnchangedByReads`.

@@ -22,4 +22,6 @@ number_of_rows_read p = p.read
 -- still has to return. The store holds any rows `t` in this sense if the disk assumption fails, or
 -- once it is closed.
 abbrev pub AreRemainingLots : {S : Type 0} → Ghosts S → Pages S Page → List Lot → Type 0
-AreRemainingLots g p ls = (t : Tables) × HoldsRows g p.store.now t × (ls ≡ remaining_page_lots (drop p.page.returned p.page.rows.items) p.ended p.read (lot_rows_in_closing_order p.lifo p.account p.symbol.now t))
+AreRemainingLots g p ls =
+    (t : Tables) × HoldsRows g p.store.now t
+    × (ls ≡ remaining_page_lots (drop p.page.returned p.page.rows.items) p.ended p.read (lot_rows_in_closing_order p.lifo p.account p.symbol.now t))

@@ -41,7 +41,8 @@ IsPrefixOfStoredList {S} {M} g store list first = (t : Tables) → HoldsRows g s
 -- and one at a time. The walk ends after the last record, at an error of the visitor, or at a
 -- fault. `takes` and `stops` relate the visitor before and after it takes a record or returns an
 -- error for it.
-pub record WalkPost {S X M V E : Type 0} (g : Ghosts S) (old new : Held S) (of : X → M) (list : Tables → List M) (takes : V → X → V → Type 0) (stops : V → X → E → V → Type 0)
+pub record WalkPost {S X M V E : Type 0} (g : Ghosts S) (old new : Held S) (of : X → M) (list : Tables → List M) (takes : V → X → V → Type 0)
+    (stops : V → X → E → V → Type 0)
     (before after : V) (result : Result (Unit {0}) (WalkError E)) : Type 0 where
   -- At `Ok` the visitor has taken every record.
   pub all : HasCleanDisk (state g new) → OnOk result (TakesListSatisfying (EqualsStoredList g old list) of takes before after)
@@ -71,6 +72,8 @@ MatchesWalkResult {E} gives (Err (Failed fault)) result = (e : E) × (result ≡
 -- returned an error or the walk failed. The result is `Ok` after the last record, otherwise the
 -- closure's error, or an error that `gives` relates to the fault. The calls satisfy `WalkPost`,
 -- with the closure as the visitor.
-abbrev pub CallsClosureWithEachRecord : {S X M F E : Type 0} → Ghosts S → Held S → Held S → (X → M) → (Tables → List M) → (F → X → Result (Unit {0}) E → F → Type 0) → (Fault → E → Type 0) → F → Result (Unit {0}) E → Type 0
+abbrev pub CallsClosureWithEachRecord : {S X M F E : Type 0} → Ghosts S → Held S → Held S → (X → M) → (Tables → List M)
+    → (F → X → Result (Unit {0}) E → F → Type 0) → (Fault → E → Type 0) → F → Result (Unit {0}) E → Type 0
 CallsClosureWithEachRecord {S} {X} {M} {F} {E} g old new of list called gives call result =
-    (last : F) × (outcome : Result (Unit {0}) (WalkError E)) × WalkPost g old new of list (λ p x q. called p x (Ok tt) q) (λ p x e q. called p x (Err e) q) call last outcome × MatchesWalkResult gives outcome result
+    (last : F) × (outcome : Result (Unit {0}) (WalkError E))
+    × WalkPost g old new of list (λ p x q. called p x (Ok tt) q) (λ p x e q. called p x (Err e) q) call last outcome × MatchesWalkResult gives outcome result

@@ -24,7 +24,8 @@ use sqlite::Alter;
 /// database has (`whole`) and by a given schema (`by`).
 pub fn audit_results_are_unique()
     ensures of_database { (db : Database) (a b : Option Condition) → IsDatabaseAuditResult db a → IsDatabaseAuditResult db b → a ≡ b }
-    ensures by_schema { (schema : Schema) (db : Database) (a b : Option Condition) → IsDatabaseAuditResultBySchema (abstract_schema schema) db a → IsDatabaseAuditResultBySchema (abstract_schema schema) db b → a ≡ b }
+    ensures by_schema { (schema : Schema) (db : Database) (a b : Option Condition) → IsDatabaseAuditResultBySchema (abstract_schema schema) db a
+        → IsDatabaseAuditResultBySchema (abstract_schema schema) db b → a ≡ b }
 {}
 
 /// Proves that a store that holds the tables of schema 3 with any rows satisfies the premise of an
@@ -39,9 +40,11 @@ pub fn stores_with_rows_have_desk_definitions<S: Alter>()
 /// store represents a base (`books`). Vacuous if the audit fails with `Memory` or `Store`.
 pub fn audits_return_result_for_stored_rows<S: Alter>()
     ensures rows { (old new : Held S) (result : Result (Unit {0}) Fault) (t : Tables)
-        → AuditPost S.Store old new result → HoldsRows S.Store old t → IsTrue (has_utf8_texts t) → HasCleanDisk (state S.Store new) → AuditAnswerSatisfies result (IsAuditResult third_schema t) }
+        → AuditPost S.Store old new result → HoldsRows S.Store old t → IsTrue (has_utf8_texts t) → HasCleanDisk (state S.Store new)
+        → AuditAnswerSatisfies result (IsAuditResult third_schema t) }
     ensures books { (old new : Held S) (result : Result (Unit {0}) Fault) (base : Base)
-        → AuditPost S.Store old new result → Represents S.Store old base → HasCleanDisk (state S.Store new) → AuditAnswerSatisfies result (λ answer. answer ≡ None) }
+        → AuditPost S.Store old new result → Represents S.Store old base → HasCleanDisk (state S.Store new)
+        → AuditAnswerSatisfies result (λ answer. answer ≡ None) }
 {}
 
 /// Proves that an adoption of a database that holds rows of schema 3 satisfies the postcondition of
@@ -54,15 +57,19 @@ pub fn adoption_of_third_schema_is_audit<S: Alter>()
 /// Proves that a store represents the base that its rows determine, if these pass the audit of
 /// schema 3 and their texts are UTF-8 (`rows`).
 ///
-/// `adopted`: a store that was adopted under the premise `StoreNamedTablesMatchDeskDefinitions` represents
-/// some base.
+/// `adopted`: a store that was adopted under the premise `StoreNamedTablesMatchDeskDefinitions`
+/// represents some base.
 ///
 /// `found`: if this store is open, then under the disk assumption the old database contained rows
 /// of some schema that pass their audit, and the store represents the base that these rows
 /// determine.
 pub fn adopted_stores_represent_a_base<S: Alter>()
-    ensures rows { (store : Held S) (t : Tables) → HoldsRows S.Store store t → PassesAudit third_schema t → IsTrue (has_utf8_texts t) → Represents S.Store store (base_of_tables t) }
-    ensures adopted { (old new : Held S) → AdoptPost S.Store old new (Ok tt) → StoreNamedTablesMatchDeskDefinitions S.Store old → (base : Base) × Represents S.Store new base }
-    ensures base_of_old_rows { (old new : Held S) → AdoptPost S.Store old new (Ok tt) → StoreNamedTablesMatchDeskDefinitions S.Store old → HasCleanDisk (state S.Store new) → IsTrue (state S.Store new).is_open
-        → (schema : Schema) × (rows : Tables) × StoresRowsWithAuditResult (abstract_schema schema) rows (state S.Store old).now None × Represents S.Store new (base_of_tables rows) }
+    ensures rows { (store : Held S) (t : Tables) → HoldsRows S.Store store t → PassesAudit third_schema t → IsTrue (has_utf8_texts t)
+        → Represents S.Store store (base_of_tables t) }
+    ensures adopted { (old new : Held S) → AdoptPost S.Store old new (Ok tt) → StoreNamedTablesMatchDeskDefinitions S.Store old
+        → (base : Base) × Represents S.Store new base }
+    ensures base_of_old_rows { (old new : Held S) → AdoptPost S.Store old new (Ok tt) → StoreNamedTablesMatchDeskDefinitions S.Store old
+        → HasCleanDisk (state S.Store new) → IsTrue (state S.Store new).is_open
+        → (schema : Schema) × (rows : Tables) × StoresRowsWithAuditResult (abstract_schema schema) rows (state S.Store old).now None
+        × Represents S.Store new (base_of_tables rows) }
 {}

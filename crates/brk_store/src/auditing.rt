@@ -29,7 +29,9 @@ pub(crate) fn audit_rows_of_schema<S: Alter>(
     schema: Schema,
 ) -> Result<Option<Condition>, Fault>
     ensures same_reference { tx.new.conn.ghost_name ≡ tx.old.conn.ghost_name }
-    ensures step { IsConnectionStep S.Store tx.old tx.new result (λ answer a b. IsTrue a.is_open × (b.now ≡ a.now) × (NamedTablesMatchSchemaDefinitions (abstract_schema schema) a.now → HasDeskOfSchema (abstract_schema schema) a.now → IsDatabaseAuditResultBySchema (abstract_schema schema) a.now answer)) }
+    ensures step { IsConnectionStep S.Store tx.old tx.new result (λ answer a b. IsTrue a.is_open × (b.now ≡ a.now)
+        × (NamedTablesMatchSchemaDefinitions (abstract_schema schema) a.now → HasDeskOfSchema (abstract_schema schema) a.now
+        → IsDatabaseAuditResultBySchema (abstract_schema schema) a.now answer)) }
     ensures condition { IfOk result (λ answer. answer ≢ Some NotEmpty) }
     ensures fault { IfErr result IsCallFault }
 {
@@ -47,7 +49,8 @@ fn first_failing_condition<S: Alter>(
     alloc: Global,
 ) -> Result<Option<Condition>, Fault>
     ensures same_reference { tx.new.conn.ghost_name ≡ tx.old.conn.ghost_name }
-    ensures step { IsConnectionStep S.Store tx.old tx.new result (λ answer a b. IsTrue a.is_open × (b.now ≡ a.now) × (NamedTablesMatchSchemaDefinitions third_schema a.now → IsDatabaseAuditResultBySchema third_schema a.now answer)) }
+    ensures step { IsConnectionStep S.Store tx.old tx.new result (λ answer a b. IsTrue a.is_open × (b.now ≡ a.now)
+        × (NamedTablesMatchSchemaDefinitions third_schema a.now → IsDatabaseAuditResultBySchema third_schema a.now answer)) }
     ensures condition { IfOk result (λ answer. answer ≢ Some NotEmpty) }
     ensures fault { IfErr result IsCallFault }
 {
@@ -82,9 +85,9 @@ impl<S: Alter> Store<S> {
     ///
     /// A crash exposes only states that a crash before the call could expose.
     ///
-    /// The result is specified only if the database satisfies `StoreNamedTablesMatchThirdSchema`: if it
-    /// has all tables of schema 3, by their names and columns, these have the definitions of the
-    /// desk's tables. Every store that holds rows satisfies this premise
+    /// The result is specified only if the database satisfies `StoreNamedTablesMatchThirdSchema`:
+    /// if it has all tables of schema 3, by their names and columns, these have the definitions of
+    /// the desk's tables. Every store that holds rows satisfies this premise
     /// (`stores_with_rows_have_desk_definitions`).
     pub fn audit(&mut self, alloc: Global) -> Result<(), Fault>
         ensures audited { AuditPost S.Store self.old self.new result }

@@ -52,8 +52,8 @@ impl<S: Alter> Store<S> {
         brk_tables_cash::cash_row_with_greatest_number(&mut tx)
     }
 
-    // Returns true if there are at least `GREATEST_MOVEMENT_COUNT` deposits and withdrawals. The time grows
-    // with the number of cash rows. Changes nothing. Fails with `Store` only.
+    // Returns true if there are at least `GREATEST_MOVEMENT_COUNT` deposits and withdrawals. The
+    // time grows with the number of cash rows. Changes nothing. Fails with `Store` only.
     fn has_maximum_movements_by_count(&mut self) -> Result<bool, Fault>
         ensures read { ReadPost S.Store self.old self.new result (λ all t. all ≡ nat_le greatest_id (length (filter (λ r. is_none r.trade) t.moves))) }
         ensures fault { OnErr result (result ≡ Err fault.Store) }
@@ -86,8 +86,8 @@ impl<S: Alter> Store<S> {
         ensures fault { OnErr result (result ≡ Err fault.Store) }
     {
         let next = self.next_cash_row_number()?;
-        // If the next number is below `GREATEST_MOVEMENT_COUNT`, there are fewer movements than that, so they
-        // are not counted.
+        // If the next number is below `GREATEST_MOVEMENT_COUNT`, there are fewer movements than
+        // that, so they are not counted.
         if next.get() < GREATEST_MOVEMENT_COUNT {
             return Ok(false);
         }

@@ -53,7 +53,9 @@ fn apply_change<S: Alter>(tx: &mut Transaction<'_, S>, change: &Change) -> Resul
         Change::RemoveLot(trade) => brk_tables_trading::remove_lot(tx, *trade),
         Change::AddLotChange(made) => brk_tables_trading::add_lot_change(tx, made),
         Change::AddSummary(summary) => brk_tables_trading::add_holding_summary(tx, summary),
-        Change::SetSummary(summary) => brk_tables_trading::set_holding_summary_quantity(tx, summary),
+        Change::SetSummary(summary) => brk_tables_trading::set_holding_summary_quantity(
+            tx, summary,
+        ),
         Change::RemoveSummary { account, symbol } => brk_tables_trading::remove_holding_summary(
             tx, *account, symbol,
         ),

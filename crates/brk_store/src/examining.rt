@@ -31,7 +31,8 @@ pub enum AuditResult {
 // `NamedTablesMatchDeskDefinitions`.
 fn schema_of_database<S: Alter>(tx: &mut Transaction<'_, S>) -> Result<Option<Schema>, Fault>
     ensures same_reference { tx.new.conn.ghost_name ≡ tx.old.conn.ghost_name }
-    ensures step { IsConnectionStep S.Store tx.old tx.new result (λ found a b. IsTrue a.is_open × (b.now ≡ a.now) × (NamedTablesMatchDeskDefinitions a.now → IsSchemaOfDatabase found a.now)) }
+    ensures step { IsConnectionStep S.Store tx.old tx.new result (λ found a b. IsTrue a.is_open × (b.now ≡ a.now)
+        × (NamedTablesMatchDeskDefinitions a.now → IsSchemaOfDatabase found a.now)) }
     ensures fault { OnErr result (result ≡ Err fault.Store) }
 {
     if has_desk_of_schema(tx, Schema::Third)? {
@@ -55,7 +56,8 @@ pub(crate) fn audit_by_own_schema<S: Alter>(
     alloc: Global,
 ) -> Result<AuditResult, Fault>
     ensures same_reference { tx.new.conn.ghost_name ≡ tx.old.conn.ghost_name }
-    ensures step { IsConnectionStep S.Store tx.old tx.new result (λ examined a b. IsTrue a.is_open × (b.now ≡ a.now) × (NamedTablesMatchDeskDefinitions a.now → IsTrueAuditResult examined a.now)) }
+    ensures step { IsConnectionStep S.Store tx.old tx.new result (λ examined a b. IsTrue a.is_open × (b.now ≡ a.now)
+        × (NamedTablesMatchDeskDefinitions a.now → IsTrueAuditResult examined a.now)) }
     ensures condition { IfOk result (λ examined. examined ≢ told.Fails NotEmpty) }
     ensures fault { IfErr result IsCallFault }
 {

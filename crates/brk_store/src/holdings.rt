@@ -26,7 +26,9 @@ impl<S: Alter> Store<S> {
         symbol: &Symbol,
     ) -> Result<Vec<Id>, Fault>
         ensures read { ReadPost S.Store self.old self.new result (λ all t.
-            all.items ≡ map (λ r. r.id) (trade_rows_oldest_first (filter (λ r. (r.account == account) && (bytes_eq r.symbol symbol.now && is_same_trade_status r.status Completed)) t.trades))) }
+            all.items
+            ≡ map (λ r. r.id) (trade_rows_oldest_first (filter (λ r. (r.account == account)
+            && (bytes_eq r.symbol symbol.now && is_same_trade_status r.status Completed)) t.trades))) }
         ensures fault { IfErr result IsCallFault }
     {
         let mut tx = begin_transaction(&mut self.conn);

@@ -25,7 +25,8 @@ impl<S: Alter> Store<S> {
         alloc: Global,
         account: Id,
     ) -> Result<Vec<TradeRow>, Fault>
-        ensures read { ReadPost S.Store self.old self.new result (λ all t. map abstract_trade_row all.items ≡ take 10 (trade_rows_recent_first (trade_rows_of_account t account))) }
+        ensures read { ReadPost S.Store self.old self.new result (λ all t. map abstract_trade_row all.items
+            ≡ take 10 (trade_rows_recent_first (trade_rows_of_account t account))) }
         ensures fault { IfErr result IsCallFault }
     {
         let mut tx = begin_transaction(&mut self.conn);
@@ -39,7 +40,8 @@ impl<S: Alter> Store<S> {
         alloc: Global,
         account: Id,
     ) -> Result<Vec<TradeRow>, Fault>
-        ensures read { ReadPost S.Store self.old self.new result (λ all t. map abstract_trade_row all.items ≡ take 50 (trade_rows_recent_first (trade_rows_of_account t account))) }
+        ensures read { ReadPost S.Store self.old self.new result (λ all t. map abstract_trade_row all.items
+            ≡ take 50 (trade_rows_recent_first (trade_rows_of_account t account))) }
         ensures fault { IfErr result IsCallFault }
     {
         let mut tx = begin_transaction(&mut self.conn);

@@ -28,11 +28,14 @@ impl<S: Alter> Store<S> {
         account: Id,
         span: Span,
     ) -> Result<Vec<TradeRow>, Fault>
-        ensures read { ReadPost S.Store self.old self.new result (λ all t. map abstract_trade_row all.items ≡ take 20 (trade_rows_oldest_first (filter (λ r. (r.account == account) && row_stamp_is_between span.first span.last r) t.trades))) }
+        ensures read { ReadPost S.Store self.old self.new result (λ all t. map abstract_trade_row all.items
+            ≡ take 20 (trade_rows_oldest_first (filter (λ r. (r.account == account) && row_stamp_is_between span.first span.last r) t.trades))) }
         ensures fault { IfErr result IsCallFault }
     {
         let mut tx = begin_transaction(&mut self.conn);
-        brk_tables_views::first_twenty_trades_of_account(&mut tx, alloc, account, span.first, span.last)
+        brk_tables_views::first_twenty_trades_of_account(
+            &mut tx, alloc, account, span.first, span.last,
+        )
     }
 
     /// Returns the first twenty trades of a symbol whose stamps are in a span, both ends included,
@@ -43,11 +46,14 @@ impl<S: Alter> Store<S> {
         symbol: &Symbol,
         span: Span,
     ) -> Result<Vec<TradeRow>, Fault>
-        ensures read { ReadPost S.Store self.old self.new result (λ all t. map abstract_trade_row all.items ≡ take 20 (trade_rows_oldest_first (filter (λ r. bytes_eq r.symbol symbol.now && row_stamp_is_between span.first span.last r) t.trades))) }
+        ensures read { ReadPost S.Store self.old self.new result (λ all t. map abstract_trade_row all.items
+            ≡ take 20 (trade_rows_oldest_first (filter (λ r. bytes_eq r.symbol symbol.now && row_stamp_is_between span.first span.last r) t.trades))) }
         ensures fault { IfErr result IsCallFault }
     {
         let mut tx = begin_transaction(&mut self.conn);
-        brk_tables_views::first_twenty_trades_of_symbol(&mut tx, alloc, symbol, span.first, span.last)
+        brk_tables_views::first_twenty_trades_of_symbol(
+            &mut tx, alloc, symbol, span.first, span.last,
+        )
     }
 
     /// Returns the first trade of an account, sorted by stamp and then by id, whose stamp is
@@ -57,7 +63,8 @@ impl<S: Alter> Store<S> {
         account: Id,
         first: Stamp,
     ) -> Result<Option<TradeRow>, Fault>
-        ensures read { ReadPost S.Store self.old self.new result (λ o t. option_to_list (option_map abstract_trade_row o) ≡ take 1 (trade_rows_oldest_first (filter (λ r. nat_le first r.stamp) (trade_rows_of_account t account)))) }
+        ensures read { ReadPost S.Store self.old self.new result (λ o t. option_to_list (option_map abstract_trade_row o)
+            ≡ take 1 (trade_rows_oldest_first (filter (λ r. nat_le first r.stamp) (trade_rows_of_account t account)))) }
         ensures fault { OnErr result (result ≡ Err fault.Store) }
     {
         let mut tx = begin_transaction(&mut self.conn);

@@ -79,7 +79,8 @@ fn read_page<S: Alter>(
     lifo: bool,
     skipped: u32,
 ) -> Result<Vec<HoldingRow>, Fault>
-    ensures read { ReadPost S.Store store.old store.new result (λ all t. map abstract_holding_row all.items ≡ page_after_skipped skipped (lot_rows_in_closing_order lifo account symbol.now t)) }
+    ensures read { ReadPost S.Store store.old store.new result (λ all t. map abstract_holding_row all.items
+        ≡ page_after_skipped skipped (lot_rows_in_closing_order lifo account symbol.now t)) }
     ensures fault { IfErr result IsCallFault }
 {
     if lifo {
@@ -107,7 +108,8 @@ fn read_valid_page<S: Alter>(
     lifo: bool,
     skipped: u32,
 ) -> Result<Vec<HoldingRow>, Fault>
-    ensures read { ReadPost S.Store store.old store.new result (λ all t. map abstract_holding_row all.items ≡ page_after_skipped skipped (lot_rows_in_closing_order lifo account symbol.now t)) }
+    ensures read { ReadPost S.Store store.old store.new result (λ all t. map abstract_holding_row all.items
+        ≡ page_after_skipped skipped (lot_rows_in_closing_order lifo account symbol.now t)) }
     ensures few { IfOk result (λ all. length all.items ≤ page_size) }
     ensures some_shares { IfOk result (λ all. All (λ r. r.qty ≢ pos 0) all.items) }
     ensures fault { IfErr result IsCallFault }
@@ -156,7 +158,8 @@ impl<S: Alter> Store<S> {
     ) -> LotPages<'a, S>
         ensures same_reference { (borrowed_store result).ghost_name ≡ self.entry.ghost_name }
         ensures same { (borrowed_store result).now ≡ self.old }
-        ensures remaining { (t : Tables) → HoldsRows S.Store self.old t → ⟦<Pages<'static, S, Page> as LotSource>⟧.remaining result (list_in_closing_order lifo (lots_of_position t account symbol.now)) }
+        ensures remaining { (t : Tables) → HoldsRows S.Store self.old t
+            → ⟦<Pages<'static, S, Page> as LotSource>⟧.remaining result (list_in_closing_order lifo (lots_of_position t account symbol.now)) }
         ensures asked { ⟦<Pages<'static, S, Page> as LotSource>⟧.asked result ≡ 0 }
         ensures unread { number_of_rows_read result ≡ 0 }
     {
@@ -210,7 +213,8 @@ impl<S: Alter> Pages<'_, S, Page> {
         ensures same { self.new ≡ record self.old { store = self.new.store; read = self.new.read } }
         ensures store { IsUnchangedByReads S.Store self.old.store.now self.new.store.now }
         ensures rows { HasCleanDisk (state S.Store self.new.store.now) → IfOk result (λ page. (t : Tables) → HoldsRows S.Store self.old.store.now t →
-            map abstract_holding_row page.items ≡ page_after_skipped self.old.read (lot_rows_in_closing_order self.old.lifo self.old.account self.old.symbol.now t)) }
+            map abstract_holding_row page.items
+            ≡ page_after_skipped self.old.read (lot_rows_in_closing_order self.old.lifo self.old.account self.old.symbol.now t)) }
         ensures counted { IfOk result (λ page. self.new.read ≡ self.old.read + length page.items) }
         ensures count_at_error { OnErr result (self.new.read ≡ self.old.read) }
         ensures few { IfOk result (λ page. length page.items ≤ page_size) }
@@ -239,7 +243,8 @@ impl<S: Alter> Pages<'_, S, Page> {
         ensures same_reference { self.new.store.ghost_name ≡ self.old.store.ghost_name }
         ensures store { IsUnchangedByReads S.Store self.old.store.now self.new.store.now }
         ensures first_lot { IfOk result (λ given. HasCleanDisk (state S.Store self.new.store.now) → (ls : List TheLot) → AreRemainingLots S.Store self.old ls →
-            MatchOption given ((ls ≡ []) × AreRemainingLots S.Store self.new []) (λ lot. (more : List TheLot) × (ls ≡ lot ∷ more) × AreRemainingLots S.Store self.new more)) }
+            MatchOption given ((ls ≡ []) × AreRemainingLots S.Store self.new []) (λ lot. (more : List TheLot) × (ls ≡ lot ∷ more)
+            × AreRemainingLots S.Store self.new more)) }
         ensures some_shares { IfOk result (λ given. IfSome given (λ lot. lot.qty ≢ pos 0)) }
         ensures remaining_at_error { IfErr result (λ _. (ls : List TheLot) → AreRemainingLots S.Store self.old ls → AreRemainingLots S.Store self.new ls) }
         ensures asked { self.new.read - (length self.new.page.rows.items - self.new.page.returned) ≤ self.old.read + 1 }

@@ -70,7 +70,11 @@ impl<S: Alter> Store<S> {
 
     /// Returns the accounts of a customer, sorted by id, ascending. Changes nothing. Fails with
     /// `Memory` or `Store`.
-    pub fn accounts_of_customer(&mut self, alloc: Global, customer: Id) -> Result<Vec<AccountRow>, Fault>
+    pub fn accounts_of_customer(
+        &mut self,
+        alloc: Global,
+        customer: Id,
+    ) -> Result<Vec<AccountRow>, Fault>
         ensures read { ReadPost S.Store self.old self.new result (AreMatchingRows Accounts abstract_account_row (λ r. r.customer == customer)) }
         ensures fault { IfErr result IsCallFault }
     {
@@ -81,7 +85,8 @@ impl<S: Alter> Store<S> {
     /// Returns the row of KEPT under `key`, which has the stored request and the stored reply, or
     /// `None` if there is none. Changes nothing. Fails with `Store` only.
     pub fn stored_reply_by_key(&mut self, key: &Key) -> Result<Option<Kept>, Fault>
-        ensures read { ReadPost S.Store self.old self.new result (IsFirstMatch KeptRows abstract_kept_row (λ k. bytes_eq k.key.batch key.now.batch && (k.key.row == key.now.row))) }
+        ensures read { ReadPost S.Store self.old self.new result (IsFirstMatch KeptRows abstract_kept_row (λ k. bytes_eq k.key.batch key.now.batch
+            && (k.key.row == key.now.row))) }
         ensures fault { OnErr result (result ≡ Err fault.Store) }
     {
         let mut tx = begin_transaction(&mut self.conn);

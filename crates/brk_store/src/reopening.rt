@@ -14,12 +14,14 @@ use sqlite::Alter;
 /// Proves that a connection to a database whose disk contents (`trees`) have the rows `t` holds
 /// these rows.
 pub fn connection_holds_rows_of_disk_content<S: Alter>()
-    ensures { (t : Tables) (trees : Trees) (conn : Held S) → IsDiskContentOfRows t trees → IsConnectionToDiskContent S.Store trees conn → HoldsRows S.Store conn t }
+    ensures { (t : Tables) (trees : Trees) (conn : Held S) → IsDiskContentOfRows t trees → IsConnectionToDiskContent S.Store trees conn
+        → HoldsRows S.Store conn t }
 {}
 
 /// Proves that a crash of an open store exposes only the disk contents of its last commit.
 pub fn crash_of_open_store_exposes_last_commit<S: Alter>()
-    ensures { (store : Held S) → IsTrue (state S.Store store).is_open → CrashStatesSatisfy S.Store store (λ trees. trees ≡ (state S.Store store).committed.trees) }
+    ensures { (store : Held S) → IsTrue (state S.Store store).is_open
+        → CrashStatesSatisfy S.Store store (λ trees. trees ≡ (state S.Store store).committed.trees) }
 {}
 
 /// Proves that a store in memory is open and satisfies the disk assumption, always.

@@ -24,7 +24,8 @@ impl<S: Alter> Store<S> {
     /// Returns the permission of an account for a tax id, or `None` if there is none. Changes
     /// nothing. Fails with `Store` only.
     pub fn permission(&mut self, account: Id, tax_id: &TaxId) -> Result<Option<Permission>, Fault>
-        ensures read { ReadPost S.Store self.old self.new result (IsFirstMatch Permissions abstract_permission (λ r. (r.account == account) && bytes_eq r.tax_id tax_id.now)) }
+        ensures read { ReadPost S.Store self.old self.new result (IsFirstMatch Permissions abstract_permission (λ r. (r.account == account)
+            && bytes_eq r.tax_id tax_id.now)) }
         ensures fault { OnErr result (result ≡ Err fault.Store) }
     {
         let mut tx = begin_transaction(&mut self.conn);
@@ -44,7 +45,8 @@ impl<S: Alter> Store<S> {
     /// Returns the charge of a trade type and a tier, or `None` if there is none. Changes nothing.
     /// Fails with `Store` only.
     pub fn charge(&mut self, kind: TradeType, tier: Tier) -> Result<Option<Charge>, Fault>
-        ensures read { ReadPost S.Store self.old self.new result (IsFirstMatch Charges abstract_charge (λ r. is_same_trade_type r.kind kind && (r.tier == tier))) }
+        ensures read { ReadPost S.Store self.old self.new result (IsFirstMatch Charges abstract_charge (λ r. is_same_trade_type r.kind kind
+            && (r.tier == tier))) }
         ensures fault { OnErr result (result ≡ Err fault.Store) }
     {
         let mut tx = begin_transaction(&mut self.conn);
@@ -60,7 +62,8 @@ impl<S: Alter> Store<S> {
         kind: TradeType,
         exchange: &Exchange,
     ) -> Result<Vec<Band>, Fault>
-        ensures read { ReadPost S.Store self.old self.new result (AreMatchingRows Bands abstract_band (λ r. (r.tier == tier) && is_same_trade_type r.kind kind && bytes_eq r.exchange exchange.now)) }
+        ensures read { ReadPost S.Store self.old self.new result (AreMatchingRows Bands abstract_band (λ r. (r.tier == tier) && is_same_trade_type r.kind kind
+            && bytes_eq r.exchange exchange.now)) }
         ensures fault { IfErr result IsCallFault }
     {
         let mut tx = begin_transaction(&mut self.conn);
@@ -80,7 +83,8 @@ impl<S: Alter> Store<S> {
     /// Returns the row of a customer and a tax, or `None` if the customer does not pay the tax.
     /// Changes nothing. Fails with `Store` only.
     pub fn customer_tax(&mut self, customer: Id, tax: Id) -> Result<Option<CustomerTax>, Fault>
-        ensures read { ReadPost S.Store self.old self.new result (IsFirstMatch CustomerTaxes abstract_customer_tax (λ r. (r.customer == customer) && (r.tax == tax))) }
+        ensures read { ReadPost S.Store self.old self.new result (IsFirstMatch CustomerTaxes abstract_customer_tax (λ r. (r.customer == customer)
+            && (r.tax == tax))) }
         ensures fault { OnErr result (result ≡ Err fault.Store) }
     {
         let mut tx = begin_transaction(&mut self.conn);

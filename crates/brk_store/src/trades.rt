@@ -62,7 +62,8 @@ impl<S: Alter> Store<S> {
         kind: TradeType,
         price: Price,
     ) -> Result<Vec<RequestRow>, Fault>
-        ensures read { ReadPost S.Store self.old self.new result (AreMatchingRows Requests abstract_request_row (λ r. bytes_eq r.symbol symbol.now && (is_same_trade_type r.kind kind && nat_le price r.bid))) }
+        ensures read { ReadPost S.Store self.old self.new result (AreMatchingRows Requests abstract_request_row (λ r. bytes_eq r.symbol symbol.now
+            && (is_same_trade_type r.kind kind && nat_le price r.bid))) }
         ensures fault { IfErr result IsCallFault }
     {
         let mut tx = begin_transaction(&mut self.conn);
@@ -78,7 +79,8 @@ impl<S: Alter> Store<S> {
         kind: TradeType,
         price: Price,
     ) -> Result<Vec<RequestRow>, Fault>
-        ensures read { ReadPost S.Store self.old self.new result (AreMatchingRows Requests abstract_request_row (λ r. bytes_eq r.symbol symbol.now && (is_same_trade_type r.kind kind && nat_le r.bid price))) }
+        ensures read { ReadPost S.Store self.old self.new result (AreMatchingRows Requests abstract_request_row (λ r. bytes_eq r.symbol symbol.now
+            && (is_same_trade_type r.kind kind && nat_le r.bid price))) }
         ensures fault { IfErr result IsCallFault }
     {
         let mut tx = begin_transaction(&mut self.conn);
@@ -105,7 +107,8 @@ impl<S: Alter> Store<S> {
         symbol: &Symbol,
         skipped: u32,
     ) -> Result<Vec<HoldingRow>, Fault>
-        ensures read { ReadPost S.Store self.old self.new result (λ all t. map abstract_holding_row all.items ≡ page_after_skipped skipped (position_lots_by_age account symbol.now t)) }
+        ensures read { ReadPost S.Store self.old self.new result (λ all t. map abstract_holding_row all.items
+            ≡ page_after_skipped skipped (position_lots_by_age account symbol.now t)) }
         ensures fault { IfErr result IsCallFault }
     {
         let mut tx = begin_transaction(&mut self.conn);
@@ -122,7 +125,8 @@ impl<S: Alter> Store<S> {
         symbol: &Symbol,
         skipped: u32,
     ) -> Result<Vec<HoldingRow>, Fault>
-        ensures read { ReadPost S.Store self.old self.new result (λ all t. map abstract_holding_row all.items ≡ page_after_skipped skipped (reverse (position_lots_by_age account symbol.now t))) }
+        ensures read { ReadPost S.Store self.old self.new result (λ all t. map abstract_holding_row all.items
+            ≡ page_after_skipped skipped (reverse (position_lots_by_age account symbol.now t))) }
         ensures fault { IfErr result IsCallFault }
     {
         let mut tx = begin_transaction(&mut self.conn);
@@ -131,7 +135,11 @@ impl<S: Alter> Store<S> {
 
     /// Returns the summaries of an account, sorted by symbol, ascending. Changes nothing. Fails
     /// with `Memory` or `Store`.
-    pub fn summaries_of_account(&mut self, alloc: Global, account: Id) -> Result<Vec<SummaryRow>, Fault>
+    pub fn summaries_of_account(
+        &mut self,
+        alloc: Global,
+        account: Id,
+    ) -> Result<Vec<SummaryRow>, Fault>
         ensures read { ReadPost S.Store self.old self.new result (AreMatchingRows Summaries abstract_summary_row (λ r. r.account == account)) }
         ensures fault { IfErr result IsCallFault }
     {
@@ -141,8 +149,13 @@ impl<S: Alter> Store<S> {
 
     /// Returns the summary of an account in a security, or `None` if there is none. Changes
     /// nothing. Fails with `Store` only.
-    pub fn summary_of_position(&mut self, account: Id, symbol: &Symbol) -> Result<Option<SummaryRow>, Fault>
-        ensures read { ReadPost S.Store self.old self.new result (IsFirstMatch Summaries abstract_summary_row (λ r. (r.account == account) && bytes_eq r.symbol symbol.now)) }
+    pub fn summary_of_position(
+        &mut self,
+        account: Id,
+        symbol: &Symbol,
+    ) -> Result<Option<SummaryRow>, Fault>
+        ensures read { ReadPost S.Store self.old self.new result (IsFirstMatch Summaries abstract_summary_row (λ r. (r.account == account)
+            && bytes_eq r.symbol symbol.now)) }
         ensures fault { OnErr result (result ≡ Err fault.Store) }
     {
         let mut tx = begin_transaction(&mut self.conn);

@@ -28,11 +28,14 @@ impl<S: Alter> Store<S> {
         account: Id,
         span: Span,
     ) -> Result<Vec<TradeRow>, Fault>
-        ensures read { ReadPost S.Store self.old self.new result (λ all t. map abstract_trade_row all.items ≡ chosen.first_twenty_completed_trade_rows_of_account account span.first span.last t) }
+        ensures read { ReadPost S.Store self.old self.new result (λ all t. map abstract_trade_row all.items
+            ≡ chosen.first_twenty_completed_trade_rows_of_account account span.first span.last t) }
         ensures fault { IfErr result IsCallFault }
     {
         let mut tx = begin_transaction(&mut self.conn);
-        brk_tables_trading::first_twenty_completed_trades_of_account(&mut tx, alloc, account, span.first, span.last)
+        brk_tables_trading::first_twenty_completed_trades_of_account(
+            &mut tx, alloc, account, span.first, span.last,
+        )
     }
 
     /// Returns the first twenty cash trades of a symbol that were completed in a span, both ends
@@ -43,11 +46,14 @@ impl<S: Alter> Store<S> {
         symbol: &Symbol,
         span: Span,
     ) -> Result<Vec<TradeRow>, Fault>
-        ensures read { ReadPost S.Store self.old self.new result (λ all t. map abstract_trade_row all.items ≡ chosen.first_twenty_completed_cash_trade_rows_of_symbol symbol.now span.first span.last t) }
+        ensures read { ReadPost S.Store self.old self.new result (λ all t. map abstract_trade_row all.items
+            ≡ chosen.first_twenty_completed_cash_trade_rows_of_symbol symbol.now span.first span.last t) }
         ensures fault { IfErr result IsCallFault }
     {
         let mut tx = begin_transaction(&mut self.conn);
-        brk_tables_trading::first_twenty_completed_cash_trades_of_symbol(&mut tx, alloc, symbol, span.first, span.last)
+        brk_tables_trading::first_twenty_completed_cash_trades_of_symbol(
+            &mut tx, alloc, symbol, span.first, span.last,
+        )
     }
 
     /// Returns the settlement of a trade, or `None` if it has none. Changes nothing. Fails with

@@ -36,7 +36,13 @@ impl<S: Alter> Store<S> {
         ensures leads { V.leads visitor.old visitor.new }
         ensures walked { WalkPost S.Store self.old self.new abstract_move_row (cash_rows_in_span account from to) V.takes V.stops visitor.old visitor.new result }
     {
-        brk_tables_walks::walk_cash_rows_of_account::<S, E, V>(&mut self.conn, account, from, to, visitor)
+        brk_tables_walks::walk_cash_rows_of_account::<S, E, V>(
+            &mut self.conn,
+            account,
+            from,
+            to,
+            visitor,
+        )
     }
 
     /// Passes the lots of an account to a visitor, sorted by symbol, then by opening stamp. Returns

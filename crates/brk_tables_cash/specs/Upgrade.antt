@@ -15,4 +15,6 @@ tables_without_cash_transactions t = record t { cash = [] }
 -- are unchanged, unless a foreign key of their own writes their rows. Vacuous if `old` does not
 -- contain all these tables.
 abbrev pub SetsSchemaNumberToThree : Database → Database → Type 0
-SetsSchemaNumberToThree old new = (schema : Schema) (t : Tables) (tree : DeskTable → ℕ) → HasTables (desk_tables_of_schema schema) t tree old → HasTables desk_tables t tree new × PreservesUnrelatedTables tree old new
+SetsSchemaNumberToThree old new =
+    (schema : Schema) (t : Tables) (tree : DeskTable → ℕ) → HasTables (desk_tables_of_schema schema) t tree old
+    → HasTables desk_tables t tree new × PreservesUnrelatedTables tree old new

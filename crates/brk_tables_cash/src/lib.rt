@@ -7,6 +7,9 @@ pub mod moves;
 pub mod rule;
 pub mod upgrade;
 
-pub use moves::{add_cash_row, cash_row_by_trade, has_maximum_movements, cash_row_with_greatest_number, set_cash_row_name};
+pub use moves::{
+    add_cash_row, cash_row_by_trade, cash_row_with_greatest_number, has_maximum_movements,
+    set_cash_row_name,
+};
 pub use rule::{set_settlement_day, settlement_day};
 pub use upgrade::{remove_cash_transactions, set_schema_number_to_three};

@@ -14,7 +14,8 @@ use brk_money::{Fault, Id};
 use brk_tables_schema::calls::{execute_statement, select_rows};
 use brk_tables_schema::record::decode_first_row;
 use brk_tables_schema::values::{
-    cents_as_parameter, id_as_parameter, optional_id_as_parameter, cash_row_id_as_parameter, integer_as_parameter, stamp_as_parameter, text_as_parameter,
+    cash_row_id_as_parameter, cents_as_parameter, id_as_parameter, integer_as_parameter,
+    optional_id_as_parameter, stamp_as_parameter, text_as_parameter,
 };
 use sqlite::{Alter, Transaction};
 
@@ -40,7 +41,9 @@ pub fn add_cash_row<S: Alter>(tx: &mut Transaction<'_, S>, row: &MoveRow) -> Res
 
 /// Returns the cash row with the greatest number, or `None` if there is none. Changes nothing.
 /// Fails with `Store` only.
-pub fn cash_row_with_greatest_number<S: Alter>(tx: &mut Transaction<'_, S>) -> Result<Option<MoveRow>, Fault>
+pub fn cash_row_with_greatest_number<S: Alter>(
+    tx: &mut Transaction<'_, S>,
+) -> Result<Option<MoveRow>, Fault>
     ensures same_reference { tx.new.conn.ghost_name ≡ tx.old.conn.ghost_name }
     ensures step { ReadsDeskTables S.Store tx.old tx.new result (λ o t. option_map abstract_move_row o ≡ slice_get (reverse t.moves) 0) }
     ensures fault { OnErr result (result ≡ Err Store) }

@@ -18,4 +18,5 @@ has_table_of_desk schema = list_any (has_table_named schema) all_tables
 -- True if the database has, by name, each table of the desk's schema `desk`, and none that a later
 -- schema adds.
 abbrev pub has_exact_table_names : Schema → database.Schema → Bool
-has_exact_table_names desk schema = list_all (has_table_named schema) (tables_in_schema desk) && not (list_any (has_table_named schema) (tables_of_later_schemas desk))
+has_exact_table_names desk schema =
+    list_all (has_table_named schema) (tables_in_schema desk) && not (list_any (has_table_named schema) (tables_of_later_schemas desk))

@@ -9,5 +9,5 @@ pub mod presence;
 pub mod table;
 
 pub use making::{create_tables_of_later_schemas, create_third_schema_tables};
-pub use presence::{has_some_desk_table, has_exact_tables_by_name};
+pub use presence::{has_exact_tables_by_name, has_some_desk_table};
 pub use table::Table;

@@ -18,7 +18,8 @@ use sqlite::{Alter, Transaction};
 // open and is unchanged. Fails with `Store` only.
 fn table_exists<S: Alter>(tx: &mut Transaction<'_, S>, table: Table) -> Result<bool, Fault>
     ensures same_reference { tx.new.conn.ghost_name ≡ tx.old.conn.ghost_name }
-    ensures step { IsConnectionStep S.Store tx.old tx.new result (λ has a b. IsTrue a.is_open × (b.now ≡ a.now) × (has ≡ has_table_named a.now.schema (specified_table table))) }
+    ensures step { IsConnectionStep S.Store tx.old tx.new result (λ has a b. IsTrue a.is_open × (b.now ≡ a.now)
+        × (has ≡ has_table_named a.now.schema (specified_table table))) }
     ensures fault { OnErr result (result ≡ Err Store) }
 {
     statement_compiles(tx, table.existence_probe_text())
@@ -28,7 +29,8 @@ fn table_exists<S: Alter>(tx: &mut Transaction<'_, S>, table: Table) -> Result<b
 // only.
 fn has_any_of_tables<S: Alter>(tx: &mut Transaction<'_, S>, tables: &[Table]) -> Result<bool, Fault>
     ensures same_reference { tx.new.conn.ghost_name ≡ tx.old.conn.ghost_name }
-    ensures step { IsConnectionStep S.Store tx.old tx.new result (λ has a b. (b.now ≡ a.now) × (has ≡ list_any (λ table. has_table_named a.now.schema (specified_table table)) tables.now)) }
+    ensures step { IsConnectionStep S.Store tx.old tx.new result (λ has a b. (b.now ≡ a.now)
+        × (has ≡ list_any (λ table. has_table_named a.now.schema (specified_table table)) tables.now)) }
     ensures fault { OnErr result (result ≡ Err Store) }
 {
     for table in tables {
@@ -45,7 +47,8 @@ fn has_each_of_tables<S: Alter>(
     tables: &[Table],
 ) -> Result<bool, Fault>
     ensures same_reference { tx.new.conn.ghost_name ≡ tx.old.conn.ghost_name }
-    ensures step { IsConnectionStep S.Store tx.old tx.new result (λ has a b. (b.now ≡ a.now) × (has ≡ list_all (λ table. has_table_named a.now.schema (specified_table table)) tables.now)) }
+    ensures step { IsConnectionStep S.Store tx.old tx.new result (λ has a b. (b.now ≡ a.now)
+        × (has ≡ list_all (λ table. has_table_named a.now.schema (specified_table table)) tables.now)) }
     ensures fault { OnErr result (result ≡ Err Store) }
 {
     for table in tables {
@@ -74,7 +77,10 @@ fn has_exactly_tables<S: Alter>(
     absent: &[Table],
 ) -> Result<bool, Fault>
     ensures same_reference { tx.new.conn.ghost_name ≡ tx.old.conn.ghost_name }
-    ensures step { IsConnectionStep S.Store tx.old tx.new result (λ has a b. (b.now ≡ a.now) × (has ≡ (list_all (λ table. has_table_named a.now.schema (specified_table table)) there.now && not (list_any (λ table. has_table_named a.now.schema (specified_table table)) absent.now)))) }
+    ensures step { IsConnectionStep S.Store tx.old tx.new result (λ has a b. (b.now ≡ a.now)
+        × (has
+        ≡ (list_all (λ table. has_table_named a.now.schema (specified_table table)) there.now
+        && not (list_any (λ table. has_table_named a.now.schema (specified_table table)) absent.now)))) }
     ensures fault { OnErr result (result ≡ Err Store) }
 {
     if !has_each_of_tables(tx, there)? {
@@ -90,7 +96,8 @@ fn has_exactly_tables_of_schema<S: Alter>(
     schema: Schema,
 ) -> Result<bool, Fault>
     ensures same_reference { tx.new.conn.ghost_name ≡ tx.old.conn.ghost_name }
-    ensures step { IsConnectionStep S.Store tx.old tx.new result (λ has a b. (b.now ≡ a.now) × (has ≡ has_exact_table_names (abstract_schema schema) a.now.schema)) }
+    ensures step { IsConnectionStep S.Store tx.old tx.new result (λ has a b. (b.now ≡ a.now)
+        × (has ≡ has_exact_table_names (abstract_schema schema) a.now.schema)) }
     ensures fault { OnErr result (result ≡ Err Store) }
 {
     match schema {
@@ -102,9 +109,13 @@ fn has_exactly_tables_of_schema<S: Alter>(
 
 /// Returns true if the tables that a schema has exist, by name, and none that a later schema adds.
 /// If it returns a value, the database was open and is unchanged. Fails with `Store` only.
-pub fn has_exact_tables_by_name<S: Alter>(tx: &mut Transaction<'_, S>, schema: Schema) -> Result<bool, Fault>
+pub fn has_exact_tables_by_name<S: Alter>(
+    tx: &mut Transaction<'_, S>,
+    schema: Schema,
+) -> Result<bool, Fault>
     ensures same_reference { tx.new.conn.ghost_name ≡ tx.old.conn.ghost_name }
-    ensures step { IsConnectionStep S.Store tx.old tx.new result (λ has a b. IsTrue a.is_open × (b.now ≡ a.now) × (has ≡ has_exact_table_names (abstract_schema schema) a.now.schema)) }
+    ensures step { IsConnectionStep S.Store tx.old tx.new result (λ has a b. IsTrue a.is_open × (b.now ≡ a.now)
+        × (has ≡ has_exact_table_names (abstract_schema schema) a.now.schema)) }
     ensures fault { OnErr result (result ≡ Err Store) }
 {
     // Any result shows that the database is open. DESK is looked up a second time below.

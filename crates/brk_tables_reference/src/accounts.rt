@@ -10,7 +10,9 @@ use brk_money::{Fault, Id};
 use brk_ref::{Account, AccountRow};
 use brk_tables_schema::calls::{execute_statement, select_rows};
 use brk_tables_schema::record::{decode_first_row, decode_rows};
-use brk_tables_schema::values::{cents_as_parameter, id_as_parameter, tax_status_as_parameter, text_as_parameter};
+use brk_tables_schema::values::{
+    cents_as_parameter, id_as_parameter, tax_status_as_parameter, text_as_parameter,
+};
 use sqlite::{Alter, Transaction};
 use std::alloc::Global;
 

@@ -11,7 +11,10 @@ use brk_money::{Fault, TradeType};
 use brk_ref::{Band, Exchange, Tier};
 use brk_tables_schema::calls::{execute_statement, select_rows};
 use brk_tables_schema::record::decode_rows;
-use brk_tables_schema::values::{quantity_as_parameter, commission_rate_as_parameter, text_as_parameter, tier_as_parameter, trade_type_as_parameter};
+use brk_tables_schema::values::{
+    commission_rate_as_parameter, quantity_as_parameter, text_as_parameter, tier_as_parameter,
+    trade_type_as_parameter,
+};
 use sqlite::{Alter, Transaction};
 use std::alloc::Global;
 
@@ -46,7 +49,8 @@ pub fn bands_by_tier_type_and_exchange<S: Alter>(
     exchange: &Exchange,
 ) -> Result<Vec<Band>, Fault>
     ensures same_reference { tx.new.conn.ghost_name ≡ tx.old.conn.ghost_name }
-    ensures step { ReadsMatchingRows S.Store tx.old tx.new result Bands abstract_band (λ r. (r.tier == tier) && is_same_trade_type r.kind kind && bytes_eq r.exchange exchange.now) }
+    ensures step { ReadsMatchingRows S.Store tx.old tx.new result Bands abstract_band (λ r. (r.tier == tier) && is_same_trade_type r.kind kind
+        && bytes_eq r.exchange exchange.now) }
     ensures fault { IfErr result IsCallFault }
 {
     let rows = select_rows(

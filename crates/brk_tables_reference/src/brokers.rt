@@ -22,7 +22,10 @@ pub fn add_broker<S: Alter>(tx: &mut Transaction<'_, S>, broker: &Broker) -> Res
     execute_statement(
         tx,
         "INSERT INTO BROKER (B_ID, B_NAME, B_NUM_TRADES, B_COMM_TOTAL) VALUES (?1, ?2, 0, 0)",
-        &[id_as_parameter(broker.id), text_as_parameter(broker.name.as_str())],
+        &[
+            id_as_parameter(broker.id),
+            text_as_parameter(broker.name.as_str()),
+        ],
     )
 }
 

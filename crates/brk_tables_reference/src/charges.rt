@@ -10,7 +10,9 @@ use brk_money::{Fault, TradeType};
 use brk_ref::{Charge, Tier};
 use brk_tables_schema::calls::{execute_statement, select_rows};
 use brk_tables_schema::record::decode_first_row;
-use brk_tables_schema::values::{charge_amount_as_parameter, tier_as_parameter, trade_type_as_parameter};
+use brk_tables_schema::values::{
+    charge_amount_as_parameter, tier_as_parameter, trade_type_as_parameter,
+};
 use sqlite::{Alter, Transaction};
 
 /// Inserts a charge. Fails with `Store` only, also if a charge of its type and tier exists.

@@ -21,5 +21,6 @@ pub use customers::{add_customer, customer_by_id, customer_by_tax_id};
 pub use permissions::{add_permission, permission_by_account_and_tax_id};
 pub use securities::{add_last_trade, add_security, security_by_symbol};
 pub use tax_rates::{
-    add_customer_tax, add_tax_rate, customer_tax_by_customer_and_tax, taxes_of_customer, tax_rate_by_id,
+    add_customer_tax, add_tax_rate, customer_tax_by_customer_and_tax, tax_rate_by_id,
+    taxes_of_customer,
 };

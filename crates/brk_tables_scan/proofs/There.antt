@@ -1,4 +1,5 @@
--- Tables that are there, and the row of DESK, tell whether the desk is, in a database that is defined.
+-- Tables that are there, and the row of DESK, tell whether the desk is, in a database that is
+-- defined.
 use Rattle.std.proofs.Common.{◌≡◌, ◌∙◌, ◌↔◌, true, false, Bool, List, [], ◌∷◌, map, Some, refl, sym, ap, subst, inl, inr}
 use Rattle.std.specs.Prelude.{IsTrue}
 use Rattle.std.specs.List.Sorted.{IsPermutation}

@@ -1,4 +1,5 @@
--- A SELECT of a whole table by its key shows the records that it holds, and holds the records that it shows.
+-- A SELECT of a whole table by its key shows the records that it holds, and holds the records that
+-- it shows.
 use Rattle.std.proofs.Common.{◌≡◌, ◌⊎◌, ℕ, List, [], ◌∷◌, map, true, Ok, Err, refl, sym, ap, subst, ◌∙◌}
 use Rattle.std.specs.Cmp.{IsTotalOrder}
 use Rattle.std.specs.List.Sorted.{IsPermutation}

@@ -26,4 +26,5 @@ heading_of_table w = (select_all_text w, (table_and_column_names (table_definiti
 -- order. If it is false, the result of some statement does not have them.
 abbrev pub MatchesEachHeading : List Heading → Bool → Schema → Type 0
 MatchesEachHeading [] has schema = has ≡ true
-MatchesEachHeading (h ∷ headings) has schema = (MatchesResultColumns h.0 h.1 false schema × (has ≡ false)) ⊎ (MatchesResultColumns h.0 h.1 true schema × MatchesEachHeading headings has schema)
+MatchesEachHeading (h ∷ headings) has schema =
+    (MatchesResultColumns h.0 h.1 false schema × (has ≡ false)) ⊎ (MatchesResultColumns h.0 h.1 true schema × MatchesEachHeading headings has schema)

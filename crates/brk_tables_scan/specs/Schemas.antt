@@ -66,7 +66,8 @@ IsOneDeskRowOfSchema desk rows = (last : Value) × (rows ≡ (natural_as_value 1
 pub record HasDeskOfSchema (desk : Schema) (db : Database) : Type 0 where
   pub tables : HasTablesOfSchema desk db.schema
   pub later : LacksTablesOfLaterSchemas desk db.schema
-  pub row : (at tree : ℕ) → IsTableAt db.schema (desk_row_table tree) at → IsOneDeskRowOfSchema desk (map (cells_in_column_order (desk_row_table tree)) (db.trees tree))
+  pub row : (at tree : ℕ) → IsTableAt db.schema (desk_row_table tree) at
+      → IsOneDeskRowOfSchema desk (map (cells_in_column_order (desk_row_table tree)) (db.trees tree))
 
 -- The rowids of the rows are distinct integers.
 pub record HasDistinctRowids (rows : List Row) : Type 0 where
@@ -79,11 +80,14 @@ pub record HasDistinctRowids (rows : List Row) : Type 0 where
 pub record HasDeskDefinitions (desk : Schema) (db : Database) : Type 0 where
   pub sound : IsDatabase db
   -- The column types, keys and foreign keys equal those of the desk's table.
-  pub shaped : (w : DeskTable) → IsTableOfSchema desk w → (at : ℕ) (table : Table) → table_named db.schema (table_name w) ≡ Some at → slice_get db.schema.tables at ≡ Some table → table ≡ table_definition_at w table.tree
+  pub shaped : (w : DeskTable) → IsTableOfSchema desk w → (at : ℕ) (table : Table) → table_named db.schema (table_name w) ≡ Some at
+      → slice_get db.schema.tables at ≡ Some table → table ≡ table_definition_at w table.tree
   -- No two of them share a tree.
-  pub apart : (v w : DeskTable) → IsTableOfSchema desk v → IsTableOfSchema desk w → (i j tree : ℕ) → IsTableAt db.schema (table_definition_at v tree) i → IsTableAt db.schema (table_definition_at w tree) j → v ≡ w
+  pub apart : (v w : DeskTable) → IsTableOfSchema desk v → IsTableOfSchema desk w → (i j tree : ℕ) → IsTableAt db.schema (table_definition_at v tree) i
+      → IsTableAt db.schema (table_definition_at w tree) j → v ≡ w
   -- No foreign key of any table at their trees writes rows.
-  pub calm : (w : DeskTable) → IsTableOfSchema desk w → (at tree : ℕ) → IsTableAt db.schema (table_definition_at w tree) at → HasNoWritingForeignKeysAt db.schema tree
+  pub calm : (w : DeskTable) → IsTableOfSchema desk w → (at tree : ℕ) → IsTableAt db.schema (table_definition_at w tree) at
+      → HasNoWritingForeignKeysAt db.schema tree
   pub keyed : (w : DeskTable) → IsTableOfSchema desk w → (at tree : ℕ) → IsTableAt db.schema (table_definition_at w tree) at → HasDistinctRowids (db.trees tree)
 
 -- If each table of a desk in the schema `desk` exists in the database by its name and its columns,

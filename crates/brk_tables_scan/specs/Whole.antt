@@ -26,9 +26,11 @@ pub record AreTableRows (w : DeskTable) (rows : List Row) (db : Database) (tree 
   -- The rows are all rows of the tree, each as often as it occurs there.
   pub all : IsPermutation (map (cells_in_column_order (table_definition_at w tree)) (db.trees tree)) rows
   -- If the table contains records, the rows are their encodings, in order.
-  pub rows_encode_records : (xs : List (RecordOfTable w)) → TreeHoldsRecords (table_definition_at w tree) (encoded_row w) (ordering_by_primary_key w) xs (db.trees tree) → rows ≡ map (encoded_row w) xs
+  pub rows_encode_records : (xs : List (RecordOfTable w))
+      → TreeHoldsRecords (table_definition_at w tree) (encoded_row w) (ordering_by_primary_key w) xs (db.trees tree) → rows ≡ map (encoded_row w) xs
   -- If the rows are the encodings of records, the table contains these records.
-  pub table_holds_records : (xs : List (RecordOfTable w)) → IsDatabase db → HasDistinctRowids (db.trees tree) → map (encoded_row w) xs ≡ rows → TreeHoldsRecords (table_definition_at w tree) (encoded_row w) (ordering_by_primary_key w) xs (db.trees tree)
+  pub table_holds_records : (xs : List (RecordOfTable w)) → IsDatabase db → HasDistinctRowids (db.trees tree) → map (encoded_row w) xs ≡ rows
+      → TreeHoldsRecords (table_definition_at w tree) (encoded_row w) (ordering_by_primary_key w) xs (db.trees tree)
 
 -- The rows are all rows of the table `w`, sorted by key (`AreTableRows`). Vacuous if no table of
 -- the database is defined as a desk defines `w`.

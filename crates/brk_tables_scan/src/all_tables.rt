@@ -1,5 +1,5 @@
-//! The reads of all tables: each table is read and decoded, and its raw rows are dropped, before the
-//! next one is read.
+//! The reads of all tables: each table is read and decoded, and its raw rows are dropped, before
+//! the next one is read.
 
 ghost use Rattle.std.specs.Prelude.{◌≡◌, IfErr};
 ghost use Rattle.brk_model.specs.Run.{IsCallFault};
@@ -9,10 +9,10 @@ ghost use Rattle.brk_tables_scan.specs.Decoded.{ReadsDeskAndCustomerTables, Read
 
 use crate::decoder::Decoder;
 use crate::rows::{
-    account_rows, band_rows, broker_rows, cash_transaction_rows, charge_rows, customer_rows, customer_tax_rows,
-    desk_rows, history_rows, holding_history_rows, holding_rows, kept_rows, last_trade_rows,
-    cash_move_rows_in_schema, permission_rows, request_rows, settle_rule_rows_in_schema, security_rows, settlement_rows,
-    summary_rows, tax_rate_rows, trade_rows,
+    account_rows, band_rows, broker_rows, cash_move_rows_in_schema, cash_transaction_rows,
+    charge_rows, customer_rows, customer_tax_rows, desk_rows, history_rows, holding_history_rows,
+    holding_rows, kept_rows, last_trade_rows, permission_rows, request_rows, security_rows,
+    settle_rule_rows_in_schema, settlement_rows, summary_rows, tax_rate_rows, trade_rows,
 };
 use brk_changes::{
     CashRow, HistoryRow, HoldingRow, LotChange, MoveRow, RequestRow, Schema, SettlementRow, Sheets,

@@ -22,7 +22,8 @@ fn each_heading_matches<S: Alter>(
     headings: &[(&str, &[&str])],
 ) -> Result<bool, Fault>
     ensures same_reference { tx.new.conn.ghost_name ≡ tx.old.conn.ghost_name }
-    ensures step { IsConnectionStep S.Store tx.old tx.new result (λ has a b. (b.now ≡ a.now) × MatchesEachHeading (map heading_of_borrowed_texts headings.now) has a.now.schema) }
+    ensures step { IsConnectionStep S.Store tx.old tx.new result (λ has a b. (b.now ≡ a.now)
+        × MatchesEachHeading (map heading_of_borrowed_texts headings.now) has a.now.schema) }
     ensures fault { OnErr result (result ≡ Err Store) }
 {
     for (text, names) in headings {
@@ -37,7 +38,8 @@ fn each_heading_matches<S: Alter>(
 // only.
 fn tables_have_columns<S: Alter>(tx: &mut Transaction<'_, S>, schema: Schema) -> Result<bool, Fault>
     ensures same_reference { tx.new.conn.ghost_name ≡ tx.old.conn.ghost_name }
-    ensures step { IsConnectionStep S.Store tx.old tx.new result (λ has a b. (b.now ≡ a.now) × MatchesEachHeading (map heading_of_table (tables_in_schema (abstract_schema schema))) has a.now.schema) }
+    ensures step { IsConnectionStep S.Store tx.old tx.new result (λ has a b. (b.now ≡ a.now)
+        × MatchesEachHeading (map heading_of_table (tables_in_schema (abstract_schema schema))) has a.now.schema) }
     ensures fault { OnErr result (result ≡ Err Store) }
 {
     match schema {
@@ -54,7 +56,8 @@ pub fn has_exact_tables_and_columns<S: Alter>(
     schema: Schema,
 ) -> Result<bool, Fault>
     ensures same_reference { tx.new.conn.ghost_name ≡ tx.old.conn.ghost_name }
-    ensures step { IsConnectionStep S.Store tx.old tx.new result (λ has a b. IsTrue a.is_open × (b.now ≡ a.now) × (IsTrue has ↔ HasTablesOfSchema (abstract_schema schema) a.now.schema × LacksTablesOfLaterSchemas (abstract_schema schema) a.now.schema)) }
+    ensures step { IsConnectionStep S.Store tx.old tx.new result (λ has a b. IsTrue a.is_open × (b.now ≡ a.now)
+        × (IsTrue has ↔ HasTablesOfSchema (abstract_schema schema) a.now.schema × LacksTablesOfLaterSchemas (abstract_schema schema) a.now.schema)) }
     ensures fault { OnErr result (result ≡ Err Store) }
 {
     if !has_exact_tables_by_name(tx, schema)? {

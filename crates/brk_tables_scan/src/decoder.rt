@@ -43,7 +43,8 @@ impl Decoder {
         alloc: Global,
         rows: Vec<Row>,
     ) -> Result<Vec<R>, Fault>
-        ensures decoding { IfOk result (λ all. ContinuesDecoding self.old.are_well_formed self.new.are_well_formed (list_all (passes_all_cell_checks R.forms) rows.items) (map R.cells all.items ≡ rows.items)) }
+        ensures decoding { IfOk result (λ all. ContinuesDecoding self.old.are_well_formed self.new.are_well_formed (list_all (passes_all_cell_checks R.forms) rows.items) (map R.cells all.items
+            ≡ rows.items)) }
         ensures fault { OnErr result (result ≡ Err Memory) }
     {
         match decode_records(alloc, &rows) {
@@ -64,7 +65,8 @@ impl Decoder {
         schema: Schema,
         rows: Vec<Row>,
     ) -> Result<Option<Stamp>, Fault>
-        ensures decoding { IfOk result (λ last. ContinuesDecoding self.old.are_well_formed self.new.are_well_formed (has_one_valid_desk_row (abstract_schema schema) rows.items) (map desk_row_cells (desk_rows (abstract_schema schema) last) ≡ rows.items)) }
+        ensures decoding { IfOk result (λ last. ContinuesDecoding self.old.are_well_formed self.new.are_well_formed (has_one_valid_desk_row (abstract_schema schema) rows.items) (map desk_row_cells (desk_rows (abstract_schema schema) last)
+            ≡ rows.items)) }
         ensures fault { OnErr result (result ≡ Err Memory) }
     {
         match last_stamp_in_desk_rows(schema, &rows) {
@@ -77,11 +79,12 @@ impl Decoder {
         }
     }
 
-    /// Decodes the settlement day from the rows of SETTLE_RULE, of which there may be none. If there
-    /// are two rows or a malformed one, sets `are_well_formed` to false and returns `None`. Fails
-    /// with `Memory` only.
+    /// Decodes the settlement day from the rows of SETTLE_RULE, of which there may be none. If
+    /// there are two rows or a malformed one, sets `are_well_formed` to false and returns `None`.
+    /// Fails with `Memory` only.
     pub(crate) fn decode_settlement_day(&mut self, rows: Vec<Row>) -> Result<Option<Day>, Fault>
-        ensures decoding { IfOk result (λ day. ContinuesDecoding self.old.are_well_formed self.new.are_well_formed (has_at_most_one_valid_rule_row rows.items) (map rule_cells (rule_rows day) ≡ rows.items)) }
+        ensures decoding { IfOk result (λ day. ContinuesDecoding self.old.are_well_formed self.new.are_well_formed (has_at_most_one_valid_rule_row rows.items) (map rule_cells (rule_rows day)
+            ≡ rows.items)) }
         ensures fault { OnErr result (result ≡ Err Memory) }
     {
         match settlement_day_in_rule_rows(&rows) {

@@ -66,9 +66,13 @@ fn has_one_desk_row_of_schema(schema: Schema, rows: &[Row]) -> bool
 ///
 /// Fails with `Store` only. The result is specified only if tables of these names and columns are
 /// defined as a desk defines them.
-pub fn has_desk_of_schema<S: Alter>(tx: &mut Transaction<'_, S>, schema: Schema) -> Result<bool, Fault>
+pub fn has_desk_of_schema<S: Alter>(
+    tx: &mut Transaction<'_, S>,
+    schema: Schema,
+) -> Result<bool, Fault>
     ensures same_reference { tx.new.conn.ghost_name ≡ tx.old.conn.ghost_name }
-    ensures step { IsConnectionStep S.Store tx.old tx.new result (λ has a b. IsTrue a.is_open × (b.now ≡ a.now) × (NamedTablesMatchSchemaDefinitions (abstract_schema schema) a.now → IsTrue has ↔ HasDeskOfSchema (abstract_schema schema) a.now)) }
+    ensures step { IsConnectionStep S.Store tx.old tx.new result (λ has a b. IsTrue a.is_open × (b.now ≡ a.now)
+        × (NamedTablesMatchSchemaDefinitions (abstract_schema schema) a.now → IsTrue has ↔ HasDeskOfSchema (abstract_schema schema) a.now)) }
     ensures fault { OnErr result (result ≡ Err Store) }
 {
     if !has_exact_tables_and_columns(tx, schema)? {

@@ -24,7 +24,9 @@ pub fn read_sheets<S: Alter>(
     schema: Schema,
 ) -> Result<Option<Sheets>, Fault>
     ensures same_reference { tx.new.conn.ghost_name ≡ tx.old.conn.ghost_name }
-    ensures step { IsConnectionStep S.Store tx.old tx.new result (λ read a b. IsTrue a.is_open × (b.now ≡ a.now) × (NamedTablesMatchSchemaDefinitions (abstract_schema schema) a.now → HasDeskOfSchema (abstract_schema schema) a.now → AreSheetsOfDatabase (abstract_schema schema) a.now read)) }
+    ensures step { IsConnectionStep S.Store tx.old tx.new result (λ read a b. IsTrue a.is_open × (b.now ≡ a.now)
+        × (NamedTablesMatchSchemaDefinitions (abstract_schema schema) a.now → HasDeskOfSchema (abstract_schema schema) a.now
+        → AreSheetsOfDatabase (abstract_schema schema) a.now read)) }
     ensures fault { IfErr result IsCallFault }
 {
     let mut decoder = Decoder::new();

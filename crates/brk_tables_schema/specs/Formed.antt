@@ -219,7 +219,8 @@ customer_tax_column_cell_checks = is_id_cell ∷ is_id_cell ∷ []
 -- The checks of the columns of TRADE.
 abbrev pub trade_column_cell_checks : List (Value → Bool)
 trade_column_cell_checks =
-    is_id_cell ∷ is_stamp_cell ∷ is_status_cell ∷ is_trade_type_cell ∷ is_flag_cell ∷ is_symbol_cell ∷ is_quantity_cell ∷ is_price_cell ∷ is_id_cell ∷ is_utf8_cell ∷ is_null_or_natural_cell is_price ∷ is_charge_cell
+    is_id_cell ∷ is_stamp_cell ∷ is_status_cell ∷ is_trade_type_cell ∷ is_flag_cell ∷ is_symbol_cell ∷ is_quantity_cell ∷ is_price_cell ∷ is_id_cell
+    ∷ is_utf8_cell ∷ is_null_or_natural_cell is_price ∷ is_charge_cell
     ∷ is_amount_cell ∷ is_amount_cell ∷ is_flag_cell ∷ []
 
 -- The checks of the columns of TRADE_HISTORY.

@@ -19,9 +19,11 @@ IsTableOfSchema schema w = IsTrue (schema_has_table schema w)
 -- For each table of a desk that the schema does not have: no table of this name exists in the
 -- database, and `t` has no rows for it.
 abbrev pub LacksOtherDeskTables : Schema → Tables → Database → Type 0
-LacksOtherDeskTables schema t db = (w : DeskTable) → schema_has_table schema w ≡ false → (table_named db.schema (table_name w) ≡ None) × (rows_in_schema schema w t ≡ [])
+LacksOtherDeskTables schema t db =
+    (w : DeskTable) → schema_has_table schema w ≡ false → (table_named db.schema (table_name w) ≡ None) × (rows_in_schema schema w t ≡ [])
 
 -- The database contains the tables that `schema` has, with the rows `t`, at some trees, and none of
 -- the other tables of a desk. It may contain tables that are not a desk's.
 abbrev pub HasDeskTablesInSchema : Schema → Tables → Database → Type 0
-HasDeskTablesInSchema schema t db = (tree : DeskTable → ℕ) × HasSelectedTables (desk_tables_of_schema schema) (IsTableOfSchema schema) t tree db × LacksOtherDeskTables schema t db
+HasDeskTablesInSchema schema t db =
+    (tree : DeskTable → ℕ) × HasSelectedTables (desk_tables_of_schema schema) (IsTableOfSchema schema) t tree db × LacksOtherDeskTables schema t db

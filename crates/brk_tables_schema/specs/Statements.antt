@@ -32,11 +32,13 @@ AreMatchingRows w of is all t = map of all.items ≡ filter is (rows_of_table w 
 -- If the call succeeds, it changes nothing and returns the first record of the table `w` that
 -- passes `is`, or `None` if no record passes. Nothing is said of the result if the disk assumption
 -- fails, outside a transaction, or if the database does not contain all tables of a desk.
-abbrev pub ReadsFirstMatch : {S X E : Type 0} → Ghosts S → Transaction S → Transaction S → Result (Option X) E → (w : DeskTable) → (X → RecordOfTable w) → (RecordOfTable w → Bool) → Type 0
+abbrev pub ReadsFirstMatch : {S X E : Type 0} → Ghosts S → Transaction S → Transaction S → Result (Option X) E → (w : DeskTable) → (X → RecordOfTable w)
+    → (RecordOfTable w → Bool) → Type 0
 ReadsFirstMatch g old new result w of is = ReadsDeskTables g old new result (IsFirstMatch w of is)
 
 -- If the call succeeds, it changes nothing and returns all records of the table `w` that pass `is`,
 -- sorted by the key of the table. Nothing is said of the result if the disk assumption fails,
 -- outside a transaction, or if the database does not contain all tables of a desk.
-abbrev pub ReadsMatchingRows : {S X E : Type 0} → Ghosts S → Transaction S → Transaction S → Result (Vec X) E → (w : DeskTable) → (X → RecordOfTable w) → (RecordOfTable w → Bool) → Type 0
+abbrev pub ReadsMatchingRows : {S X E : Type 0} → Ghosts S → Transaction S → Transaction S → Result (Vec X) E → (w : DeskTable) → (X → RecordOfTable w)
+    → (RecordOfTable w → Bool) → Type 0
 ReadsMatchingRows g old new result w of is = ReadsDeskTables g old new result (AreMatchingRows w of is)

@@ -51,7 +51,8 @@ pub fn select_rows<S: Alter>(
 /// database is unchanged. Fails with `Store` only.
 pub fn statement_compiles<S: Alter>(tx: &mut Transaction<'_, S>, text: &str) -> Result<bool, Fault>
     ensures same_reference { tx.new.conn.ghost_name ≡ tx.old.conn.ghost_name }
-    ensures step { IsConnectionStep S.Store tx.old tx.new result (λ has a b. IsTrue a.is_open × (b.now ≡ a.now) × IsCompilationOutcome text.now has a.now.schema) }
+    ensures step { IsConnectionStep S.Store tx.old tx.new result (λ has a b. IsTrue a.is_open × (b.now ≡ a.now)
+        × IsCompilationOutcome text.now has a.now.schema) }
     ensures fault { OnErr result (result ≡ Err Store) }
 {
     match brk_sql::statement_compiles(tx, text) {
@@ -68,7 +69,8 @@ pub fn statement_has_columns<S: Alter>(
     names: &[&str],
 ) -> Result<bool, Fault>
     ensures same_reference { tx.new.conn.ghost_name ≡ tx.old.conn.ghost_name }
-    ensures step { IsConnectionStep S.Store tx.old tx.new result (λ has a b. IsTrue a.is_open × (b.now ≡ a.now) × MatchesResultColumns text.now (map (λ (name : Bor (List ℕ)). name.now) names.now) has a.now.schema) }
+    ensures step { IsConnectionStep S.Store tx.old tx.new result (λ has a b. IsTrue a.is_open × (b.now ≡ a.now)
+        × MatchesResultColumns text.now (map (λ (name : Bor (List ℕ)). name.now) names.now) has a.now.schema) }
     ensures fault { OnErr result (result ≡ Err Store) }
 {
     match brk_sql::statement_has_columns(tx, text, names) {

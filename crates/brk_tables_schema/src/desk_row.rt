@@ -11,7 +11,7 @@ ghost use Rattle.brk_tables_schema.specs.declared.decode_error.DecodeError.TheVa
 ghost use Rattle.brk_tables_schema.specs.Statements.{ReadsDeskTables, WritesDeskTables};
 
 use crate::calls::{execute_statement, select_rows};
-use crate::cells::{check_column_count, optional_stamp_in_column, natural_in_column};
+use crate::cells::{check_column_count, natural_in_column, optional_stamp_in_column};
 use crate::decode_error::DecodeError;
 use crate::values::{integer_as_parameter, stamp_as_parameter};
 use brk_changes::Schema;

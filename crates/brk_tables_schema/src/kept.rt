@@ -8,7 +8,9 @@ ghost use Rattle.brk_tables_schema.specs.Formed.{kept_column_cell_checks};
 ghost use Rattle.brk_tables_schema.specs.Statements.{ReadsFirstMatch, WritesDeskTables};
 
 use crate::calls::{execute_statement, select_rows};
-use crate::cells::{check_column_count, formatted_text_in_column, row_number_in_column, text_in_column};
+use crate::cells::{
+    check_column_count, formatted_text_in_column, row_number_in_column, text_in_column,
+};
 use crate::decode_error::DecodeError;
 use crate::record::{Record, decode_first_row};
 use crate::values::{row_number_as_parameter, text_as_parameter};
@@ -56,15 +58,22 @@ impl Record for Kept {
 
 /// Returns the row of KEPT under this key, or `None` if there is none. Changes nothing. Fails with
 /// `Store` only.
-pub fn kept_row_by_key<S: Alter>(tx: &mut Transaction<'_, S>, key: &Key) -> Result<Option<Kept>, Fault>
+pub fn kept_row_by_key<S: Alter>(
+    tx: &mut Transaction<'_, S>,
+    key: &Key,
+) -> Result<Option<Kept>, Fault>
     ensures same_reference { tx.new.conn.ghost_name ≡ tx.old.conn.ghost_name }
-    ensures step { ReadsFirstMatch S.Store tx.old tx.new result KeptRows abstract_kept_row (λ k. bytes_eq k.key.batch key.now.batch && (k.key.row == key.now.row)) }
+    ensures step { ReadsFirstMatch S.Store tx.old tx.new result KeptRows abstract_kept_row (λ k. bytes_eq k.key.batch key.now.batch
+        && (k.key.row == key.now.row)) }
     ensures fault { OnErr result (result ≡ Err Store) }
 {
     let rows = select_rows(
         tx,
         "SELECT K_BATCH, K_N, K_ROW, K_LINE FROM KEPT WHERE K_BATCH = ?1 AND K_N = ?2 ORDER BY K_BATCH, K_N",
-        &[text_as_parameter(key.batch.as_str()), row_number_as_parameter(key.row)],
+        &[
+            text_as_parameter(key.batch.as_str()),
+            row_number_as_parameter(key.row),
+        ],
     )?;
     decode_first_row(&rows)
 }

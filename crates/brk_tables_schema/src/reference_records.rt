@@ -5,8 +5,10 @@ ghost use Rattle.brk_tables_schema.specs.Cells.{account_cells, band_cells, broke
 ghost use Rattle.brk_tables_schema.specs.Formed.{account_column_cell_checks, band_column_cell_checks, broker_column_cell_checks, charge_column_cell_checks, customer_column_cell_checks, customer_tax_column_cell_checks, permission_column_cell_checks, security_column_cell_checks, tax_rate_column_cell_checks};
 
 use crate::cells::{
-    cents_in_column, charge_amount_in_column, check_column_count, formatted_text_in_column, id_in_column, natural_in_column, integer_in_column,
-    quantity_in_column, commission_rate_in_column, tax_rate_in_column, tax_status_in_column, tier_in_column, trade_type_in_column,
+    cents_in_column, charge_amount_in_column, check_column_count, commission_rate_in_column,
+    formatted_text_in_column, id_in_column, integer_in_column, natural_in_column,
+    quantity_in_column, tax_rate_in_column, tax_status_in_column, tier_in_column,
+    trade_type_in_column,
 };
 use crate::decode_error::DecodeError;
 use crate::record::Record;

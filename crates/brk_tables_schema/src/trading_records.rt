@@ -7,9 +7,11 @@ ghost use Rattle.brk_tables_schema.specs.Cells.{cash_cells, history_cells, holdi
 ghost use Rattle.brk_tables_schema.specs.Formed.{cash_column_cell_checks, history_column_cell_checks, holding_column_cell_checks, holding_history_column_cell_checks, is_id_cell, last_trade_column_cell_checks, move_column_cell_checks, request_column_cell_checks, settlement_column_cell_checks, summary_column_cell_checks, trade_column_cell_checks};
 
 use crate::cells::{
-    amount_in_column, cash_type_in_column, cents_in_column, charge_amount_in_column, check_column_count, day_in_column, flag_in_column,
-    formatted_text_in_column, id_in_column, optional_id_in_column, optional_price_in_column, cash_row_id_in_column, integer_in_column, price_in_column, quantity_in_column,
-    stamp_in_column, status_in_column, text_in_column, trade_type_in_column, volume_in_column,
+    amount_in_column, cash_row_id_in_column, cash_type_in_column, cents_in_column,
+    charge_amount_in_column, check_column_count, day_in_column, flag_in_column,
+    formatted_text_in_column, id_in_column, integer_in_column, optional_id_in_column,
+    optional_price_in_column, price_in_column, quantity_in_column, stamp_in_column,
+    status_in_column, text_in_column, trade_type_in_column, volume_in_column,
 };
 use crate::decode_error::DecodeError;
 use crate::record::Record;

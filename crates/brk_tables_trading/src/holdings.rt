@@ -38,7 +38,8 @@ pub fn page_of_lots_oldest_first<S: Alter>(
     skipped: u32,
 ) -> Result<Vec<HoldingRow>, Fault>
     ensures same_reference { tx.new.conn.ghost_name ≡ tx.old.conn.ghost_name }
-    ensures step { ReadsDeskTables S.Store tx.old tx.new result (λ all t. map abstract_holding_row all.items ≡ page_after_skipped skipped (position_lots_by_age account symbol.now t)) }
+    ensures step { ReadsDeskTables S.Store tx.old tx.new result (λ all t. map abstract_holding_row all.items
+        ≡ page_after_skipped skipped (position_lots_by_age account symbol.now t)) }
     ensures fault { IfErr result IsCallFault }
 {
     let rows = select_rows(
@@ -64,7 +65,8 @@ pub fn page_of_lots_newest_first<S: Alter>(
     skipped: u32,
 ) -> Result<Vec<HoldingRow>, Fault>
     ensures same_reference { tx.new.conn.ghost_name ≡ tx.old.conn.ghost_name }
-    ensures step { ReadsDeskTables S.Store tx.old tx.new result (λ all t. map abstract_holding_row all.items ≡ page_after_skipped skipped (reverse (position_lots_by_age account symbol.now t))) }
+    ensures step { ReadsDeskTables S.Store tx.old tx.new result (λ all t. map abstract_holding_row all.items
+        ≡ page_after_skipped skipped (reverse (position_lots_by_age account symbol.now t))) }
     ensures fault { IfErr result IsCallFault }
 {
     let rows = select_rows(

@@ -9,7 +9,9 @@ use brk_money::Fault;
 use brk_ref::{LastTrade, Symbol};
 use brk_tables_schema::calls::{execute_statement, select_rows};
 use brk_tables_schema::record::decode_first_row;
-use brk_tables_schema::values::{price_as_parameter, stamp_as_parameter, text_as_parameter, volume_as_parameter};
+use brk_tables_schema::values::{
+    price_as_parameter, stamp_as_parameter, text_as_parameter, volume_as_parameter,
+};
 use sqlite::{Alter, Transaction};
 
 /// Sets the last trade of a security that has one. Fails with `Store` only.

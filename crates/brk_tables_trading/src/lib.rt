@@ -22,17 +22,22 @@ pub mod updates;
 pub use balances::set_account_balance;
 pub use broker_numbers::set_broker_totals;
 pub use history::add_trade_history_row;
-pub use holdings::{page_of_lots_newest_first, page_of_lots_oldest_first, holding_summaries_of_account, holding_summary_by_account_and_symbol};
+pub use holdings::{
+    holding_summaries_of_account, holding_summary_by_account_and_symbol, page_of_lots_newest_first,
+    page_of_lots_oldest_first,
+};
 pub use last_trades::{last_trade_by_symbol, set_last_trade};
 pub use looking::{history_of_trade, last_fifty_trades_of_account, last_ten_trades_of_account};
 pub use lots::{add_lot, add_lot_change, remove_lot, set_lot_quantity};
-pub use requests::{add_request, remove_request, requests_with_bid_at_least, requests_with_bid_at_most};
+pub use requests::{
+    add_request, remove_request, requests_with_bid_at_least, requests_with_bid_at_most,
+};
 pub use settlements::add_settlement;
 pub use summaries::{add_holding_summary, remove_holding_summary, set_holding_summary_quantity};
 pub use trades::{
     add_trade, complete_trade, greatest_trade_id, set_trade_status, submitted_trades, trade_by_id,
 };
 pub use updates::{
-    first_twenty_completed_cash_trades_of_symbol, first_twenty_completed_trades_of_account, set_cash_type, set_executor,
-    settlement_by_trade,
+    first_twenty_completed_cash_trades_of_symbol, first_twenty_completed_trades_of_account,
+    set_cash_type, set_executor, settlement_by_trade,
 };

@@ -24,7 +24,8 @@ pub fn last_ten_trades_of_account<S: Alter>(
     account: Id,
 ) -> Result<Vec<TradeRow>, Fault>
     ensures same_reference { tx.new.conn.ghost_name ≡ tx.old.conn.ghost_name }
-    ensures step { ReadsDeskTables S.Store tx.old tx.new result (λ all t. map abstract_trade_row all.items ≡ take 10 (trade_rows_recent_first (trade_rows_of_account t account))) }
+    ensures step { ReadsDeskTables S.Store tx.old tx.new result (λ all t. map abstract_trade_row all.items
+        ≡ take 10 (trade_rows_recent_first (trade_rows_of_account t account))) }
     ensures fault { IfErr result IsCallFault }
 {
     let rows = select_rows(
@@ -43,7 +44,8 @@ pub fn last_fifty_trades_of_account<S: Alter>(
     account: Id,
 ) -> Result<Vec<TradeRow>, Fault>
     ensures same_reference { tx.new.conn.ghost_name ≡ tx.old.conn.ghost_name }
-    ensures step { ReadsDeskTables S.Store tx.old tx.new result (λ all t. map abstract_trade_row all.items ≡ take 50 (trade_rows_recent_first (trade_rows_of_account t account))) }
+    ensures step { ReadsDeskTables S.Store tx.old tx.new result (λ all t. map abstract_trade_row all.items
+        ≡ take 50 (trade_rows_recent_first (trade_rows_of_account t account))) }
     ensures fault { IfErr result IsCallFault }
 {
     let rows = select_rows(

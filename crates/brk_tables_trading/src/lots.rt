@@ -9,7 +9,10 @@ ghost use Rattle.brk_tables_schema.specs.Statements.{WritesDeskTables};
 use brk_changes::{HoldingRow, LotChange};
 use brk_money::{Fault, Id};
 use brk_tables_schema::calls::execute_statement;
-use brk_tables_schema::values::{id_as_parameter, integer_as_parameter, price_as_parameter, stamp_as_parameter, text_as_parameter};
+use brk_tables_schema::values::{
+    id_as_parameter, integer_as_parameter, price_as_parameter, stamp_as_parameter,
+    text_as_parameter,
+};
 use sqlite::{Alter, Transaction};
 
 /// Inserts the lot that a trade opened. Fails with `Store` only, also if the trade has one.

@@ -12,7 +12,10 @@ use brk_money::{Fault, Id, Price, TradeType};
 use brk_ref::Symbol;
 use brk_tables_schema::calls::{execute_statement, select_rows};
 use brk_tables_schema::record::decode_rows;
-use brk_tables_schema::values::{id_as_parameter, price_as_parameter, quantity_as_parameter, text_as_parameter, trade_type_as_parameter};
+use brk_tables_schema::values::{
+    id_as_parameter, price_as_parameter, quantity_as_parameter, text_as_parameter,
+    trade_type_as_parameter,
+};
 use sqlite::{Alter, Transaction};
 use std::alloc::Global;
 
@@ -59,7 +62,8 @@ pub fn requests_with_bid_at_least<S: Alter>(
     price: Price,
 ) -> Result<Vec<RequestRow>, Fault>
     ensures same_reference { tx.new.conn.ghost_name ≡ tx.old.conn.ghost_name }
-    ensures step { ReadsMatchingRows S.Store tx.old tx.new result Requests abstract_request_row (λ r. bytes_eq r.symbol symbol.now && (is_same_trade_type r.kind kind && nat_le price r.bid)) }
+    ensures step { ReadsMatchingRows S.Store tx.old tx.new result Requests abstract_request_row (λ r. bytes_eq r.symbol symbol.now
+        && (is_same_trade_type r.kind kind && nat_le price r.bid)) }
     ensures fault { IfErr result IsCallFault }
 {
     let rows = select_rows(
@@ -84,7 +88,8 @@ pub fn requests_with_bid_at_most<S: Alter>(
     price: Price,
 ) -> Result<Vec<RequestRow>, Fault>
     ensures same_reference { tx.new.conn.ghost_name ≡ tx.old.conn.ghost_name }
-    ensures step { ReadsMatchingRows S.Store tx.old tx.new result Requests abstract_request_row (λ r. bytes_eq r.symbol symbol.now && (is_same_trade_type r.kind kind && nat_le r.bid price)) }
+    ensures step { ReadsMatchingRows S.Store tx.old tx.new result Requests abstract_request_row (λ r. bytes_eq r.symbol symbol.now
+        && (is_same_trade_type r.kind kind && nat_le r.bid price)) }
     ensures fault { IfErr result IsCallFault }
 {
     let rows = select_rows(

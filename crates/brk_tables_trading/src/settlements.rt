@@ -9,7 +9,9 @@ ghost use Rattle.brk_tables_schema.specs.Statements.{WritesDeskTables};
 use brk_changes::SettlementRow;
 use brk_money::Fault;
 use brk_tables_schema::calls::execute_statement;
-use brk_tables_schema::values::{cash_type_as_parameter, cents_as_parameter, day_as_parameter, id_as_parameter};
+use brk_tables_schema::values::{
+    cash_type_as_parameter, cents_as_parameter, day_as_parameter, id_as_parameter,
+};
 use sqlite::{Alter, Transaction};
 
 /// Inserts the settlement of a trade. Fails with `Store` only, also if the trade has one.

@@ -15,7 +15,10 @@ use sqlite::{Alter, Transaction};
 
 /// Inserts the holding summary of an account in a security. Fails with `Store` only, also if there
 /// is one.
-pub fn add_holding_summary<S: Alter>(tx: &mut Transaction<'_, S>, summary: &SummaryRow) -> Result<(), Fault>
+pub fn add_holding_summary<S: Alter>(
+    tx: &mut Transaction<'_, S>,
+    summary: &SummaryRow,
+) -> Result<(), Fault>
     ensures same_reference { tx.new.conn.ghost_name ≡ tx.old.conn.ghost_name }
     ensures step { WritesDeskTables S.Store tx.old tx.new result (tables_with_summary (abstract_summary_row summary.now)) }
     ensures fault { OnErr result (result ≡ Err Store) }
@@ -33,7 +36,10 @@ pub fn add_holding_summary<S: Alter>(tx: &mut Transaction<'_, S>, summary: &Summ
 
 /// Sets the number of shares in the holding summary of an account in a security. Fails with `Store`
 /// only.
-pub fn set_holding_summary_quantity<S: Alter>(tx: &mut Transaction<'_, S>, summary: &SummaryRow) -> Result<(), Fault>
+pub fn set_holding_summary_quantity<S: Alter>(
+    tx: &mut Transaction<'_, S>,
+    summary: &SummaryRow,
+) -> Result<(), Fault>
     ensures same_reference { tx.new.conn.ghost_name ≡ tx.old.conn.ghost_name }
     ensures step { WritesDeskTables S.Store tx.old tx.new result (tables_with_summary_quantity (abstract_summary_row summary.now)) }
     ensures fault { OnErr result (result ≡ Err Store) }

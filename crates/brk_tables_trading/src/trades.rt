@@ -13,8 +13,9 @@ use brk_money::{Fault, Id, Price, Stamp, Status};
 use brk_tables_schema::calls::{execute_statement, select_rows};
 use brk_tables_schema::record::{decode_first_row, decode_rows};
 use brk_tables_schema::values::{
-    amount_as_parameter, charge_amount_as_parameter, flag_as_parameter, id_as_parameter, optional_price_as_parameter, price_as_parameter,
-    quantity_as_parameter, stamp_as_parameter, status_as_parameter, text_as_parameter, trade_type_as_parameter,
+    amount_as_parameter, charge_amount_as_parameter, flag_as_parameter, id_as_parameter,
+    optional_price_as_parameter, price_as_parameter, quantity_as_parameter, stamp_as_parameter,
+    status_as_parameter, text_as_parameter, trade_type_as_parameter,
 };
 use sqlite::{Alter, Transaction};
 use std::alloc::Global;
@@ -62,7 +63,11 @@ pub fn set_trade_status<S: Alter>(
     execute_statement(
         tx,
         "UPDATE TRADE SET T_ST_ID = ?1, T_DTS = ?2 WHERE T_ID = ?3",
-        &[status_as_parameter(status), stamp_as_parameter(stamp), id_as_parameter(id)],
+        &[
+            status_as_parameter(status),
+            stamp_as_parameter(stamp),
+            id_as_parameter(id),
+        ],
     )
 }
 

@@ -15,7 +15,8 @@ use brk_ref::Symbol;
 use brk_tables_schema::calls::{execute_statement, select_rows};
 use brk_tables_schema::record::{decode_first_row, decode_rows};
 use brk_tables_schema::values::{
-    cash_type_as_parameter, flag_as_parameter, id_as_parameter, stamp_as_parameter, status_as_parameter, text_as_parameter,
+    cash_type_as_parameter, flag_as_parameter, id_as_parameter, stamp_as_parameter,
+    status_as_parameter, text_as_parameter,
 };
 use sqlite::{Alter, Transaction};
 use std::alloc::Global;
@@ -30,7 +31,8 @@ pub fn first_twenty_completed_trades_of_account<S: Alter>(
     last: Stamp,
 ) -> Result<Vec<TradeRow>, Fault>
     ensures same_reference { tx.new.conn.ghost_name ≡ tx.old.conn.ghost_name }
-    ensures step { ReadsDeskTables S.Store tx.old tx.new result (λ all t. map abstract_trade_row all.items ≡ chosen.first_twenty_completed_trade_rows_of_account account first last t) }
+    ensures step { ReadsDeskTables S.Store tx.old tx.new result (λ all t. map abstract_trade_row all.items
+        ≡ chosen.first_twenty_completed_trade_rows_of_account account first last t) }
     ensures fault { IfErr result IsCallFault }
 {
     let rows = select_rows(
@@ -56,7 +58,8 @@ pub fn first_twenty_completed_cash_trades_of_symbol<S: Alter>(
     last: Stamp,
 ) -> Result<Vec<TradeRow>, Fault>
     ensures same_reference { tx.new.conn.ghost_name ≡ tx.old.conn.ghost_name }
-    ensures step { ReadsDeskTables S.Store tx.old tx.new result (λ all t. map abstract_trade_row all.items ≡ chosen.first_twenty_completed_cash_trade_rows_of_symbol symbol.now first last t) }
+    ensures step { ReadsDeskTables S.Store tx.old tx.new result (λ all t. map abstract_trade_row all.items
+        ≡ chosen.first_twenty_completed_cash_trade_rows_of_symbol symbol.now first last t) }
     ensures fault { IfErr result IsCallFault }
 {
     let rows = select_rows(

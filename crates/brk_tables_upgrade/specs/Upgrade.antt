@@ -41,7 +41,8 @@ tables_with_all_cash_rows_numbered t = tables_without_cash_transactions (tables_
 pub record PreservesTablesOutside (In : DeskTable → Type 0) (tree : DeskTable → ℕ) (old new : Database) : Type 0 where
   pub more : List Table
   pub tables : new.schema.tables ≡ old.schema.tables ++ more
-  pub rows : AllByRecursion (λ k. ((w : DeskTable) → In w → k.tree ≢ tree w) → HasNoWritingForeignKeysAt old.schema k.tree → new.trees k.tree ≡ old.trees k.tree) old.schema.tables
+  pub rows : AllByRecursion (λ k. ((w : DeskTable) → In w → k.tree ≢ tree w) → HasNoWritingForeignKeysAt old.schema k.tree
+      → new.trees k.tree ≡ old.trees k.tree) old.schema.tables
 
 -- The database `new` contains the tables of schema 3 with the rows `t`, and the other tables of
 -- `old` are unchanged (`PreservesTablesOutside`).
@@ -58,11 +59,15 @@ pub record HasUpgradedTables (desk_before : Schema) (before : DeskTable → ℕ)
 -- later schema adds, `new` contains the tables of schema 3 with the rows `t`, and other tables are
 -- unchanged (`HasUpgradedTables`). Vacuous otherwise.
 abbrev pub AddsTablesOfLaterSchemas : Schema → Database → Database → Type 0
-AddsTablesOfLaterSchemas schema old new = (t : Tables) (tree : DeskTable → ℕ) → HasSelectedTables (desk_tables_of_schema schema) (IsTableOfSchema schema) t tree old → LacksOtherDeskTables schema t old → HasUpgradedTables schema tree t old new
+AddsTablesOfLaterSchemas schema old new =
+    (t : Tables) (tree : DeskTable → ℕ) → HasSelectedTables (desk_tables_of_schema schema) (IsTableOfSchema schema) t tree old
+    → LacksOtherDeskTables schema t old → HasUpgradedTables schema tree t old new
 
 -- If the database `old` contains the tables of `schema` with the rows `t`, and no table that a
 -- later schema adds, `new` contains the tables of schema 3 with the upgraded rows
 -- (`tables_upgraded_from_schema`), and other tables are unchanged (`HasUpgradedTables`). Vacuous
 -- otherwise.
 abbrev pub UpgradesTables : Schema → Database → Database → Type 0
-UpgradesTables schema old new = (t : Tables) (tree : DeskTable → ℕ) → HasSelectedTables (desk_tables_of_schema schema) (IsTableOfSchema schema) t tree old → LacksOtherDeskTables schema t old → HasUpgradedTables schema tree (tables_upgraded_from_schema schema t) old new
+UpgradesTables schema old new =
+    (t : Tables) (tree : DeskTable → ℕ) → HasSelectedTables (desk_tables_of_schema schema) (IsTableOfSchema schema) t tree old
+    → LacksOtherDeskTables schema t old → HasUpgradedTables schema tree (tables_upgraded_from_schema schema t) old new

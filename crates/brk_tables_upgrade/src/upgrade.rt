@@ -20,7 +20,10 @@ use std::alloc::Global;
 // Creates the tables that a schema does not have, and sets the number of the schema to 3. The
 // effect is specified only if the tables of the schema exist, and none that a later schema adds.
 // Fails with `Memory` or `Store` only.
-fn add_tables_of_later_schemas<S: Alter>(tx: &mut Transaction<'_, S>, schema: Schema) -> Result<(), Fault>
+fn add_tables_of_later_schemas<S: Alter>(
+    tx: &mut Transaction<'_, S>,
+    schema: Schema,
+) -> Result<(), Fault>
     ensures same_reference { tx.new.conn.ghost_name ≡ tx.old.conn.ghost_name }
     ensures step { IsConnectionStep S.Store tx.old tx.new result (λ _ a b. AddsTablesOfLaterSchemas (abstract_schema schema) a.now b.now) }
     ensures fault { IfErr result IsCallFault }
@@ -31,7 +34,10 @@ fn add_tables_of_later_schemas<S: Alter>(tx: &mut Transaction<'_, S>, schema: Sc
 
 // Inserts the rows of CASH_TRANSACTION into CASH_MOVE, numbered from 1 by ascending stamp, and
 // deletes them from CASH_TRANSACTION. Fails with `Memory` or `Store` only.
-fn move_cash_transactions_to_cash_moves<S: Alter>(tx: &mut Transaction<'_, S>, alloc: Global) -> Result<(), Fault>
+fn move_cash_transactions_to_cash_moves<S: Alter>(
+    tx: &mut Transaction<'_, S>,
+    alloc: Global,
+) -> Result<(), Fault>
     ensures same_reference { tx.new.conn.ghost_name ≡ tx.old.conn.ghost_name }
     ensures step { WritesDeskTables S.Store tx.old tx.new result tables_with_all_cash_rows_numbered }
     ensures fault { IfErr result IsCallFault }

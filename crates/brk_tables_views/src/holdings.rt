@@ -25,7 +25,9 @@ pub fn completed_trade_ids_of_holding<S: Alter>(
 ) -> Result<Vec<Id>, Fault>
     ensures same_reference { tx.new.conn.ghost_name ≡ tx.old.conn.ghost_name }
     ensures step { ReadsDeskTables S.Store tx.old tx.new result (λ all t.
-        all.items ≡ map (λ r. r.id) (trade_rows_oldest_first (filter (λ r. (r.account == account) && (bytes_eq r.symbol symbol.now && is_same_trade_status r.status Completed)) t.trades))) }
+        all.items
+        ≡ map (λ r. r.id) (trade_rows_oldest_first (filter (λ r. (r.account == account)
+        && (bytes_eq r.symbol symbol.now && is_same_trade_status r.status Completed)) t.trades))) }
     ensures fault { IfErr result IsCallFault }
 {
     let rows = select_rows(

@@ -14,4 +14,7 @@ pub mod moments;
 pub use brokers::{account_ids_of_broker, brokers_with_name, requests_of_broker};
 pub use holdings::completed_trade_ids_of_holding;
 pub use lot_changes::{lot_changes_by_trade, lot_changes_of_lot};
-pub use moments::{first_trade_of_account_from_stamp, first_twenty_trades_of_account, first_twenty_trades_of_symbol};
+pub use moments::{
+    first_trade_of_account_from_stamp, first_twenty_trades_of_account,
+    first_twenty_trades_of_symbol,
+};

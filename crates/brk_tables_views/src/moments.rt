@@ -27,13 +27,18 @@ pub fn first_twenty_trades_of_account<S: Alter>(
     last: Stamp,
 ) -> Result<Vec<TradeRow>, Fault>
     ensures same_reference { tx.new.conn.ghost_name ≡ tx.old.conn.ghost_name }
-    ensures step { ReadsDeskTables S.Store tx.old tx.new result (λ all t. map abstract_trade_row all.items ≡ take 20 (trade_rows_oldest_first (filter (λ r. (r.account == account) && row_stamp_is_between first last r) t.trades))) }
+    ensures step { ReadsDeskTables S.Store tx.old tx.new result (λ all t. map abstract_trade_row all.items
+        ≡ take 20 (trade_rows_oldest_first (filter (λ r. (r.account == account) && row_stamp_is_between first last r) t.trades))) }
     ensures fault { IfErr result IsCallFault }
 {
     let rows = select_rows(
         tx,
         "SELECT T_ID, T_DTS, T_ST_ID, T_TT_ID, T_IS_CASH, T_S_SYMB, T_QTY, T_BID_PRICE, T_CA_ID, T_EXEC_NAME, T_TRADE_PRICE, T_CHRG, T_COMM, T_TAX, T_LIFO FROM TRADE WHERE T_CA_ID = ?1 AND T_DTS >= ?2 AND T_DTS <= ?3 ORDER BY T_DTS, T_ID LIMIT 20",
-        &[id_as_parameter(account), stamp_as_parameter(first), stamp_as_parameter(last)],
+        &[
+            id_as_parameter(account),
+            stamp_as_parameter(first),
+            stamp_as_parameter(last),
+        ],
     )?;
     decode_rows(alloc, &rows)
 }
@@ -48,7 +53,8 @@ pub fn first_twenty_trades_of_symbol<S: Alter>(
     last: Stamp,
 ) -> Result<Vec<TradeRow>, Fault>
     ensures same_reference { tx.new.conn.ghost_name ≡ tx.old.conn.ghost_name }
-    ensures step { ReadsDeskTables S.Store tx.old tx.new result (λ all t. map abstract_trade_row all.items ≡ take 20 (trade_rows_oldest_first (filter (λ r. bytes_eq r.symbol symbol.now && row_stamp_is_between first last r) t.trades))) }
+    ensures step { ReadsDeskTables S.Store tx.old tx.new result (λ all t. map abstract_trade_row all.items
+        ≡ take 20 (trade_rows_oldest_first (filter (λ r. bytes_eq r.symbol symbol.now && row_stamp_is_between first last r) t.trades))) }
     ensures fault { IfErr result IsCallFault }
 {
     let rows = select_rows(
@@ -71,7 +77,8 @@ pub fn first_trade_of_account_from_stamp<S: Alter>(
     first: Stamp,
 ) -> Result<Option<TradeRow>, Fault>
     ensures same_reference { tx.new.conn.ghost_name ≡ tx.old.conn.ghost_name }
-    ensures step { ReadsDeskTables S.Store tx.old tx.new result (λ o t. option_to_list (option_map abstract_trade_row o) ≡ take 1 (trade_rows_oldest_first (filter (λ r. nat_le first r.stamp) (trade_rows_of_account t account)))) }
+    ensures step { ReadsDeskTables S.Store tx.old tx.new result (λ o t. option_to_list (option_map abstract_trade_row o)
+        ≡ take 1 (trade_rows_oldest_first (filter (λ r. nat_le first r.stamp) (trade_rows_of_account t account)))) }
     ensures fault { OnErr result (result ≡ Err Store) }
 {
     let rows = select_rows(

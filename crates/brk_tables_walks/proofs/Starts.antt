@@ -1,4 +1,5 @@
--- Rows that were given first are those of a whole answer, so what is told of answers is told of them.
+-- Rows that were given first are those of a whole answer, so what is told of answers is told of
+-- them.
 use Rattle.std.proofs.Common.{◌≡◌, ◌⊎◌, ℕ, List, [], ◌++◌, Ok, Err, refl, sym, subst, ◌∙◌, IsTrue}
 use Rattle.sqlite_value.specs.declared.keys.Key.{Key}
 use Rattle.sqlite_value.specs.Order.{Row}

@@ -47,7 +47,8 @@ module _ {V X : Type 0} (cells : X → Row) (takes : V → X → V → Type 0) w
     pub stopped : stops at next e new
 
   -- The walk failed. At a fault, which is `Memory` or `Store`, the visitor had taken a prefix of
-  -- the records (`TakesPrefixOfRecords`). At the visitor's error it had stopped at a record (`StopsAtRecord`).
+  -- the records (`TakesPrefixOfRecords`). At the visitor's error it had stopped at a record
+  -- (`StopsAtRecord`).
   abbrev pub WalkEndsEarly : {E : Type 0} → (V → X → E → V → Type 0) → List ℕ → Row → State → V → V → WalkError E → Type 0
   WalkEndsEarly stops sql params db old new (Failed fault) = IsCallFault fault × TakesPrefixOfRecords sql params db old new
   WalkEndsEarly stops sql params db old new (Cause e) = StopsAtRecord stops sql params db old e new

@@ -19,7 +19,8 @@ TakesListSatisfying {X} So of takes before after = (taken : List X) × FoldsTo t
 -- The walk failed. At a fault, which is `Memory` or `Store`, `Begins` holds of the records that the
 -- visitor took. At the visitor's error `Begins` holds of the records that it took, followed by the
 -- one at which it stopped.
-abbrev pub TableWalkEndsEarly : {X M V E : Type 0} → (List M → Type 0) → (X → M) → (V → X → V → Type 0) → (V → X → E → V → Type 0) → V → V → WalkError E → Type 0
+abbrev pub TableWalkEndsEarly : {X M V E : Type 0} → (List M → Type 0) → (X → M) → (V → X → V → Type 0) → (V → X → E → V → Type 0) → V → V → WalkError E
+    → Type 0
 TableWalkEndsEarly {X} Begins of takes stops before after (Failed fault) = IsCallFault fault × TakesListSatisfying Begins of takes before after
 TableWalkEndsEarly {X} {M} {V} Begins of takes stops before after (Cause e) =
     (taken : List X) × (next : X) × (at : V) × FoldsTo takes before taken at × stops at next e after × Begins (map of (taken ++ next ∷ []))
@@ -37,7 +38,8 @@ IsPrefixOfList {M} db list first = (first ≡ []) ⊎ (IsTrue db.is_open × ((t 
 -- The postcondition of a walk, which writes nothing: it passes the records of `list` to a visitor,
 -- in order, one at a time, until the visitor stops. The clauses on records and on the database are
 -- vacuous if the disk assumption fails.
-pub record TableWalkPost {S X M V E : Type 0} (g : Ghosts S) (old new : Held S) (of : X → M) (list : Tables → List M) (takes : V → X → V → Type 0) (stops : V → X → E → V → Type 0)
+pub record TableWalkPost {S X M V E : Type 0} (g : Ghosts S) (old new : Held S) (of : X → M) (list : Tables → List M) (takes : V → X → V → Type 0)
+    (stops : V → X → E → V → Type 0)
     (before after : V) (result : Result (Unit {0}) (WalkError E)) : Type 0 where
   -- If the walk returns `Ok`, the visitor took every record of the list, in order.
   pub all : HasCleanDisk (state g new) → OnOk result (TakesListSatisfying (AreAllRecordsOfList (state g old) list) of takes before after)
@@ -47,6 +49,7 @@ pub record TableWalkPost {S X M V E : Type 0} (g : Ghosts S) (old new : Held S) 
   -- holds.
   pub fault : IfErr result (IsWalkError stops after)
   -- If the database is open after the walk, it was open before and is unchanged.
-  pub same : HasCleanDisk (state g new) → IsTrue (state g new).is_open → IsTrue (state g old).is_open × ((state g new).now ≡ (state g old).now) × ((state g new).committed ≡ (state g old).committed)
+  pub same : HasCleanDisk (state g new) → IsTrue (state g new).is_open
+      → IsTrue (state g old).is_open × ((state g new).now ≡ (state g old).now) × ((state g new).committed ≡ (state g old).committed)
   -- A crash exposes only states that a crash before the call could expose.
   pub survives : Survives (state g old) (state g new) (λ _. ⊥)

@@ -35,7 +35,11 @@ pub fn walk_cash_rows_of_account<S: Alter, E, V: Visitor<MoveRow, E>>(
     walk_query_rows::<S, MoveRow, E, V>(
         conn,
         "SELECT CM_ID, CM_CA_ID, CM_T_ID, CM_DTS, CM_AMT, CM_NAME FROM CASH_MOVE WHERE CM_CA_ID = ?1 AND CM_DTS >= ?2 AND CM_DTS <= ?3 ORDER BY CM_DTS, CM_ID",
-        &[id_as_parameter(account), stamp_as_parameter(from), stamp_as_parameter(to)],
+        &[
+            id_as_parameter(account),
+            stamp_as_parameter(from),
+            stamp_as_parameter(to),
+        ],
         visitor,
     )
 }

@@ -47,15 +47,18 @@ pub fn walk_query_rows<S: Alter, R: Record, E, V: Visitor<R, E>>(
     ensures ready { V.ready visitor.new }
     ensures leads { V.leads visitor.old visitor.new }
     // If it returns `Ok`, the visitor took all records of the result, in order.
-    ensures all { HasCleanDisk (state S.Store conn.new) → OnOk result (TakesAllRecords R.cells V.takes sql.now (bound params.now) (state S.Store conn.old) visitor.old visitor.new) }
+    ensures all { HasCleanDisk (state S.Store conn.new)
+        → OnOk result (TakesAllRecords R.cells V.takes sql.now (bound params.now) (state S.Store conn.old) visitor.old visitor.new) }
     // At the visitor's error, it took the records before the one at which it stopped. Otherwise it
     // took the first records, possibly none.
-    ensures early { HasCleanDisk (state S.Store conn.new) → IfErr result (WalkEndsEarly R.cells V.takes V.stops sql.now (bound params.now) (state S.Store conn.old) visitor.old visitor.new) }
+    ensures early { HasCleanDisk (state S.Store conn.new)
+        → IfErr result (WalkEndsEarly R.cells V.takes V.stops sql.now (bound params.now) (state S.Store conn.old) visitor.old visitor.new) }
     // The error is `Memory` or `Store`, or that of the visitor, whether or not the disk assumption
     // holds.
     ensures fault { IfErr result (IsWalkError V.stops visitor.new) }
     ensures unchanged_if_ok { HasCleanDisk (state S.Store conn.new) → OnOk result (IsUnchanged (state S.Store conn.old) (state S.Store conn.new)) }
-    ensures changes_at_most_by_rollback { HasCleanDisk (state S.Store conn.new) → IsUnchanged (state S.Store conn.old) (state S.Store conn.new) ⊎ IsRolledBack (state S.Store conn.old) (state S.Store conn.new) }
+    ensures changes_at_most_by_rollback { HasCleanDisk (state S.Store conn.new)
+        → IsUnchanged (state S.Store conn.old) (state S.Store conn.new) ⊎ IsRolledBack (state S.Store conn.old) (state S.Store conn.new) }
     ensures mode { conn.old.in_transaction ≡ false → conn.new.in_transaction ≡ false }
     ensures crash { Survives (state S.Store conn.old) (state S.Store conn.new) (λ _. ⊥) }
 {

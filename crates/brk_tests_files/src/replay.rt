@@ -40,7 +40,10 @@ fn command_begun_by_line(alloc: Global, line: &str) -> Option<Due<'_>> {
 }
 
 // Adds an input line to the pending command, if there is one.
-fn add_input_to_pending_command<'a>(due: Option<Due<'a>>, text: &str) -> Result<Option<Due<'a>>, AllocError> {
+fn add_input_to_pending_command<'a>(
+    due: Option<Due<'a>>,
+    text: &str,
+) -> Result<Option<Due<'a>>, AllocError> {
     let Some(mut due) = due else {
         return Ok(None);
     };

@@ -5,7 +5,10 @@ ghost use Rattle.brk_model.specs.Commands.{Again, Booked, Done, Refused};
 ghost use Rattle.brk_tests_unit.specs.declared.batches.Asked.{Asked};
 ghost use Rattle.brk_tests_unit.specs.declared.batches.Asked.TheVariants as asks;
 
-use brk_batch_engine::{BatchFault, Clock, Counts, FaultKind, MAXIMUM_INPUT_BYTES, RowAnswer, Rows, execute_batch_on_desk};
+use brk_batch_engine::{
+    BatchFault, Clock, Counts, FaultKind, MAXIMUM_INPUT_BYTES, RowAnswer, Rows,
+    execute_batch_on_desk,
+};
 use brk_money::{Fault, Limit, Planned, Refusal, Stamp};
 use brk_ref::Key;
 use std::alloc::{AllocError, Global};
@@ -182,7 +185,9 @@ impl Read for Long {
             *place = self.byte_at_position(at);
             at = at.saturating_add(1);
         }
-        let n = buf.len().min(MAXIMUM_INPUT_BYTES.saturating_sub(self.at) as usize);
+        let n = buf
+            .len()
+            .min(MAXIMUM_INPUT_BYTES.saturating_sub(self.at) as usize);
         self.at = self.at.saturating_add(n as u64);
         Ok(n)
     }
@@ -225,7 +230,9 @@ fn run_batch_on_new_desk<R: Read + Drop>(
         at: Stamp::new(7).ok_or("a stamp")?,
     };
     let mut desk = Last { moment: 0 };
-    let done = execute_batch_on_desk::<R, Vec<u8>, Fixed, Last>(alloc, reader, &mut out, &mut clock, &mut desk);
+    let done = execute_batch_on_desk::<R, Vec<u8>, Fixed, Last>(
+        alloc, reader, &mut out, &mut clock, &mut desk,
+    );
     Ok((done, out))
 }
 

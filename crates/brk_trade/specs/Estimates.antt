@@ -34,9 +34,11 @@ pub record AreOrderTermsInBase (base : Base) (o : Order) (terms : Terms) : Type 
   pub tax_status : terms.tax_status ≡ tax_status_in_accounts base.accounts o.account
   pub rates : terms.rates ≡ tax_rate_sum_of_customer base (customer_id_of_account base o.account)
   -- The rate is that of the band that the model finds.
-  pub rate : option_map (λ b. b.rate) (commission_band_for_quantity base (tier_of_account base o.account) (trade_type_of_order o.order_type) (exchange_of_security base o.symbol) o.qty) ≡ Some terms.rate
+  pub rate : option_map (λ b. b.rate) (commission_band_for_quantity base (tier_of_account base o.account) (trade_type_of_order o.order_type) (exchange_of_security base o.symbol) o.qty)
+      ≡ Some terms.rate
   -- The charge is the one that the model finds.
-  pub charge : option_map (λ c. c.amount) (charge_for_type_and_tier base (trade_type_of_order o.order_type) (tier_of_account base o.account)) ≡ Some terms.charge
+  pub charge : option_map (λ c. c.amount) (charge_for_type_and_tier base (trade_type_of_order o.order_type) (tier_of_account base o.account))
+      ≡ Some terms.charge
   pub assets : terms.assets ≡ assets_of_account base o.account
 
 -- The deal of an order with the terms `terms`, as the trade `trade` at `stamp`, which closes the

@@ -74,7 +74,8 @@ pub record IsCheckedPlacement (order : Order) (found : OrderPlanFacts) (placemen
 -- of these lots do not add up to the shares held.
 abbrev pub MatchesModelEstimate : Terms → (List Lot → Type 0) → Estimate → Type 0
 MatchesModelEstimate terms given estimate =
-    (base : Base) (o : model.Order) (ls : List Lot) → AreOrderTermsInBase base o terms → shares_of_position (completed_trades base) o.account o.symbol ≡ shares_of_lots ls
+    (base : Base) (o : model.Order) (ls : List Lot) → AreOrderTermsInBase base o terms
+    → shares_of_position (completed_trades base) o.account o.symbol ≡ shares_of_lots ls
     → YieldsPosition given o.is_lifo ls → terms.held ≡ lot_quantity_sum ls → estimate ≡ estimate_from_model (model_orders.estimate base o)
 
 -- `order` passes its checks against the facts `found`, and `estimate` follows from its terms and
@@ -116,7 +117,8 @@ trade_row_with_texts order terms trade stamp symbol executor = record {
 -- The TRADE row of `order` with the terms `terms`, its id and stamp, its symbol, and the name of
 -- its executor.
 abbrev pub trade_row_of_order : Order → Terms → (trade stamp : ℕ) → tables.TradeRow
-trade_row_of_order order terms trade stamp = trade_row_with_texts order terms trade stamp order.symbol (model_orders.executor_name (abstract_executor order.executor))
+trade_row_of_order order terms trade stamp =
+    trade_row_with_texts order terms trade stamp order.symbol (model_orders.executor_name (abstract_executor order.executor))
 
 -- The TRADE_REQUEST row of `trade`, which `order` placed with the terms `terms`, or none if it is a
 -- market order. `broker` is the broker of its account.
@@ -150,5 +152,6 @@ pub record IsOrderPlan (order : Order) (found : OrderPlanFacts) (given : List Lo
   pub accepted : first_refusal (order_checks found ++ free_trade_id_check found.last_trade ∷ later_stamp_check last now ∷ []) ≡ None
   pub stamped : stamp_after last now ≡ Some stamp
   pub estimated : MatchesModelEstimate (terms_of_order order found) given estimate
-  pub replied : plan.reply ≡ Ordered (record { stamp = stamp; trade = next_trade_id found.last_trade; status = model_orders.first_status (trade_type_of_order order.order_type); estimate = estimate })
+  pub replied : plan.reply
+      ≡ Ordered (record { stamp = stamp; trade = next_trade_id found.last_trade; status = model_orders.first_status (trade_type_of_order order.order_type); estimate = estimate })
   pub changes : AreOrderChanges order (terms_of_order order found) (option_map_or (λ a. a.broker) found.account 0) (next_trade_id found.last_trade) stamp plan.changes.items

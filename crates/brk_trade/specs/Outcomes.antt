@@ -50,7 +50,8 @@ withheld_tax_of_result found values = if is_withholding_status found.account.tax
 -- value minus the charge, the commission and the withheld tax.
 abbrev pub settlement_amount_of_result : ResultPlanFacts → ℕ → Values → ℤ
 settlement_amount_of_result found price values =
-    signed_proceeds (side_of_trade_type found.trade.kind) (found.trade.qty * price) -ℤ pos (found.trade.charge + commission_of_result found price + withheld_tax_of_result found values)
+    signed_proceeds (side_of_trade_type found.trade.kind) (found.trade.qty * price) -ℤ pos (found.trade.charge + commission_of_result found price
+    + withheld_tax_of_result found values)
 
 -- The balance of the account plus `amount` after a cash trade, and the balance alone after a margin
 -- trade, in cents.

@@ -114,7 +114,8 @@ row_change_adding_settlement t outcome =
 -- The row changes of the account's summary, of the broker's totals and of the settlement.
 abbrev pub summary_broker_settlement_changes : ResultPlanFacts → ResultFigures → List Change
 summary_broker_settlement_changes found outcome =
-    row_change_of_summary found.summary found.trade outcome.summary ∷ row_change_of_broker_totals found outcome.commissions ∷ row_change_adding_settlement found.trade outcome ∷ []
+    row_change_of_summary found.summary found.trade outcome.summary ∷ row_change_of_broker_totals found outcome.commissions
+    ∷ row_change_adding_settlement found.trade outcome ∷ []
 
 -- The row changes that complete the trade of `found`: of the trade itself, of the lots that it
 -- touches and of the one that it opens, of the summary, the broker's totals and the settlement, of
@@ -156,7 +157,8 @@ shares_held_before_trade found = unwrap_or found.summary (pos 0)
 -- `ls` are lots that the source may have (`given`), in the sequence in which the trade of `found`
 -- closes lots; none of them was opened by this trade; and their quantities add up to the summary.
 abbrev pub AreLotsBeforeTrade : (List Lot → Type 0) → ResultPlanFacts → List Lot → Type 0
-AreLotsBeforeTrade given found ls = YieldsPosition given found.trade.is_lifo ls × AreOpenedByOtherTrades found.trade.id ls × (shares_held_before_trade found ≡ lot_quantity_sum ls)
+AreLotsBeforeTrade given found ls =
+    YieldsPosition given found.trade.is_lifo ls × AreOpenedByOtherTrades found.trade.id ls × (shares_held_before_trade found ≡ lot_quantity_sum ls)
 
 -- The account holds no shares that the trade of `found` would close.
 abbrev pub ClosesNoHeldShares : ResultPlanFacts → Type 0
@@ -185,13 +187,15 @@ CompletesExistingTrade (Some found) price given last now plan = IsResultPlan fou
 -- `price`. The clause `early` is vacuous if no check before the lots are read fails, and the clause
 -- `late` if no lots of the source match the summary (`AreLotsBeforeTrade`). `last` is the last
 -- stamp, and `now` the clock reading.
-pub record IsRefusalOfExistingTrade (found : ResultPlanFacts) (price : ℕ) (given : List Lot → Type 0) (last : Option ℕ) (now : ℕ) (refusal : Refusal) : Type 0 where
+pub record IsRefusalOfExistingTrade (found : ResultPlanFacts) (price : ℕ) (given : List Lot → Type 0) (last : Option ℕ) (now : ℕ)
+    (refusal : Refusal) : Type 0 where
   -- If a check before the lots are read fails, its refusal is `refusal`, whatever the lots are.
   pub early : IfSome (first_refusal (checks_before_reading_lots found)) (λ cause. refusal ≡ cause)
   -- `refusal` is that of the first check that fails, with the values of those shares of the lots
   -- that the trade would close.
   pub late : (ls : List Lot) (stamp : ℕ) → AreLotsBeforeTrade given found ls
-      → first_refusal (result_checks found price (closing_values_of_deal (deal_of_trade_row found.trade price stamp) (shares_of_lots ls)) (stamp_after last now)) ≡ Some refusal
+      → first_refusal (result_checks found price (closing_values_of_deal (deal_of_trade_row found.trade price stamp) (shares_of_lots ls)) (stamp_after last now))
+      ≡ Some refusal
 
 -- `refusal` is that of a result: `NoTrade` if there is no such trade, and otherwise the first one
 -- that applies (`IsRefusalOfExistingTrade`).
@@ -209,4 +213,5 @@ stamp_or_clock_reading stamp now = unwrap_or stamp now
 abbrev pub ResultReadsAtMostOneLotMore : Option ResultPlanFacts → ℕ → ℕ → (List Lot → Type 0) → (before after : ℕ) → Type 0
 ResultReadsAtMostOneLotMore None price stamp given before after = after ≤ before
 ResultReadsAtMostOneLotMore (Some found) price stamp given before after =
-    (ls : List Lot) → AreLotsBeforeTrade given found ls → after ≤ before + length (touches_of_existing_lots (deal_of_trade_row found.trade price stamp) (shares_of_lots ls)) + 1
+    (ls : List Lot) → AreLotsBeforeTrade given found ls
+    → after ≤ before + length (touches_of_existing_lots (deal_of_trade_row found.trade price stamp) (shares_of_lots ls)) + 1

@@ -261,7 +261,8 @@ fn append_cash_row_changes(
     cash: Option<MoveRow>,
     changes: &mut Vec<Change>,
 ) -> Result<(), Fault>
-    ensures changes { OnOk result (changes.new.items ≡ changes.old.items ++ flat_map (spec.row_changes_of_cash_row account outcome.now.balance) (option_to_list cash)) }
+    ensures changes { OnOk result (changes.new.items
+        ≡ changes.old.items ++ flat_map (spec.row_changes_of_cash_row account outcome.now.balance) (option_to_list cash)) }
     ensures fault { OnErr result (result ≡ Err Memory) }
 {
     let Some(row) = cash else {

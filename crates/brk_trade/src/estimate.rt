@@ -81,7 +81,8 @@ fn values_of_shares_to_close<L: LotSource>(source: &mut L, terms: &Terms) -> Res
     ensures reads_no_lot { closes_lots terms.now.side terms.now.held ≡ false → source.new ≡ source.old }
     ensures faulted { IfOk result (λ values. L.faulted source.new ≡ L.faulted source.old) }
     ensures fault { IfErr result (λ fault. (before : L) × L.fails before fault source.new) }
-    ensures rest { (ls : List Lot) → AreLotsOfFaithfulSource (L.reads_faithfully source.new) (L.remaining source.old) ls → (n : ℕ) × L.remaining source.new (drop n ls) }
+    ensures rest { (ls : List Lot) → AreLotsOfFaithfulSource (L.reads_faithfully source.new) (L.remaining source.old) ls
+        → (n : ℕ) × L.remaining source.new (drop n ls) }
 {
     if closes_lots(terms.side, terms.held) {
         estimate_closing_values(source, terms.side, terms.qty, terms.price)
@@ -100,7 +101,8 @@ pub fn estimate_order<L: LotSource>(source: &mut L, terms: &Terms) -> Result<Est
     // The estimate equals the model's estimate, in a base that has the terms and the shares of the
     // lots.
     ensures estimate { IfOk result (λ estimate. (base : Base) (o : Order) (ls : List Lot) →
-        AreOrderTermsInBase base o terms.now → shares_of_position (completed_trades base) o.account o.symbol ≡ shares_of_lots ls → YieldsPosition (AreLotsOfFaithfulSource (L.reads_faithfully source.new) (L.remaining source.old)) o.is_lifo ls →
+        AreOrderTermsInBase base o terms.now → shares_of_position (completed_trades base) o.account o.symbol ≡ shares_of_lots ls
+        → YieldsPosition (AreLotsOfFaithfulSource (L.reads_faithfully source.new) (L.remaining source.old)) o.is_lifo ls →
         terms.now.held ≡ lot_quantity_sum ls → estimate ≡ estimate_from_model (spec_orders.estimate base o)) }
     ensures commission { IfOk result (λ estimate. estimate.commission ≡ commission_from_terms terms.now) }
     // It reads at most one lot more than the order would touch, also if it fails, and none
@@ -110,7 +112,8 @@ pub fn estimate_order<L: LotSource>(source: &mut L, terms: &Terms) -> Result<Est
     // A fault of the source is never ignored, and is returned unchanged.
     ensures faulted { IfOk result (λ estimate. L.faulted source.new ≡ L.faulted source.old) }
     ensures fault { IfErr result (λ fault. (before : L) × L.fails before fault source.new) }
-    ensures rest { (ls : List Lot) → AreLotsOfFaithfulSource (L.reads_faithfully source.new) (L.remaining source.old) ls → (n : ℕ) × L.remaining source.new (drop n ls) }
+    ensures rest { (ls : List Lot) → AreLotsOfFaithfulSource (L.reads_faithfully source.new) (L.remaining source.old) ls
+        → (n : ℕ) × L.remaining source.new (drop n ls) }
 {
     let values = values_of_shares_to_close(source, terms)?;
     Ok(Estimate {

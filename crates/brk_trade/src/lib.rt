@@ -13,13 +13,14 @@ pub mod result_found;
 mod settling;
 
 pub use brk_changes::{
-    Amount, BrokerTotals, CashType, Change, HistoryRow, HoldingRow, LotChange, MoveRow,
-    RequestRow, SettlementRow, SummaryRow, TradeCount, TradeRow, is_submitted,
+    Amount, BrokerTotals, CashType, Change, HistoryRow, HoldingRow, LotChange, MoveRow, RequestRow,
+    SettlementRow, SummaryRow, TradeCount, TradeRow, is_submitted,
 };
 pub use brk_plans::{
-    CashText, Completed, Estimate, MovementPlanFacts, Ordered, Plan, Quote, Reference, ReferenceFacts,
-    Reply, SettlementText, Span, TextUpdate, create_quote, has_no_quote_of_symbol, plan_cancel, plan_feed,
-    plan_move, plan_oneday, plan_reference, plan_update, first_symbol_price_span, price_triggers_trade,
+    CashText, Completed, Estimate, MovementPlanFacts, Ordered, Plan, Quote, Reference,
+    ReferenceFacts, Reply, SettlementText, Span, TextUpdate, create_quote, first_symbol_price_span,
+    has_no_quote_of_symbol, plan_cancel, plan_feed, plan_move, plan_oneday, plan_reference,
+    plan_update, price_triggers_trade,
 };
 pub use estimate::{Terms, estimate_order, tax_on_realised_gain};
 pub use order::{OrderAccount, OrderPlanFacts, plan_estimate, plan_order};

@@ -135,7 +135,8 @@ pub fn plan_estimate<L: LotSource>(
     // A fault of the source is never ignored, and is returned unchanged.
     ensures faulted { IfOk result (λ planned. L.faulted source.new ≡ L.faulted source.old) }
     ensures fault { IfErr result (λ fault. (before : L) × L.fails before fault source.new) }
-    ensures rest { (ls : List Lot) → AreLotsOfFaithfulSource (L.reads_faithfully source.new) (L.remaining source.old) ls → (n : ℕ) × L.remaining source.new (drop n ls) }
+    ensures rest { (ls : List Lot) → AreLotsOfFaithfulSource (L.reads_faithfully source.new) (L.remaining source.old) ls
+        → (n : ℕ) × L.remaining source.new (drop n ls) }
 {
     let placement = match checked_placement(order, found) {
         Ok(placement) => placement,
@@ -329,7 +330,8 @@ pub fn plan_order<L: LotSource>(
     // A fault of the source is never ignored, and is returned unchanged.
     ensures faulted { IfOk result (λ planned. L.faulted source.new ≡ L.faulted source.old) }
     ensures fault { IfErr result (λ fault. (fault ≡ Fault.Memory) ⊎ ((before : L) × L.fails before fault source.new)) }
-    ensures rest { (ls : List Lot) → AreLotsOfFaithfulSource (L.reads_faithfully source.new) (L.remaining source.old) ls → (n : ℕ) × L.remaining source.new (drop n ls) }
+    ensures rest { (ls : List Lot) → AreLotsOfFaithfulSource (L.reads_faithfully source.new) (L.remaining source.old) ls
+        → (n : ℕ) × L.remaining source.new (drop n ls) }
 {
     let placement = match checked_placement(order, found) {
         Ok(placement) => placement,

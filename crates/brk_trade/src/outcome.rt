@@ -9,9 +9,9 @@ ghost use Rattle.brk_trade.specs.Outcomes.{checks_before_reading_lots, checks_af
 
 use crate::result_found::ResultPlanFacts;
 use crate::settling::{
-    values_of_closed_shares, balance_if_within_limit, commission_at_price_and_rate,
-    commissions_if_within_limit, due_day_if_in_calendar, settlement_amount_of_trade,
-    tax_on_closed_shares,
+    balance_if_within_limit, commission_at_price_and_rate, commissions_if_within_limit,
+    due_day_if_in_calendar, settlement_amount_of_trade, tax_on_closed_shares,
+    values_of_closed_shares,
 };
 use brk_changes::{Amount, Schema, is_submitted};
 use brk_lots::Closing;
@@ -78,7 +78,8 @@ fn shares_held_if_within_limit(found: &ResultPlanFacts) -> Option<i64>
 // applies before lots are read: `WrongStatus`, `NoRate` or `Range(Summary)`.
 pub(crate) fn checked_rate_and_summary(found: &ResultPlanFacts) -> Result<RateAndSummary, Refusal>
     ensures { MatchResult result
-        (λ known. (first_refusal (checks_before_reading_lots found.now) ≡ None) × (found.now.rate ≡ Some known.rate) × (known.summary ≡ spec.shares_held_after_trade found.now))
+        (λ known. (first_refusal (checks_before_reading_lots found.now) ≡ None) × (found.now.rate ≡ Some known.rate)
+        × (known.summary ≡ spec.shares_held_after_trade found.now))
         (λ refusal. first_refusal (checks_before_reading_lots found.now) ≡ Some refusal) }
 {
     if !is_submitted(&found.trade) {
@@ -107,7 +108,8 @@ pub(crate) fn checked_result_figures(
     requires rate { found.now.rate ≡ Some known.now.rate }
     requires summary { known.now.summary ≡ spec.shares_held_after_trade found.now }
     ensures { MatchResult result
-        (λ outcome. (first_refusal (checks_after_reading_lots found.now price (values_of_closing closing.now) stamp) ≡ None) × (stamp ≡ Some outcome.stamp) × (outcome ≡ figures_of_result found.now price (values_of_closing closing.now) outcome.stamp))
+        (λ outcome. (first_refusal (checks_after_reading_lots found.now price (values_of_closing closing.now) stamp) ≡ None) × (stamp ≡ Some outcome.stamp)
+        × (outcome ≡ figures_of_result found.now price (values_of_closing closing.now) outcome.stamp))
         (λ refusal. first_refusal (checks_after_reading_lots found.now price (values_of_closing closing.now) stamp) ≡ Some refusal) }
 {
     let values = values_of_closed_shares(found.trade.qty, closing);

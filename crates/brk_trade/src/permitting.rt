@@ -7,7 +7,12 @@ ghost use Rattle.brk_ref.specs.Records.{abstract_customer, abstract_executor, ab
 use brk_ref::{Customer, Executor, Name, Permission, TaxId};
 
 // Returns true if the executor has this first name, last name and tax id.
-fn executor_has_names_and_tax_id(executor: &Executor, first_name: &Name, last_name: &Name, tax_id: &TaxId) -> bool
+fn executor_has_names_and_tax_id(
+    executor: &Executor,
+    first_name: &Name,
+    last_name: &Name,
+    tax_id: &TaxId,
+) -> bool
     ensures { result ≡ orders.executor_has_identity (abstract_executor executor.now) first_name.now last_name.now tax_id.now }
 {
     executor.first_name.as_str() == first_name.as_str()
@@ -29,8 +34,13 @@ fn permission_names_executor(permission: &Permission, executor: &Executor) -> bo
 
 /// Returns true if the executor may place orders for an account (Trade-Order). First name, last
 /// name and tax id must be those of `customer` or of one of `permissions`.
-pub fn executor_may_place_orders(customer: &Customer, permissions: &[Permission], executor: &Executor) -> bool
-    ensures { result ≡ orders.is_customer_or_has_permission (abstract_customer customer.now) (map abstract_permission permissions.now) (abstract_executor executor.now) }
+pub fn executor_may_place_orders(
+    customer: &Customer,
+    permissions: &[Permission],
+    executor: &Executor,
+) -> bool
+    ensures { result
+        ≡ orders.is_customer_or_has_permission (abstract_customer customer.now) (map abstract_permission permissions.now) (abstract_executor executor.now) }
 {
     executor_has_names_and_tax_id(
         executor,

@@ -45,7 +45,8 @@ fn close_or_open_lots<L: LotSource>(
     stamp: Stamp,
 ) -> Result<Closing, Fault>
     ensures leads { L.leads source.old source.new }
-    ensures closing { IfOk result (λ closing. (ls : List Lot) → AreLotsBeforeTrade (AreLotsOfFaithfulSource (L.reads_faithfully source.new) (L.remaining source.old)) found.now ls →
+    ensures closing { IfOk result (λ closing. (ls : List Lot)
+        → AreLotsBeforeTrade (AreLotsOfFaithfulSource (L.reads_faithfully source.new) (L.remaining source.old)) found.now ls →
         IsClosingOfDeal (deal_of_trade_row found.now.trade price stamp) ls closing) }
     ensures bought { IfOk result (λ closing. (pos 0 ≤ℤ closing.buy_value) × (closing.buy_value ≤ℤ pos (found.now.trade.qty * greatest_price))) }
     ensures sold { IfOk result (λ closing. (pos 0 ≤ℤ closing.sell_value) × (closing.sell_value ≤ℤ pos (found.now.trade.qty * greatest_price))) }
@@ -54,7 +55,8 @@ fn close_or_open_lots<L: LotSource>(
     ensures reads_no_lot { ClosesNoHeldShares found.now → source.new ≡ source.old }
     ensures faulted { IfOk result (λ closing. L.faulted source.new ≡ L.faulted source.old) }
     ensures fault { IfErr result (λ fault. (fault ≡ Fault.Memory) ⊎ ((before : L) × L.fails before fault source.new)) }
-    ensures rest { (ls : List Lot) → AreLotsOfFaithfulSource (L.reads_faithfully source.new) (L.remaining source.old) ls → (n : ℕ) × L.remaining source.new (drop n ls) }
+    ensures rest { (ls : List Lot) → AreLotsOfFaithfulSource (L.reads_faithfully source.new) (L.remaining source.old) ls
+        → (n : ℕ) × L.remaining source.new (drop n ls) }
 {
     let trade = &found.trade;
     let side = trade.kind.side();
@@ -100,7 +102,8 @@ pub fn plan_result<L: LotSource>(
     // A fault of the source is never ignored, and is returned unchanged.
     ensures faulted { IfOk result (λ planned. L.faulted source.new ≡ L.faulted source.old) }
     ensures fault { IfErr result (λ fault. (fault ≡ Fault.Memory) ⊎ ((before : L) × L.fails before fault source.new)) }
-    ensures rest { (ls : List Lot) → AreLotsOfFaithfulSource (L.reads_faithfully source.new) (L.remaining source.old) ls → (n : ℕ) × L.remaining source.new (drop n ls) }
+    ensures rest { (ls : List Lot) → AreLotsOfFaithfulSource (L.reads_faithfully source.new) (L.remaining source.old) ls
+        → (n : ℕ) × L.remaining source.new (drop n ls) }
 {
     let Some(found) = found else {
         return Ok(Err(Refusal::NoTrade));

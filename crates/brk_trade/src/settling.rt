@@ -101,7 +101,9 @@ pub(crate) fn settlement_amount_of_trade(
 ) -> Cents
     requires commission { commission ≤ greatest_trade_value }
     requires tax { tax ≤ greatest_trade_value }
-    ensures { result ≡ signed_proceeds (side_of_trade_type found.now.trade.kind) (found.now.trade.qty * price) -ℤ pos (found.now.trade.charge + commission + (if is_withholding_status found.now.account.tax_status then tax else 0)) }
+    ensures { result
+        ≡ signed_proceeds (side_of_trade_type found.now.trade.kind) (found.now.trade.qty * price) -ℤ pos (found.now.trade.charge + commission
+        + (if is_withholding_status found.now.account.tax_status then tax else 0)) }
 {
     let trade = &found.trade;
     let value = u64::from(trade.qty.get()) * u64::from(price.get());
@@ -115,7 +117,8 @@ pub(crate) fn settlement_amount_of_trade(
 pub(crate) fn balance_if_within_limit(found: &ResultPlanFacts, amount: Cents) -> Option<Cents>
     ensures { MatchOption result
         (found.now.trade.is_cash && nat_lt greatest_amount (nat_abs (spec.balance_after_settlement_amount found.now amount)) ≡ true)
-        (λ after. (after ≡ spec.balance_after_settlement_amount found.now amount) × (found.now.trade.is_cash && nat_lt greatest_amount (nat_abs (spec.balance_after_settlement_amount found.now amount)) ≡ false)) }
+        (λ after. (after ≡ spec.balance_after_settlement_amount found.now amount)
+        × (found.now.trade.is_cash && nat_lt greatest_amount (nat_abs (spec.balance_after_settlement_amount found.now amount)) ≡ false)) }
 {
     if !found.trade.is_cash {
         return Some(found.account.balance);

@@ -1,4 +1,5 @@
--- A feed that was planned from quotes is refused as the definitions refuse it, and its changes do it.
+-- A feed that was planned from quotes is refused as the definitions refuse it, and its changes do
+-- it.
 use Rattle.std.proofs.Common.{◌≡◌, ℕ, Bool, true, false, not, List, [], ◌∷◌, ◌++◌, refl, sym, ◌∙◌, ap, Option, Some, None}
 use Rattle.std.specs.Prelude.{◌||◌, is_some, Ok, Err}
 use Rattle.std.specs.List.{AllByRecursion, list_any}

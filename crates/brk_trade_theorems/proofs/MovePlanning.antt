@@ -1,4 +1,5 @@
--- Movements of cash and settlement days are refused by what was read as by the base, and planned from it they are done.
+-- Movements of cash and settlement days are refused by what was read as by the base, and planned
+-- from it they are done.
 use Rattle.std.proofs.Common.{◌≡◌, ◌≤◌, ℕ, ◌+◌, ◌==◌, Bool, true, false, List, [], ◌∷◌, ◌++◌, refl, sym, ◌∙◌, ap, length, filter, arith, ℤ, pos, neg_ℤ, ◌+ℤ◌, Option, Some, None}
 use Rattle.std.specs.Prelude.{codes, is_none, is_some, nat_abs, nat_le, nat_lt, option_map, unwrap_or, Ok, Err}
 use Rattle.std.specs.Option.{option_map_or}

@@ -1,4 +1,5 @@
--- A plan of a record is refused as the definitions refuse its command, and its changes do the command.
+-- A plan of a record is refused as the definitions refuse its command, and its changes do the
+-- command.
 use Rattle.std.proofs.Common.{◌≡◌, ◌≤◌, ℕ, ◌+◌, true, not, [], ◌∷◌, ◌++◌, refl, sym, ◌∙◌, ap, arith, Option, Some, None}
 use Rattle.std.specs.Prelude.{nat_le, nat_lt, is_none, unwrap_or, SomeIff, Ok, Err}
 use Rattle.std.proofs.lemmas.Bool.Decides.{nat_tests}

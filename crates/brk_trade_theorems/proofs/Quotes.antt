@@ -45,7 +45,8 @@ any-at_last p (y ∷ xs) x e = ap (λ b. p y || b) (any-at_last p xs x e) ∙ or
 
 -- ---- the quote of a symbol
 
--- what is held of a symbol: the last trade, and in their order the requests that may be triggered within a span in which the prices of ticks lie
+-- what is held of a symbol: the last trade, and in their order the requests that may be triggered
+-- within a span in which the prices of ticks lie
 pub record IsHeld (t : Tables) (ticks : List Tick) (quote : SymbolState) : Type 0 where
   pub last_trade : last_trade_row_of_symbol t quote.last.symbol ≡ Some (abstract_last_trade_row quote.last)
   pub span : Span

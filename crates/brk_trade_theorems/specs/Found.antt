@@ -30,7 +30,8 @@ pub record CustomerTaxFactsMatchTables (t : Tables) (customer tax : ℕ) (found 
 -- its kind do not need may have any value.
 abbrev pub ReferenceFactsMatchTables : Tables → Reference → ReferenceFacts → Type 0
 ReferenceFactsMatchTables t (reference.Broker broker) found = found.same_id ≡ has_broker t broker.id
-ReferenceFactsMatchTables t (reference.Customer customer) found = (found.same_id ≡ has_customer t customer.id) × (found.same_tax_id ≡ contains_tax_id t customer.tax_id)
+ReferenceFactsMatchTables t (reference.Customer customer) found =
+    (found.same_id ≡ has_customer t customer.id) × (found.same_tax_id ≡ contains_tax_id t customer.tax_id)
 ReferenceFactsMatchTables t (reference.Account account) found = AccountFactsMatchTables t account.id account.customer account.broker found
 ReferenceFactsMatchTables t (reference.Permission permission) found =
     (found.account ≡ has_account t permission.account) × (found.same_id ≡ contains_permission t permission.account permission.tax_id)

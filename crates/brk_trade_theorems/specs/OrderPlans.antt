@@ -43,7 +43,8 @@ pub record EstimateFactsMatchTables (t : Tables) (order : Order) (found : OrderP
   -- tax id.
   pub is_permitted : PassesFirstOrderChecks 2 found
       → CustomerOfAccountSatisfies t order.account (λ c.
-      found.is_permitted ≡ is_customer_or_has_permission c (permission_list_for_tax_id t order.account order.executor.tax_id) (abstract_executor order.executor))
+      found.is_permitted
+      ≡ is_customer_or_has_permission c (permission_list_for_tax_id t order.account order.executor.tax_id) (abstract_executor order.executor))
   -- The charge is that of the customer's tier.
   pub charge : PassesFirstOrderChecks 3 found
       → CustomerOfAccountSatisfies t order.account (λ c.

@@ -25,4 +25,5 @@ cancel_checks_on_trade_row (Some r) last now = (not (is_same_trade_status r.stat
 -- and a stamp after the last stamp is within the range.
 abbrev pub feed_checks_on_tables : Tables → List Tick → Option ℕ → ℕ → List RefusalCheck
 feed_checks_on_tables t ticks last now =
-    (list_any (is_tick_of_unknown_symbol t) ticks, NoSecurity) ∷ (list_any (exceeds_symbol_volume_limit t ticks) ticks, Range limit.Volume) ∷ later_stamp_check last now ∷ []
+    (list_any (is_tick_of_unknown_symbol t) ticks, NoSecurity) ∷ (list_any (exceeds_symbol_volume_limit t ticks) ticks, Range limit.Volume)
+    ∷ later_stamp_check last now ∷ []

@@ -39,23 +39,31 @@ pub fn terms_from_order_facts_match_the_base()
 /// does, and that its plan implements the command.
 pub fn order_plans_implement_commands()
     ensures first { (base : Base) (order : Order) (found : OrderPlanFacts) (last : Option ℕ) (now : ℕ) → PlanOrderPrecondition base order found last now
-        → first_refusal (order_checks found ++ free_trade_id_check found.last_trade ∷ later_stamp_check last now ∷ []) ≡ refusal_of_command base now (PlaceOrder (abstract_order order)) }
-    ensures refused { (base : Base) (order : Order) (found : OrderPlanFacts) (last : Option ℕ) (now : ℕ) (refusal : Refusal) → PlanOrderPrecondition base order found last now
+        → first_refusal (order_checks found ++ free_trade_id_check found.last_trade ∷ later_stamp_check last now ∷ [])
+        ≡ refusal_of_command base now (PlaceOrder (abstract_order order)) }
+    ensures refused { (base : Base) (order : Order) (found : OrderPlanFacts) (last : Option ℕ) (now : ℕ) (refusal : Refusal)
+        → PlanOrderPrecondition base order found last now
         → first_refusal (order_checks found ++ free_trade_id_check found.last_trade ∷ later_stamp_check last now ∷ []) ≡ Some refusal
         → step base now (PlaceOrder (abstract_order order)) ≡ Err refusal }
-    ensures done { (base : Base) (order : Order) (found : OrderPlanFacts) (lots : List Lot) (last : Option ℕ) (now : ℕ) (plan : Plan) → PlanOrderPrecondition base order found last now
-        → OrderLotsSatisfy (sheets base) order (EqualsLots lots) → IsOrderPlan order found (EqualsLots lots) last now plan → PlanImplementsCommand base now (PlaceOrder (abstract_order order)) plan }
+    ensures done { (base : Base) (order : Order) (found : OrderPlanFacts) (lots : List Lot) (last : Option ℕ) (now : ℕ) (plan : Plan)
+        → PlanOrderPrecondition base order found last now
+        → OrderLotsSatisfy (sheets base) order (EqualsLots lots) → IsOrderPlan order found (EqualsLots lots) last now plan
+        → PlanImplementsCommand base now (PlaceOrder (abstract_order order)) plan }
 {}
 
 /// Proves that a refusal of an estimate is the refusal of its query in the model, and that an
 /// estimate equals the model's, so that its fields are the view of the query. The base satisfies
 /// the books invariant.
 pub fn estimates_equal_model_estimates()
-    ensures refused { (base : Base) (order : Order) (found : OrderPlanFacts) (refusal : Refusal) → BooksInvariant base → EstimateFactsMatchTables (sheets base) order found
+    ensures refused { (base : Base) (order : Order) (found : OrderPlanFacts) (refusal : Refusal) → BooksInvariant base
+        → EstimateFactsMatchTables (sheets base) order found
         → first_refusal (order_checks found) ≡ Some refusal → ask base (EstimateOf (abstract_order order)) ≡ Err refusal }
-    ensures estimate { (base : Base) (order : Order) (found : OrderPlanFacts) (lots : List Lot) (e : Estimate) → BooksInvariant base → EstimateFactsMatchTables (sheets base) order found
-        → OrderLotsSatisfy (sheets base) order (EqualsLots lots) → EstimatesCheckedOrder order found (EqualsLots lots) e → e ≡ estimate_from_model (estimate base (abstract_order order)) }
-    ensures answered { (base : Base) (order : Order) (found : OrderPlanFacts) (lots : List Lot) (e : Estimate) → BooksInvariant base → EstimateFactsMatchTables (sheets base) order found
+    ensures estimate { (base : Base) (order : Order) (found : OrderPlanFacts) (lots : List Lot) (e : Estimate) → BooksInvariant base
+        → EstimateFactsMatchTables (sheets base) order found
+        → OrderLotsSatisfy (sheets base) order (EqualsLots lots) → EstimatesCheckedOrder order found (EqualsLots lots) e
+        → e ≡ estimate_from_model (estimate base (abstract_order order)) }
+    ensures answered { (base : Base) (order : Order) (found : OrderPlanFacts) (lots : List Lot) (e : Estimate) → BooksInvariant base
+        → EstimateFactsMatchTables (sheets base) order found
         → OrderLotsSatisfy (sheets base) order (EqualsLots lots) → EstimatesCheckedOrder order found (EqualsLots lots) e
         → ask base (EstimateOf (abstract_order order)) ≡ Ok (estimate_fields (abstract_estimate e) ∷ []) }
 {}

@@ -15,14 +15,18 @@ ghost use Rattle.brk_trade_theorems.specs.Plans.{PlanImplementsCommand, PlanRefe
 /// Proves that the checks of a record of reference data against facts that were read refuse it
 /// exactly as the model does.
 pub fn reference_checks_refuse_as_the_model_does()
-    ensures first { (base : Base) (reference : Reference) (found : ReferenceFacts) (last : Option ℕ) (now : ℕ) → PlanReferencePrecondition base reference found last now
+    ensures first { (base : Base) (reference : Reference) (found : ReferenceFacts) (last : Option ℕ) (now : ℕ)
+        → PlanReferencePrecondition base reference found last now
         → first_refusal (reference_checks reference found ++ later_stamp_check last now ∷ []) ≡ refusal_of_command base now (command_adding_record reference) }
-    ensures refused { (base : Base) (reference : Reference) (found : ReferenceFacts) (last : Option ℕ) (now : ℕ) (refusal : Refusal) → PlanReferencePrecondition base reference found last now
-        → first_refusal (reference_checks reference found ++ later_stamp_check last now ∷ []) ≡ Some refusal → step base now (command_adding_record reference) ≡ Err refusal }
+    ensures refused { (base : Base) (reference : Reference) (found : ReferenceFacts) (last : Option ℕ) (now : ℕ) (refusal : Refusal)
+        → PlanReferencePrecondition base reference found last now
+        → first_refusal (reference_checks reference found ++ later_stamp_check last now ∷ []) ≡ Some refusal
+        → step base now (command_adding_record reference) ≡ Err refusal }
 {}
 
 /// Proves that the plan of a record of reference data implements its command.
 pub fn reference_plans_implement_commands()
-    ensures { (base : Base) (reference : Reference) (found : ReferenceFacts) (last : Option ℕ) (now : ℕ) (plan : Plan) → PlanReferencePrecondition base reference found last now
+    ensures { (base : Base) (reference : Reference) (found : ReferenceFacts) (last : Option ℕ) (now : ℕ) (plan : Plan)
+        → PlanReferencePrecondition base reference found last now
         → IsReferencePlan reference found last now plan → PlanImplementsCommand base now (command_adding_record reference) plan }
 {}

@@ -30,7 +30,8 @@ ghost use Rattle.brk_book_theorems.specs.TradeReads.{last_trade_row_of_symbol};
 pub fn cancel_plans_implement_commands()
     ensures first { (base : Base) (id : ℕ) (found : Option Status) (last : Option ℕ) (now : ℕ) → PlanCancelPrecondition base id found last now
         → first_refusal (cancel_checks found ++ later_stamp_check last now ∷ []) ≡ refusal_of_command base now (CancelTrade id) }
-    ensures refused { (base : Base) (id : ℕ) (found : Option Status) (last : Option ℕ) (now : ℕ) (refusal : Refusal) → PlanCancelPrecondition base id found last now
+    ensures refused { (base : Base) (id : ℕ) (found : Option Status) (last : Option ℕ) (now : ℕ) (refusal : Refusal)
+        → PlanCancelPrecondition base id found last now
         → first_refusal (cancel_checks found ++ later_stamp_check last now ∷ []) ≡ Some refusal → step base now (CancelTrade id) ≡ Err refusal }
     ensures done { (base : Base) (id : ℕ) (found : Option Status) (last : Option ℕ) (now : ℕ) (plan : Plan) → PlanCancelPrecondition base id found last now
         → IsCancelPlan id found last now plan → PlanImplementsCommand base now (CancelTrade id) plan }
@@ -39,11 +40,15 @@ pub fn cancel_plans_implement_commands()
 /// Proves that the checks of a feed against its quotes, at any stamp, refuse it exactly as the
 /// model does, and that its plan implements the command.
 pub fn feed_plans_implement_commands()
-    ensures first { (base : Base) (stamp : ℕ) (ticks : List Tick) (quotes : List SymbolState) (last : Option ℕ) (now : ℕ) → PlanFeedPrecondition base ticks quotes last now
+    ensures first { (base : Base) (stamp : ℕ) (ticks : List Tick) (quotes : List SymbolState) (last : Option ℕ) (now : ℕ)
+        → PlanFeedPrecondition base ticks quotes last now
         → first_refusal (feed_checks stamp ticks quotes ++ later_stamp_check last now ∷ []) ≡ refusal_of_command base now (FeedTicks (abstract_ticks ticks)) }
-    ensures refused { (base : Base) (stamp : ℕ) (ticks : List Tick) (quotes : List SymbolState) (last : Option ℕ) (now : ℕ) (refusal : Refusal) → PlanFeedPrecondition base ticks quotes last now
-        → first_refusal (feed_checks stamp ticks quotes ++ later_stamp_check last now ∷ []) ≡ Some refusal → step base now (FeedTicks (abstract_ticks ticks)) ≡ Err refusal }
-    ensures done { (base : Base) (ticks : List Tick) (quotes : List SymbolState) (last : Option ℕ) (now : ℕ) (plan : Plan) → PlanFeedPrecondition base ticks quotes last now
+    ensures refused { (base : Base) (stamp : ℕ) (ticks : List Tick) (quotes : List SymbolState) (last : Option ℕ) (now : ℕ) (refusal : Refusal)
+        → PlanFeedPrecondition base ticks quotes last now
+        → first_refusal (feed_checks stamp ticks quotes ++ later_stamp_check last now ∷ []) ≡ Some refusal
+        → step base now (FeedTicks (abstract_ticks ticks)) ≡ Err refusal }
+    ensures done { (base : Base) (ticks : List Tick) (quotes : List SymbolState) (last : Option ℕ) (now : ℕ) (plan : Plan)
+        → PlanFeedPrecondition base ticks quotes last now
         → IsFeedPlan ticks quotes last now plan → PlanImplementsCommand base now (FeedTicks (abstract_ticks ticks)) plan }
 {}
 
@@ -56,7 +61,8 @@ pub fn quotes_are_read_tick_by_tick()
         → list_any (is_state_of_symbol tick.symbol) (states_of_quotes quotes) ≡ true → AreQuotesOfTicks t all (ticks ++ tick ∷ []) (states_of_quotes quotes) }
     ensures not_listed { (t : Tables) (all ticks : List Tick) (tick : Tick) (quotes : List Quote) → AreQuotesOfTicks t all ticks (states_of_quotes quotes)
         → last_trade_row_of_symbol t tick.symbol ≡ None → AreQuotesOfTicks t all (ticks ++ tick ∷ []) (states_of_quotes quotes) }
-    ensures read { (t : Tables) (all ticks : List Tick) (tick : Tick) (quotes : List Quote) (quote : Quote) → AreQuotesOfTicks t all ticks (states_of_quotes quotes)
+    ensures read { (t : Tables) (all ticks : List Tick) (tick : Tick) (quotes : List Quote) (quote : Quote)
+        → AreQuotesOfTicks t all ticks (states_of_quotes quotes)
         → list_any (is_state_of_symbol tick.symbol) (states_of_quotes quotes) ≡ false → Contains all tick → IsQuoteOfTick t tick all (state_of_quote quote)
         → AreQuotesOfTicks t all (ticks ++ tick ∷ []) (states_of_quotes (quotes ++ quote ∷ [])) }
 {}
@@ -65,7 +71,9 @@ pub fn quotes_are_read_tick_by_tick()
 /// command.
 pub fn result_plans_implement_commands()
     ensures refused { (base : Base) (id price : ℕ) (found : Option ResultPlanFacts) (lots : List Lot) (last : Option ℕ) (now : ℕ) (refusal : Refusal)
-        → PlanResultPrecondition base id found (EqualsLots lots) last now → IsResultRefusal found price (EqualsLots lots) last now refusal → step base now (CompleteTrade id price) ≡ Err refusal }
+        → PlanResultPrecondition base id found (EqualsLots lots) last now → IsResultRefusal found price (EqualsLots lots) last now refusal
+        → step base now (CompleteTrade id price) ≡ Err refusal }
     ensures done { (base : Base) (id price : ℕ) (found : Option ResultPlanFacts) (lots : List Lot) (last : Option ℕ) (now : ℕ) (plan : Plan)
-        → PlanResultPrecondition base id found (EqualsLots lots) last now → CompletesExistingTrade found price (EqualsLots lots) last now plan → PlanImplementsCommand base now (CompleteTrade id price) plan }
+        → PlanResultPrecondition base id found (EqualsLots lots) last now → CompletesExistingTrade found price (EqualsLots lots) last now plan
+        → PlanImplementsCommand base now (CompleteTrade id price) plan }
 {}

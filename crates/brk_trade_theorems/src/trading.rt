@@ -21,7 +21,8 @@ ghost use Rattle.brk_book_theorems.specs.Trading.{tables_after_cancel, trade_ids
 
 /// Proves that the model's step of a refused command returns the refusal of its first failed check.
 pub fn refused_commands_return_their_refusal()
-    ensures { (base : Base) (now : ℕ) (command : Command) (refusal : Refusal) → refusal_of_command base now command ≡ Some refusal → step base now command ≡ Err refusal }
+    ensures { (base : Base) (now : ℕ) (command : Command) (refusal : Refusal) → refusal_of_command base now command ≡ Some refusal
+        → step base now command ≡ Err refusal }
 {}
 
 /// Proves that the checks of a cancel against the row of its trade refuse it exactly as the model
@@ -29,9 +30,11 @@ pub fn refused_commands_return_their_refusal()
 /// invariant.
 pub fn cancel_row_changes_implement_commands()
     ensures first { (base : Base) (now id : ℕ) → BooksInvariant base → now ≤ greatest_stamp
-        → first_refusal (cancel_checks_on_trade_row (trade_row_with_id (sheets base) id) (sheets base).last now) ≡ refusal_of_command base now (CancelTrade id) }
+        → first_refusal (cancel_checks_on_trade_row (trade_row_with_id (sheets base) id) (sheets base).last now)
+        ≡ refusal_of_command base now (CancelTrade id) }
     ensures done { (base : Base) (now id stamp : ℕ) → BooksInvariant base → now ≤ greatest_stamp
-        → first_refusal (cancel_checks_on_trade_row (trade_row_with_id (sheets base) id) (sheets base).last now) ≡ None → stamp_after (sheets base).last now ≡ Some stamp
+        → first_refusal (cancel_checks_on_trade_row (trade_row_with_id (sheets base) id) (sheets base).last now) ≡ None
+        → stamp_after (sheets base).last now ≡ Some stamp
         → IsAcceptedWithEffect base now (CancelTrade id) stamp (CanceledTrade stamp) (tables_after_cancel stamp id) }
 {}
 
@@ -51,5 +54,6 @@ pub fn feed_row_changes_implement_commands()
 pub fn feeds_add_tick_quantities_to_volumes()
     ensures { (base : Base) (stamp : ℕ) (ticks : List Tick) (symbol : Text) → BooksInvariant base
         → AllByRecursion (λ tick. is_some (security_with_symbol base tick.symbol) ≡ true) ticks → is_some (security_with_symbol base symbol) ≡ true
-        → volume_of_symbol (tables_after_feed stamp ticks (sheets base)) symbol ≡ volume_of_symbol (sheets base) symbol + tick_quantity_sum_of_symbol symbol ticks }
+        → volume_of_symbol (tables_after_feed stamp ticks (sheets base)) symbol
+        ≡ volume_of_symbol (sheets base) symbol + tick_quantity_sum_of_symbol symbol ticks }
 {}

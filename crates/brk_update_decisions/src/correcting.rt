@@ -7,7 +7,10 @@ ghost use Rattle.brk_orders.specs.Records.{text_update_command};
 ghost use Rattle.brk_store.specs.Holds.{ReadPost};
 ghost use Rattle.brk_update_theorems.specs.Corrections.{UpdateFactsMatchTables};
 
-use crate::finding::{read_trades_of_cash_name_update, read_trades_of_cash_type_update, read_trades_of_executor_update};
+use crate::finding::{
+    read_trades_of_cash_name_update, read_trades_of_cash_type_update,
+    read_trades_of_executor_update,
+};
 use brk_money::{Fault, Planned, Stamp};
 use brk_orders::Update;
 use brk_store::Store;
@@ -27,8 +30,12 @@ fn read_trades_of_update<S: Alter>(
 {
     match update {
         Update::Executors(trades) => read_trades_of_executor_update(alloc, store, trades),
-        Update::CashTypes { account, span } => read_trades_of_cash_type_update(alloc, store, *account, *span),
-        Update::CashNames { symbol, span } => read_trades_of_cash_name_update(alloc, store, symbol, *span),
+        Update::CashTypes { account, span } => read_trades_of_cash_type_update(
+            alloc, store, *account, *span,
+        ),
+        Update::CashNames { symbol, span } => read_trades_of_cash_name_update(
+            alloc, store, symbol, *span,
+        ),
     }
 }
 

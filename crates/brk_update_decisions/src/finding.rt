@@ -115,7 +115,8 @@ fn read_security_name<S: Alter>(
     store: &mut Store<S>,
     symbol: &Symbol,
 ) -> Result<Option<Name>, Fault>
-    ensures read { ReadPost S.Store store.old store.new result (λ name t. MatchOption name (is_none (security_row_with_symbol t symbol.now) ≡ true) (SecurityHasName t symbol.now)) }
+    ensures read { ReadPost S.Store store.old store.new result (λ name t. MatchOption name (is_none (security_row_with_symbol t symbol.now)
+        ≡ true) (SecurityHasName t symbol.now)) }
     ensures fault { IfErr result IsCallFault }
 {
     match store.security(symbol)? {

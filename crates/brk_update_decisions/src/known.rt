@@ -18,7 +18,8 @@ pub(crate) fn require_cash_type<S: Alter>(
     store: &mut Store<S>,
     trade: Id,
 ) -> Result<CashType, Fault>
-    ensures read { ReadPost S.Store store.old store.new result (λ cash_type t. Some (cash_type_text cash_type) ≡ option_map (λ s. s.cash_type) (settlement_row_of_trade t trade)) }
+    ensures read { ReadPost S.Store store.old store.new result (λ cash_type t. Some (cash_type_text cash_type)
+        ≡ option_map (λ s. s.cash_type) (settlement_row_of_trade t trade)) }
     ensures fault { IfErr result IsCallFault }
 {
     match store.settlement(trade)? {

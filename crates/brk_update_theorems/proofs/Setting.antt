@@ -19,7 +19,8 @@ pub fold-map : {X T : Type 0} (change : X → T → T) (xs : List X) (t : T) →
 fold-map change [] t = refl
 fold-map change (x ∷ xs) t = fold-map change xs (change x t)
 
--- rows with an id, of which words are set; what is corrected, with the id of its row and the words; trades with their rows, and the words that these are to have
+-- rows with an id, of which words are set; what is corrected, with the id of its row and the words;
+-- trades with their rows, and the words that these are to have
 module _ {Row C : Type 0} (id : Row → ℕ) (set : Text → Row → Row) (cid : C → ℕ) (new : C → Text) (row : Trade → Row) (word : Trade → Text)
     (same_id : (w : Text) (r : Row) → id (set w r) ≡ id r) (last_word : (v w : Text) (r : Row) → set v (set w r) ≡ set v r) (own_id : (t : Trade) → id (row t) ≡ t.id) where
   -- one row after each of some corrections

@@ -83,7 +83,8 @@ SecurityHasName t symbol name = option_map (λ s. s.name) (security_row_with_sym
 abbrev pub SelectedTradesMatchTables : Tables → told.Update → TextUpdate → Type 0
 SelectedTradesMatchTables t (update.Executors ids) (corrected.Executors trades) = AreTradesWithIds t ids trades.items
 SelectedTradesMatchTables t (update.CashTypes account span) (corrected.CashTypes settled) =
-    (is_none (account_row_with_id t account) ≡ false) × SettlementTextsMatchTables t (first_twenty_completed_trade_rows_of_account account span.first span.last t) settled.items
+    (is_none (account_row_with_id t account) ≡ false)
+    × SettlementTextsMatchTables t (first_twenty_completed_trade_rows_of_account account span.first span.last t) settled.items
 SelectedTradesMatchTables t (update.CashNames symbol span) (corrected.CashNames name paid) =
     SecurityHasName t symbol name × CashTextsMatchTables t (first_twenty_completed_cash_trade_rows_of_symbol symbol span.first span.last t) paid.items
 SelectedTradesMatchTables t _ _ = ⊥
@@ -141,17 +142,20 @@ cash_rows_without_texts rows = map cash_row_without_text rows
 -- The command, if it is accepted, changes only executor names in TRADE and the last stamp. All
 -- other rows and columns are unchanged.
 pub record ChangesOnlyExecutorNames (base : Base) (now : ℕ) (command : Command) : Type 0 where
-  pub others : tables_after_command base now command ≡ tables_with_last_stamp (stamp_of_next_command base now) (record (sheets base) { trades = (tables_after_command base now command).trades })
+  pub others : tables_after_command base now command
+      ≡ tables_with_last_stamp (stamp_of_next_command base now) (record (sheets base) { trades = (tables_after_command base now command).trades })
   pub rows : trade_rows_without_executor_names (tables_after_command base now command).trades ≡ trade_rows_without_executor_names (sheets base).trades
 
 -- The command, if it is accepted, changes only texts in SETTLEMENT and the last stamp. All other
 -- rows and columns are unchanged.
 pub record ChangesOnlySettlementTexts (base : Base) (now : ℕ) (command : Command) : Type 0 where
-  pub others : tables_after_command base now command ≡ tables_with_last_stamp (stamp_of_next_command base now) (record (sheets base) { settlements = (tables_after_command base now command).settlements })
+  pub others : tables_after_command base now command
+      ≡ tables_with_last_stamp (stamp_of_next_command base now) (record (sheets base) { settlements = (tables_after_command base now command).settlements })
   pub rows : settlement_rows_without_texts (tables_after_command base now command).settlements ≡ settlement_rows_without_texts (sheets base).settlements
 
 -- The command, if it is accepted, changes only texts in CASH_MOVE and the last stamp. All other
 -- rows and columns are unchanged.
 pub record ChangesOnlyCashTexts (base : Base) (now : ℕ) (command : Command) : Type 0 where
-  pub others : tables_after_command base now command ≡ tables_with_last_stamp (stamp_of_next_command base now) (record (sheets base) { moves = (tables_after_command base now command).moves })
+  pub others : tables_after_command base now command
+      ≡ tables_with_last_stamp (stamp_of_next_command base now) (record (sheets base) { moves = (tables_after_command base now command).moves })
   pub rows : cash_rows_without_texts (tables_after_command base now command).moves ≡ cash_rows_without_texts (sheets base).moves

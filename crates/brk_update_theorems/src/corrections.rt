@@ -21,9 +21,12 @@ ghost use Rattle.brk_update_theorems.specs.Corrections.{ChangesOnlyExecutorNames
 pub fn update_plans_implement_commands()
     ensures first { (base : Base) (update : Update) (found : Option TextUpdate) (last : Option ℕ) (now : ℕ) → PlanUpdatePrecondition base update found last now
         → first_refusal (update_checks update found ++ later_stamp_check last now ∷ []) ≡ refusal_of_command base now (text_update_command update) }
-    ensures refused { (base : Base) (update : Update) (found : Option TextUpdate) (last : Option ℕ) (now : ℕ) (refusal : Refusal) → PlanUpdatePrecondition base update found last now
-        → first_refusal (update_checks update found ++ later_stamp_check last now ∷ []) ≡ Some refusal → step base now (text_update_command update) ≡ Err refusal }
-    ensures done { (base : Base) (update : Update) (found : TextUpdate) (last : Option ℕ) (now : ℕ) (plan : Plan) → PlanUpdatePrecondition base update (Some found) last now
+    ensures refused { (base : Base) (update : Update) (found : Option TextUpdate) (last : Option ℕ) (now : ℕ) (refusal : Refusal)
+        → PlanUpdatePrecondition base update found last now
+        → first_refusal (update_checks update found ++ later_stamp_check last now ∷ []) ≡ Some refusal
+        → step base now (text_update_command update) ≡ Err refusal }
+    ensures done { (base : Base) (update : Update) (found : TextUpdate) (last : Option ℕ) (now : ℕ) (plan : Plan)
+        → PlanUpdatePrecondition base update (Some found) last now
         → IsUpdatePlan found last now plan → PlanImplementsCommand base now (text_update_command update) plan }
 {}
 

@@ -46,7 +46,8 @@ order_fields_of_trade t = t.symbol ∷ decimal t.qty ∷ nonnegative_cents_text 
 -- The fields 10 to 13 of the trade `t`: its price, which is empty if it is not completed, charge,
 -- commission and tax.
 abbrev pub price_and_cost_fields : tables.TradeRow → List Text
-price_and_cost_fields t = option_map_or nonnegative_cents_text t.price [] ∷ nonnegative_cents_text t.charge ∷ nonnegative_cents_text t.commission ∷ nonnegative_cents_text t.tax ∷ []
+price_and_cost_fields t =
+    option_map_or nonnegative_cents_text t.price [] ∷ nonnegative_cents_text t.charge ∷ nonnegative_cents_text t.commission ∷ nonnegative_cents_text t.tax ∷ []
 
 -- The last two of the fifteen fields of the trade `t`: cash or margin, and the end from which it
 -- closes lots.

@@ -28,7 +28,8 @@ touched_lot_records (Some lots) = (decimal lots.trade ∷ []) ∷ map lot_change
 -- The lot change that the HOLDING_HISTORY row `row` records, with the stamp of the trade that made
 -- it.
 abbrev pub stamped_lot_change : Tables → HoldingHistoryRow → LotTouch
-stamped_lot_change t row = record { change = record { lot = row.lot; trade = row.trade; before = row.before; after = row.after }; stamp = stamp_of_touching_trade t row }
+stamped_lot_change t row =
+    record { change = record { lot = row.lot; trade = row.trade; before = row.before; after = row.after }; stamp = stamp_of_touching_trade t row }
 
 -- All changes of the lots that `trade` touched, in the order of the table HOLDING_HISTORY.
 abbrev pub changes_of_touched_lots : Tables → ℕ → List LotTouch

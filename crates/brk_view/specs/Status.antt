@@ -25,7 +25,8 @@ first_five_status_fields t = decimal t.id ∷ decimal t.stamp ∷ trade_status_n
 -- The last five of the ten fields of a trade: its quantity, executor and charge, and the name and
 -- the exchange of its security.
 abbrev pub last_five_status_fields : TradeStatus → List Text
-last_five_status_fields s = decimal s.trade.qty ∷ string_bytes s.trade.executor ∷ nonnegative_cents_text s.trade.charge ∷ s.security.name ∷ s.security.exchange ∷ []
+last_five_status_fields s =
+    decimal s.trade.qty ∷ string_bytes s.trade.executor ∷ nonnegative_cents_text s.trade.charge ∷ s.security.name ∷ s.security.exchange ∷ []
 
 -- The record of a trade with its security, in ten fields.
 abbrev pub trade_status_record : TradeStatus → List Text

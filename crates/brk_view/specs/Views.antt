@@ -34,7 +34,8 @@ submitted_trade_record trade = decimal trade.id ∷ trade_type_code trade.kind �
 -- commission, charge and assets.
 abbrev pub estimate_record : estimate.Estimate → List Text
 estimate_record e =
-    nonnegative_cents_text e.price ∷ cents_text (pos e.buy_value) ∷ cents_text (pos e.sell_value) ∷ cents_text (pos e.tax) ∷ cents_text (pos e.commission) ∷ cents_text (pos e.charge)
+    nonnegative_cents_text e.price ∷ cents_text (pos e.buy_value) ∷ cents_text (pos e.sell_value) ∷ cents_text (pos e.tax) ∷ cents_text (pos e.commission)
+    ∷ cents_text (pos e.charge)
     ∷ cents_text e.assets ∷ []
 
 -- The records of a view, each a list of texts, by its variant.

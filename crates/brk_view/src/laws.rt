@@ -17,7 +17,8 @@ ghost use Rattle.brk_view.specs.declared.view.View.TheVariants as views;
 /// the rows are sorted by id.
 pub fn submitted_rows_are_the_view()
     // If the rows are sorted by id, ascending.
-    ensures sorted { (t : Tables) → is_sorted_by_unique_key trade_key t.trades ≡ true → map record_of_submitted_row (filter has_submitted_status t.trades) ≡ submitted_trades_view t }
+    ensures sorted { (t : Tables) → is_sorted_by_unique_key trade_key t.trades ≡ true
+        → map record_of_submitted_row (filter has_submitted_status t.trades) ≡ submitted_trades_view t }
     // As a store reads the rows, sorted by id.
     ensures stored { (t : Tables) → map record_of_submitted_row (filter has_submitted_status (tables_sorted_by_key t).trades) ≡ submitted_trades_view t }
 {}

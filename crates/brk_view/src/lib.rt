@@ -23,7 +23,9 @@ pub use lookups::{
     LookedUp, create_looked_up_trade, lookup_account, lookup_ids, lookup_symbol,
     sort_trades_oldest_first,
 };
-pub use lots::{LotTouch, MOST_CHANGES, TouchedLots, lookup_lots, merge_lot_changes_into_first_twenty};
+pub use lots::{
+    LotTouch, MOST_CHANGES, TouchedLots, lookup_lots, merge_lot_changes_into_first_twenty,
+};
 pub use named_trades::{NamedTrades, parse_named_trades};
 pub use parse::parse_query;
 pub use query::Query;

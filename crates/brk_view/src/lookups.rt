@@ -86,7 +86,8 @@ pub fn create_looked_up_trade(
     cash: Option<MoveRow>,
     history: &[HistoryRow],
 ) -> Result<LookedUp, Fault>
-    ensures records { IfOk result (λ found. (t : Tables) → AreRowsOfTrade t trade settlement cash history.now → records_of_looked_up_trade found ≡ trade_lookup_records t (abstract_trade_row trade)) }
+    ensures records { IfOk result (λ found. (t : Tables) → AreRowsOfTrade t trade settlement cash history.now
+        → records_of_looked_up_trade found ≡ trade_lookup_records t (abstract_trade_row trade)) }
     ensures rows { IfOk result (λ found. (t : Tables) → AreRowsOfTrade t trade settlement cash history.now
         → rows_of_looked_up_trade found ≡ table_rows_of_trade t (abstract_trade_row trade)) }
     ensures fault { OnErr result (result ≡ Err Memory) }
@@ -119,7 +120,8 @@ pub fn lookup_ids(trades: Vec<LookedUp>) -> View
     ensures records { records_of_view result ≡ flat_map records_of_looked_up_trade trades.items }
     ensures value { result ≡ views.Lookup trades }
     ensures view { (t : Tables) (ids : List ℕ)
-        → map records_of_looked_up_trade trades.items ≡ map (trade_lookup_records t) (take 20 (trade_rows_oldest_first (filter (λ row. contains_number row.id ids) t.trades)))
+        → map records_of_looked_up_trade trades.items
+        ≡ map (trade_lookup_records t) (take 20 (trade_rows_oldest_first (filter (λ row. contains_number row.id ids) t.trades)))
         → records_of_view result ≡ trade_lookup_view t (λ row. contains_number row.id ids) }
 {
     View::Lookup(trades)
@@ -131,7 +133,9 @@ pub fn lookup_account(trades: Vec<LookedUp>) -> View
     ensures records { records_of_view result ≡ flat_map records_of_looked_up_trade trades.items }
     ensures value { result ≡ views.Lookup trades }
     ensures view { (t : Tables) (account first last : ℕ)
-        → map records_of_looked_up_trade trades.items ≡ map (trade_lookup_records t) (take 20 (trade_rows_oldest_first (filter (λ row. (row.account == account) && row_stamp_is_between first last row) t.trades)))
+        → map records_of_looked_up_trade trades.items
+        ≡ map (trade_lookup_records t) (take 20 (trade_rows_oldest_first (filter (λ row. (row.account == account)
+        && row_stamp_is_between first last row) t.trades)))
         → records_of_view result ≡ trade_lookup_view t (λ row. (row.account == account) && row_stamp_is_between first last row) }
 {
     View::Lookup(trades)
@@ -143,7 +147,9 @@ pub fn lookup_symbol(trades: Vec<LookedUp>) -> View
     ensures records { records_of_view result ≡ flat_map records_of_looked_up_trade trades.items }
     ensures value { result ≡ views.Lookup trades }
     ensures view { (t : Tables) (symbol : List ℕ) (first last : ℕ)
-        → map records_of_looked_up_trade trades.items ≡ map (trade_lookup_records t) (take 20 (trade_rows_oldest_first (filter (λ row. bytes_eq row.symbol symbol && row_stamp_is_between first last row) t.trades)))
+        → map records_of_looked_up_trade trades.items
+        ≡ map (trade_lookup_records t) (take 20 (trade_rows_oldest_first (filter (λ row. bytes_eq row.symbol symbol
+        && row_stamp_is_between first last row) t.trades)))
         → records_of_view result ≡ trade_lookup_view t (λ row. bytes_eq row.symbol symbol && row_stamp_is_between first last row) }
 {
     View::Lookup(trades)

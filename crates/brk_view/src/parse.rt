@@ -7,9 +7,13 @@ ghost use Rattle.brk_money.specs.declared.fault.Fault.TheVariants.{Memory};
 ghost use Rattle.brk_ref.specs.Fields.{ParsesAs, texts_of_fields};
 ghost use Rattle.brk_view.specs.Queries.{abstract_query};
 
-use crate::parse_accounts::{parse_position_query, parse_position_of_tax_id_query, parse_recent_trades_query, parse_account_status_query};
+use crate::parse_accounts::{
+    parse_account_status_query, parse_position_of_tax_id_query, parse_position_query,
+    parse_recent_trades_query,
+};
 use crate::parse_lookups::{
-    parse_account_trades_query, parse_lots_query, parse_symbol_trades_query, parse_trades_query, parse_volume_query,
+    parse_account_trades_query, parse_lots_query, parse_symbol_trades_query, parse_trades_query,
+    parse_volume_query,
 };
 use crate::query::Query;
 use brk_money::{Planned, Refusal};
@@ -42,7 +46,8 @@ fn parse_estimate_query(alloc: Global, arguments: &[&[u8]]) -> Planned<Query>
 // Parses a query of the view `trades`, `accounttrades`, `symboltrades`, `lots` or `volume`. Refuses
 // any other view with `BadText`. Fails with `Memory` only.
 fn parse_lookup_or_volume_query(alloc: Global, view: &str, arguments: &[&[u8]]) -> Planned<Query>
-    ensures read { IfOk result (λ read. ParsesAs abstract_query read (parse_by_first_field (lookup_view_parsers ++ volume_view_parsers) (view.now ∷ texts_of_fields arguments.now))) }
+    ensures read { IfOk result (λ read. ParsesAs abstract_query read (parse_by_first_field (lookup_view_parsers ++ volume_view_parsers) (view.now
+        ∷ texts_of_fields arguments.now))) }
     ensures fault { OnErr result (result ≡ Err Memory) }
 {
     match view {
@@ -58,7 +63,9 @@ fn parse_lookup_or_volume_query(alloc: Global, view: &str, arguments: &[&[u8]]) 
 // Parses a query of the view `customer`, `taxid`, `recent` or `status`, or of a view of
 // `parse_lookup_or_volume_query`. Refuses any other view with `BadText`. Fails with `Memory` only.
 fn parse_account_or_later_query(alloc: Global, view: &str, arguments: &[&[u8]]) -> Planned<Query>
-    ensures read { IfOk result (λ read. ParsesAs abstract_query read (parse_by_first_field (account_view_parsers ++ lookup_view_parsers ++ volume_view_parsers) (view.now ∷ texts_of_fields arguments.now))) }
+    ensures read { IfOk result (λ read. ParsesAs abstract_query read (parse_by_first_field (account_view_parsers ++ lookup_view_parsers
+        ++ volume_view_parsers) (view.now
+        ∷ texts_of_fields arguments.now))) }
     ensures fault { OnErr result (result ≡ Err Memory) }
 {
     match view {

@@ -45,7 +45,8 @@ impl Ranked for HistoryRow {
 /// the most recent first, and all rows of their history, which are sorted by stamp, then by trade,
 /// descending. Fails with `Memory` only.
 pub fn recent(alloc: Global, trades: Vec<TradeRow>, history: Vec<HistoryRow>) -> Result<View, Fault>
-    ensures records { IfOk result (λ view. records_of_view view ≡ map recent_trade_record (map abstract_trade_row trades.items) ++ map recent_status_record (sort_by is_newer_status history.items)) }
+    ensures records { IfOk result (λ view. records_of_view view
+        ≡ map recent_trade_record (map abstract_trade_row trades.items) ++ map recent_status_record (sort_by is_newer_status history.items)) }
     ensures value { IfOk result (λ view. (sorted : Vec HistoryRow)
         × (view ≡ views.Recent (record { trades = trades; history = sorted })) × (sorted.items ≡ sort_by is_newer_status history.items)) }
     // If the trades are the last ten of an account, the view equals the specified view.

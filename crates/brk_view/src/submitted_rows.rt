@@ -39,7 +39,8 @@ pub fn submitted(alloc: Global, rows: &[TradeRow]) -> Result<View, Fault>
         × (view ≡ views.Submitted trades) × (map submitted_trade_record trades.items ≡ map record_of_submitted_row (map abstract_trade_row rows.now))) }
     // If the rows are the submitted rows of a table, as a store reads them, the view equals the
     // specified view.
-    ensures view { IfOk result (λ view. (t : Tables) → map abstract_trade_row rows.now ≡ filter has_submitted_status (tables_sorted_by_key t).trades → records_of_view view ≡ submitted_trades_view t) }
+    ensures view { IfOk result (λ view. (t : Tables) → map abstract_trade_row rows.now ≡ filter has_submitted_status (tables_sorted_by_key t).trades
+        → records_of_view view ≡ submitted_trades_view t) }
     ensures fault { OnErr result (result ≡ Err Memory) }
 {
     let mut trades = Vec::new(alloc);

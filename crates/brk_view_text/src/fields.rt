@@ -9,7 +9,7 @@ ghost use Rattle.brk_money.specs.declared.fault.Fault.TheVariants.{Memory};
 ghost use Rattle.brk_view.specs.Views.{estimate_record, records_of_view, texts_of_record, texts_of_records, submitted_trade_record};
 ghost use Rattle.brk_view.specs.declared.view.View.TheVariants as views;
 
-use crate::account_fields::{activity_records, account_status_records, account_worth_records};
+use crate::account_fields::{account_status_records, account_worth_records, activity_records};
 use crate::lookup_fields::looked_up_trade_records;
 use crate::lot_fields::records_of_touched_lots;
 use crate::texts::{amount_text, number_text};
@@ -88,7 +88,8 @@ fn estimate_records(alloc: Global, estimate: &Estimate) -> Result<Vec<Vec<String
 pub fn view_fields(alloc: Global, view: &View) -> Result<Vec<Vec<String>>, Fault>
     ensures records { IfOk result (λ records. texts_of_records records ≡ records_of_view view.now) }
     // If the estimate is one of the model, its record equals that of the model.
-    ensures estimate { IfOk result (λ records. (e : model.Estimate) → view.now ≡ views.Estimate (estimate_from_model e) → texts_of_records records ≡ estimate_fields e ∷ []) }
+    ensures estimate { IfOk result (λ records. (e : model.Estimate) → view.now ≡ views.Estimate (estimate_from_model e)
+        → texts_of_records records ≡ estimate_fields e ∷ []) }
     ensures fault { OnErr result (result ≡ Err Memory) }
 {
     match view {

@@ -131,7 +131,8 @@ fn append_settlement_record(
     records: &mut Vec<Vec<String>>,
     row: Option<SettlementRow>,
 ) -> Result<(), Fault>
-    ensures records { OnOk result (texts_of_records records.new ≡ texts_of_records records.old ++ map model.settlement_record (option_to_list (option_map abstract_settlement_row row))) }
+    ensures records { OnOk result (texts_of_records records.new
+        ≡ texts_of_records records.old ++ map model.settlement_record (option_to_list (option_map abstract_settlement_row row))) }
     ensures fault { OnErr result (result ≡ Err Memory) }
 {
     if let Some(row) = row {
@@ -147,7 +148,8 @@ fn append_cash_record(
     records: &mut Vec<Vec<String>>,
     row: &Option<MoveRow>,
 ) -> Result<(), Fault>
-    ensures records { OnOk result (texts_of_records records.new ≡ texts_of_records records.old ++ map model.cash_record (option_to_list (option_map abstract_move_row row.now))) }
+    ensures records { OnOk result (texts_of_records records.new
+        ≡ texts_of_records records.old ++ map model.cash_record (option_to_list (option_map abstract_move_row row.now))) }
     ensures fault { OnErr result (result ≡ Err Memory) }
 {
     if let Some(row) = row {
@@ -206,7 +208,10 @@ fn append_looked_up_records(
 
 // Returns the records of trades, each with its settlement, cash row and history. Fails with
 // `Memory` only.
-pub(crate) fn looked_up_trade_records(alloc: Global, trades: &[LookedUp]) -> Result<Vec<Vec<String>>, Fault>
+pub(crate) fn looked_up_trade_records(
+    alloc: Global,
+    trades: &[LookedUp],
+) -> Result<Vec<Vec<String>>, Fault>
     ensures records { IfOk result (λ records. texts_of_records records ≡ flat_map records_of_looked_up_trade trades.now) }
     ensures fault { OnErr result (result ≡ Err Memory) }
 {

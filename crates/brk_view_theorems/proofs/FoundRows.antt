@@ -1,4 +1,5 @@
--- What a store finds by a key is all that there is of it, and trades that are found one after another are all that are named.
+-- What a store finds by a key is all that there is of it, and trades that are found one after
+-- another are all that are named.
 use Rattle.std.proofs.Common.{◌≡◌, ℕ, ◌==◌, List, [], ◌∷◌, ◌++◌, Bool, true, false, cond, not, refl, sym, ap, subst, ◌∙◌, map, filter, find, arith}
 use Rattle.std.specs.Prelude.{◌&&◌, ◌||◌, flat_map, nat_lt, option_to_list}
 use Rattle.std.specs.List.{AllByRecursion, list_any}

@@ -1,4 +1,5 @@
--- Trades that are looked up, with what became of them, are the same in the tables of a base and as a store reads them.
+-- Trades that are looked up, with what became of them, are the same in the tables of a base and as
+-- a store reads them.
 use Rattle.std.proofs.Common.{◌≡◌, ℕ, ◌==◌, List, [], ◌∷◌, ◌++◌, Bool, true, false, not, ap, ◌∙◌, map, filter, arith, take}
 use Rattle.std.specs.Prelude.{codes, decimal, flat_map, nat_lt}
 use Rattle.std.specs.List.{AllByRecursion}

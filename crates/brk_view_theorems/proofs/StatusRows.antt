@@ -1,4 +1,5 @@
--- Whose account it is, and its last trades, are the same in the tables of a base and as a store reads them.
+-- Whose account it is, and its last trades, are the same in the tables of a base and as a store
+-- reads them.
 use Rattle.std.proofs.Common.{◌≡◌, ℕ, ◌==◌, [], ◌∷◌, ◌++◌, ap, map, filter, take}
 use Rattle.std.specs.Prelude.{bytes_eq, decimal, flat_map}
 use Rattle.std.specs.Option.{option_map_or}

@@ -1,4 +1,5 @@
--- What became of the lots that a trade touched is the same in the tables of a base and as a store reads them.
+-- What became of the lots that a trade touched is the same in the tables of a base and as a store
+-- reads them.
 use Rattle.std.proofs.Common.{◌≡◌, ℕ, ◌==◌, List, [], ◌∷◌, ◌++◌, Bool, true, false, not, cond, refl, sym, ap, ◌∙◌, map, filter, arith, find, take}
 use Rattle.std.specs.Prelude.{◌&&◌, ◌||◌, decimal, flat_map, nat_le, nat_lt}
 use Rattle.std.specs.Fmt.{signed_decimal}
@@ -173,7 +174,8 @@ of_touched trade lot (r ∷ rows) = by_test (of_touched trade lot rows) (r.trade
     by_test ih true = λ i. numbers_back lot r.lot i || ih i
     by_test ih false = ih
 
--- the changes of each lot that a trade touched, lot after lot, are those of all these lots as they stand
+-- the changes of each lot that a trade touched, lot after lot, are those of all these lots as they
+-- stand
 pub touched_by_lot : (base : Base) (trade : ℕ) → BooksInvariant base → AuditInvariant base
     → flat_map (λ lot. filter (λ r. r.lot == lot) (sheets base).holding_history) (map (λ r. r.lot) (filter (λ r. r.trade == trade) (sheets base).holding_history))
     ≡ filter (λ r. trade_touches_lot (sheets base) trade r.lot) (sheets base).holding_history

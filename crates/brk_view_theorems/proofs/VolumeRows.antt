@@ -233,7 +233,8 @@ names_exclude : (names : List Text) → distinct_texts names ≡ names → Exclu
 names_exclude [] e = tt
 names_exclude (name ∷ names) e = ((λ b h. no_name name names b (other_names name names e) h), names_exclude names (tail_distinct name names e))
 
--- the brokers of each name that have something to trade, name after name, stand in the order of the view as all of these do
+-- the brokers of each name that have something to trade, name after name, stand in the order of the
+-- view as all of these do
 pub brokers_by_name : (base : Base) (sector : Text) (names : List Text) → BooksInvariant base → AuditInvariant base → distinct_texts names ≡ names
     → sort_by (is_before_by_volume (sheets base) sector)
     (flat_map (λ name. filter (λ b. nat_lt 0 (length (sector_requests_of_broker (sheets base) sector b.id))) (filter (λ b. bytes_eq b.name name) (sheets base).brokers)) names)

@@ -14,7 +14,8 @@ ghost use Rattle.brk_book_theorems.specs.Books.{BooksInvariant};
 /// specified view, if the base satisfies the books invariant and the audit invariant.
 #[tactic(auto, using(crate::proofs::LookupRows::same_lookup))]
 pub fn sorting_tables_preserves_lookup_view()
-    ensures { (base : Base) (test : TradeRow → Bool) → BooksInvariant base → AuditInvariant base → trade_lookup_view (sheets base) test ≡ trade_lookup_view (tables_of_base base) test }
+    ensures { (base : Base) (test : TradeRow → Bool) → BooksInvariant base → AuditInvariant base
+        → trade_lookup_view (sheets base) test ≡ trade_lookup_view (tables_of_base base) test }
 {}
 
 /// Proves that the view of the lots that the oldest trade of an account with a stamp of at least
@@ -22,7 +23,8 @@ pub fn sorting_tables_preserves_lookup_view()
 /// books invariant and the audit invariant.
 #[tactic(auto, using(crate::proofs::TouchRows::same_lots))]
 pub fn sorting_tables_preserves_lots_view()
-    ensures { (base : Base) (account first : ℕ) → BooksInvariant base → AuditInvariant base → touched_lots_of_oldest_trade (sheets base) account first ≡ touched_lots_of_oldest_trade (tables_of_base base) account first }
+    ensures { (base : Base) (account first : ℕ) → BooksInvariant base → AuditInvariant base
+        → touched_lots_of_oldest_trade (sheets base) account first ≡ touched_lots_of_oldest_trade (tables_of_base base) account first }
 {}
 
 /// Proves that at most one row has a given key, for settlements by trade, cash rows by trade,

@@ -15,7 +15,8 @@ ghost use Rattle.brk_book_theorems.specs.Books.{BooksInvariant};
 /// view, if the base satisfies the books invariant and the audit invariant.
 #[tactic(auto, using(crate::proofs::VolumeRows::same_volumes))]
 pub fn sorting_tables_preserves_volume_view()
-    ensures { (base : Base) (sector : Text) (names : List Text) → BooksInvariant base → AuditInvariant base → broker_volume_view (sheets base) sector names ≡ broker_volume_view (tables_of_base base) sector names }
+    ensures { (base : Base) (sector : Text) (names : List Text) → BooksInvariant base → AuditInvariant base
+        → broker_volume_view (sheets base) sector names ≡ broker_volume_view (tables_of_base base) sector names }
 {}
 
 /// Proves that the brokers with pending requests in a sector, read by distinct names and sorted by

@@ -246,7 +246,12 @@ pub fn run_batch_until_crash(
 
 /// Returns the files of a desk after the batch `SET`.
 pub fn files_with_reference_data(alloc: Global) -> Result<Held, Fail> {
-    let Sent { held, .. } = run_batch_until_crash(alloc, &Held::empty_files(alloc), Stop::NEVER, SET)?;
+    let Sent { held, .. } = run_batch_until_crash(
+        alloc,
+        &Held::empty_files(alloc),
+        Stop::NEVER,
+        SET,
+    )?;
     Ok(held)
 }
 

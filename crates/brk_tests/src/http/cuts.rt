@@ -3,7 +3,9 @@
 
 use crate::desks::{Still, desk_with_reference_data};
 use crate::faulty::{Failing, Narrow};
-use crate::http::streams::{Told, format_post_request, format_wanted_reply, serve_stream_in_pieces};
+use crate::http::streams::{
+    Told, format_post_request, format_wanted_reply, serve_stream_in_pieces,
+};
 use crate::tables::expect_all_tables;
 use brk_http::{FaultKind, ServeFault, serve_stream};
 use brk_import::brk_desk::Desk;
@@ -96,7 +98,12 @@ fn streams_cut_at_each_byte(rt: HostRuntime) -> Result<(), Fail> {
             done = done.saturating_add(1);
         }
         let mut desk = desk_with_reference_data(alloc)?;
-        let (out, ended) = serve_stream_in_pieces(alloc, &mut desk, &all.input.as_bytes()[..len], 64);
+        let (out, ended) = serve_stream_in_pieces(
+            alloc,
+            &mut desk,
+            &all.input.as_bytes()[..len],
+            64,
+        );
         assert!(rt; out.as_slice() == wanted.as_bytes(), "cut at {len}");
         assert!(rt; ended == Ok(done), "cut at {len}");
     }

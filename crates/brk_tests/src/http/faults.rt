@@ -1,7 +1,9 @@
 //! Test of a desk whose disk fails: the reply that reports it is the last of its stream.
 
 use crate::files::machine::open_desk_in_files;
-use crate::http::streams::{Told, format_post_request, format_wanted_reply, serve_stream_in_pieces};
+use crate::http::streams::{
+    Told, format_post_request, format_wanted_reply, serve_stream_in_pieces,
+};
 use brk_import::brk_desk::Desk;
 use sqlite::{FileStore, Files, Options};
 use sqlite_disk::{Fuse, Memory};

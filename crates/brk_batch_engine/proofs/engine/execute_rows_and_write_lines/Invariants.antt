@@ -6,7 +6,8 @@ use Rattle.brk_batch_engine.specs.Answers.{RepresentsDurably}
 use Rattle.brk_batch_engine.proofs.Reached.{HasReachedPosition}
 use Rattle.brk_batch_engine.proofs.engine.execute_rows_and_write_lines.Given as goal
 
--- the rows before the counter were answered and their lines written, and the record after them was read
+-- the rows before the counter were answered and their lines written, and the record after them was
+-- read
 abbrev pub invariant-loop-settled : goal.invariant-loop-settled
 invariant-loop-settled g l = record {
   setup : IsBatchReader l.records;

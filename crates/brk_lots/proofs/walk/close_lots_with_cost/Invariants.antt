@@ -6,7 +6,8 @@ use Rattle.brk_lots.specs.Position.{IsPositionInAnyOrder}
 use Rattle.brk_lots.specs.Walks.{closed_share_count, touches_of_first_shares, cost_of_first_shares}
 use Rattle.brk_lots.proofs.walk.close_lots_with_cost.Given as goal
 
--- what was done so far and what is to be done with the lots that are left are what the whole walk does
+-- what was done so far and what is to be done with the lots that are left are what the whole walk
+-- does
 abbrev pub invariant-loop-left : goal.invariant-loop-left
 invariant-loop-left g l =
     record {
