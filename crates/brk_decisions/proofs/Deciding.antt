@@ -31,7 +31,7 @@ module _ {S : Type 0} (g : Ghosts S) (old mid end : Held S) where
     survives = none_then (state g old) (state g mid) (state g end) (λ _. ⊥) read.survives on.survives;
   } where
     answered : HasCleanDisk (state g mid) → (r : Result X Fault) → IfOk r (λ x. (t : Tables) → HoldsRows g mid t → P v t → R x t) → IfOk r (λ x. (t : Tables) → HoldsRows g old t → R x t)
-    answered clean (Ok x) tell = λ t h. tell t (read.kept t h) (read.answered clean t h)
+    answered clean (Ok x) tell = λ t h. tell t (read.same_rows t h) (read.answered clean t h)
     answered clean (Err fault) tell = tt
 
     was_open : {Q : Type 0} → Q → (r : Result X Fault) → OnOk r Q

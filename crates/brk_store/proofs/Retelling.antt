@@ -31,19 +31,19 @@ module _ {S : Type 0} (g : Ghosts S) where
   read_after old mid end {V} {W} {E} {F} v r P Q first next = record {
     answered = λ clean. tells r (next.answered clean);
     opened = λ clean. opens r (first.opened (before clean)) (next.opened clean);
-    same_rows = both.kept;
+    same_rows = both.same_rows;
     same = both.same;
     survives = both.survives;
   }
     where
       both : IsUnchangedByReads g old end
-      both = kept_then old mid end (kept_read old mid (Ok v) P first) (kept_read mid end r Q next)
+      both = joined_reads_change_nothing old mid end (single_read_changes_nothing old mid (Ok v) P first) (single_read_changes_nothing mid end r Q next)
 
       before : HasCleanDisk (state g end) → HasCleanDisk (state g mid)
-      before = clean_at mid end (kept_read mid end r Q next)
+      before = disk_was_clean_before_reads mid end (single_read_changes_nothing mid end r Q next)
 
       tells : (o : Result W F) → IfOk o (λ answer. (t : Tables) → HoldsRows g mid t → Q answer t) → IfOk o (λ answer. (t : Tables) → HoldsRows g old t → Q answer t)
-      tells (Ok answer) h = λ t holds. h t (first.kept t holds)
+      tells (Ok answer) h = λ t holds. h t (first.same_rows t holds)
       tells (Err e) h = tt
 
       opens : (o : Result W F) → IsTrue (state g old).is_open → OnOk o (IsTrue (state g mid).is_open) → OnOk o (IsTrue (state g old).is_open)
