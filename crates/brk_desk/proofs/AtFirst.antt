@@ -44,4 +44,4 @@ pub stands : (base : Base) (calls : List (ℕ × Call)) (outcomes : List Outcome
 stands base calls outcomes after formed both (inl ran) = run_both base calls outcomes after formed ran both
 stands base calls outcomes after formed both (inr way) =
     let parts = up_to way.earlier (way.now, Do way.command way.key) way.later (subst (AllByRecursion CallMeetsAuditFormats) way.calls_are formed) in
-    subst Both (sym way.after_is) (keyed_both way.before way.now way.command way.key (run_both base way.earlier way.told way.before parts.0 way.earlier_run both) parts.1.0 parts.1.1)
+    subst Both (sym way.after_is) (keyed_both way.before way.now way.command way.key (run_both base way.earlier way.earlier_outcomes way.before parts.0 way.earlier_run both) parts.1.0 parts.1.1)
