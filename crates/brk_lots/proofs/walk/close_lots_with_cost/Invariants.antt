@@ -12,7 +12,7 @@ abbrev pub invariant-loop-left : goal.invariant-loop-left
 invariant-loop-left g l =
     record {
       leads : g.L.LotSource.leads l.fn.source l.source;
-      taken : (touched : List Touch) × g.R.Rows.holds l.rows touched × (g.L.LotSource.asked l.source ≤ g.L.LotSource.asked l.fn.source + length touched)
+      taken : (touched : List Touch) × g.R.TouchReceiver.holds l.rows touched × (g.L.LotSource.asked l.source ≤ g.L.LotSource.asked l.fn.source + length touched)
           × (g.L.LotSource.reads_faithfully l.source → (all : List Lot) → g.L.LotSource.remaining l.fn.source all → IsPositionInAnyOrder all
           → (rest : List Lot) × g.L.LotSource.remaining l.source rest × IsPositionInAnyOrder rest
           × (l.left + closed_share_count l.side l.fn.qty all ≡ l.fn.qty + closed_share_count l.side l.left rest)
