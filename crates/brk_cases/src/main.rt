@@ -34,7 +34,7 @@ fn main(rt: HostRuntime) -> ExitCode {
     match replay_standard_input(&rt) {
         Ok(()) => ExitCode::SUCCESS,
         Err(failed) => {
-            let _ = rt.eprint(failed.word());
+            let _ = rt.eprint(failed.stderr_line());
             ExitCode::FAILURE
         }
     }

@@ -37,7 +37,7 @@ planned_over (Some found) price given known last now is_given (Ok plan) p = reco
   stamped = p.stamped;
   closes = λ ls met. p.closes ls ((is_given (list_in_closing_order found.trade.is_lifo ls) met.0.0, met.0.1), met.1, met.2);
   accepted = p.accepted;
-  replied = p.told;
+  replied = p.replied;
   changes = p.changes;
 }
 planned_over (Some found) price given known last now is_given (Err refusal) p = record {

@@ -40,7 +40,7 @@ module _ {S : Type 0} (g : Ghosts S) (old conn first mid end : Held S) (conn_is 
   whole = through g conn mid end settled out AuditsByThirdSchema in_transaction late
 
   told_then : HasCleanDisk (state g end) → IfOk out (λ answer. IsTrue (state g mid).in_transaction × AuditsByThirdSchema answer (state g (with_transaction_open conn)) (state g mid))
-  told_then clean = in_transaction.made (clean_before (state g mid) (state g end) (λ _. ⊥) late clean) refl
+  told_then clean = in_transaction.relates_states (clean_before (state g mid) (state g end) (λ _. ⊥) late clean) refl
 
   audited : (result : Result (Unit {0}) Fault) → ((P : Option Condition → Type 0) → IfOk out P → AuditAnswerSatisfies result P) → AuditPost g old end result
   audited result answers =

@@ -30,7 +30,7 @@ fn main(rt: HostRuntime) -> ExitCode {
     match replay_input_on_files(&rt) {
         Ok(()) => ExitCode::SUCCESS,
         Err(failed) => {
-            let _ = rt.eprint(failed.word());
+            let _ = rt.eprint(failed.stderr_line());
             ExitCode::FAILURE
         }
     }

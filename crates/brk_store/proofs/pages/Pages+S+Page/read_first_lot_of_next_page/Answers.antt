@@ -16,7 +16,7 @@ returns-clause-returned g c told ls h =
     let rows = lot_rows_in_closing_order self.lifo self.account self.symbol.now h.0 in
     let count : after.read ≡ self.read + length page = c.in_ok-page.ensures.counted in
     let ended : nat_lt c.len.result 16 ≡ nat_lt (length page) 16 = search rules in
-    let none : drop self.page.given self.page.rows.items ≡ [] = drop_all self.page.given self.page.rows.items (search rules) in
+    let none : drop self.page.returned self.page.rows.items ≡ [] = drop_all self.page.returned self.page.rows.items (search rules) in
     let left : ls ≡ map lot_of_row (drop self.read rows) = h.2 ∙ ap (λ p. remaining_page_lots p self.ended self.read rows) none ∙ ap (λ b. remaining_page_lots [] b self.read rows) c.if-self.false in
     let first : c.match-first.first ≡ option_map lot_of_typed_row (slice_get page 0) = elim c.match-first.branch [ in-Some w ↦ search rules | in-None w ↦ search rules ] in
     rw c.in_ok-page.ensures.same
