@@ -207,7 +207,7 @@ fn argument_text(
     String::from_str(alloc, matches.get_str(name).unwrap_or(""))
 }
 
-// Returns a copy of the path of the desk's file, or `None` if it is missing.
+// Returns a copy of the path that the option `--db` gives, or `None` without this option.
 fn file_path_of_matches(
     alloc: Global,
     matches: &ArgMatches<'_>,

@@ -35,7 +35,7 @@ is_valid_two_row_history r a b =
     choice_by_last_of_two_statuses a.status b.status (nat_lt b.stamp a.stamp && has_status_and_stamp_of_row r a) (nat_lt a.stamp b.stamp
     && has_status_and_stamp_of_row r b)
 
--- The value `nonzero` if the three statuses of a history, sorted by code, can be a valid sequence,
+-- The value `told` if the three statuses of a history, sorted by code, can be a valid sequence,
 -- otherwise false.
 abbrev pub choice_if_valid_three_statuses : Status → Status → Status → Bool → Bool
 choice_if_valid_three_statuses Completed Pending Submitted told = told

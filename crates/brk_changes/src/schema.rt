@@ -38,7 +38,7 @@ impl Schema {
         }
     }
 
-    /// Returns true if a settlement day can be set (SETTLE_RULE).
+    /// Returns true if the schema has the table of the settlement day (SETTLE_RULE).
     pub fn has_settle_rule_table(self) -> bool
         ensures { result ≡ (abstract_schema self).has_settle_rule_table }
     {

@@ -69,7 +69,7 @@ pub record AskPost {S : Type 0} (g : Ghosts S) (old new : Held S) (query : Query
 
 -- The call was executed at the clock reading `now` and changed the state `old` to the state `new`.
 -- It satisfies the postcondition of its kind, `CallPost` for a command and `AskPost` for a query,
--- with a result whose outcome is `execute_call`.
+-- with a result whose outcome is `outcome`.
 abbrev pub OutcomePost : {S : Type 0} → Ghosts S → Held S → Held S → ℕ → Call → Outcome → Type 0
 OutcomePost g old new now (call.Do command key) outcome =
     (result : Result desk.Answer Fault) × (outcome ≡ outcome_of_command result)

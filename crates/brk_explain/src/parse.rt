@@ -65,7 +65,7 @@ fn parse_broker_request(words: &[&[u8]]) -> Result<ExplainRequest, Refusal>
     }
 }
 
-// Parses the words after `holding_table`: the id of an account and a symbol. Refuses any others
+// Parses the words after `holding`: the id of an account and a symbol. Refuses any others
 // with `BadText`. Fails with `Memory` only.
 fn parse_holding_request(alloc: Global, words: &[&[u8]]) -> Planned<ExplainRequest>
     ensures read { IfOk result (λ read. ParsesAs abstract_explain_request read (model.read_holding_request (texts_of_fields words.now))) }
@@ -105,7 +105,7 @@ fn parse_request_form(alloc: Global, form: &[u8], words: &[&[u8]]) -> Planned<Ex
     Ok(Err(Refusal::BadText))
 }
 
-/// Parses the words of a command line: `trade ID`, `account ID`, `holding_table ACCOUNT SYMBOL` or
+/// Parses the words of a command line: `trade ID`, `account ID`, `holding ACCOUNT SYMBOL` or
 /// `broker ID`. Refuses an unknown form, a wrong number of words, a malformed id or a malformed
 /// symbol with `BadText`. Fails with `Memory` only.
 #[tactic(auto, unfolding(brk_explain_model::specs::Explain::read_explain_request))]

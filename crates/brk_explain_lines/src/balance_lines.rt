@@ -18,7 +18,7 @@ use brk_explain_rows::{OrderStory, ResultStory};
 use brk_money::{Fault, Wide};
 use std::alloc::Global;
 
-// Appends the line of the cash row of a trade, or of `before_first_trade` if it has none. Fails
+// Appends the line of the cash row of a trade, or of `none` if it has none. Fails
 // with `Memory` only.
 #[tactic(auto, unfolding(brk_explain_model::specs::TradeLines::trade_cash_row_line))]
 fn put_cash_row_line(out: &mut Vec<u8>, row: &Option<MoveRow>) -> Result<(), Fault>

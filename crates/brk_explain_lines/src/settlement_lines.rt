@@ -58,7 +58,7 @@ fn format_day(alloc: Global, day: Day) -> Result<Vec<u8>, Fault>
     Ok(text)
 }
 
-// Returns the text of a day, YYYY-MM-DD, or `before_first_trade` if there is no day.
+// Returns the text of a day, YYYY-MM-DD, or `none` if there is no day.
 fn format_day_or_none(alloc: Global, rule: Option<Day>) -> Result<Vec<u8>, Fault>
     ensures ok { IfOk result (λ text. text.items ≡ option_map_or day_text rule (codes "none")) }
     ensures fault { OnErr result (result ≡ Err Memory) }
@@ -69,7 +69,7 @@ fn format_day_or_none(alloc: Global, rule: Option<Day>) -> Result<Vec<u8>, Fault
     }
 }
 
-/// Appends the lines of the day of completion, of the settlement day or `before_first_trade`, of
+/// Appends the lines of the day of completion, of the settlement day or `none`, of
 /// the number of days to settle, and of the due day.
 #[tactic(auto, unfolding(brk_explain_model::specs::TradeLines::due_day_lines))]
 pub(crate) fn put_due_day_lines(

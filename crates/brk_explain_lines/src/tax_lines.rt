@@ -128,7 +128,7 @@ fn put_band_tier_and_exchange(out: &mut Vec<u8>, band: &Band) -> Result<(), Faul
     Ok(())
 }
 
-// Appends the line of the current commission band, or of `before_first_trade` if there is none.
+// Appends the line of the current commission band, or of `none` if there is none.
 // Fails with `Memory` only.
 #[tactic(auto, unfolding(brk_explain_model::specs::TradeLines::commission_band_line))]
 fn put_commission_band_line(out: &mut Vec<u8>, band: &Option<Band>) -> Result<(), Fault>
@@ -145,7 +145,7 @@ fn put_commission_band_line(out: &mut Vec<u8>, band: &Option<Band>) -> Result<()
     Ok(())
 }
 
-// Appends the line of the commission at the rate of the current band, or of `before_first_trade` if
+// Appends the line of the commission at the rate of the current band, or of `none` if
 // there is no band. Fails with `Memory` only.
 #[tactic(auto, unfolding(brk_explain_model::specs::TradeLines::current_commission_line))]
 fn put_current_commission_line(

@@ -199,12 +199,12 @@ unfoldable pub band_tier_and_exchange_text : Band → Text
 band_tier_and_exchange_text b = codes ", tier " ++ decimal b.tier ++ codes ", " ++ b.exchange
 
 -- The line of the current commission band: its rate in ten-thousandths, its quantities, its tier
--- and its exchange, or `before_first_trade` if there is no band.
+-- and its exchange, or `none` if there is no band.
 unfoldable pub commission_band_line : Option Band → Text
 commission_band_line None = labeled_value (codes "Band now") (codes "none")
 commission_band_line (Some b) = labeled_number (codes "Band now") b.rate ++ band_bounds_text b ++ band_tier_and_exchange_text b
 
--- The line of the commission at the rate of the current band, or of `before_first_trade` if there
+-- The line of the commission at the rate of the current band, or of `none` if there
 -- is no band.
 unfoldable pub current_commission_line : Option ℕ → Text
 current_commission_line None = labeled_value (codes "Commission now") (codes "none")
@@ -226,7 +226,7 @@ trade_settlement_lines o r =
     ∷ labeled_text (codes "Cash type") r.settlement.cash_type
     ∷ []
 
--- The lines of the day of completion, of the settlement day or `before_first_trade`, of the number
+-- The lines of the day of completion, of the settlement day or `none`, of the number
 -- of days to settle, and of the due day.
 unfoldable pub due_day_lines : OrderStory → ResultStory → List Text
 due_day_lines o r =
@@ -236,7 +236,7 @@ due_day_lines o r =
     ∷ labeled_text (codes "Due on") (day_text r.settlement.due_day)
     ∷ []
 
--- The line of the cash row of the trade: its id and its text, or `before_first_trade` if the trade
+-- The line of the cash row of the trade: its id and its text, or `none` if the trade
 -- has no cash row.
 unfoldable pub trade_cash_row_line : Option MoveRow → Text
 trade_cash_row_line None = labeled_value (codes "Cash row") (codes "none")

@@ -19,7 +19,7 @@ abbrev pub CallScript : Type 0
 CallScript = List (ℕ × Call) × List Outcome
 
 -- The relation of a call of a scripted desk: `call` at the clock reading `now` is the first call of
--- `script`, `execute_call` is its first outcome, and `rest` is the script without both.
+-- `script`, `outcome` is its first outcome, and `rest` is the script without both.
 abbrev pub IsNextScriptedCall : CallRelation CallScript
 IsNextScriptedCall script now call outcome rest = (script.0 ≡ (now, call) ∷ rest.0) × (script.1 ≡ outcome ∷ rest.1)
 

@@ -19,7 +19,7 @@ post_request target body = record { method = codes "POST"; target = target; clos
 abbrev pub get_request : Text → Request
 get_request target = record { method = codes "GET"; target = target; closes = false; body = [] }
 
--- The request `request_table`, which asks to close the stream (`Connection: close`).
+-- The request `request`, which asks to close the stream (`Connection: close`).
 abbrev pub closing_request : Request → Request
 closing_request request = record request { closes = true }
 

@@ -41,7 +41,7 @@ abbrev pub stream_after_reply : Bool → Text → StreamState
 stream_after_reply true rest = Finished
 stream_after_reply false rest = Continues rest
 
--- The bytes `reply` are the reply to `request_table`, after `n` earlier requests. The stream ends
+-- The bytes `reply` are the reply to `request`, after `n` earlier requests. The stream ends
 -- with it if the request is number `most_requests_per_stream` or asks to close the stream, or if
 -- the response is a fault; otherwise it continues with the bytes `rest`.
 pub record IsReplyToRequest {B : Type 0} (forms : RequestParsers) (does : CallRelation B) (n : ℕ) (request : Request) (rest : Text)

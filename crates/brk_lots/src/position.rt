@@ -76,8 +76,8 @@ impl Position {
         all_lots_precede_trade(self.lots(), trade, stamp)
     }
 
-    /// Applies the closing of this position by a trade, from either end. The position then has the
-    /// shares that the trade leaves.
+    /// Applies `closing`, the closing of this position by a trade, from either end. The position
+    /// then has the shares that the trade did not close, followed by those that it opened.
     ///
     /// Fails with `Memory` only. The position is then unchanged.
     pub fn apply(&mut self, closing: &Closing) -> Result<(), Fault>

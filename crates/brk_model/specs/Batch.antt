@@ -59,7 +59,7 @@ abbrev pub EndsWithWrongEndRecord : Option Text → Text → List Fields → Typ
 EndsWithWrongEndRecord text name rows =
     (last : Fields) × IsEndRecord last × (last ≡ correct_end_record (length rows) → ⊥) × BeginsWithRecords text (batch_header name ∷ (rows ++ (last ∷ [])))
 
--- The records of the text, the answers `told` of the rows and the output `removed` are those of a
+-- The records of the text, the answers `told` of the rows and the output `out` are those of a
 -- batch with a header and this ending. It is false for `BadHeader`.
 abbrev pub MatchesEnding : Option Text → BatchEnding → Text → List Fields → List Answer → List Answer → Text → Type 0
 MatchesEnding text CorrectEnd name rows answers told out =
@@ -82,8 +82,8 @@ pub record IsResultOfTextWithHeader {B C : Type 0} (form : Fields → ReadResult
   pub ends : MatchesEnding text batch.ending name rows answers told batch.text
   pub counted : batch.rows ≡ length told
 
--- The batch is the result of a text without a header: no clock reading is used, the base is
--- unchanged, the output is empty, and no row was decided.
+-- The batch is the result of a text without a header: its ending is `BadHeader`, no clock reading is
+-- used, the base is unchanged, the output is empty, and no row was decided.
 pub record IsResultOfTextWithoutHeader {B : Type 0} (base : B) (moments : List ℕ) (text : Option Text) (batch : BatchResult B) : Type 0 where
   pub headless : HasNoHeader text
   pub ending : batch.ending ≡ BadHeader

@@ -268,11 +268,11 @@ numbered_move_rows n [] = []
 numbered_move_rows n (p ∷ posted) = move_row n p ∷ numbered_move_rows (n + 1) posted
 
 -- The CASH_MOVE rows of the postings `posted`, sorted by stamp and numbered from 1; none if
--- `schema` does not number cash rows.
+-- `schema` has CASH_TRANSACTION instead.
 abbrev pub move_rows : Schema → List Posting → List MoveRow
 move_rows schema posted = if schema.has_cash_move_table then numbered_move_rows 1 (postings_sorted_by_stamp posted) else []
 
--- The CASH_TRANSACTION rows of the cash trades of `done`; none if `schema` numbers cash rows.
+-- The CASH_TRANSACTION rows of the cash trades of `done`; none if `schema` has CASH_MOVE instead.
 abbrev pub cash_rows : Schema → List Account → List Trade → List CashRow
 cash_rows schema accounts done = if schema.has_cash_move_table then [] else map (cash_row accounts) (cash_trades done)
 

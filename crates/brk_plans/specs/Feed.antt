@@ -58,7 +58,7 @@ span_including_tick symbol span tick = if bytes_eq tick.symbol symbol then span_
 abbrev pub price_span_of_first_symbol : Tick → List Tick → Span
 price_span_of_first_symbol first others = fold (span_including_tick first.symbol) (record { lowest = first.price; highest = first.price }) others
 
--- True if a market price of `price` triggers the pending trade of `request_table`.
+-- True if a market price of `price` triggers the pending trade of `request`.
 abbrev pub is_request_triggered : ℕ → RequestRow → Bool
 is_request_triggered price request = is_triggering_price request.kind request.bid price
 

@@ -45,10 +45,10 @@ pub record WasOpenAndIsUnchanged (old new : State) : Type 0 where
   pub now : new.now ≡ old.now
   pub committed : new.committed ≡ old.committed
 
--- The postcondition of a read, which writes nothing. `AuditsByThirdSchema` relates the returned
+-- The postcondition of a read, which writes nothing. `Told` relates the returned
 -- value to the rows that the store holds.
 pub record ReadPost {S V E : Type 0} (g : Ghosts S) (old new : Held S) (result : Result V E) (Told : V → Tables → Type 0) : Type 0 where
-  -- A returned value satisfies `AuditsByThirdSchema` with the rows that the store held before the
+  -- A returned value satisfies `Told` with the rows that the store held before the
   -- call. Vacuous if the disk assumption fails after the call.
   pub answered : HasCleanDisk (state g new) → IfOk result (λ answer. (t : Tables) → HoldsRows g old t → Told answer t)
   -- A value is returned only if the store was open.

@@ -21,7 +21,7 @@ ghost use Rattle.brk_store.specs.Holds.{HoldsRows};
 use sqlite::Alter;
 
 /// Proves that an audit of a database has at most one result, both by the schema whose desk the
-/// database has (`whole`) and by a given schema (`by`).
+/// database has (`of_database`) and by a given schema (`by_schema`).
 pub fn audit_results_are_unique()
     ensures of_database { (db : Database) (a b : Option Condition) → IsDatabaseAuditResult db a → IsDatabaseAuditResult db b → a ≡ b }
     ensures by_schema { (schema : Schema) (db : Database) (a b : Option Condition) → IsDatabaseAuditResultBySchema (abstract_schema schema) db a
@@ -60,7 +60,7 @@ pub fn adoption_of_third_schema_is_audit<S: Alter>()
 /// `adopted`: a store that was adopted under the premise `StoreNamedTablesMatchDeskDefinitions`
 /// represents some base.
 ///
-/// `found`: if this store is open, then under the disk assumption the old database contained rows
+/// `base_of_old_rows`: if this store is open, then under the disk assumption the old database contained rows
 /// of some schema that pass their audit, and the store represents the base that these rows
 /// determine.
 pub fn adopted_stores_represent_a_base<S: Alter>()

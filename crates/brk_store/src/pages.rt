@@ -26,7 +26,7 @@ const PAGE_SIZE: usize = 16;
 pub struct Page {
     rows: Vec<HoldingRow>,
     returned: usize,
-    ghost few: { length rows.items ≤ given + 15 },
+    ghost few: { length rows.items ≤ returned + 15 },
     ghost some_shares: { All (λ r. r.qty ≢ pos 0) rows.items },
 }
 

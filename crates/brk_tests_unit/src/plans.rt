@@ -47,7 +47,8 @@ const FEEDS: [(&[&[u8]], &str); 4] = [
     (&[b"ABC", b"9.50", b"101", b"QQQ", b"1.00", b"1"], "no,4"),
 ];
 
-// Checks that a feed whose ticks exceed the volume limit is refused with `volume`.
+// Checks the replies to four feeds: one up to the volume limit is accepted, one and two ticks
+// beyond it are refused with `volume`, and an unknown symbol is refused first, with 4.
 #[test]
 fn a_feed_beyond_volume_limit_is_refused(rt: HostRuntime) -> Result<(), Fail> {
     for (ticks, wanted) in FEEDS {

@@ -128,7 +128,7 @@ request_row_of_order order terms broker trade =
     else Some (record { trade = trade; kind = trade_type_of_order order.order_type; symbol = order.symbol; qty = order.qty; bid = terms.price; broker = broker })
 
 -- The row changes that add a trade: its TRADE row `row`, its first TRADE_HISTORY row, its
--- `request_table`, if any, and the last stamp.
+-- `request`, if any, and the last stamp.
 abbrev pub row_changes_of_order : TradeRow → Option RequestRow → List Change
 row_changes_of_order row request =
     change.AddTrade row ∷ change.AddHistory (record { trade = row.id; status = row.status; stamp = row.stamp })

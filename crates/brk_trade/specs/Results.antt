@@ -130,7 +130,7 @@ row_changes_of_result found price closing outcome cash =
     ++ change.SetLastStamp outcome.stamp ∷ []
 
 -- `changes` complete the trade of `found` at `price` with the closed and opened lots of `closing`
--- and the figures `execute_call`. They add a cash row if it is a cash trade.
+-- and the figures `outcome`. They add a cash row if it is a cash trade.
 pub record AreResultChanges (found : ResultPlanFacts) (price : ℕ) (closing : Closing) (outcome : ResultFigures) (changes : List Change) : Type 0 where
   pub cash : Option MoveRow
   pub moved : option_map abstract_move_row cash ≡ cash_row_of_result found outcome
