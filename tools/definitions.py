@@ -85,7 +85,7 @@ NAMES = {
         'consistency conditions': 'holding_summary_quantity trade_count_of_broker commission_total_of_broker',
         'consistency conditions, with an opening of our own': 'balance_of_account',
     },
-    'Tables': {'own': 'tables_without_rows tables_from_completed_trades tables_of_base_in_schema tables_of_base MoveRow move_row numbered_move_rows move_rows'},
+    'Tables': {'own': 'tables_without_rows tables_from_completed_trades tables_of_base_in_schema tables_of_base MoveRow cash_move_row numbered_move_rows cash_move_rows'},
     'Tests': {'Trade-Order': 'charge_exists_check commission_band_exists_check checks_of_order'},
     'Audit': {'consistency conditions for Summary, Count and Commission; the others are our own': 'ConditionHolds'},
 }

@@ -16,7 +16,7 @@ use Rattle.brk_model.specs.Records.{Movement, Trade}
 use Rattle.brk_model.specs.Base.{Base, completed_trades, last_status_stamp_of_trade}
 use Rattle.brk_model.specs.Derived.{Posting, cash_trades, postings_sorted_by_stamp, posting_of_movement, posting_of_trade, postings_of_base}
 use Rattle.brk_model.specs.Schemas.{Schema}
-use Rattle.brk_model.specs.Tables.{MoveRow, Tables, TradeRow, cash_row, numbered_move_rows, tables_of_base_in_schema}
+use Rattle.brk_model.specs.Tables.{MoveRow, Tables, TradeRow, cash_transaction_row, numbered_move_rows, tables_of_base_in_schema}
 use Rattle.brk_model.specs.Sheets.{tables_sorted_by_key}
 use Rattle.brk_model.specs.Keys.{number, rows_sorted_by_key, cash_key, is_key_less, move_key, is_row_key_less, trade_key}
 use Rattle.brk_model.specs.Adopted.{base_of_tables, is_posting_of_trade, movement_of_row, posting_of_cash_row, posting_of_move_row, postings_of_tables, trade_of_row}
@@ -348,7 +348,7 @@ trades_rise f (r ∷ rs) e c = (All-mapped (λ p. (f r).trade < p.trade) f rs (A
 wanted_no_cash : (schema : Schema) (t : Tables) → schema.has_cash_move_table ≡ true → (expected_tables schema t).cash ≡ []
 unfolding tables_sorted_by_key tables_of_base_in_schema
 wanted_no_cash schema t n =
-    ap (λ b. rows_sorted_by_key cash_key (cond b [] (map (cash_row (base_of_tables t).accounts) (cash_trades (completed_trades (base_of_tables t)))))) n ∙ no_rows (is_row_key_less cash_key)
+    ap (λ b. rows_sorted_by_key cash_key (cond b [] (map (cash_transaction_row (base_of_tables t).accounts) (cash_trades (completed_trades (base_of_tables t)))))) n ∙ no_rows (is_row_key_less cash_key)
 
 wanted_moves : (schema : Schema) (t : Tables) → schema.has_cash_move_table ≡ true → (expected_tables schema t).moves ≡ numbered_move_rows 1 (postings_sorted_by_stamp (postings_of_base (base_of_tables t)))
 unfolding tables_sorted_by_key tables_of_base_in_schema

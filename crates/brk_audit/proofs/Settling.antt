@@ -12,7 +12,7 @@ use Rattle.brk_model.specs.Records.{Account}
 use Rattle.brk_model.specs.Base.{broker_id_in_accounts, completed_trades, account_with_id_in_list, is_withholding_status, tax_status_in_accounts}
 use Rattle.brk_model.specs.Derived.{settlement_amount, cash_trades, due_day_of_completion_stamp, postings_sorted_by_stamp, postings_of_base, signed_proceeds}
 use Rattle.brk_model.specs.Joins.{account_row_with_id}
-use Rattle.brk_model.specs.Tables.{Tables, numbered_move_rows, AccountRow, CashRow, RequestRow, SettlementRow, TradeRow, cash_row, request_row, settlement_row, tables_of_base_in_schema}
+use Rattle.brk_model.specs.Tables.{Tables, numbered_move_rows, AccountRow, CashRow, RequestRow, SettlementRow, TradeRow, cash_transaction_row, request_row, settlement_row, tables_of_base_in_schema}
 use Rattle.brk_model.specs.Sheets.{tables_sorted_by_key}
 use Rattle.brk_model.specs.Keys.{number, rows_sorted_by_key, is_row_key_less, cash_key, move_key, request_key, settlement_key, trade_key}
 use Rattle.brk_model.specs.Adopted.{account_of_row, base_of_tables, is_posting_of_trade, posting_of_cash_row, posting_of_move_row, postings_of_tables, trade_of_row}
@@ -91,14 +91,14 @@ cash_rows t s =
     ∙ ap (map (trade_of_row t)) (filter-filter (λ r. r.is_cash) is_completed_row t.trades)
 
 wanted_cash : (schema : Schema) (t : Tables) → schema.has_cash_move_table ≡ false → Climbs trade_key t.trades → satisfies_status_condition t ≡ true
-    → (expected_tables schema t).cash ≡ map (λ r. cash_row (accounts_in t) (trade_of_row t r)) (filter is_completed_cash_trade t.trades)
+    → (expected_tables schema t).cash ≡ map (λ r. cash_transaction_row (accounts_in t) (trade_of_row t r)) (filter is_completed_cash_trade t.trades)
 unfolding base_of_tables tables_sorted_by_key tables_of_base_in_schema
 wanted_cash schema t n c s =
-    let f : TradeRow → CashRow = λ r. cash_row (accounts_in t) (trade_of_row t r) in
+    let f : TradeRow → CashRow = λ r. cash_transaction_row (accounts_in t) (trade_of_row t r) in
     let rows : List TradeRow = filter is_completed_cash_trade t.trades in
-    ap (λ b. rows_sorted_by_key cash_key (cond b [] (map (cash_row (accounts_in t)) (cash_trades (completed_trades (base_of_tables t)))))) n
-    ∙ ap (λ ts. rows_sorted_by_key cash_key (map (cash_row (accounts_in t)) ts)) (cash_rows t s)
-    ∙ ap (rows_sorted_by_key cash_key) (map-map (cash_row (accounts_in t)) (trade_of_row t) rows)
+    ap (λ b. rows_sorted_by_key cash_key (cond b [] (map (cash_transaction_row (accounts_in t)) (cash_trades (completed_trades (base_of_tables t)))))) n
+    ∙ ap (λ ts. rows_sorted_by_key cash_key (map (cash_transaction_row (accounts_in t)) ts)) (cash_rows t s)
+    ∙ ap (rows_sorted_by_key cash_key) (map-map (cash_transaction_row (accounts_in t)) (trade_of_row t) rows)
     ∙ stays cash_key (map f rows) (climbs_map trade_key cash_key f rows (λ r. refl) (climbs_filter trade_key is_completed_cash_trade t.trades c))
 
 pub no_rows : {Row : Type 0} (before : Row → Row → Bool) → sort_by before [] ≡ []
@@ -191,7 +191,7 @@ settlements_by_rows schema t c d s =
 abbrev HasCash : Tables → Type 0
 HasCash t = map cash_figures_of_row t.cash ≡ map (cash_figures_of_trade (account_tax_status_or_untaxed t)) (filter is_completed_cash_trade t.trades)
 
-moved_right : (t : Tables) (r : TradeRow) → IsRight t r → cash_figures_of_row (cash_row (accounts_in t) (trade_of_row t r)) ≡ cash_figures_of_trade (account_tax_status_or_untaxed t) r
+moved_right : (t : Tables) (r : TradeRow) → IsRight t r → cash_figures_of_row (cash_transaction_row (accounts_in t) (trade_of_row t r)) ≡ cash_figures_of_trade (account_tax_status_or_untaxed t) r
 moved_right t r e = λ i. record { trade = r.id; stamp = row_moment t r e i; amount = same_amount t r i }
 
 cash_found : (cs : List CashRow) → Climbs cash_key cs → AllByRecursion (λ c. find (λ x. x.trade == c.trade) cs ≡ Some c) cs
@@ -215,9 +215,9 @@ posted_cash t e id =
     ∙ find-map (is_posting_of_trade id) (posting_of_cash_row t) t.cash
 
 same_cash_row : (t : Tables) (c : CashRow) (r : TradeRow) → t.moves ≡ [] → find (λ x. x.trade == c.trade) t.cash ≡ Some c → IsRight t r
-    → cash_figures_of_row c ≡ cash_figures_of_trade (account_tax_status_or_untaxed t) r → c ≡ cash_row (accounts_in t) (trade_of_row t r)
+    → cash_figures_of_row c ≡ cash_figures_of_trade (account_tax_status_or_untaxed t) r → c ≡ cash_transaction_row (accounts_in t) (trade_of_row t r)
 same_cash_row t c r n f e d =
-    let g : cash_figures_of_row c ≡ cash_figures_of_row (cash_row (accounts_in t) (trade_of_row t r)) = d ∙ sym (moved_right t r e) in
+    let g : cash_figures_of_row c ≡ cash_figures_of_row (cash_transaction_row (accounts_in t) (trade_of_row t r)) = d ∙ sym (moved_right t r e) in
     let id : c.trade ≡ r.id = ap (λ x. x.trade) g in
     let w : c.name ≡ option_map_or (λ p. p.name) (find (is_posting_of_trade r.id) (postings_of_tables t)) [] =
     sym (ap (λ o. option_map_or (λ p. p.name) (option_map (posting_of_cash_row t) o) []) f) ∙ ap (λ k. option_map_or (λ p. p.name) (option_map (posting_of_cash_row t) (find (λ x. x.trade == k) t.cash)) []) id
@@ -225,7 +225,7 @@ same_cash_row t c r n f e d =
     λ i. record { trade = (g i).trade; stamp = (g i).stamp; amount = (g i).amount; name = w i }
 
 same_cash : (t : Tables) (cs : List CashRow) (rs : List TradeRow) → t.moves ≡ [] → AllByRecursion (λ c. find (λ x. x.trade == c.trade) t.cash ≡ Some c) cs
-    → AllByRecursion (IsRight t) rs → map cash_figures_of_row cs ≡ map (cash_figures_of_trade (account_tax_status_or_untaxed t)) rs → cs ≡ map (λ r. cash_row (accounts_in t) (trade_of_row t r)) rs
+    → AllByRecursion (IsRight t) rs → map cash_figures_of_row cs ≡ map (cash_figures_of_trade (account_tax_status_or_untaxed t)) rs → cs ≡ map (λ r. cash_transaction_row (accounts_in t) (trade_of_row t r)) rs
 same_cash t [] [] n f e d = refl
 same_cash t [] (r ∷ rs) n f e d = absurd (cc)
 same_cash t (c ∷ cs) [] n f e d = absurd (cc)
@@ -240,7 +240,7 @@ pub cash_by_rows : (schema : Schema) (t : Tables) → schema.has_cash_move_table
     → (ConditionHolds schema condition.Cash t → HasCash t) × (HasCash t → ConditionHolds schema condition.Cash t)
 unfolding ConditionHolds
 cash_by_rows schema t n m c d s =
-    let f : TradeRow → CashRow = λ r. cash_row (accounts_in t) (trade_of_row t r) in
+    let f : TradeRow → CashRow = λ r. cash_transaction_row (accounts_in t) (trade_of_row t r) in
     let rows : List TradeRow = filter is_completed_cash_trade t.trades in
     let right : AllByRecursion (IsRight t) rows = right_done t is_completed_cash_trade s in
     let e = wanted_cash schema t n c s in (

@@ -9,7 +9,7 @@ use Rattle.brk_model.specs.Records.{Account, Movement, Trade}
 use Rattle.brk_model.specs.Base.{Base, completed_trades, is_completed, trade_with_id}
 use Rattle.brk_model.specs.Derived.{Posting, cash_trades, postings_sorted_by_stamp, posting_of_movement, posting_of_trade, postings_of_base}
 use Rattle.brk_model.specs.Schemas.{Schema, third_schema}
-use Rattle.brk_model.specs.Tables.{CashRow, MoveRow, Tables, TradeRow, cash_row, numbered_move_rows, tables_of_base_in_schema, trade_row}
+use Rattle.brk_model.specs.Tables.{CashRow, MoveRow, Tables, TradeRow, cash_transaction_row, numbered_move_rows, tables_of_base_in_schema, trade_row}
 use Rattle.brk_model.specs.Sheets.{sheets, sheets_in_schema, tables_sorted_by_key}
 use Rattle.brk_model.specs.Keys.{number, rows_sorted_by_key, cash_key, move_key, is_row_key_less}
 use Rattle.brk_model.specs.Adopted.{base_of_tables, is_posting_of_trade, movement_of_row, posting_of_cash_row, posting_of_move_row, postings_of_tables, trade_of_row}
@@ -35,9 +35,9 @@ pub turned_twice : (ps : List Posting) → postings_sorted_by_stamp (postings_so
 turned_twice ps = sort_sorted (λ a b. nat_lt a.stamp b.stamp) (postings_sorted_by_stamp ps) (sorted_sort (λ a b. nat_lt a.stamp b.stamp) ps stamp_splits stamp_one_way)
 
 cash_at : (schema : Schema) (base : Base) (b : Bool) → schema.has_cash_move_table ≡ b
-    → (sheets_in_schema schema base).cash ≡ rows_sorted_by_key cash_key (cond b [] (map (cash_row base.accounts) (cash_trades (completed_trades base))))
+    → (sheets_in_schema schema base).cash ≡ rows_sorted_by_key cash_key (cond b [] (map (cash_transaction_row base.accounts) (cash_trades (completed_trades base))))
 unfolding tables_sorted_by_key tables_of_base_in_schema
-cash_at schema base b e = ap (λ c. rows_sorted_by_key cash_key (cond c [] (map (cash_row base.accounts) (cash_trades (completed_trades base))))) e
+cash_at schema base b e = ap (λ c. rows_sorted_by_key cash_key (cond c [] (map (cash_transaction_row base.accounts) (cash_trades (completed_trades base))))) e
 
 moves_at : (schema : Schema) (base : Base) (b : Bool) → schema.has_cash_move_table ≡ b → (sheets_in_schema schema base).moves ≡ rows_sorted_by_key move_key (cond b (numbered_move_rows 1 (postings_sorted_by_stamp (postings_of_base base))) [])
 unfolding tables_sorted_by_key tables_of_base_in_schema
@@ -58,10 +58,10 @@ posted_in_moves schema base e =
     ∙ postings_back 1 (postings_sorted_by_stamp (postings_of_base base))
 
 -- where they stand by their trades
-cash_in_order : (base : Base) → BooksInvariant base → rows_sorted_by_key cash_key (map (cash_row base.accounts) (cash_trades (completed_trades base))) ≡ map (cash_row base.accounts) (cash_trades (completed_trades base))
+cash_in_order : (base : Base) → BooksInvariant base → rows_sorted_by_key cash_key (map (cash_transaction_row base.accounts) (cash_trades (completed_trades base))) ≡ map (cash_transaction_row base.accounts) (cash_trades (completed_trades base))
 cash_in_order base books =
-    by_key-map (λ t. number t.id ∷ []) cash_key (cash_row base.accounts) (cash_trades (completed_trades base)) (λ t. refl)
-    ∙ ap (map (cash_row base.accounts)) (sort_sorted (is_row_key_less (λ t. number t.id ∷ [])) (cash_trades (completed_trades base))
+    by_key-map (λ t. number t.id ∷ []) cash_key (cash_transaction_row base.accounts) (cash_trades (completed_trades base)) (λ t. refl)
+    ∙ ap (map (cash_transaction_row base.accounts)) (sort_sorted (is_row_key_less (λ t. number t.id ∷ [])) (cash_trades (completed_trades base))
     (sorted_filter (is_row_key_less (λ t. number t.id ∷ [])) (λ t. t.is_cash) (completed_trades base)
     (sorted_filter (is_row_key_less (λ t. number t.id ∷ [])) is_completed base.trades (trades_stand 1 base.trades books.numbered))))
 
@@ -76,8 +76,8 @@ posted_by_trades schema base books e =
     let rows : Tables = sheets_in_schema schema base in
     let C : List Trade = cash_trades (completed_trades base) in
     (λ i. map (posting_of_cash_row rows) ((cash_at schema base false e ∙ cash_in_order base books) i) ++ map posting_of_move_row ((moves_at schema base false e ∙ no_rows (is_row_key_less move_key)) i))
-    ∙ append_nil (map (posting_of_cash_row rows) (map (cash_row base.accounts) C)) ∙ map-map (posting_of_cash_row rows) (cash_row base.accounts) C
-    ∙ map-same (λ t. posting_of_cash_row rows (cash_row base.accounts t)) (posting_of_trade base.accounts) C
+    ∙ append_nil (map (posting_of_cash_row rows) (map (cash_transaction_row base.accounts) C)) ∙ map-map (posting_of_cash_row rows) (cash_transaction_row base.accounts) C
+    ∙ map-same (λ t. posting_of_cash_row rows (cash_transaction_row base.accounts t)) (posting_of_trade base.accounts) C
     (All-map C (λ t k. λ i. record (posting_of_trade base.accounts t) {
       account = option_map_or (λ r. r.account) ((ap (find (λ r. r.id == t.id)) (trades_at schema base) ∙ reads_trade base t.id ∙ ap (option_map trade_row) k) i) 0;
     }) (cash_found base books))

@@ -11,7 +11,7 @@ use Rattle.brk_model.specs.Derived.{Posting, cash_trades, postings_sorted_by_sta
 use Rattle.brk_model.specs.Keys.{rows_sorted_by_key, move_key}
 use Rattle.brk_model.specs.Adopted.{movement_of_row, posting_of_move_row}
 use Rattle.brk_model.specs.Sheets.{sheets, tables_sorted_by_key}
-use Rattle.brk_model.specs.Tables.{MoveRow, move_row, numbered_move_rows, tables_of_base_in_schema}
+use Rattle.brk_model.specs.Tables.{MoveRow, cash_move_row, numbered_move_rows, tables_of_base_in_schema}
 use Rattle.brk_book_theorems.specs.TradeReads.{last_cash_row_number_or_zero}
 use Rattle.brk_book_theorems.proofs.Order.{OneWay, Splits, map-insert_by, nat_one_way, nat_splits, sort_filter}
 use Rattle.brk_book_theorems.proofs.Places.{filter-append}
@@ -42,7 +42,7 @@ numbered_moved n [] = refl
 numbered_moved n (p ∷ ps) = by_test (is_none p.trade) (numbered_moved (n + 1) ps)
   where
     by_test : (b : Bool) → map movement_of_row (filter (λ r. is_none r.trade) (numbered_move_rows (n + 1) ps)) ≡ map movement_of (filter is_moved ps)
-        → map movement_of_row (cond b (move_row n p ∷ filter (λ r. is_none r.trade) (numbered_move_rows (n + 1) ps)) (filter (λ r. is_none r.trade) (numbered_move_rows (n + 1) ps)))
+        → map movement_of_row (cond b (cash_move_row n p ∷ filter (λ r. is_none r.trade) (numbered_move_rows (n + 1) ps)) (filter (λ r. is_none r.trade) (numbered_move_rows (n + 1) ps)))
         ≡ map movement_of (cond b (p ∷ filter is_moved ps) (filter is_moved ps))
     by_test true ih = ap (λ ms. movement_of p ∷ ms) ih
     by_test false ih = ih
@@ -110,8 +110,8 @@ number_last m [] = omega arith
 number_last m (p ∷ ps) =
     let rows : List MoveRow = reverse (numbered_move_rows (m + 1 + 1) ps) in
     let more : m + 1 + length ps ≡ m + length (p ∷ ps) = omega arith in
-    ap (λ rs. unwrap_or (option_map (λ r. r.id) (slice_get rs 0)) m) (reverse-append (move_row (m + 1) p ∷ []) (numbered_move_rows (m + 1 + 1) ps))
-    ∙ ap (λ o. unwrap_or (option_map (λ r. r.id) o) m) (first_of_more rows (move_row (m + 1) p)) ∙ id_or (slice_get rows 0) (move_row (m + 1) p)
+    ap (λ rs. unwrap_or (option_map (λ r. r.id) (slice_get rs 0)) m) (reverse-append (cash_move_row (m + 1) p ∷ []) (numbered_move_rows (m + 1 + 1) ps))
+    ∙ ap (λ o. unwrap_or (option_map (λ r. r.id) o) m) (first_of_more rows (cash_move_row (m + 1) p)) ∙ id_or (slice_get rows 0) (cash_move_row (m + 1) p)
     ∙ number_last (m + 1) ps ∙ more
 
 from_none : (m n : ℕ) → m ≡ n → 0 + m ≡ n

@@ -11,7 +11,7 @@ use Rattle.brk_model.specs.Records.{Account, Movement, Trade}
 use Rattle.brk_model.specs.Base.{last_status_stamp_of_trade, opening_balance_in_accounts}
 use Rattle.brk_model.specs.Derived.{Posting, settlement_amount, balance_of_account, cash_trades, postings_sorted_by_stamp, posting_of_movement, postings_to_account, posting_of_trade, postings}
 use Rattle.brk_model.specs.Keys.{KeyPart, number, rows_sorted_by_key, insert_row_by_key, is_key_less, move_key, is_row_key_less}
-use Rattle.brk_model.specs.Tables.{MoveRow, move_row, numbered_move_rows}
+use Rattle.brk_model.specs.Tables.{MoveRow, cash_move_row, numbered_move_rows}
 use Rattle.brk_book_theorems.proofs.Order.{NewKey, Sorted, append_nil, by_key-append, sort_sorted}
 use Rattle.brk_book_theorems.proofs.Places.{append_assoc, filter-append, filter-not_one, filter-one, map-append}
 use Rattle.brk_book_theorems.proofs.Positions.{sort_last}
@@ -130,15 +130,15 @@ numbered_sorted n (p ∷ ps) =
 pub numbered_stay : (n : ℕ) (ps : List Posting) → rows_sorted_by_key move_key (numbered_move_rows n ps) ≡ numbered_move_rows n ps
 numbered_stay n ps = sort_sorted (is_row_key_less move_key) (numbered_move_rows n ps) (numbered_sorted n ps)
 
-pub numbered_last : (n : ℕ) (ps : List Posting) (p : Posting) → numbered_move_rows n (ps ++ p ∷ []) ≡ numbered_move_rows n ps ++ move_row (n + length ps) p ∷ []
-numbered_last n [] p = ap (λ m. move_row m p ∷ []) (omega arith)
-numbered_last n (q ∷ ps) p = ap (λ rows. move_row n q ∷ rows) (numbered_last (n + 1) ps p ∙ ap (λ m. numbered_move_rows (n + 1) ps ++ move_row m p ∷ []) (omega arith))
+pub numbered_last : (n : ℕ) (ps : List Posting) (p : Posting) → numbered_move_rows n (ps ++ p ∷ []) ≡ numbered_move_rows n ps ++ cash_move_row (n + length ps) p ∷ []
+numbered_last n [] p = ap (λ m. cash_move_row m p ∷ []) (omega arith)
+numbered_last n (q ∷ ps) p = ap (λ rows. cash_move_row n q ∷ rows) (numbered_last (n + 1) ps p ∙ ap (λ m. numbered_move_rows (n + 1) ps ++ cash_move_row m p ∷ []) (omega arith))
 
 numbers_below : (n : ℕ) (ps : List Posting) → AllByRecursion (λ r. r.id < n + length ps) (numbered_move_rows n ps)
 numbers_below n [] = tt
 numbers_below n (p ∷ ps) = (omega arith, All-map (numbered_move_rows (n + 1) ps) (λ r h. omega (arith, h)) (numbers_below (n + 1) ps))
 
-new_last : (n : ℕ) (ps : List Posting) (p : Posting) → NewKey move_key (move_row (n + length ps) p) (numbered_move_rows n ps)
+new_last : (n : ℕ) (ps : List Posting) (p : Posting) → NewKey move_key (cash_move_row (n + length ps) p) (numbered_move_rows n ps)
 new_last n ps p = All-map (numbered_move_rows n ps) (λ r h e. let k : r.id ≡ n + length ps = cc in omega (arith, h, k)) (numbers_below n ps)
 
 -- ---- the posting with the last stamp
@@ -153,21 +153,21 @@ turn_last xs p ys h =
     (All-map ys (λ q k. grind (arith, nat_tests)) (All-back (λ q. q.stamp < p.stamp) xs ys h))
 
 pub rows_last : (xs : List Posting) (p : Posting) (ys : List Posting) → AllByRecursion (λ q. q.stamp < p.stamp) (xs ++ ys)
-    → rows_sorted_by_key move_key (numbered_move_rows 1 (postings_sorted_by_stamp (xs ++ p ∷ ys))) ≡ insert_row_by_key move_key (move_row (length (xs ++ ys) + 1) p) (rows_sorted_by_key move_key (numbered_move_rows 1 (postings_sorted_by_stamp (xs ++ ys))))
+    → rows_sorted_by_key move_key (numbered_move_rows 1 (postings_sorted_by_stamp (xs ++ p ∷ ys))) ≡ insert_row_by_key move_key (cash_move_row (length (xs ++ ys) + 1) p) (rows_sorted_by_key move_key (numbered_move_rows 1 (postings_sorted_by_stamp (xs ++ ys))))
 rows_last xs p ys h =
     let turned : List Posting = postings_sorted_by_stamp (xs ++ ys) in
     ap (λ ps. rows_sorted_by_key move_key (numbered_move_rows 1 ps)) (turn_last xs p ys h) ∙ ap (rows_sorted_by_key move_key) (numbered_last 1 turned p)
-    ∙ by_key-append move_key (numbered_move_rows 1 turned) (move_row (1 + length turned) p) (new_last 1 turned p)
-    ∙ ap (λ n. insert_row_by_key move_key (move_row n p) (rows_sorted_by_key move_key (numbered_move_rows 1 turned))) (number_is (length turned) (length (xs ++ ys)) (length_sort (λ a b. nat_lt a.stamp b.stamp) (xs ++ ys)))
+    ∙ by_key-append move_key (numbered_move_rows 1 turned) (cash_move_row (1 + length turned) p) (new_last 1 turned p)
+    ∙ ap (λ n. insert_row_by_key move_key (cash_move_row n p) (rows_sorted_by_key move_key (numbered_move_rows 1 turned))) (number_is (length turned) (length (xs ++ ys)) (length_sort (λ a b. nat_lt a.stamp b.stamp) (xs ++ ys)))
   where
     number_is : (m n : ℕ) → m ≡ n → 1 + m ≡ n + 1
     number_is m n e = omega (arith, e)
 
 pub rows_end : (ps : List Posting) (p : Posting) → AllByRecursion (λ q. q.stamp < p.stamp) ps
-    → rows_sorted_by_key move_key (numbered_move_rows 1 (postings_sorted_by_stamp (ps ++ p ∷ []))) ≡ insert_row_by_key move_key (move_row (length ps + 1) p) (rows_sorted_by_key move_key (numbered_move_rows 1 (postings_sorted_by_stamp ps)))
+    → rows_sorted_by_key move_key (numbered_move_rows 1 (postings_sorted_by_stamp (ps ++ p ∷ []))) ≡ insert_row_by_key move_key (cash_move_row (length ps + 1) p) (rows_sorted_by_key move_key (numbered_move_rows 1 (postings_sorted_by_stamp ps)))
 rows_end ps p h =
     rows_last ps p [] (subst (AllByRecursion (λ q. q.stamp < p.stamp)) (sym (append_nil ps)) h)
-    ∙ ap (λ qs. insert_row_by_key move_key (move_row (length qs + 1) p) (rows_sorted_by_key move_key (numbered_move_rows 1 (postings_sorted_by_stamp qs)))) (append_nil ps)
+    ∙ ap (λ qs. insert_row_by_key move_key (cash_move_row (length qs + 1) p) (rows_sorted_by_key move_key (numbered_move_rows 1 (postings_sorted_by_stamp qs)))) (append_nil ps)
 
 -- ---- what rows move
 
@@ -178,7 +178,7 @@ total_numbered n account (p ∷ ps) = by_test (p.account == account) (total_numb
   where
     by_test : (b : Bool)
         → total_by (λ r. r.amount) (filter (λ r. r.account == account) (numbered_move_rows (n + 1) ps)) ≡ total_by (λ p. p.amount) (filter (λ p. p.account == account) ps)
-        → total_by (λ r. r.amount) (cond b (move_row n p ∷ filter (λ r. r.account == account) (numbered_move_rows (n + 1) ps)) (filter (λ r. r.account == account) (numbered_move_rows (n + 1) ps)))
+        → total_by (λ r. r.amount) (cond b (cash_move_row n p ∷ filter (λ r. r.account == account) (numbered_move_rows (n + 1) ps)) (filter (λ r. r.account == account) (numbered_move_rows (n + 1) ps)))
         ≡ total_by (λ p. p.amount) (cond b (p ∷ filter (λ p. p.account == account) ps) (filter (λ p. p.account == account) ps))
     by_test true ih = ap (λ n. p.amount +ℤ n) ih
     by_test false ih = ih

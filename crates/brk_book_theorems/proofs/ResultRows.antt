@@ -14,7 +14,7 @@ use Rattle.brk_model.specs.Derived.{Posting, balance_of_account, commission_tota
 use Rattle.brk_model.specs.Results.{completed_trade, deal_of_result, base_after_result}
 use Rattle.brk_model.specs.Shares as model
 use Rattle.brk_model.specs.Shares.{Touch}
-use Rattle.brk_model.specs.Tables.{BrokerRow, HistoryRow, MoveRow, SummaryRow, Tables, TradeRow, account_row, broker_row, history_rows, holding_row, holding_history_rows_of_lot, move_row as numbered_row, numbered_move_rows, request_row, settlement_row, tables_of_base_in_schema, trade_row}
+use Rattle.brk_model.specs.Tables.{BrokerRow, HistoryRow, MoveRow, SummaryRow, Tables, TradeRow, account_row, broker_row, history_rows, holding_row, holding_history_rows_of_lot, cash_move_row as numbered_row, numbered_move_rows, request_row, settlement_row, tables_of_base_in_schema, trade_row}
 use Rattle.brk_model.specs.Keys.{number, word, account_key, broker_key, rows_sorted_by_key, history_key, holding_history_key, holding_key, insert_row_by_key, move_key, request_key, settlement_key, summary_key, trade_key}
 use Rattle.brk_model.specs.Sheets.{sheets, tables_sorted_by_key}
 use Rattle.brk_model.specs.Names.{TradesAreNumberedFrom}

@@ -4,7 +4,7 @@ use Rattle.brk_model.specs.Records.{Movement}
 use Rattle.brk_model.specs.Base.{Base}
 use Rattle.brk_model.specs.Derived.{balance_of_account, posting_of_movement, postings_of_base}
 use Rattle.brk_model.specs.Movements.{base_after_movement}
-use Rattle.brk_model.specs.Tables.{MoveRow, Tables, move_row}
+use Rattle.brk_model.specs.Tables.{MoveRow, Tables, cash_move_row}
 use Rattle.brk_changes.specs.Changes.{tables_with_balance, tables_with_cash_row}
 
 -- The tables `t` with the cash row `row` added and the balance of its account set to `balance`.
@@ -13,7 +13,7 @@ tables_with_cash_row_and_balance row balance t = tables_with_balance row.account
 
 -- The cash row of the movement `m`. Its number is the number of postings of the base plus 1.
 abbrev pub numbered_cash_row_of_movement : Base → Movement → MoveRow
-numbered_cash_row_of_movement base m = move_row (length (postings_of_base base) + 1) (posting_of_movement m)
+numbered_cash_row_of_movement base m = cash_move_row (length (postings_of_base base) + 1) (posting_of_movement m)
 
 -- The balance of the movement's account in the base after the movement `m`.
 abbrev pub account_balance_after_movement : Base → Movement → ℤ

@@ -7,7 +7,7 @@ use Rattle.brk_model.specs.Records.{Trade}
 use Rattle.brk_model.specs.Base.{Base, broker_id_of_account, completed_trades}
 use Rattle.brk_model.specs.Derived.{balance_of_account, commission_total_of_broker, posting_of_trade, postings, postings_of_base, shares_of_position, holding_summary_quantity, trade_count_of_broker}
 use Rattle.brk_model.specs.Results.{completed_trade, deal_of_result, base_after_result}
-use Rattle.brk_model.specs.Tables.{HoldingHistoryRow, HoldingRow, MoveRow, SettlementRow, SummaryRow, Tables, TradeRow, move_row, settlement_row, trade_row}
+use Rattle.brk_model.specs.Tables.{HoldingHistoryRow, HoldingRow, MoveRow, SettlementRow, SummaryRow, Tables, TradeRow, cash_move_row, settlement_row, trade_row}
 use Rattle.brk_lots.specs.Lots.{list_in_closing_order}
 use Rattle.brk_changes.specs.Changes.{tables_with_balance, tables_with_broker_totals, tables_with_cash_row, tables_with_trade_completed, tables_with_history_row, tables_with_lot, tables_with_lot_change, tables_with_lot_quantity, tables_with_settlement, tables_with_summary, tables_with_summary_quantity, tables_without_lot, tables_without_summary}
 use Rattle.brk_book_theorems.specs.Trading.{history_row_of_status}
@@ -108,7 +108,7 @@ result_rows_of_deal base after d t = record {
   before = holding_summary_quantity (completed_trades base) t.account t.symbol;
   after = holding_summary_quantity after t.account t.symbol;
   settlement = settlement_row base.accounts base.rule t;
-  cash = move_row (length (postings_of_base base) + 1) (posting_of_trade base.accounts t);
+  cash = cash_move_row (length (postings_of_base base) + 1) (posting_of_trade base.accounts t);
   balance = balance_of_account base.accounts (postings base.accounts after base.movements) t.account;
   broker = broker_id_of_account base t.account;
   trades = pos (trade_count_of_broker base.accounts after (broker_id_of_account base t.account));

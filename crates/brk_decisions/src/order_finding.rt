@@ -103,7 +103,7 @@ pub(crate) fn read_order_facts<S: Alter>(
     ensures fault { IfErr result IsCallFault }
 {
     let found = read_estimate_facts(alloc, store, order)?;
-    let last_trade = store.last_trade_id()?;
+    let last_trade = store.greatest_trade_id()?;
     Ok(OrderPlanFacts {
         last_trade,
         ..found

@@ -9,7 +9,7 @@ use Rattle.brk_model.specs.Run.{IsCallFault}
 use Rattle.brk_model.specs.Statement.{text_of_lines}
 use Rattle.brk_model.specs.Tables.{Tables}
 use Rattle.brk_report.specs.Stated.{PreservesDesk, HoldsForStoredTables}
-use Rattle.brk_report_lines.specs.Written.{WritesLinesButNotLast, WritesLinesAndPartOfNext}
+use Rattle.brk_report_lines.specs.Written.{WritesProperPrefixOfLines, WritesLinesAndPartOfNext}
 use Rattle.brk_report_lines.specs.declared.fault.ReportFault.{ReportFault}
 use Rattle.brk_report_lines.specs.declared.fault.ReportFault.TheVariants.{Refused, Desk, Write}
 
@@ -21,7 +21,7 @@ abbrev pub WritesLinesOrRefuses : Result (List Text) Refusal → Option Text →
 WritesLinesOrRefuses told old new (Ok u) = (lines : List Text) × (told ≡ Ok lines) × Appends old new (text_of_lines lines)
 WritesLinesOrRefuses told old new (Err (Refused refusal)) = told ≡ Err refusal
 WritesLinesOrRefuses told old new (Err (Desk fault)) =
-    IsCallFault fault × (Appends old new [] ⊎ ((lines : List Text) × (told ≡ Ok lines) × WritesLinesButNotLast lines old new))
+    IsCallFault fault × (Appends old new [] ⊎ ((lines : List Text) × (told ≡ Ok lines) × WritesProperPrefixOfLines lines old new))
 WritesLinesOrRefuses told old new (Err Write) = (lines : List Text) × (told ≡ Ok lines) × WritesLinesAndPartOfNext lines old new
 
 -- The postcondition of writing the lines that `told` gives for the tables of a desk, or of

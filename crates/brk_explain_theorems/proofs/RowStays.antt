@@ -12,7 +12,7 @@ use Rattle.brk_model.specs.LookupView.{is_cash_row_of_trade}
 use Rattle.brk_model.specs.Records.{Account, Movement, Trade}
 use Rattle.brk_model.specs.Sheets.{sheets, tables_sorted_by_key}
 use Rattle.brk_model.specs.Statement.{cash_move_rows_of_account}
-use Rattle.brk_model.specs.Tables.{MoveRow, move_row, numbered_move_rows, tables_of_base_in_schema}
+use Rattle.brk_model.specs.Tables.{MoveRow, cash_move_row, numbered_move_rows, tables_of_base_in_schema}
 use Rattle.brk_explain_theorems.specs.Before.{trades_completed_before_stamp}
 use Rattle.brk_book_theorems.proofs.LotReading.{filter-map, filter-swap}
 use Rattle.brk_book_theorems.proofs.MoveReading.{rows_posted, stamp_one_way, stamp_splits, turn_filter}
@@ -108,14 +108,14 @@ rows_counted base account s =
 -- ---- the number of its own row
 
 find_numbered : (q : Posting → Bool) (n : ℕ) (front : List Posting) (p : Posting) (back : List Posting) → NonePass q front → q p ≡ true
-    → find (λ r. q (posting_of_move_row r)) (numbered_move_rows n (front ++ p ∷ back)) ≡ Some (move_row (n + length front) p)
-find_numbered q n [] p back h e = ap (λ b. cond b (Some (move_row n p)) (find (λ r. q (posting_of_move_row r)) (numbered_move_rows (n + 1) back))) e ∙ ap (λ (m : ℕ). Some (move_row m p)) (none n)
+    → find (λ r. q (posting_of_move_row r)) (numbered_move_rows n (front ++ p ∷ back)) ≡ Some (cash_move_row (n + length front) p)
+find_numbered q n [] p back h e = ap (λ b. cond b (Some (cash_move_row n p)) (find (λ r. q (posting_of_move_row r)) (numbered_move_rows (n + 1) back))) e ∙ ap (λ (m : ℕ). Some (cash_move_row m p)) (none n)
   where
     none : (n : ℕ) → n ≡ n + 0
     none n = omega arith
 find_numbered q n (x ∷ front) p back h e =
-    ap (λ b. cond b (Some (move_row n x)) (find (λ r. q (posting_of_move_row r)) (numbered_move_rows (n + 1) (front ++ p ∷ back)))) h.0
-    ∙ find_numbered q (n + 1) front p back h.1 e ∙ ap (λ (m : ℕ). Some (move_row m p)) (more n (length front))
+    ap (λ b. cond b (Some (cash_move_row n x)) (find (λ r. q (posting_of_move_row r)) (numbered_move_rows (n + 1) (front ++ p ∷ back)))) h.0
+    ∙ find_numbered q (n + 1) front p back h.1 e ∙ ap (λ (m : ℕ). Some (cash_move_row m p)) (more n (length front))
   where
     more : (n m : ℕ) → n + 1 + m ≡ n + suc m
     more n m = omega arith
@@ -168,12 +168,12 @@ both_tests (x ∷ xs) s h k = (earlier_is x.stamp s h.0 k.0, both_tests xs s h.1
 
 -- the number of the cash row of a cash trade
 number_of : (base : Base) (t : Trade) → Among base t → t.is_cash ≡ true
-    → find (is_cash_row_of_trade t.id) (sheets base).moves ≡ Some (move_row (1 + length (filter (is_earlier (last_status_stamp_of_trade t)) (postings_of_base base))) (posting_of_trade base.accounts t))
+    → find (is_cash_row_of_trade t.id) (sheets base).moves ≡ Some (cash_move_row (1 + length (filter (is_earlier (last_status_stamp_of_trade t)) (postings_of_base base))) (posting_of_trade base.accounts t))
 unfolding sort_by
 number_of base t a e =
     ap (find (is_cash_row_of_trade t.id)) (moves_are base ∙ ap (numbered_move_rows 1) s.stands)
     ∙ find_numbered (is_posting_of_trade t.id) 1 s.front p s.back (alone (is_posting_of_trade t.id) s.front p s.back (eq-eqb t.id t.id refl) (by_number)) (eq-eqb t.id t.id refl)
-    ∙ ap (λ (n : ℕ). Some (move_row (1 + n) p)) (sym counted)
+    ∙ ap (λ (n : ℕ). Some (cash_move_row (1 + n) p)) (sym counted)
   where
     before : Posting → Posting → Bool
     before x y = nat_lt x.stamp y.stamp

@@ -14,7 +14,7 @@ use Rattle.brk_model.specs.Records.{Account, StatusChange, Security, Trade}
 use Rattle.brk_model.specs.Base.{Base, completed_trades, has_status, is_completed, last_status_stamp_of_trade}
 use Rattle.brk_model.specs.Derived.{cash_trades, deal_of_trade, deals_of_position, trades_of_account, trades_of_position, pending_trades, holding_summary_quantity, postings_sorted_by_stamp, postings_of_base}
 use Rattle.brk_model.specs.Shares.{Deal, Share, shares_after_deal}
-use Rattle.brk_model.specs.Tables.{HistoryRow, SummaryRow, account_row, broker_row, cash_row, history_rows, holding_row, last_trade_row, holding_history_rows_of_lot, holding_history_rows_of_deals, request_row, security_row, settlement_row, summary_rows, tables_of_base_in_schema, trade_row}
+use Rattle.brk_model.specs.Tables.{HistoryRow, SummaryRow, account_row, broker_row, cash_transaction_row, history_rows, holding_row, last_trade_row, holding_history_rows_of_lot, holding_history_rows_of_deals, request_row, security_row, settlement_row, summary_rows, tables_of_base_in_schema, trade_row}
 use Rattle.brk_model.specs.Sheets.{sheets, tables_sorted_by_key}
 use Rattle.brk_model.specs.Form.{tables_are_sorted_by_unique_key, is_sorted_by_unique_key}
 use Rattle.brk_model.specs.Keys.{KeyPart, number, word, kept_key, broker_key, customer_key, account_key, permission_key, security_key, last_trade_key, charge_key, band_key, tax_rate_key, customer_tax_key, trade_key, history_key, request_key, holding_key, summary_key, holding_history_key, settlement_key, cash_key, move_key}

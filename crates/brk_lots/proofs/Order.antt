@@ -8,7 +8,7 @@ use Rattle.std.proofs.lemmas.Bool.Decides.{Decides-int_eq}
 use Rattle.std.proofs.lemmas.List.Sums.{sum_by-cons}
 use Rattle.std.proofs.lemmas.List.Sorted.{sum_by-IsPermutation}
 use Rattle.brk_lots.specs.declared.lot.Lot.{Lot}
-use Rattle.brk_lots.specs.Order.{FirstLotSatisfies, IsLaterOnSameSide, IsOneSidedAndAscending, NeighboursDifferInTrade}
+use Rattle.brk_lots.specs.Order.{FirstLotSatisfies, PrecedesOnSameSide, IsOneSidedAndAscending, NeighboursDifferInTrade}
 use Rattle.brk_lots.specs.Position.{IsLaterInPosition, IsPosition, AreOpenedByOtherTrades}
 use Rattle.brk_lots.proofs.Changes.{all_from}
 
@@ -28,14 +28,14 @@ first_of_all : (P : Lot → Type 0) (ls : List Lot) → AllByRecursion P ls → 
 first_of_all P [] h = tt
 first_of_all P (l ∷ ls) h = h.0
 
-higher_all : (l : Lot) (ls : List Lot) → FirstLotSatisfies (IsLaterOnSameSide l) ls → IsOneSidedAndAscending ls → AllByRecursion (IsLaterOnSameSide l) ls
+higher_all : (l : Lot) (ls : List Lot) → FirstLotSatisfies (PrecedesOnSameSide l) ls → IsOneSidedAndAscending ls → AllByRecursion (PrecedesOnSameSide l) ls
 higher_all l [] h c = tt
 higher_all l (m ∷ ls) h c =
-    (h, all_from (IsLaterOnSameSide m) (IsLaterOnSameSide m) (IsLaterOnSameSide l) (λ k p q. (p.0 ∙ h.0, let a = h.1 in let b = p.1 in omega (arith, a, b))) ls (higher_all m ls c.1 c.2) (higher_all m ls c.1 c.2))
+    (h, all_from (PrecedesOnSameSide m) (PrecedesOnSameSide m) (PrecedesOnSameSide l) (λ k p q. (p.0 ∙ h.0, let a = h.1 in let b = p.1 in omega (arith, a, b))) ls (higher_all m ls c.1 c.2) (higher_all m ls c.1 c.2))
 
 pub climbs_of : (ls : List Lot) → IsPosition ls → IsOneSidedAndAscending ls
 climbs_of [] p = tt
-climbs_of (l ∷ ls) p = (p.0, first_of_all (IsLaterOnSameSide l) ls (all_from (IsLaterInPosition l) (IsLaterInPosition l) (IsLaterOnSameSide l) (λ m a b. (a.0.0, a.1)) ls p.1 p.1), climbs_of ls p.2)
+climbs_of (l ∷ ls) p = (p.0, first_of_all (PrecedesOnSameSide l) ls (all_from (IsLaterInPosition l) (IsLaterInPosition l) (PrecedesOnSameSide l) (λ m a b. (a.0.0, a.1)) ls p.1 p.1), climbs_of ls p.2)
 
 pub distinct_of : (ls : List Lot) → IsPosition ls → Distinct ls
 distinct_of [] p = tt
@@ -43,7 +43,7 @@ distinct_of (l ∷ ls) p = (all_from (IsLaterInPosition l) (IsLaterInPosition l)
 
 pub position_of : (ls : List Lot) → IsOneSidedAndAscending ls → Distinct ls → IsPosition ls
 position_of [] c d = tt
-position_of (l ∷ ls) c d = (c.0, all_from (IsLaterOnSameSide l) (λ m. m.trade ≢ l.trade) (IsLaterInPosition l) (λ m a b. ((a.0, b), a.1)) ls (higher_all l ls c.1 c.2) d.0, position_of ls c.2 d.1)
+position_of (l ∷ ls) c d = (c.0, all_from (PrecedesOnSameSide l) (λ m. m.trade ≢ l.trade) (IsLaterInPosition l) (λ m a b. ((a.0, b), a.1)) ls (higher_all l ls c.1 c.2) d.0, position_of ls c.2 d.1)
 
 -- ---- neighbours of sorted lots
 
@@ -160,11 +160,11 @@ one_order [] [] c a h = refl
 one_order [] (y ∷ ys) c a h = let e = h (λ l. 1) in absurd (omega (arith, e, sum_by-cons (λ (l : Lot). 1) y ys))
 one_order (x ∷ xs) [] c a h = let e = h (λ l. 1) in absurd (omega (arith, e, sum_by-cons (λ (l : Lot). 1) x xs))
 one_order (x ∷ xs) (y ∷ ys) c a h =
-    let up : AllByRecursion (IsLaterOnSameSide x) xs = higher_all x xs c.1 c.2 in
+    let up : AllByRecursion (PrecedesOnSameSide x) xs = higher_all x xs c.1 c.2 in
     let none_older : sum_by (older x.stamp) (x ∷ xs) ≡ 0 =
-    sum_none (older x.stamp) (x ∷ xs) (ap (λ b. cond b 1 0) (le-ltb x.stamp x.stamp (omega arith)), all_from (IsLaterOnSameSide x) (IsLaterOnSameSide x) (λ l. older x.stamp l ≡ 0) (λ l p q. ap (λ b. cond b 1 0) (le-ltb l.stamp x.stamp (let r = p.1 in omega (arith, r)))) xs up up) in
+    sum_none (older x.stamp) (x ∷ xs) (ap (λ b. cond b 1 0) (le-ltb x.stamp x.stamp (omega arith)), all_from (PrecedesOnSameSide x) (PrecedesOnSameSide x) (λ l. older x.stamp l ≡ 0) (λ l p q. ap (λ b. cond b 1 0) (le-ltb l.stamp x.stamp (let r = p.1 in omega (arith, r)))) xs up up) in
     let none_beside : sum_by (beside x) (x ∷ xs) ≡ 0 =
-    sum_none (beside x) (x ∷ xs) (rw (eq-eqb x.stamp x.stamp refl, same_self x) refl, all_from (IsLaterOnSameSide x) (IsLaterOnSameSide x) (λ l. beside x l ≡ 0) (λ l p q. ap (λ b. cond b (cond (same_lot l x) 0 1) 0) (ne_eqb l.stamp x.stamp (λ e. let r = p.1 in absurd (omega (arith, r, e))))) xs up up) in
+    sum_none (beside x) (x ∷ xs) (rw (eq-eqb x.stamp x.stamp refl, same_self x) refl, all_from (PrecedesOnSameSide x) (PrecedesOnSameSide x) (λ l. beside x l ≡ 0) (λ l p q. ap (λ b. cond b (cond (same_lot l x) 0 1) 0) (ne_eqb l.stamp x.stamp (λ e. let r = p.1 in absurd (omega (arith, r, e))))) xs up up) in
     let low : x.stamp ≤ y.stamp = elim (cases_Bool (ltb y.stamp x.stamp)) [
       | inl e ↦
           let one : older x.stamp y ≡ 1 = ap (λ b. cond b 1 0) e in

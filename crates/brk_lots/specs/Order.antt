@@ -10,14 +10,14 @@ FirstLotSatisfies P [] = ⊤
 FirstLotSatisfies P (l ∷ ls) = P l
 
 -- The lot `m` has the side of the lot `l` and a later stamp.
-abbrev pub IsLaterOnSameSide : Lot → Lot → Type 0
-IsLaterOnSameSide l m = (side_of_qty m.qty ≡ side_of_qty l.qty) × (l.stamp < m.stamp)
+abbrev pub PrecedesOnSameSide : Lot → Lot → Type 0
+PrecedesOnSameSide l m = (side_of_qty m.qty ≡ side_of_qty l.qty) × (l.stamp < m.stamp)
 
 -- No lot of the list has 0 shares, and each lot after the first has the side of the lot before it
 -- and a later stamp.
 abbrev pub IsOneSidedAndAscending : List Lot → Type 0
 IsOneSidedAndAscending [] = ⊤
-IsOneSidedAndAscending (l ∷ ls) = (l.qty ≢ pos 0) × FirstLotSatisfies (IsLaterOnSameSide l) ls × IsOneSidedAndAscending ls
+IsOneSidedAndAscending (l ∷ ls) = (l.qty ≢ pos 0) × FirstLotSatisfies (PrecedesOnSameSide l) ls × IsOneSidedAndAscending ls
 
 -- No two neighbours of the list were opened by the same trade.
 abbrev pub NeighboursDifferInTrade : List Lot → Type 0

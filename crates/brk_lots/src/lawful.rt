@@ -1,7 +1,7 @@
 ghost use Rattle.std.specs.Prelude.{◌≡◌, ◌≢◌, ◌<◌, IsTrue, IsPermutation, ◌↔◌};
 ghost use Rattle.std.specs.List.{All};
 ghost use Rattle.std.specs.List.Sorted.{IsNonDecreasingBy};
-ghost use Rattle.brk_lots.specs.Order.{IsOneSidedAndAscending, NeighboursDifferInTrade, FirstLotSatisfies, IsLaterOnSameSide};
+ghost use Rattle.brk_lots.specs.Order.{IsOneSidedAndAscending, NeighboursDifferInTrade, FirstLotSatisfies, PrecedesOnSameSide};
 ghost use Rattle.brk_lots.specs.Position.{IsPosition};
 
 use crate::lot::{Lot, are_same_side};
@@ -9,7 +9,7 @@ use brk_money::{Id, Stamp};
 
 // Returns true if `rest` is empty, or if its first lot has the side of `lot` and a later stamp.
 fn next_lot_is_later_on_same_side(lot: &Lot, rest: &[Lot]) -> bool
-    ensures { IsTrue result ↔ FirstLotSatisfies (IsLaterOnSameSide lot.now) rest.now }
+    ensures { IsTrue result ↔ FirstLotSatisfies (PrecedesOnSameSide lot.now) rest.now }
 {
     match rest {
         [] => true,

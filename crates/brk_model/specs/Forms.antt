@@ -201,15 +201,15 @@ priced_order_type order_type text = Ok order_type ⊛ read_price text
 
 -- The refusal of an unknown order type: `BadPrice` if the text of the price is malformed and not
 -- empty, otherwise `BadType`.
-abbrev pub refusal_of_unknown_type : Text → ReadResult OrderType
-refusal_of_unknown_type [] = Err BadType
-refusal_of_unknown_type (c ∷ text) = Err BadType ⊛ read_price (c ∷ text)
+abbrev pub refusal_of_unknown_type_by_price_text : Text → ReadResult OrderType
+refusal_of_unknown_type_by_price_text [] = Err BadType
+refusal_of_unknown_type_by_price_text (c ∷ text) = Err BadType ⊛ read_price (c ∷ text)
 
 -- The order type of a trade type with the price that a text parses as. The text must be empty for a
 -- market type and well-formed for any other; without a trade type, `BadType` or `BadPrice` refuses
 -- it.
 abbrev pub order_type_with_price : Option TradeType → Text → ReadResult OrderType
-order_type_with_price None = refusal_of_unknown_type
+order_type_with_price None = refusal_of_unknown_type_by_price_text
 order_type_with_price (Some MarketBuy) = market_order_type asked.MarketBuy
 order_type_with_price (Some MarketSell) = market_order_type asked.MarketSell
 order_type_with_price (Some StopLoss) = priced_order_type (λ price. asked.StopLoss price)

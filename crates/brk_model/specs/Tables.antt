@@ -255,26 +255,26 @@ settlement_row accounts rule t = record { trade = t.id; cash_type = t.cash_type;
 
 -- The CASH_TRANSACTION row of the completed cash trade `t`, a table that only the first schema
 -- fills.
-abbrev pub cash_row : List Account → Trade → CashRow
-cash_row accounts t = record { trade = t.id; stamp = last_status_stamp_of_trade t; amount = settlement_amount accounts t; name = t.cash_name }
+abbrev pub cash_transaction_row : List Account → Trade → CashRow
+cash_transaction_row accounts t = record { trade = t.id; stamp = last_status_stamp_of_trade t; amount = settlement_amount accounts t; name = t.cash_name }
 
 -- The CASH_MOVE row of the posting `p`, with the number `id`.
-abbrev pub move_row : ℕ → Posting → MoveRow
-move_row id p = record { id = id; account = p.account; trade = p.trade; stamp = p.stamp; amount = p.amount; name = p.name }
+abbrev pub cash_move_row : ℕ → Posting → MoveRow
+cash_move_row id p = record { id = id; account = p.account; trade = p.trade; stamp = p.stamp; amount = p.amount; name = p.name }
 
 -- The CASH_MOVE rows of the postings, numbered `n`, `n + 1` and so on in the sequence of the list.
 abbrev pub numbered_move_rows : ℕ → List Posting → List MoveRow
 numbered_move_rows n [] = []
-numbered_move_rows n (p ∷ posted) = move_row n p ∷ numbered_move_rows (n + 1) posted
+numbered_move_rows n (p ∷ posted) = cash_move_row n p ∷ numbered_move_rows (n + 1) posted
 
 -- The CASH_MOVE rows of the postings `posted`, sorted by stamp and numbered from 1; none if
 -- `schema` has CASH_TRANSACTION instead.
-abbrev pub move_rows : Schema → List Posting → List MoveRow
-move_rows schema posted = if schema.has_cash_move_table then numbered_move_rows 1 (postings_sorted_by_stamp posted) else []
+abbrev pub cash_move_rows : Schema → List Posting → List MoveRow
+cash_move_rows schema posted = if schema.has_cash_move_table then numbered_move_rows 1 (postings_sorted_by_stamp posted) else []
 
 -- The CASH_TRANSACTION rows of the cash trades of `done`; none if `schema` has CASH_MOVE instead.
-abbrev pub cash_rows : Schema → List Account → List Trade → List CashRow
-cash_rows schema accounts done = if schema.has_cash_move_table then [] else map (cash_row accounts) (cash_trades done)
+abbrev pub cash_transaction_rows : Schema → List Account → List Trade → List CashRow
+cash_transaction_rows schema accounts done = if schema.has_cash_move_table then [] else map (cash_transaction_row accounts) (cash_trades done)
 
 -- The tables without rows, as they are before any command is accepted.
 abbrev pub tables_without_rows : Tables
@@ -328,8 +328,8 @@ tables_from_completed_trades schema base done = record {
   summaries = rows_by_position base (summary_rows done);
   holding_history = flat_map (holding_history_rows_of_lot done) done;
   settlements = map (settlement_row base.accounts base.rule) done;
-  cash = cash_rows schema base.accounts done;
-  moves = move_rows schema (postings base.accounts done base.movements);
+  cash = cash_transaction_rows schema base.accounts done;
+  moves = cash_move_rows schema (postings base.accounts done base.movements);
   rule = base.rule;
 }
 

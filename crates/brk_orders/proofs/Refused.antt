@@ -10,7 +10,7 @@ use Rattle.brk_money.specs.declared.trade_type.TradeType.TheVariants.{MarketBuy,
 use Rattle.brk_money.specs.declared.refusal.Refusal.{Refusal}
 use Rattle.brk_money.specs.declared.refusal.Refusal.TheVariants.{BadText, BadQty, BadPrice, BadType}
 use Rattle.brk_model.specs.Limits.{greatest_price}
-use Rattle.brk_model.specs.Forms.{ReadResult, ◌⊛◌, nonnegative_amount, value_if_valid, trade_type_with_code, read_price, market_order_type, refusal_of_unknown_type, order_type_with_price, read_order_type}
+use Rattle.brk_model.specs.Forms.{ReadResult, ◌⊛◌, nonnegative_amount, value_if_valid, trade_type_with_code, read_price, market_order_type, refusal_of_unknown_type_by_price_text, order_type_with_price, read_order_type}
 use Rattle.brk_ref.proofs.Applied.{text_left, text_right}
 
 -- a refusal is of one kind
@@ -54,7 +54,7 @@ unfolding IsLate IsOnly
 late_none text (Ok n) h = inr refl
 late_none text (Err r) h = rw h (inl refl)
 
-late_unknown : (text : Text) → IsLate (refusal_of_unknown_type text)
+late_unknown : (text : Text) → IsLate (refusal_of_unknown_type_by_price_text text)
 unfolding IsLate
 late_unknown [] = inr refl
 late_unknown (c ∷ text) = late_none (c ∷ text) (read_price (c ∷ text)) (only_price (c ∷ text))

@@ -109,7 +109,7 @@ fn parse_order_price(price: &[u8]) -> Result<Price, Refusal>
 // Returns the refusal of an order with an unknown type: `BadPrice` if the text of the price is
 // malformed and not empty, otherwise `BadType`.
 fn refusal_of_unknown_type(price: &[u8]) -> Refusal
-    ensures { forms.refusal_of_unknown_type price.now ≡ Err result }
+    ensures { forms.refusal_of_unknown_type_by_price_text price.now ≡ Err result }
 {
     if price.is_empty() {
         return Refusal::BadType;

@@ -85,7 +85,7 @@ pub(crate) fn view_of_touched_lots<S: Alter>(
     let Some(_row) = store.account(account)? else {
         return Ok(Err(Refusal::NoAccount));
     };
-    let Some(trade) = store.first_trade_since(account, first)? else {
+    let Some(trade) = store.first_trade_of_account_since(account, first)? else {
         return Ok(Ok(lookup_lots(None)));
     };
     let lots = read_changes_of_touched_lots(alloc, store, trade.id)?;

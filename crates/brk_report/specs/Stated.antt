@@ -11,7 +11,7 @@ use Rattle.brk_model.specs.Run.{IsCallFault}
 use Rattle.brk_model.specs.Statement.{cash_move_rows_of_account, cash_row_line, cash_row_total, cash_move_rows_within_days, text_of_lines, lot_line, holding_rows_of_account, statement, statement_lines}
 use Rattle.brk_model.specs.Tables.{AccountRow, Tables}
 use Rattle.brk_store.specs.Holds.{HoldsRows, WasOpenAndIsUnchanged}
-use Rattle.brk_report_lines.specs.Written.{FailsWithinFirstLines, WritesLinesButNotLast, WritesLinesAndPartOfNext}
+use Rattle.brk_report_lines.specs.Written.{FailsWithinFirstLines, WritesProperPrefixOfLines, WritesLinesAndPartOfNext}
 use Rattle.brk_report_lines.specs.declared.fault.LinesFault.{LinesFault}
 use Rattle.brk_report_lines.specs.declared.fault.LinesFault.TheVariants as lines
 use Rattle.brk_report_lines.specs.declared.fault.ReportFault.{ReportFault}
@@ -83,7 +83,7 @@ abbrev pub WritesStatement : Tables → ℕ → ℕ → ℕ → Option Text → 
 WritesStatement t account from to old new (Ok u) = (text : Text) × (statement t account from to ≡ Ok text) × Appends old new text
 WritesStatement t account from to old new (Err (Refused refusal)) = statement t account from to ≡ Err refusal
 WritesStatement t account from to old new (Err (Desk fault)) =
-    IsCallFault fault × (Appends old new [] ⊎ ((lines : List Text) × AreStatementLines t account from to lines × WritesLinesButNotLast lines old new))
+    IsCallFault fault × (Appends old new [] ⊎ ((lines : List Text) × AreStatementLines t account from to lines × WritesProperPrefixOfLines lines old new))
 WritesStatement t account from to old new (Err Write) = (lines : List Text) × AreStatementLines t account from to lines × WritesLinesAndPartOfNext lines old new
 
 -- If the fault is one of the desk, it is `Memory` or `Store`. Vacuous for a refusal and for a fault

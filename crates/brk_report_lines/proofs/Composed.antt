@@ -7,7 +7,7 @@ use Rattle.brk_money.specs.Spelling.{Text}
 use Rattle.brk_model.specs.Statement.{text_of_lines}
 use Rattle.brk_report_lines.specs.declared.fault.LinesFault.{LinesFault}
 use Rattle.brk_report_lines.specs.declared.fault.LinesFault.TheVariants.{Desk, Write}
-use Rattle.brk_report_lines.specs.Written.{FailsWithinLines, FailsWithinFirstLines, WritesLinesButNotLast, line_with_line_feed}
+use Rattle.brk_report_lines.specs.Written.{FailsWithinLines, FailsWithinFirstLines, WritesProperPrefixOfLines, line_with_line_feed}
 
 pub appends_none : (a : Option Text) → Appends a a []
 appends_none None = tt
@@ -43,7 +43,7 @@ breaks_before xs ys a b Write h = (h.0, h.1, h.2 ++ ys, h.3, sym (append_assoc h
 pub breaks_off : (xs : List Text) (y : Text) (ys : List Text) (a b : Option Text) (e : LinesFault) → FailsWithinFirstLines xs a b e → FailsWithinLines (xs ++ y ∷ ys) a b e
 breaks_off xs y ys a b (Desk f) h = (h.0, next h.1.0 h.1.1 h.1.2 h.1.3)
   where
-    next : (first rest : List Text) → first ++ rest ≡ xs → Appends a b (text_of_lines first) → WritesLinesButNotLast (xs ++ y ∷ ys) a b
+    next : (first rest : List Text) → first ++ rest ≡ xs → Appends a b (text_of_lines first) → WritesProperPrefixOfLines (xs ++ y ∷ ys) a b
     next first [] e k = (first, y, ys, ap (λ (l : List Text). l ++ y ∷ ys) (sym (append-nil first) ∙ e), k)
     next first (r ∷ rest) e k = (first, r, rest ++ y ∷ ys, sym (append_assoc first (r ∷ rest) (y ∷ ys)) ∙ ap (λ (l : List Text). l ++ y ∷ ys) e, k)
 breaks_off xs y ys a b Write h = (h.0, h.1, h.2 ++ y ∷ ys, h.3, sym (append_assoc h.0 (h.1 ∷ h.2) (y ∷ ys)) ∙ ap (λ (l : List Text). l ++ y ∷ ys) h.4, h.5)

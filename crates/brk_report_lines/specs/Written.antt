@@ -13,8 +13,8 @@ line_with_line_feed line = line ++ 10 ∷ []
 
 -- The first lines of `lines` were written whole, perhaps none of them, and at least the last line
 -- was not.
-abbrev pub WritesLinesButNotLast : List Text → Option Text → Option Text → Type 0
-WritesLinesButNotLast lines old new =
+abbrev pub WritesProperPrefixOfLines : List Text → Option Text → Option Text → Type 0
+WritesProperPrefixOfLines lines old new =
     (first : List Text) × (next : Text) × (rest : List Text) × (first ++ next ∷ rest ≡ lines) × Appends old new (text_of_lines first)
 
 -- The first lines of `lines` were written whole, perhaps none of them, and then a prefix of the
@@ -28,7 +28,7 @@ WritesLinesAndPartOfNext lines old new =
 -- lines were written whole, without the last one. `Write`: the first lines were written whole, and
 -- then a prefix of the next one.
 abbrev pub FailsWithinLines : List Text → Option Text → Option Text → LinesFault → Type 0
-FailsWithinLines lines old new (Desk fault) = IsCallFault fault × WritesLinesButNotLast lines old new
+FailsWithinLines lines old new (Desk fault) = IsCallFault fault × WritesProperPrefixOfLines lines old new
 FailsWithinLines lines old new Write = WritesLinesAndPartOfNext lines old new
 
 -- Writing a longer text that begins with `lines` failed with this fault within `lines`. `Desk`: its

@@ -58,7 +58,7 @@ impl<S: Alter> Store<S> {
 
     /// Returns the first trade of an account, sorted by stamp and then by id, whose stamp is
     /// `first` or later, or `None` if there is none. Changes nothing. Fails with `Store` only.
-    pub fn first_trade_since(
+    pub fn first_trade_of_account_since(
         &mut self,
         account: Id,
         first: Stamp,

@@ -35,7 +35,7 @@ impl<S: Alter> Store<S> {
 
     /// Returns the greatest trade id, or `None` if there is no trade. Changes nothing. Fails with
     /// `Store` only.
-    pub fn last_trade_id(&mut self) -> Result<Option<Id>, Fault>
+    pub fn greatest_trade_id(&mut self) -> Result<Option<Id>, Fault>
         ensures read { ReadPost S.Store self.old self.new result (λ o t. o ≡ option_map (λ r. r.id) (slice_get (reverse t.trades) 0)) }
         ensures fault { OnErr result (result ≡ Err fault.Store) }
     {

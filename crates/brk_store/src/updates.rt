@@ -22,7 +22,7 @@ use std::alloc::Global;
 impl<S: Alter> Store<S> {
     /// Returns the first twenty trades of an account that were completed in a span, both ends
     /// included, the oldest first. Changes nothing. Fails with `Memory` or `Store`.
-    pub fn completed_trades_in_span(
+    pub fn first_twenty_completed_trades_of_account(
         &mut self,
         alloc: Global,
         account: Id,
@@ -40,7 +40,7 @@ impl<S: Alter> Store<S> {
 
     /// Returns the first twenty cash trades of a symbol that were completed in a span, both ends
     /// included, the oldest first. Changes nothing. Fails with `Memory` or `Store`.
-    pub fn completed_cash_trades_in_span(
+    pub fn first_twenty_completed_cash_trades_of_symbol(
         &mut self,
         alloc: Global,
         symbol: &Symbol,

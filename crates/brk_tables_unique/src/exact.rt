@@ -14,7 +14,7 @@ pub fn database_rows_determine_tables()
 
 /// Proves that the rows of a database encode the tables of a desk in at most one schema, and at
 /// most one set of them.
-pub fn database_rows_determine_schema()
+pub fn database_rows_determine_schema_and_tables()
     ensures { (a b : Schema) → (t u : Tables) → (db : Database) → HasDeskTablesInSchema (abstract_schema a) t db
         → HasDeskTablesInSchema (abstract_schema b) u db → (a ≡ b) × (t ≡ u) }
 {}

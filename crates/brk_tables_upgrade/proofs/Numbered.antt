@@ -7,7 +7,7 @@ use Rattle.brk_model.specs.Adopted.{posting_of_cash_row, posting_of_move_row, po
 use Rattle.brk_model.specs.Derived.{Posting, postings_sorted_by_stamp}
 use Rattle.brk_model.specs.Keys.{insert_row_by_key, is_row_key_less, move_key}
 use Rattle.brk_model.specs.Upgraded.{tables_after_upgrade}
-use Rattle.brk_model.specs.Tables.{Tables, CashRow, MoveRow, move_row, numbered_move_rows}
+use Rattle.brk_model.specs.Tables.{Tables, CashRow, MoveRow, cash_move_row, numbered_move_rows}
 use Rattle.brk_tables_upgrade.specs.Upgrade.{cash_transactions_by_stamp, tables_with_cash_rows_numbered_from, tables_with_all_cash_rows_numbered, tables_with_numbered_cash_row}
 use Rattle.brk_tables_upgrade.proofs.Sorting.{posted_in_turn}
 
@@ -36,7 +36,7 @@ put_last r (x ∷ rows) low =
     let first : is_row_key_less move_key x r ≡ true = ap (λ b. b || (not (nat_lt r.id x.id) && false)) low.0 in
     ap (λ b. if b then x ∷ insert_row_by_key move_key r rows else r ∷ x ∷ rows) first ∙ ap (λ l. x ∷ l) (put_last r rows low.1)
 
-higher : (n : ℕ) (rows : List MoveRow) → above_all n rows → (p : Posting) → above_all (n + 1) (rows ++ move_row n p ∷ [])
+higher : (n : ℕ) (rows : List MoveRow) → above_all n rows → (p : Posting) → above_all (n + 1) (rows ++ cash_move_row n p ∷ [])
 higher n [] low p = (lt-ltb n (n + 1) (omega arith), tt)
 higher n (r ∷ rows) low p = (lt-ltb r.id (n + 1) (omega (arith, Rattle.std.proofs.lemmas.Bool.ltb-true r.id n low.0)), higher n rows low.1 p)
 
@@ -46,7 +46,7 @@ higher n (r ∷ rows) low p = (lt-ltb r.id (n + 1) (omega (arith, Rattle.std.pro
 added : (n : ℕ) (cs : List CashRow) (t : Tables) → above_all n t.moves → tables_with_cash_rows_numbered_from n cs t ≡ record t { moves = t.moves ++ numbered_move_rows n (map (posting_of_cash_row t) cs) }
 added n [] t low = ap (λ (xs : List MoveRow). let u : Tables = record t { moves = xs } in u) (sym (append-nil t.moves))
 added n (c ∷ cs) t low =
-    let r = move_row n (posting_of_cash_row t c) in
+    let r = cash_move_row n (posting_of_cash_row t c) in
     let last : insert_row_by_key move_key r t.moves ≡ t.moves ++ r ∷ [] = put_last r t.moves low in
     let one : tables_with_numbered_cash_row n c t ≡ record t { moves = t.moves ++ r ∷ [] } = ap (λ (xs : List MoveRow). let u : Tables = record t { moves = xs } in u) last in
     ap (tables_with_cash_rows_numbered_from (n + 1) cs) one

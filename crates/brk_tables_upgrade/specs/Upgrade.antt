@@ -7,7 +7,7 @@ use Rattle.brk_model.specs.Lists.{sort_by_key}
 use Rattle.brk_model.specs.Adopted.{posting_of_cash_row}
 use Rattle.brk_model.specs.Upgraded.{tables_upgraded_from_schema}
 use Rattle.brk_model.specs.Schemas.{Schema}
-use Rattle.brk_model.specs.Tables.{Tables, CashRow, move_row}
+use Rattle.brk_model.specs.Tables.{Tables, CashRow, cash_move_row}
 use Rattle.brk_changes.specs.Changes.{tables_with_cash_row}
 use Rattle.brk_sql.specs.Desk.{HasTables, HasSelectedTables, HasNoWritingForeignKeysAt}
 use Rattle.brk_tables_schema.specs.Desk.{DeskTable, desk_tables, desk_tables_of_schema}
@@ -22,7 +22,7 @@ cash_transactions_by_stamp t = sort_by_key (λ r. r.stamp) t.cash
 -- The tables `t` with the row `c` of CASH_TRANSACTION inserted into CASH_MOVE under the number
 -- `id`.
 abbrev pub tables_with_numbered_cash_row : ℕ → CashRow → Tables → Tables
-tables_with_numbered_cash_row id c t = tables_with_cash_row (move_row id (posting_of_cash_row t c)) t
+tables_with_numbered_cash_row id c t = tables_with_cash_row (cash_move_row id (posting_of_cash_row t c)) t
 
 -- The tables `t` with the given rows of CASH_TRANSACTION inserted into CASH_MOVE, in order,
 -- numbered from `n`.

@@ -29,7 +29,7 @@ fn read_trades_with_cash_types<S: Alter>(
     ensures read { ReadPost S.Store store.old store.new result (λ settled t. SettlementTextsMatchTables t (chosen.first_twenty_completed_trade_rows_of_account account span.first span.last t) settled.items) }
     ensures fault { IfErr result IsCallFault }
 {
-    let trades = store.completed_trades_in_span(alloc, account, span)?;
+    let trades = store.first_twenty_completed_trades_of_account(alloc, account, span)?;
     let mut settled = Vec::new(alloc);
     for trade in &trades {
         let cash_type = require_cash_type(store, trade.id)?;
@@ -53,7 +53,7 @@ fn read_cash_trades_with_names<S: Alter>(
     ensures read { ReadPost S.Store store.old store.new result (λ paid t. CashTextsMatchTables t (chosen.first_twenty_completed_cash_trade_rows_of_symbol symbol.now span.first span.last t) paid.items) }
     ensures fault { IfErr result IsCallFault }
 {
-    let trades = store.completed_cash_trades_in_span(alloc, symbol, span)?;
+    let trades = store.first_twenty_completed_cash_trades_of_symbol(alloc, symbol, span)?;
     let mut paid = Vec::new(alloc);
     for trade in &trades {
         let name = require_cash_name(store, trade.id)?;

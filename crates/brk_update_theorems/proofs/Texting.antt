@@ -9,7 +9,7 @@ use Rattle.brk_model.specs.Keys.{rows_sorted_by_key, move_key}
 use Rattle.brk_model.specs.Lists.{contains_number, update_where}
 use Rattle.brk_model.specs.LookupView.{is_cash_row_of_trade}
 use Rattle.brk_model.specs.Records.{Account, Movement, Trade}
-use Rattle.brk_model.specs.Tables.{MoveRow, move_row, numbered_move_rows}
+use Rattle.brk_model.specs.Tables.{MoveRow, cash_move_row, numbered_move_rows}
 use Rattle.brk_book_theorems.proofs.Bools.{numbers_back}
 use Rattle.brk_book_theorems.proofs.Order.{by_key-map}
 use Rattle.brk_book_theorems.proofs.Places.{map-append}
@@ -30,7 +30,7 @@ renamed g p = record p { name = g p.trade p.name }
 
 numbered_through : (g : Rename) (n : ℕ) (ps : List Posting) → map (renamed_row g) (numbered_move_rows n ps) ≡ numbered_move_rows n (map (renamed g) ps)
 numbered_through g n [] = refl
-numbered_through g n (p ∷ ps) = ap (λ rows. move_row n (renamed g p) ∷ rows) (numbered_through g (n + 1) ps)
+numbered_through g n (p ∷ ps) = ap (λ rows. cash_move_row n (renamed g p) ∷ rows) (numbered_through g (n + 1) ps)
 
 pub rows_through : (g : Rename) (ps : List Posting)
     → map (renamed_row g) (rows_sorted_by_key move_key (numbered_move_rows 1 (postings_sorted_by_stamp ps))) ≡ rows_sorted_by_key move_key (numbered_move_rows 1 (postings_sorted_by_stamp (map (renamed g) ps)))
