@@ -48,7 +48,7 @@ fn has_account(accounts: &[Id], account: Id) -> bool
 /// A visitor that passes the trades of some accounts to another visitor, and skips all others.
 #[derive(Drop)]
 pub struct AccountFilter<'a, V> {
-    pub accounts: Vec<Id>,
+    pub accounts: &'a [Id],
     pub visitor: &'a mut V,
 }
 
@@ -62,14 +62,14 @@ impl<E, V: Visitor<TradeRow, E>> Visitor<TradeRow, E> for AccountFilter<'_, V> {
 
     ghost leads = { λ p q. (q.visitor.ghost_name ≡ p.visitor.ghost_name) × V.leads p.visitor.now q.visitor.now };
 
-    ghost takes = { λ p r q. (q.accounts ≡ p.accounts) × TakesOnlyIf (list_any (λ a. a == r.account) p.accounts.items) V.takes p.visitor.now r q.visitor.now };
+    ghost takes = { λ p r q. (q.accounts.now ≡ p.accounts.now) × TakesOnlyIf (list_any (λ a. a == r.account) p.accounts.now) V.takes p.visitor.now r q.visitor.now };
 
-    ghost stops = { λ p r e q. (list_any (λ a. a == r.account) p.accounts.items ≡ true) × V.stops p.visitor.now r e q.visitor.now };
+    ghost stops = { λ p r e q. (list_any (λ a. a == r.account) p.accounts.now ≡ true) × V.stops p.visitor.now r e q.visitor.now };
 
     /// Passes the trade to the other visitor, and fails as it does, if the account of the trade is
     /// one of `accounts`. Otherwise does nothing.
     fn visit(&mut self, item: &TradeRow) -> Result<(), E> {
-        if has_account(&self.accounts, item.account) {
+        if has_account(self.accounts, item.account) {
             return self.visitor.visit(item);
         }
         Ok(())
@@ -101,6 +101,9 @@ pub fn visit_completed_trades<S: Alter, E, V: Visitor<TradeRow, E>>(
         Ok(accounts) => accounts,
         Err(fault) => return Err(WalkError::Failed(fault)),
     };
-    let mut under = AccountFilter { accounts, visitor };
+    let mut under = AccountFilter {
+        accounts: accounts.as_slice(),
+        visitor,
+    };
     store.visit_completed_trades::<E, AccountFilter<'_, V>>(&mut under)
 }
