@@ -176,7 +176,9 @@ pub fn write_explanation<W: Write, S: Alter>(
 {
     match what {
         ExplainRequest::Trade(trade) => write_trade_explanation(alloc, desk, *trade, writer),
-        ExplainRequest::Account(account) => write_account_explanation(alloc, desk, *account, writer),
+        ExplainRequest::Account(account) => write_account_explanation(
+            alloc, desk, *account, writer,
+        ),
         ExplainRequest::Holding { account, symbol } => {
             write_holding_explanation(alloc, desk, *account, symbol, writer)
         }

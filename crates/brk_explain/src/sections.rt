@@ -9,7 +9,7 @@ ghost use Rattle.brk_model.specs.Statement.{lot_rows_of_account};
 ghost use Rattle.brk_report.specs.Stated.{PreservesDesk, HoldsForStoredTables};
 ghost use Rattle.brk_report.specs.Stops.{fault_of_walk_error};
 
-use crate::visitors::{TradeCommissionWriter, OpenLotWriter, CashPostingWriter};
+use crate::visitors::{CashPostingWriter, OpenLotWriter, TradeCommissionWriter};
 use brk_desk::{Desk, WalkError};
 use brk_money::{Cents, Id, Stamp, Wide};
 use brk_report_lines::LinesFault;

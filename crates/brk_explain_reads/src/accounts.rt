@@ -16,7 +16,10 @@ use std::alloc::Global;
 
 // Returns a holding summary with the last price of its symbol. Fails with `Memory` or `Store`; with
 // `Store` also if the symbol has no last price.
-fn read_priced_holding<S: Alter>(store: &mut Store<S>, summary: SummaryRow) -> Result<PricedHolding, Fault>
+fn read_priced_holding<S: Alter>(
+    store: &mut Store<S>,
+    summary: SummaryRow,
+) -> Result<PricedHolding, Fault>
     ensures read { ReadPost S.Store store.old store.new result (λ held t. abstract_priced_holding held ≡ priced_holding t (abstract_summary_row summary)) }
     ensures fault { IfErr result IsCallFault }
 {

@@ -97,7 +97,12 @@ pub(crate) fn read_cash_sum_before<S: Alter>(
             total: Wide::new(0),
         },
     };
-    match store.visit_cash::<Fault, EarlierCashSum>(account, Stamp::nearest(0), until, &mut earlier) {
+    match store.visit_cash::<Fault, EarlierCashSum>(
+        account,
+        Stamp::nearest(0),
+        until,
+        &mut earlier,
+    ) {
         Ok(()) => Ok(earlier.sum),
         Err(stop) => Err(fault_of_failed_walk(stop)),
     }

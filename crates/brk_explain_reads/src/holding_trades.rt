@@ -10,7 +10,7 @@ ghost use Rattle.brk_store.specs.Holds.{ReadPost};
 use crate::known::read_existing_trade;
 use crate::lot_changes::{OpeningAndLaterChanges, read_lot_changes_by_completion};
 use brk_changes::{LotChange, TradeRow};
-use brk_explain_rows::{PricedLotChange, LotStory};
+use brk_explain_rows::{LotStory, PricedLotChange};
 use brk_money::{Fault, Id};
 use brk_ref::Symbol;
 use brk_store::Store;
@@ -35,7 +35,11 @@ pub struct TradesAndLots {
 }
 
 // Returns the lot that `trade` opened with the change `opening`, and its later changes.
-fn lot_story_of_opening(trade: TradeRow, opening: &LotChange, changes: Vec<PricedLotChange>) -> LotStory
+fn lot_story_of_opening(
+    trade: TradeRow,
+    opening: &LotChange,
+    changes: Vec<PricedLotChange>,
+) -> LotStory
     ensures { result ≡ record { trade = trade; opened = opening.now.after; changes = changes } }
 {
     LotStory {
@@ -57,7 +61,10 @@ fn read_lot_of_trade<S: Alter>(
     ensures fault { IfErr result IsCallFault }
 {
     let all = read_lot_changes_by_completion(alloc, store, trade)?;
-    let OpeningAndLaterChanges { opening, later_changes } = all;
+    let OpeningAndLaterChanges {
+        opening,
+        later_changes,
+    } = all;
     let Some(first) = opening else {
         return Ok(None);
     };

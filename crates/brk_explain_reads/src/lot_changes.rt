@@ -96,7 +96,10 @@ fn priced_lot_change(change: &LotChange, stamp: Stamp, price: Price) -> PricedLo
 
 // Returns a change of a lot with the stamp and the price of its trade. Fails with `Memory` or
 // `Store`; with `Store` also if the trade does not exist or has no price.
-fn read_priced_lot_change<S: Alter>(store: &mut Store<S>, change: &LotChange) -> Result<PricedLotChange, Fault>
+fn read_priced_lot_change<S: Alter>(
+    store: &mut Store<S>,
+    change: &LotChange,
+) -> Result<PricedLotChange, Fault>
     ensures read { ReadPost S.Store store.old store.new result (λ priced_change t. abstract_priced_lot_change priced_change ≡ model.recorded_lot_change t (abstract_lot_change_row change.now)) }
     ensures fault { IfErr result IsCallFault }
 {
@@ -126,11 +129,17 @@ fn read_lot_changes_by_trade_id<S: Alter>(
         let priced_change = read_priced_lot_change(store, change)?;
         later_changes.push(priced_change)?;
     }
-    Ok(OpeningAndLaterChanges { opening, later_changes })
+    Ok(OpeningAndLaterChanges {
+        opening,
+        later_changes,
+    })
 }
 
 // Returns the changes sorted by the stamps of their trades, ascending. Fails with `Memory` only.
-fn sort_changes_by_stamp(alloc: Global, later_changes: Vec<PricedLotChange>) -> Result<Vec<PricedLotChange>, Fault>
+fn sort_changes_by_stamp(
+    alloc: Global,
+    later_changes: Vec<PricedLotChange>,
+) -> Result<Vec<PricedLotChange>, Fault>
     ensures order { IfOk result (λ all. map abstract_priced_lot_change all.items ≡ sort_by_key (λ c. c.stamp) (map abstract_priced_lot_change later_changes.items)) }
     ensures fault { OnErr result (result ≡ Err Memory) }
 {

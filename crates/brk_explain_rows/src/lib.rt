@@ -10,5 +10,5 @@ pub mod story;
 pub use account_story::{AccountStory, PricedHolding};
 pub use broker_story::BrokerStory;
 pub use closing::Closing;
-pub use holding_story::{HoldingStory, PricedLotChange, LotStory};
+pub use holding_story::{HoldingStory, LotStory, PricedLotChange};
 pub use story::{OrderStory, ResultStory, TradeStory};

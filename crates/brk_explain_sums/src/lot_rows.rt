@@ -16,7 +16,7 @@ use brk_explain_columns::{
     format_timestamp, put_leading_row_columns, put_shares_column, put_value_column,
     value_of_shares_at_price,
 };
-use brk_explain_rows::{PricedLotChange, LotStory};
+use brk_explain_rows::{LotStory, PricedLotChange};
 use brk_money::{Fault, Price};
 use std::alloc::Global;
 

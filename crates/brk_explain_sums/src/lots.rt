@@ -10,7 +10,7 @@ ghost use Rattle.brk_model.specs.Run.{IsCallFault};
 
 use crate::trades::completion_price_of_trade;
 use brk_explain_columns::{add_amounts, value_of_shares_at_price};
-use brk_explain_rows::{PricedLotChange, LotStory};
+use brk_explain_rows::{LotStory, PricedLotChange};
 use brk_money::{Fault, Price, Wide};
 
 /// Returns the quantity of a lot after a change minus the quantity before it: below 0 if shares of
