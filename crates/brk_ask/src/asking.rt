@@ -82,7 +82,7 @@ fn execute_query_and_write_view<W: Write, S: Alter>(
 ///
 /// Fails with `Refused` 18 if the texts are no query, otherwise with the refusal of the query;
 /// nothing is then written. Fails with `Desk` and `Memory` or `Store`, and nothing is written; with
-/// `Write` after a prefix of the text, perhaps all of it. The open database is unchanged, whatever
+/// `Write` after a prefix of the text, perhaps all of it. If the database is still open, it is unchanged, whatever
 /// the result.
 ///
 /// A crash exposes only states that a crash before the call could expose.

@@ -23,7 +23,7 @@ use std::alloc::Global;
 use std::io::Write;
 
 // Writes the explanation of a trade. Fails with `Refused` (`NoTrade`) if it does not exist, or as
-// `write_explanation` does. The open database is unchanged.
+// `write_explanation` does. If the database is still open, it is unchanged.
 fn write_trade_explanation<W: Write, S: Alter>(
     alloc: Global,
     desk: &mut Desk<S>,
@@ -68,7 +68,7 @@ fn write_account_lines<W: Write, S: Alter>(
 }
 
 // Writes the explanation of an account. Fails with `Refused` (`NoAccount`) if it does not exist, or
-// as `write_explanation` does. The open database is unchanged.
+// as `write_explanation` does. If the database is still open, it is unchanged.
 fn write_account_explanation<W: Write, S: Alter>(
     alloc: Global,
     desk: &mut Desk<S>,
@@ -91,7 +91,7 @@ fn write_account_explanation<W: Write, S: Alter>(
 
 // Writes the explanation of the holding of an account in a security. Fails with `Refused`
 // (`NoAccount` or `NoSecurity`) if the account or the security does not exist, or as
-// `write_explanation` does. The open database is unchanged.
+// `write_explanation` does. If the database is still open, it is unchanged.
 fn write_holding_explanation<W: Write, S: Alter>(
     alloc: Global,
     desk: &mut Desk<S>,
@@ -135,7 +135,7 @@ fn write_broker_lines<W: Write, S: Alter>(
 }
 
 // Writes the explanation of a broker. Fails with `Refused` (`NoBroker`) if it does not exist, or as
-// `write_explanation` does. The open database is unchanged.
+// `write_explanation` does. If the database is still open, it is unchanged.
 fn write_broker_explanation<W: Write, S: Alter>(
     alloc: Global,
     desk: &mut Desk<S>,

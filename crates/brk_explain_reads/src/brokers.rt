@@ -19,7 +19,7 @@ use std::alloc::Global;
 /// Returns the row of a broker and the number of its accounts, or `None` if the broker does not
 /// exist.
 ///
-/// Fails with `Memory` or `Store` only. The open database is unchanged, whatever the result.
+/// Fails with `Memory` or `Store` only. If the database is still open, it is unchanged, whatever the result.
 pub fn read_broker_story<S: Alter>(
     alloc: Global,
     store: &mut Store<S>,
@@ -48,7 +48,7 @@ fn has_account(accounts: &[Id], account: Id) -> bool
 /// A visitor that passes the trades of some accounts to another visitor, and skips all others.
 #[derive(Drop)]
 pub struct AccountFilter<'a, V> {
-    pub accounts: Vec<Id>,
+    pub accounts: &'a [Id],
     pub visitor: &'a mut V,
 }
 
@@ -62,14 +62,14 @@ impl<E, V: Visitor<TradeRow, E>> Visitor<TradeRow, E> for AccountFilter<'_, V> {
 
     ghost leads = { λ p q. (q.visitor.ghost_name ≡ p.visitor.ghost_name) × V.leads p.visitor.now q.visitor.now };
 
-    ghost takes = { λ p r q. (q.accounts ≡ p.accounts) × TakesOnlyIf (list_any (λ a. a == r.account) p.accounts.items) V.takes p.visitor.now r q.visitor.now };
+    ghost takes = { λ p r q. (q.accounts.now ≡ p.accounts.now) × TakesOnlyIf (list_any (λ a. a == r.account) p.accounts.now) V.takes p.visitor.now r q.visitor.now };
 
-    ghost stops = { λ p r e q. (list_any (λ a. a == r.account) p.accounts.items ≡ true) × V.stops p.visitor.now r e q.visitor.now };
+    ghost stops = { λ p r e q. (list_any (λ a. a == r.account) p.accounts.now ≡ true) × V.stops p.visitor.now r e q.visitor.now };
 
     /// Passes the trade to the other visitor, and fails as it does, if the account of the trade is
     /// one of `accounts`. Otherwise does nothing.
     fn visit(&mut self, item: &TradeRow) -> Result<(), E> {
-        if has_account(&self.accounts, item.account) {
+        if has_account(self.accounts, item.account) {
             return self.visitor.visit(item);
         }
         Ok(())
@@ -84,7 +84,7 @@ impl<E, V: Visitor<TradeRow, E>> Visitor<TradeRow, E> for AccountFilter<'_, V> {
 /// completion, ascending. Returns `Ok` only after the visitor has taken the last trade.
 ///
 /// Fails with `Cause` and the visitor's error, or with `Failed` and the fault `Memory` or `Store`
-/// after a prefix of the trades. The open database is unchanged, whatever the result.
+/// after a prefix of the trades. If the database is still open, it is unchanged, whatever the result.
 pub fn visit_completed_trades<S: Alter, E, V: Visitor<TradeRow, E>>(
     alloc: Global,
     store: &mut Store<S>,
@@ -101,6 +101,9 @@ pub fn visit_completed_trades<S: Alter, E, V: Visitor<TradeRow, E>>(
         Ok(accounts) => accounts,
         Err(fault) => return Err(WalkError::Failed(fault)),
     };
-    let mut under = AccountFilter { accounts, visitor };
+    let mut under = AccountFilter {
+        accounts: accounts.as_slice(),
+        visitor,
+    };
     store.visit_completed_trades::<E, AccountFilter<'_, V>>(&mut under)
 }

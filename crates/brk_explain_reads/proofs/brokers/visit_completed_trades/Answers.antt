@@ -1,4 +1,4 @@
-use Rattle.std.proofs.Common.{◌≡◌, ◌==◌, filter, map, rules, subst}
+use Rattle.std.proofs.Common.{◌≡◌, ◌∙◌, ◌==◌, filter, map, rules, subst}
 use Rattle.std.specs.List.{list_any}
 use Rattle.brk_changes.specs.Rows.{abstract_trade_row}
 use Rattle.brk_changes.specs.declared.trade_row.TradeRow as trade
@@ -16,18 +16,17 @@ returns-in-Err-clause-walked g c =
 
 pub returns-clause-walked : goal.returns-clause-walked
 returns-clause-walked g c =
-    let broker = c.args.broker in
-    let accounts = c.in-Ok.accounts in
-    let on = walk_on g.S.Store c.args.store.now c.accounts_of_broker.new.self c.visit_completed_trades.new.self abstract_trade_row completed_trades_by_stamp (λ t. completed_trades_of_broker t broker)
-    (λ (v : AccountFilter g.row.V.Denot). v.visitor.now) (λ v. v.accounts) (λ all (r : trade.TradeRow). list_any (λ i. i == r.account) all.items) g.V.Visitor.takes g.V.Visitor.stops _ c.visit_completed_trades.new.visitor
+    subst (λ v. WalkPost g.S.Store c.args.store.now c.visit_completed_trades.new.self abstract_trade_row (λ t. completed_trades_of_broker t c.args.broker) g.V.Visitor.takes g.V.Visitor.stops c.args.visitor.now v c.visit_completed_trades.result)
+    (search (rules, c.visit_completed_trades.ensures.leads.0))
+    (walk_on g.S.Store c.args.store.now c.accounts_of_broker.new.self c.visit_completed_trades.new.self abstract_trade_row completed_trades_by_stamp (λ t. completed_trades_of_broker t c.args.broker)
+    (λ (v : AccountFilter g.row.V.Denot). v.visitor.now) (λ v. v.accounts.now) (λ all (r : trade.TradeRow). list_any (λ i. i == r.account) all) g.V.Visitor.takes g.V.Visitor.stops _ c.visit_completed_trades.new.visitor
     c.visit_completed_trades.result c.visit_completed_trades.ensures.walked
-    accounts (λ all (t : Tables). all.items ≡ map (λ (a : AccountRow). a.id) (filter (λ (a : AccountRow). a.broker == broker) t.accounts)) (rw c.in-Ok.is at c.accounts_of_broker.ensures.read)
-    (λ t (u : TradeRow). broker_of_account_or_zero t u.account == broker)
-    (λ t has e r. accounts_known t _ has broker c.get-least.ensures.low accounts.items e r.account) (trades_picked broker) in
-    subst (λ v. WalkPost g.S.Store c.args.store.now c.visit_completed_trades.new.self abstract_trade_row (λ t. completed_trades_of_broker t broker) g.V.Visitor.takes g.V.Visitor.stops c.args.visitor.now v c.visit_completed_trades.result) (search rules) on
+    c.in-Ok.accounts (λ all (t : Tables). all.items ≡ map (λ (a : AccountRow). a.id) (filter (λ (a : AccountRow). a.broker == c.args.broker) t.accounts)) (rw c.in-Ok.is at c.accounts_of_broker.ensures.read)
+    (λ t (u : TradeRow). broker_of_account_or_zero t u.account == c.args.broker)
+    (λ t has e r. accounts_known t _ has c.args.broker c.get-least.ensures.low c.as_slice.result.now (c.as_slice.ensures.value ∙ e) r.account) (trades_picked c.args.broker))
 
 pub returns-clause-ready : goal.returns-clause-ready
-returns-clause-ready g c = subst g.V.Visitor.ready (search rules) c.visit_completed_trades.ensures.ready
+returns-clause-ready g c = subst g.V.Visitor.ready (search (rules, c.visit_completed_trades.ensures.leads.0)) c.visit_completed_trades.ensures.ready
 
 pub returns-clause-leads : goal.returns-clause-leads
-returns-clause-leads g c = subst (g.V.Visitor.leads c.args.visitor.now) (search rules) c.visit_completed_trades.ensures.leads.1
+returns-clause-leads g c = subst (g.V.Visitor.leads c.args.visitor.now) (search (rules, c.visit_completed_trades.ensures.leads.0)) c.visit_completed_trades.ensures.leads.1

@@ -1,5 +1,6 @@
 use Rattle.std.proofs.Common.{◌≡◌, ◌==◌, ℕ, Err, None, Ok, Option, Result, Some, find, inl, inr, option_map, refl, subst, sym}
 use Rattle.std.specs.Prelude.{bytes_eq}
+use Rattle.std.proofs.lemmas.Result.{err_from_is_err_and}
 use Rattle.brk_money.specs.Spelling.{Text}
 use Rattle.brk_money.specs.declared.fault.Fault.{Fault}
 use Rattle.brk_money.specs.declared.refusal.Refusal.{Refusal}
@@ -12,7 +13,7 @@ use Rattle.brk_store.proofs.Retelling.{retold}
 use Rattle.brk_explain_rows.specs.Stories.{IsStoryOfHolding}
 use Rattle.brk_explain_rows.specs.declared.holding_story.HoldingStory.{HoldingStory}
 use Rattle.brk_explain_reads.specs.HoldingParts.{AreTradesAndLotsOfHolding, AreQuantityAndPrice}
-use Rattle.brk_explain_reads.proofs.Reading.{read_both}
+use Rattle.brk_explain_reads.proofs.Reading.{read_both, read_failed}
 use Rattle.brk_explain_reads.proofs.holdings.read_holding_story.Goals as goal
 
 -- the account with an id, and the security with a symbol
@@ -64,3 +65,28 @@ returns-clause-read g c =
     (rw c.in-Some.is at c.in_ok-row.ensures.read) (rw c.in-Some-2.is at c.in_ok-security.ensures.read))
     c.in_ok-held.ensures.read)
     c.in_ok-now.ensures.read
+
+pub returns-in_err-now-clause-read : goal.returns-in_err-now-clause-read
+returns-in_err-now-clause-read g c =
+    let old = c.args.store.now in
+    let account = c.args.account in
+    let symbol = c.args.symbol.now in
+    let row = c.in-Some.row in
+    let security = c.in-Some-2.security in
+    let held = c.in_ok-held.held in
+    let p = err_from_is_err_and c.from_residual-in_err-now.result c.from_residual-in_err-now.ensures.1 in
+    rw p.1
+    (read_failed g.S.Store old c.read_trades_and_lots_of_holding.new.store c.read_quantity_and_price.new.store held _ p.0
+    (λ held (t : Tables). AreParties account symbol row security t × AreTradesAndLotsOfHolding t account symbol held)
+    (λ now (t : Tables). AreQuantityAndPrice t account symbol now)
+    (IsStoryOfHolding account symbol)
+    (read_both g.S.Store old c.security.new.self c.read_trades_and_lots_of_holding.new.store {H = Fault} (Some security) held held
+    (λ o (t : Tables). AreParties account symbol row security t) (λ held (t : Tables). AreTradesAndLotsOfHolding t account symbol held)
+    (λ held (t : Tables). AreParties account symbol row security t × AreTradesAndLotsOfHolding t account symbol held)
+    (λ t p k. (p, k))
+    (read_both g.S.Store old c.account.new.self c.security.new.self {H = Fault} (Some row) (Some security) (Some security)
+    (IsRowOf account) (IsSecurityOf symbol) (λ o (t : Tables). AreParties account symbol row security t)
+    (λ t a s. (a, s))
+    (rw c.in-Some.is at c.in_ok-row.ensures.read) (rw c.in-Some-2.is at c.in_ok-security.ensures.read))
+    c.in_ok-held.ensures.read)
+    c.in_err-now.ensures.read)

@@ -1,4 +1,4 @@
-use Rattle.std.proofs.Common.{◌≡◌, ◌==◌, ◌∙◌, ◌&&◌, ap, find, option_map, pos}
+use Rattle.std.proofs.Common.{◌≡◌, ◌==◌, ◌∙◌, ◌&&◌, ap, find, of_z, option_map, pos, rules, to_z, w64}
 use Rattle.std.specs.Prelude.{bytes_eq}
 use Rattle.std.specs.Option.{option_map_or}
 use Rattle.brk_money.specs.declared.fault.Fault.{Fault}
@@ -15,12 +15,14 @@ returns-clause-read g c =
     let account = c.args.account in
     let symbol = c.args.symbol.now in
     let made = c.quantity_and_price.ensures in
+    let qty = c.quantity_of_summary_or_zero.result in
+    let same : to_z w64 (of_z w64 qty) ≡ qty = search rules in
     read_both g.S.Store c.args.store.now c.summary_of_position.new.self c.read_last_price.new.store {H = Fault} c.in_ok-summary.summary c.in_ok-price.price c.quantity_and_price.result
     (λ o (t : Tables). option_map abstract_summary_row o ≡ find (λ (r : SummaryRow). (r.account == account) && bytes_eq r.symbol symbol) t.summaries)
     (λ price (t : Tables). price ≡ last_price_in_tables t symbol)
     (λ held (t : Tables). AreQuantityAndPrice t account symbol held)
     (λ t a b. (
-      ap (λ (h : QuantityAndPrice). h.shares) made ∙ c.quantity_of_summary_or_zero.ensures ∙ ap (λ o. option_map_or (λ (r : SummaryRow). r.qty) o (pos 0)) a,
+      ap (λ (h : QuantityAndPrice). h.shares) made ∙ same ∙ c.quantity_of_summary_or_zero.ensures ∙ ap (λ o. option_map_or (λ (r : SummaryRow). r.qty) o (pos 0)) a,
       ap (λ (h : QuantityAndPrice). h.price) made ∙ b,
     ))
     c.in_ok-summary.ensures.read c.in_ok-price.ensures.read
