@@ -82,8 +82,8 @@ fn execute_query_and_write_view<W: Write, S: Alter>(
 ///
 /// Fails with `Refused` 18 if the texts are no query, otherwise with the refusal of the query;
 /// nothing is then written. Fails with `Desk` and `Memory` or `Store`, and nothing is written; with
-/// `Write` after a prefix of the text, perhaps all of it. If the database is still open, it is unchanged, whatever
-/// the result.
+/// `Write` after a prefix of the text, perhaps all of it. If the database is still open, it is
+/// unchanged, whatever the result.
 ///
 /// A crash exposes only states that a crash before the call could expose.
 pub fn parse_query_and_write_view<W: Write, S: Alter>(

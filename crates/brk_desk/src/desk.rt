@@ -102,7 +102,8 @@ impl<S: Alter> Desk<S> {
 
     /// Returns the view of a query, or the refusal.
     ///
-    /// Fails with `Memory` or `Store` only. If the database is still open, it is unchanged, whatever the result.
+    /// Fails with `Memory` or `Store` only. If the database is still open, it is unchanged,
+    /// whatever the result.
     ///
     /// A crash exposes only states that a crash before the call could expose.
     pub fn ask(&mut self, alloc: Global, query: &Query) -> Planned<View>
@@ -178,7 +179,8 @@ impl<S: Alter> Desk<S> {
     /// opening balance, and the market value of its holdings at last prices. Returns `None` if the
     /// account does not exist.
     ///
-    /// Fails with `Memory` or `Store` only. If the database is still open, it is unchanged, whatever the result.
+    /// Fails with `Memory` or `Store` only. If the database is still open, it is unchanged,
+    /// whatever the result.
     ///
     /// A crash exposes only states that a crash before the call could expose.
     pub fn statement_head(
@@ -234,8 +236,8 @@ impl<S: Alter> Desk<S> {
     /// account exists and the security does not.
     ///
     /// Fails with `Memory` or `Store` only; with `Store` also if the security has no last price, or
-    /// if a row names another row that does not exist. If the database is still open, it is unchanged, whatever the
-    /// result.
+    /// if a row names another row that does not exist. If the database is still open, it is
+    /// unchanged, whatever the result.
     ///
     /// A crash exposes only states that a crash before the call could expose.
     pub fn holding_story(
@@ -253,7 +255,8 @@ impl<S: Alter> Desk<S> {
     /// Returns the row of a broker and the number of its accounts, or `None` if the broker does not
     /// exist.
     ///
-    /// Fails with `Memory` or `Store` only. If the database is still open, it is unchanged, whatever the result.
+    /// Fails with `Memory` or `Store` only. If the database is still open, it is unchanged,
+    /// whatever the result.
     ///
     /// A crash exposes only states that a crash before the call could expose.
     pub fn broker_story(&mut self, alloc: Global, broker: Id) -> Result<Option<BrokerStory>, Fault>
@@ -267,7 +270,8 @@ impl<S: Alter> Desk<S> {
     /// completion, ascending. Returns `Ok` only after the visitor has taken the last trade.
     ///
     /// Fails with `Cause` and the visitor's error, or with `Failed` and the fault `Memory` or
-    /// `Store` after a prefix of the trades. If the database is still open, it is unchanged, whatever the result.
+    /// `Store` after a prefix of the trades. If the database is still open, it is unchanged,
+    /// whatever the result.
     ///
     /// A crash exposes only states that a crash before the call could expose.
     pub fn visit_completed_trades<E, V: Visitor<TradeRow, E>>(
@@ -289,7 +293,8 @@ impl<S: Alter> Desk<S> {
     /// row.
     ///
     /// Fails with `Cause` and the visitor's error, or with `Failed` and the fault `Memory` or
-    /// `Store` after a prefix of the rows. If the database is still open, it is unchanged, whatever the result.
+    /// `Store` after a prefix of the rows. If the database is still open, it is unchanged, whatever
+    /// the result.
     ///
     /// A crash exposes only states that a crash before the call could expose.
     pub fn visit_cash_rows<E, V: Visitor<MoveRow, E>>(
@@ -312,7 +317,8 @@ impl<S: Alter> Desk<S> {
     /// `Ok` only after the visitor has taken the last lot.
     ///
     /// Fails with `Cause` and the visitor's error, or with `Failed` and the fault `Memory` or
-    /// `Store` after a prefix of the lots. If the database is still open, it is unchanged, whatever the result.
+    /// `Store` after a prefix of the lots. If the database is still open, it is unchanged, whatever
+    /// the result.
     ///
     /// A crash exposes only states that a crash before the call could expose.
     pub fn visit_lots<E, V: Visitor<HoldingRow, E>>(
@@ -332,7 +338,8 @@ impl<S: Alter> Desk<S> {
     /// included, sorted by stamp, ascending. Returns `Ok` only after the last row.
     ///
     /// Fails with the closure's first error, or with a fault (`Memory` or `Store`) as an error of
-    /// type `E`, after a prefix of the rows. If the database is still open, it is unchanged, whatever the result.
+    /// type `E`, after a prefix of the rows. If the database is still open, it is unchanged,
+    /// whatever the result.
     ///
     /// A crash exposes only states that a crash before the call could expose.
     pub fn walk_cash_rows<E: From<Fault>, F: FnMut(&MoveRow) -> Result<(), E> + Drop>(
@@ -352,7 +359,8 @@ impl<S: Alter> Desk<S> {
     /// opening stamp. Returns `Ok` only after the last lot.
     ///
     /// Fails with the closure's first error, or with a fault (`Memory` or `Store`) as an error of
-    /// type `E`, after a prefix of the lots. If the database is still open, it is unchanged, whatever the result.
+    /// type `E`, after a prefix of the lots. If the database is still open, it is unchanged,
+    /// whatever the result.
     ///
     /// A crash exposes only states that a crash before the call could expose.
     pub fn walk_lots<E: From<Fault>, F: FnMut(&str, &Lot) -> Result<(), E> + Drop>(

@@ -15,8 +15,8 @@ use sqlite::Alter;
 /// of the single calls. So they hold for the calls of `Desk::run`, and for calls of `Desk::call`
 /// and `Desk::ask` in order.
 ///
-/// `joined_runs`: two runs, the second of which begins in the state in which the first ends, are one run
-/// of all their calls.
+/// `joined_runs`: two runs, the second of which begins in the state in which the first ends, are
+/// one run of all their calls.
 pub fn call_sequences_are_runs<S: Alter>()
     ensures one_run { (old new : Held S) (calls : List (ℕ × made.Call)) (outcomes : List came.Outcome)
         → IsCallSequence (λ before now call outcome after. OutcomePost S.Store before after now call outcome) old calls outcomes new

@@ -19,7 +19,8 @@ use std::alloc::Global;
 /// Returns the row of a broker and the number of its accounts, or `None` if the broker does not
 /// exist.
 ///
-/// Fails with `Memory` or `Store` only. If the database is still open, it is unchanged, whatever the result.
+/// Fails with `Memory` or `Store` only. If the database is still open, it is unchanged, whatever
+/// the result.
 pub fn read_broker_story<S: Alter>(
     alloc: Global,
     store: &mut Store<S>,
@@ -84,7 +85,8 @@ impl<E, V: Visitor<TradeRow, E>> Visitor<TradeRow, E> for AccountFilter<'_, V> {
 /// completion, ascending. Returns `Ok` only after the visitor has taken the last trade.
 ///
 /// Fails with `Cause` and the visitor's error, or with `Failed` and the fault `Memory` or `Store`
-/// after a prefix of the trades. If the database is still open, it is unchanged, whatever the result.
+/// after a prefix of the trades. If the database is still open, it is unchanged, whatever the
+/// result.
 pub fn visit_completed_trades<S: Alter, E, V: Visitor<TradeRow, E>>(
     alloc: Global,
     store: &mut Store<S>,

@@ -94,8 +94,8 @@ fn holding_story_of_parts(
 /// not.
 ///
 /// Fails with `Memory` or `Store` only; with `Store` also if the security has no last price, or if
-/// a row does not exist that another row names. If the database is still open, it is unchanged, whatever the
-/// result.
+/// a row does not exist that another row names. If the database is still open, it is unchanged,
+/// whatever the result.
 pub fn read_holding_story<S: Alter>(
     alloc: Global,
     store: &mut Store<S>,

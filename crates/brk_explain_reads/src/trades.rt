@@ -26,8 +26,8 @@ fn is_completed(trade: &TradeRow) -> bool
 /// Returns the facts that the explanation of a trade reads, or `None` if the trade does not exist.
 ///
 /// Fails with `Memory` or `Store` only; with `Store` also if a row that another row names does not
-/// exist, or if a completed trade has no price or no settlement. If the database is still open, it is unchanged,
-/// whatever the result.
+/// exist, or if a completed trade has no price or no settlement. If the database is still open, it
+/// is unchanged, whatever the result.
 pub fn read_trade_story<S: Alter>(
     alloc: Global,
     store: &mut Store<S>,

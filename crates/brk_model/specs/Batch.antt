@@ -82,8 +82,8 @@ pub record IsResultOfTextWithHeader {B C : Type 0} (form : Fields → ReadResult
   pub ends : MatchesEnding text batch.ending name rows answers told batch.text
   pub counted : batch.rows ≡ length told
 
--- The batch is the result of a text without a header: its ending is `BadHeader`, no clock reading is
--- used, the base is unchanged, the output is empty, and no row was decided.
+-- The batch is the result of a text without a header: its ending is `BadHeader`, no clock reading
+-- is used, the base is unchanged, the output is empty, and no row was decided.
 pub record IsResultOfTextWithoutHeader {B : Type 0} (base : B) (moments : List ℕ) (text : Option Text) (batch : BatchResult B) : Type 0 where
   pub headless : HasNoHeader text
   pub ending : batch.ending ≡ BadHeader

@@ -19,7 +19,8 @@ use std::alloc::Global;
 
 /// Returns the view of a query, or the refusal.
 ///
-/// Fails with `Memory` or `Store` only. If the database is still open, it is unchanged, whatever the result.
+/// Fails with `Memory` or `Store` only. If the database is still open, it is unchanged, whatever
+/// the result.
 pub fn view_of_query<S: Alter>(alloc: Global, store: &mut Store<S>, query: &Query) -> Planned<View>
     ensures read { ReadPost S.Store store.old store.new result (AnswersQueryAsModel (abstract_query query.now)) }
     ensures fault { IfErr result IsCallFault }

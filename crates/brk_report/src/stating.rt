@@ -35,8 +35,8 @@ fn write_statement_lines<W: Write, S: Alter>(
 
 /// Writes the statement of an account for the days `from` to `to`, both included: the opening
 /// amount after the cash rows of earlier days, each cash row of the days, the closing amount, each
-/// lot that it holds now, and their market value at last prices. If the database is still open, it is unchanged,
-/// whatever the result.
+/// lot that it holds now, and their market value at last prices. If the database is still open, it
+/// is unchanged, whatever the result.
 ///
 /// Fails with `Refused` 18 if `from` is after `to`, otherwise with `Refused` 1 if the account does
 /// not exist; nothing is then written. Fails with `Desk(Memory)` or `Desk(Store)`: only whole lines

@@ -60,9 +60,9 @@ pub fn adoption_of_third_schema_is_audit<S: Alter>()
 /// `adopted`: a store that was adopted under the premise `StoreNamedTablesMatchDeskDefinitions`
 /// represents some base.
 ///
-/// `base_of_old_rows`: if this store is open, then under the disk assumption the old database contained rows
-/// of some schema that pass their audit, and the store represents the base that these rows
-/// determine.
+/// `base_of_old_rows`: if this store is open, then under the disk assumption the old database
+/// contained rows of some schema that pass their audit, and the store represents the base that
+/// these rows determine.
 pub fn adopted_stores_represent_a_base<S: Alter>()
     ensures rows { (store : Held S) (t : Tables) → HoldsRows S.Store store t → PassesAudit third_schema t → IsTrue (has_utf8_texts t)
         → Represents S.Store store (base_of_tables t) }

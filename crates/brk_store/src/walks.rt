@@ -21,7 +21,8 @@ impl<S: Alter> Store<S> {
     /// row.
     ///
     /// Fails with `Cause` and the visitor's error, or with `Failed` and the fault `Memory` or
-    /// `Store` after a prefix of the rows. If the database is still open, it is unchanged, whatever the result.
+    /// `Store` after a prefix of the rows. If the database is still open, it is unchanged, whatever
+    /// the result.
     ///
     /// A crash exposes only states that a crash before the call could expose.
     pub fn visit_cash_rows<E, V: Visitor<MoveRow, E>>(
@@ -49,7 +50,8 @@ impl<S: Alter> Store<S> {
     /// `Ok` only after the visitor has taken the last lot.
     ///
     /// Fails with `Cause` and the visitor's error, or with `Failed` and the fault `Memory` or
-    /// `Store` after a prefix of the lots. If the database is still open, it is unchanged, whatever the result.
+    /// `Store` after a prefix of the lots. If the database is still open, it is unchanged, whatever
+    /// the result.
     ///
     /// A crash exposes only states that a crash before the call could expose.
     pub fn visit_lots<E, V: Visitor<HoldingRow, E>>(
@@ -69,7 +71,8 @@ impl<S: Alter> Store<S> {
     /// ascending. Returns `Ok` only after the visitor has taken the last trade.
     ///
     /// Fails with `Cause` and the visitor's error, or with `Failed` and the fault `Memory` or
-    /// `Store` after a prefix of the trades. If the database is still open, it is unchanged, whatever the result.
+    /// `Store` after a prefix of the trades. If the database is still open, it is unchanged,
+    /// whatever the result.
     ///
     /// A crash exposes only states that a crash before the call could expose.
     pub fn visit_completed_trades<E, V: Visitor<TradeRow, E>>(
@@ -88,7 +91,8 @@ impl<S: Alter> Store<S> {
     /// included, sorted by stamp, ascending. Returns `Ok` only after the last row.
     ///
     /// Fails with the closure's first error, or with a fault (`Memory` or `Store`) as an error of
-    /// type `E`, after a prefix of the rows. If the database is still open, it is unchanged, whatever the result.
+    /// type `E`, after a prefix of the rows. If the database is still open, it is unchanged,
+    /// whatever the result.
     ///
     /// A crash exposes only states that a crash before the call could expose.
     pub fn walk_cash_rows<E: From<Fault>, F: FnMut(&MoveRow) -> Result<(), E> + Drop>(
@@ -113,7 +117,8 @@ impl<S: Alter> Store<S> {
     /// opening stamp. Returns `Ok` only after the last lot.
     ///
     /// Fails with the closure's first error, or with a fault (`Memory` or `Store`) as an error of
-    /// type `E`, after a prefix of the lots. If the database is still open, it is unchanged, whatever the result.
+    /// type `E`, after a prefix of the lots. If the database is still open, it is unchanged,
+    /// whatever the result.
     ///
     /// A crash exposes only states that a crash before the call could expose.
     pub fn walk_lots<E: From<Fault>, F: FnMut(&str, &Lot) -> Result<(), E> + Drop>(

@@ -1,5 +1,5 @@
-//! The reads of all tables: each table is read and decoded, and its raw rows are dropped, before
-//! the next one is read.
+//! The reads of all tables: each table is read and decoded, and its raw rows are dropped, before the
+//! next one is read.
 
 ghost use Rattle.std.specs.Prelude.{◌≡◌, IfErr};
 ghost use Rattle.brk_model.specs.Run.{IsCallFault};
