@@ -101,7 +101,7 @@ fn write_holding_explanation<W: Write, S: Alter>(
 ) -> Result<(), ReportFault>
     ensures told { WriteLinesPost S.Store desk.old desk.new (λ t. explanation t (HoldingOf account symbol.now)) (W.contents writer.old) (W.contents writer.new) result }
 {
-    let story = match desk.holding_story(alloc, account, symbol) {
+    let story = match desk.holding_explanation_rows(alloc, account, symbol) {
         Ok(Ok(story)) => story,
         Ok(Err(refusal)) => return Err(ReportFault::Refused(refusal)),
         Err(fault) => return Err(ReportFault::Desk(fault)),
@@ -144,7 +144,7 @@ fn write_broker_explanation<W: Write, S: Alter>(
 ) -> Result<(), ReportFault>
     ensures told { WriteLinesPost S.Store desk.old desk.new (λ t. explanation t (BrokerOf broker)) (W.contents writer.old) (W.contents writer.new) result }
 {
-    let story = match desk.broker_story(alloc, broker) {
+    let story = match desk.broker_explanation_rows(alloc, broker) {
         Ok(Some(story)) => story,
         Ok(None) => return Err(ReportFault::Refused(Refusal::NoBroker)),
         Err(fault) => return Err(ReportFault::Desk(fault)),

@@ -9,52 +9,52 @@ use Rattle.brk_explain.proofs.explaining.write_broker_explanation.Goals as goal
 pub returns-in-Ok-None : goal.returns-in-Ok-None
 returns-in-Ok-None g c = record {
   told = record {
-    written = λ clean t holds. no_broker t c.args.broker ((rw (c.in-Ok-None.is, c.in-Ok-None.field-0-is) at (c.broker_story.ensures.read.answered clean)) t holds);
-    keeps = keeps_read g.S.Store _ _ c.broker_story.result (IsStoryOfBroker c.args.broker) c.broker_story.ensures.read;
+    written = λ clean t holds. no_broker t c.args.broker ((rw (c.in-Ok-None.is, c.in-Ok-None.field-0-is) at (c.broker_explanation_rows.ensures.read.answered clean)) t holds);
+    keeps = keeps_read g.S.Store _ _ c.broker_explanation_rows.result (IsStoryOfBroker c.args.broker) c.broker_explanation_rows.ensures.read;
     unwritten = λ refusal is. refl;
   };
 }
 
 pub returns-in-Ok : goal.returns-in-Ok
 returns-in-Ok g c =
-    let first = keeps_read g.S.Store _ _ c.broker_story.result (IsStoryOfBroker c.args.broker) c.broker_story.ensures.read in
+    let first = keeps_read g.S.Store _ _ c.broker_explanation_rows.result (IsStoryOfBroker c.args.broker) c.broker_explanation_rows.ensures.read in
     record {
       told = record {
         written = λ clean t holds.
-            let mid = clean_then g.S.Store c.broker_story.new.self c.write_broker_lines.new.desk c.write_broker_lines.ensures.keeps clean in
-            let is_story = (rw (c.in-Ok-Some.is, c.in-Ok-Some.field-0-is) at (c.broker_story.ensures.read.answered mid)) t holds in
+            let mid = clean_then g.S.Store c.broker_explanation_rows.new.self c.write_broker_lines.new.desk c.write_broker_lines.ensures.keeps clean in
+            let is_story = (rw (c.in-Ok-Some.is, c.in-Ok-Some.field-0-is) at (c.broker_explanation_rows.ensures.read.answered mid)) t holds in
             tells_all (explanation t (BrokerOf c.args.broker)) (all_broker_lines t c.args.broker c.in-Ok-Some.story) (broker_told t c.args.broker c.in-Ok-Some.story is_story) _ _ (rw c.in-Ok.is at (c.write_broker_lines.ensures.written clean t (first.same_rows t holds)));
-        keeps = keeps_then g.S.Store c.args.desk.now c.broker_story.new.self c.write_broker_lines.new.desk first c.write_broker_lines.ensures.keeps;
+        keeps = keeps_then g.S.Store c.args.desk.now c.broker_explanation_rows.new.self c.write_broker_lines.new.desk first c.write_broker_lines.ensures.keeps;
         unwritten = λ refusal is. absurd (let same = is in cc);
       };
     }
 
 pub returns-in-Err-Desk : goal.returns-in-Err-Desk
 returns-in-Err-Desk g c =
-    let first = keeps_read g.S.Store _ _ c.broker_story.result (IsStoryOfBroker c.args.broker) c.broker_story.ensures.read in
+    let first = keeps_read g.S.Store _ _ c.broker_explanation_rows.result (IsStoryOfBroker c.args.broker) c.broker_explanation_rows.ensures.read in
     record {
       told = record {
         written = λ clean t holds.
-            let mid = clean_then g.S.Store c.broker_story.new.self c.write_broker_lines.new.desk c.write_broker_lines.ensures.keeps clean in
-            let is_story = (rw (c.in-Ok-Some.is, c.in-Ok-Some.field-0-is) at (c.broker_story.ensures.read.answered mid)) t holds in
+            let mid = clean_then g.S.Store c.broker_explanation_rows.new.self c.write_broker_lines.new.desk c.write_broker_lines.ensures.keeps clean in
+            let is_story = (rw (c.in-Ok-Some.is, c.in-Ok-Some.field-0-is) at (c.broker_explanation_rows.ensures.read.answered mid)) t holds in
             tells_fault (explanation t (BrokerOf c.args.broker)) (all_broker_lines t c.args.broker c.in-Ok-Some.story) (broker_told t c.args.broker c.in-Ok-Some.story is_story) _ _ c.in-Err-Desk.fault
             (rw (c.in-Err-Desk.is, c.in-Err-Desk.field-0-is) at (c.write_broker_lines.ensures.written clean t (first.same_rows t holds)));
-        keeps = keeps_then g.S.Store c.args.desk.now c.broker_story.new.self c.write_broker_lines.new.desk first c.write_broker_lines.ensures.keeps;
+        keeps = keeps_then g.S.Store c.args.desk.now c.broker_explanation_rows.new.self c.write_broker_lines.new.desk first c.write_broker_lines.ensures.keeps;
         unwritten = λ refusal is. absurd (let same = is in cc);
       };
     }
 
 pub returns : goal.returns
 returns g c =
-    let first = keeps_read g.S.Store _ _ c.broker_story.result (IsStoryOfBroker c.args.broker) c.broker_story.ensures.read in
+    let first = keeps_read g.S.Store _ _ c.broker_explanation_rows.result (IsStoryOfBroker c.args.broker) c.broker_explanation_rows.ensures.read in
     record {
       told = record {
         written = λ clean t holds.
-            let mid = clean_then g.S.Store c.broker_story.new.self c.write_broker_lines.new.desk c.write_broker_lines.ensures.keeps clean in
-            let is_story = (rw (c.in-Ok-Some.is, c.in-Ok-Some.field-0-is) at (c.broker_story.ensures.read.answered mid)) t holds in
+            let mid = clean_then g.S.Store c.broker_explanation_rows.new.self c.write_broker_lines.new.desk c.write_broker_lines.ensures.keeps clean in
+            let is_story = (rw (c.in-Ok-Some.is, c.in-Ok-Some.field-0-is) at (c.broker_explanation_rows.ensures.read.answered mid)) t holds in
             tells_write (explanation t (BrokerOf c.args.broker)) (all_broker_lines t c.args.broker c.in-Ok-Some.story) (broker_told t c.args.broker c.in-Ok-Some.story is_story) _ _
             (rw (c.in-Err-Write.is, c.in-Err-Write.field-0-is) at (c.write_broker_lines.ensures.written clean t (first.same_rows t holds)));
-        keeps = keeps_then g.S.Store c.args.desk.now c.broker_story.new.self c.write_broker_lines.new.desk first c.write_broker_lines.ensures.keeps;
+        keeps = keeps_then g.S.Store c.args.desk.now c.broker_explanation_rows.new.self c.write_broker_lines.new.desk first c.write_broker_lines.ensures.keeps;
         unwritten = λ refusal is. absurd (let same = is in cc);
       };
     }

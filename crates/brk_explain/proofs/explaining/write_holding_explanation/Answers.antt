@@ -11,8 +11,8 @@ pub returns-in-Ok-Err : goal.returns-in-Ok-Err
 returns-in-Ok-Err g c = record {
   told = record {
     written = λ clean t holds.
-        no_holding t c.args.account c.args.symbol.now c.in-Ok-Err.refusal ((rw (c.in-Ok-Err.is, c.in-Ok-Err.field-0-is) at (c.holding_story.ensures.read.answered clean)) t holds);
-    keeps = keeps_read g.S.Store _ _ c.holding_story.result (IsStoryOfHolding c.args.account c.args.symbol.now) c.holding_story.ensures.read;
+        no_holding t c.args.account c.args.symbol.now c.in-Ok-Err.refusal ((rw (c.in-Ok-Err.is, c.in-Ok-Err.field-0-is) at (c.holding_explanation_rows.ensures.read.answered clean)) t holds);
+    keeps = keeps_read g.S.Store _ _ c.holding_explanation_rows.result (IsStoryOfHolding c.args.account c.args.symbol.now) c.holding_explanation_rows.ensures.read;
     unwritten = λ refusal is. refl;
   };
 }
@@ -25,9 +25,9 @@ returns-in-Ok g c =
     record {
       told = record {
         written = λ clean t holds.
-            let is_story = (rw (c.in-Ok-Ok.is, c.in-Ok-Ok.field-0-is) at (c.holding_story.ensures.read.answered clean)) t holds in
+            let is_story = (rw (c.in-Ok-Ok.is, c.in-Ok-Ok.field-0-is) at (c.holding_explanation_rows.ensures.read.answered clean)) t holds in
             tells_all (explanation t (HoldingOf c.args.account c.args.symbol.now)) lines (holding_told t c.args.account c.args.symbol.now story is_story) _ _ (rw c.in-Ok.is at wrote);
-        keeps = keeps_read g.S.Store _ _ c.holding_story.result (IsStoryOfHolding c.args.account c.args.symbol.now) c.holding_story.ensures.read;
+        keeps = keeps_read g.S.Store _ _ c.holding_explanation_rows.result (IsStoryOfHolding c.args.account c.args.symbol.now) c.holding_explanation_rows.ensures.read;
         unwritten = λ refusal is. absurd (let same = is in cc);
       };
     }
@@ -40,9 +40,9 @@ returns-in-Err-Desk g c =
     record {
       told = record {
         written = λ clean t holds.
-            let is_story = (rw (c.in-Ok-Ok.is, c.in-Ok-Ok.field-0-is) at (c.holding_story.ensures.read.answered clean)) t holds in
+            let is_story = (rw (c.in-Ok-Ok.is, c.in-Ok-Ok.field-0-is) at (c.holding_explanation_rows.ensures.read.answered clean)) t holds in
             tells_fault (explanation t (HoldingOf c.args.account c.args.symbol.now)) lines (holding_told t c.args.account c.args.symbol.now story is_story) _ _ c.in-Err-Desk.fault (rw (c.in-Err-Desk.is, c.in-Err-Desk.field-0-is) at wrote);
-        keeps = keeps_read g.S.Store _ _ c.holding_story.result (IsStoryOfHolding c.args.account c.args.symbol.now) c.holding_story.ensures.read;
+        keeps = keeps_read g.S.Store _ _ c.holding_explanation_rows.result (IsStoryOfHolding c.args.account c.args.symbol.now) c.holding_explanation_rows.ensures.read;
         unwritten = λ refusal is. absurd (let same = is in cc);
       };
     }
@@ -55,9 +55,9 @@ returns g c =
     record {
       told = record {
         written = λ clean t holds.
-            let is_story = (rw (c.in-Ok-Ok.is, c.in-Ok-Ok.field-0-is) at (c.holding_story.ensures.read.answered clean)) t holds in
+            let is_story = (rw (c.in-Ok-Ok.is, c.in-Ok-Ok.field-0-is) at (c.holding_explanation_rows.ensures.read.answered clean)) t holds in
             tells_write (explanation t (HoldingOf c.args.account c.args.symbol.now)) lines (holding_told t c.args.account c.args.symbol.now story is_story) _ _ (rw (c.in-Err-Write.is, c.in-Err-Write.field-0-is) at wrote);
-        keeps = keeps_read g.S.Store _ _ c.holding_story.result (IsStoryOfHolding c.args.account c.args.symbol.now) c.holding_story.ensures.read;
+        keeps = keeps_read g.S.Store _ _ c.holding_explanation_rows.result (IsStoryOfHolding c.args.account c.args.symbol.now) c.holding_explanation_rows.ensures.read;
         unwritten = λ refusal is. absurd (let same = is in cc);
       };
     }
