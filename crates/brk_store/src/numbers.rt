@@ -1,7 +1,9 @@
 //! Reads of the balance of an account and of the totals of a broker.
 
-ghost use Rattle.std.specs.Prelude.{IfSome, pos, ◌≡◌, ◌==◌, Err, OnErr, find, option_map};
+ghost use Rattle.std.specs.Prelude.{IfSome, IfNone, ℕ, ◌≤◌, pos, ◌≡◌, ◌==◌, Err, OnErr, find, option_map};
 ghost use Rattle.brk_money.specs.declared.fault.Fault.TheVariants as fault;
+ghost use Rattle.brk_changes.specs.declared.trade_count.TheConstants.TradeCount;
+ghost use Rattle.brk_money.specs.declared.amount.TheConstants.Amount;
 ghost use Rattle.brk_store.specs.Holds.{ReadPost};
 ghost use Rattle.brk_store.specs.Numbers.{AreBrokerTotals};
 
@@ -11,9 +13,10 @@ use brk_money::{Cents, Fault, Id};
 use brk_ref::BrokerRow;
 use sqlite::Alter;
 
-// Returns the totals in a broker's row, or `None` if one of them is out of range.
+// Returns the totals in a broker's row, or `None` only if one of them is out of range.
 fn totals_in_broker_row(row: &BrokerRow) -> Option<BrokerTotals>
-    ensures { IfSome result (λ numbers. (pos numbers.trades ≡ row.now.trades) × (numbers.commissions ≡ row.now.commissions)) }
+    ensures none { IfNone result ((n : ℕ) → pos n ≡ row.now.trades → n ≤ TradeCount.GREATEST → row.now.commissions ≤ Amount.GREATEST → ⊥) }
+    ensures some { IfSome result (λ numbers. (pos numbers.trades ≡ row.now.trades) × (numbers.commissions ≡ row.now.commissions)) }
 {
     if row.trades < 0 {
         return None;
