@@ -53,10 +53,10 @@ pub fn execute_row<C: Clock, D: Rows>(
     requires first { 1 ≤ n }
     requires last { n ≤ 67108864 }
     ensures disk_was_clean { D.honest desk.new → D.honest desk.old }
-    ensures ok { IfOk result (λ answer. RowHasAnswer D.honest (RepresentsDurably D.stands D.stays_durable) D.acts D.step C.gives (D.form (fields_of row.now)) batch.now n
+    ensures ok { IfOk result (λ answer. RowHasAnswer D.honest (RepresentsDurably D.stands D.leaves) D.acts D.step C.gives (D.form (fields_of row.now)) batch.now n
         (answer_in_model D.told answer) desk.old desk.new clock.old clock.new) }
     ensures represented_at_error { OnErr result (PreservesRepresentedBases D.honest D.stands desk.old desk.new) }
-    ensures failed { IfErr result (λ fault. RowFailsWith D.honest D.stands D.stays_durable D.acts D.step C.gives (D.form (fields_of row.now)) batch.now n fault
+    ensures failed { IfErr result (λ fault. RowFailsWith D.honest D.stands D.leaves D.acts D.step C.gives (D.form (fields_of row.now)) batch.now n fault
         desk.old desk.new clock.old clock.new) }
     ensures fault { IfErr result IsCallFault }
 {

@@ -125,7 +125,7 @@ fn execute_rows_and_write_lines<R: Read, W: Write, C: Clock, D: Rows>(
     requires setup { IsBatchReader records.old }
     requires named { IsBatchName name.now }
     ensures { (text : Option (List ℕ)) → ReaderIsAfterRecords text (batch_header name.now ∷ []) (reader_state records.old) (source_of R.remaining records.old)
-        → BatchPost D.honest D.stands D.stays_durable D.acts D.form D.step C.gives text desk.old desk.new
+        → BatchPost D.honest D.stands D.leaves D.acts D.form D.step C.gives text desk.old desk.new
         (record { clock = clock.old; later = clock.new; old = W.contents writer.old; new = W.contents writer.new }) result }
 {
     let mut counts = Counts::NONE;
@@ -204,7 +204,7 @@ pub fn execute_batch_on_desk<R: Read + Drop, W: Write, C: Clock, D: Rows>(
         (record { clock = clock.old; later = clock.new; old = W.contents writer.old; new = W.contents writer.new }) result }
     ensures refines_model { BatchRefinesModel D.honest D.stands D.form D.step C.gives (option_map input_text (R.remaining reader)) desk.old desk.new
         (record { clock = clock.old; later = clock.new; old = W.contents writer.old; new = W.contents writer.new }) result }
-    ensures crash_safe { IsBatchCrashSafe D.honest D.stands D.stays_durable D.form D.step C.gives (option_map input_text (R.remaining reader)) desk.old desk.new
+    ensures crash_safe { IsBatchCrashSafe D.honest D.stands D.leaves D.form D.step C.gives (option_map input_text (R.remaining reader)) desk.old desk.new
         (record { clock = clock.old; later = clock.new; old = W.contents writer.old; new = W.contents writer.new }) result }
 {
     let mut records = new_record_reader(alloc, reader);

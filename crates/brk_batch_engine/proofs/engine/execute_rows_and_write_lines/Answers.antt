@@ -20,7 +20,7 @@ returns-then-not-has_first g c = λ text h.
 
 pub loop-settled-init : goal.loop-settled-init
 loop-settled-init g c =
-    let start = reached_start g.D.Rows.honest (RepresentsDurably g.D.Rows.stands g.D.Rows.stays_durable) g.D.Rows.acts g.D.Rows.form g.D.Rows.step g.C.Clock.gives g.R.Read.remaining c.args.desk.now
+    let start = reached_start g.D.Rows.honest (RepresentsDurably g.D.Rows.stands g.D.Rows.leaves) g.D.Rows.acts g.D.Rows.form g.D.Rows.step g.C.Clock.gives g.R.Read.remaining c.args.desk.now
     (record { name = c.args.name.now; clock = c.args.clock.now; old = g.W.Write.contents c.args.writer.now; reader = c.args.records.now }) _ _ c.requires.named
     (λ text before h. rw c.if-not-has_first.false at (c.in-Ok.ensures.found text before h)) in
     record { setup = c.in-Ok.ensures.setup; reached = start.0; written = rw start.1 (Appends-nil _) }
@@ -62,15 +62,15 @@ returns-in-Err-execute_row g c = λ text h.
     let failed = c.in-Err-execute_row.ensures.failed in
     let may = c.in-Err-execute_row.ensures.fault in
     let wrote = c.loop-settled.invariant.written in
-    let asked = failed_asked g.D.Rows.honest g.D.Rows.stands g.D.Rows.stays_durable g.D.Rows.acts g.D.Rows.step g.C.Clock.gives (g.D.Rows.form (fields_of c.loop-settled.row)) c.args.name.now
+    let asked = failed_asked g.D.Rows.honest g.D.Rows.stands g.D.Rows.leaves g.D.Rows.acts g.D.Rows.step g.C.Clock.gives (g.D.Rows.form (fields_of c.loop-settled.row)) c.args.name.now
     (c.loop-settled.settled + 1) fault _ _ _ _ failed in
-    comes g.D.Rows.honest g.D.Rows.stands g.D.Rows.stays_durable _ _ _ _ _ _ _ _ _ r _ text _ _ c.in-Err-execute_row.ensures.disk_was_clean c.in-Err-execute_row.ensures.represented_at_error (λ T other base after turns.
+    comes g.D.Rows.honest g.D.Rows.stands g.D.Rows.leaves _ _ _ _ _ _ _ _ _ r _ text _ _ c.in-Err-execute_row.ensures.disk_was_clean c.in-Err-execute_row.ensures.represented_at_error (λ T other base after turns.
     answer_failed _ _ _ _ _ _ _ _ text (progress_of _ _ _ _ _ _ _ _ _ _ _ r other base after turns) fault wrote asked may h)
-    (tells_fault g.D.Rows.honest g.D.Rows.stands g.D.Rows.stays_durable _ _ _ _ _ _ _ _ _ r text _ _ _ _ reader fault failed may wrote
+    (tells_fault g.D.Rows.honest g.D.Rows.stands g.D.Rows.leaves _ _ _ _ _ _ _ _ _ r text _ _ _ _ reader fault failed may wrote
     (λ t before stood. rw c.if-not-has_next.false at (c.in-Ok-read_record.ensures.found t before stood)) h (λ T other base after turns.
     answer_failed _ _ _ _ _ _ _ _ text (progress_of _ _ _ _ _ _ _ _ _ _ _ r other base after turns) fault wrote asked may h))
     (λ good base after turns stood alone.
-    answer_left g.D.Rows.honest g.D.Rows.stands g.D.Rows.stays_durable g.D.Rows.acts _ _ _ _ _ _ _ _ text (progress_of _ _ _ _ _ _ _ _ _ _ _ r _ base after turns) _ reader fault _ _ failed may
+    answer_left g.D.Rows.honest g.D.Rows.stands g.D.Rows.leaves g.D.Rows.acts _ _ _ _ _ _ _ _ text (progress_of _ _ _ _ _ _ _ _ _ _ _ r _ base after turns) _ reader fault _ _ failed may
     wrote (λ t before stood. rw c.if-not-has_next.false at (c.in-Ok-read_record.ensures.found t before stood)) h good stood alone)
 
 pub returns-in-Err-write_answer_line : goal.returns-in-Err-write_answer_line
