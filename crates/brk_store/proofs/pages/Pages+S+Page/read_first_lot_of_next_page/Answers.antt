@@ -8,8 +8,8 @@ use Rattle.brk_store.proofs.Turning.{turned}
 use Rattle.brk_store.proofs.pages.Pages+S+Page.read_first_lot_of_next_page.Goals as goal
 use Rattle.brk_store.proofs.pages.Pages+S+Page.read_first_lot_of_next_page.Goals.{in-Some, in-None}
 
-pub returns-clause-returned : goal.returns-clause-returned
-returns-clause-returned g c told ls h =
+pub returns-clause-first_lot : goal.returns-clause-first_lot
+returns-clause-first_lot g c told ls h =
     let self = c.args.self.now in
     let after = c.read_next_page.new.self in
     let page = c.in_ok-page.page.items in

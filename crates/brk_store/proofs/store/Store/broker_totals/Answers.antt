@@ -20,5 +20,5 @@ returns-in-Some-totals_in_broker_row-clause-read g c =
     retold g.S.Store c.args.self.now c.broker.new.self (Some c.in-Some.row) (Some c.in-Some-totals_in_broker_row.numbers)
     (λ o (t : Tables). option_map abstract_broker_row o ≡ find (λ (r : BrokerRow). r.id == c.args.broker) t.brokers)
     (λ numbers (t : Tables). AreBrokerTotals numbers (find (λ (r : BrokerRow). r.id == c.args.broker) t.brokers))
-    (λ t e. (abstract_broker_row c.in-Some.row, sym e, c.in-Some-totals_in_broker_row.ensures.0, c.in-Some-totals_in_broker_row.ensures.1))
+    (λ t e. (abstract_broker_row c.in-Some.row, sym e, c.in-Some-totals_in_broker_row.ensures.some.0, c.in-Some-totals_in_broker_row.ensures.some.1))
     (rw c.in-Some.is at c.in_ok-row.ensures.read)
