@@ -1,5 +1,6 @@
 -- Whose account it is and its last trades, as they were read, are the view of the definitions.
-use Rattle.std.proofs.Common.{◌≡◌, ◌==◌, ℕ, List, [], ◌∷◌, ◌++◌, Some, None, Ok, Err, sym, ap, ◌∙◌, find, filter, map, take}
+use Rattle.std.proofs.Common.{◌≡◌, ◌==◌, ℕ, Bool, true, false, cond, List, [], ◌∷◌, ◌++◌, Some, None, Ok, Err, refl, sym, ap, subst, ◌∙◌, find, filter, map, option_map, reverse, take}
+use Rattle.std.proofs.lemmas.List.{map-append}
 use Rattle.std.specs.Global.{Vec}
 use Rattle.std.specs.Prelude.{bytes_eq, flat_map, is_none, option_to_list}
 use Rattle.brk_money.specs.Spelling.{Text}
@@ -12,10 +13,12 @@ use Rattle.brk_model.specs.Joins.{trade_rows_recent_first, trade_rows_of_account
 use Rattle.brk_model.specs.Queries.{StatusOf}
 use Rattle.brk_model.specs.Records.{Customer}
 use Rattle.brk_model.specs.StatusView.{broker_name_with_id, account_name_records, record_of_trade_status, trade_status_view}
+use Rattle.brk_model.specs.Tables as tables
 use Rattle.brk_model.specs.Tables.{AccountRow, SecurityRow, Tables, tables_of_base}
 use Rattle.brk_model.specs.Views.{view_of_tables}
 use Rattle.brk_ref.specs.Records.{abstract_security_row}
 use Rattle.brk_ref.specs.declared.security.Security.{Security}
+use Rattle.brk_book_theorems.proofs.Bools.{same_text}
 use Rattle.brk_view.specs.Status.{trade_status_record, party_names_record, rows_of_trade_status, trade_row_with_security}
 use Rattle.brk_view.specs.Views.{records_of_view}
 use Rattle.brk_view.specs.declared.statuses.AccountStatus.{AccountStatus}
@@ -27,6 +30,7 @@ use Rattle.brk_view_theorems.proofs.FoundRows.{account_alone, customer_alone}
 use Rattle.brk_view_theorems.proofs.StatusRows.{same_status_view}
 use Rattle.brk_queries.specs.Parties.{IsAccountStatusWithTrades}
 use Rattle.brk_queries.specs.QueryResults.{AnswersQueryAsModel}
+use Rattle.brk_queries.proofs.Each.{popped}
 use Rattle.brk_queries.proofs.Tested.{answered, carried_as, refused}
 use Rattle.brk_queries.proofs.RecentViews.{account_missing, account_there}
 
@@ -38,6 +42,60 @@ carried_in trade security t e = λ i. (abstract_trade_row trade, e i)
 -- `statuses` are the last 50 trades of the account, the most recent first, each with its security.
 abbrev pub AreRecentTradesWithSecurities : ℕ → List TradeStatus → Tables → Type 0
 AreRecentTradesWithSecurities account statuses t = map rows_of_trade_status statuses ≡ map (trade_row_with_security t) (take 50 (trade_rows_recent_first (trade_rows_of_account t account)))
+
+-- ---- the security of an earlier trade of the same symbol
+
+-- Each of `statuses` has the security of its trade.
+abbrev pub HaveOwnSecurities : List TradeStatus → Tables → Type 0
+HaveOwnSecurities statuses t = map rows_of_trade_status statuses ≡ map (λ s. trade_row_with_security t (abstract_trade_row s.trade)) statuses
+
+-- The trades in `rest`, followed by the trades of `statuses` in reverse order, are the last 50
+-- trades of the account, and each of `statuses` has the security of its trade.
+abbrev pub AreStatusesReadSoFar : ℕ → List TradeRow → List TradeStatus → Tables → Type 0
+AreStatusesReadSoFar account rest statuses t =
+    (map (λ r. trade_row_with_security t (abstract_trade_row r)) rest ++ map rows_of_trade_status (reverse statuses)
+    ≡ map (trade_row_with_security t) (take 50 (trade_rows_recent_first (trade_rows_of_account t account))))
+    × HaveOwnSecurities statuses t
+
+pub empty_have_own_securities : (statuses : List TradeStatus) (t : Tables) → statuses ≡ [] → HaveOwnSecurities statuses t
+empty_have_own_securities statuses t e = subst (λ ss. HaveOwnSecurities ss t) (sym e) refl
+
+one_more_has_own_security : (statuses : List TradeStatus) (status : TradeStatus) (t : Tables) (row : tables.TradeRow) → HaveOwnSecurities statuses t
+    → rows_of_trade_status status ≡ trade_row_with_security t row → HaveOwnSecurities (statuses ++ status ∷ []) t
+one_more_has_own_security statuses status t row h e =
+    let own : rows_of_trade_status status ≡ trade_row_with_security t (abstract_trade_row status.trade) = e ∙ ap (trade_row_with_security t) (sym (ap (λ p. p.0) e)) in
+    map-append rows_of_trade_status statuses (status ∷ []) ∙ (λ j. h j ++ own j ∷ []) ∙ sym (map-append (λ (s : TradeStatus). trade_row_with_security t (abstract_trade_row s.trade)) statuses (status ∷ []))
+
+pub status_more : (account : ℕ) (before rest : List TradeRow) (trade : TradeRow) (statuses : List TradeStatus) (status : TradeStatus) (t : Tables) → before ≡ rest ++ trade ∷ []
+    → AreStatusesReadSoFar account before statuses t → rows_of_trade_status status ≡ trade_row_with_security t (abstract_trade_row trade)
+    → AreStatusesReadSoFar account rest (statuses ++ status ∷ []) t
+status_more account before rest trade statuses status t is p e = (
+  popped (λ r. trade_row_with_security t (abstract_trade_row r)) rows_of_trade_status before rest trade statuses status _ is p.0 e,
+  one_more_has_own_security statuses status t (abstract_trade_row trade) p.1 e,
+)
+
+-- the security of the first of `statuses` of a symbol is that of the symbol
+pub same_security : (symbol : Text) (security : Security) (statuses : List TradeStatus) (t : Tables) → HaveOwnSecurities statuses t
+    → Some security ≡ option_map (λ s. s.security) (find (λ s. bytes_eq s.trade.symbol symbol) statuses)
+    → Some (abstract_security_row security) ≡ find (λ (r : SecurityRow). bytes_eq r.symbol symbol) t.securities
+same_security symbol security [] t h e = absurd (cc)
+same_security symbol security (s ∷ ss) t h e = by_test (bytes_eq s.trade.symbol symbol) refl (same_security symbol security ss t others) e
+  where
+    first : rows_of_trade_status s ≡ trade_row_with_security t (abstract_trade_row s.trade)
+    first = cc
+
+    others : HaveOwnSecurities ss t
+    others = cc
+
+    by_test : (b : Bool) → bytes_eq s.trade.symbol symbol ≡ b
+        → (Some security ≡ option_map (λ (s : TradeStatus). s.security) (find (λ (s : TradeStatus). bytes_eq s.trade.symbol symbol) ss)
+        → Some (abstract_security_row security) ≡ find (λ (r : SecurityRow). bytes_eq r.symbol symbol) t.securities)
+        → Some security ≡ option_map (λ (s : TradeStatus). s.security) (cond b (Some s) (find (λ (s : TradeStatus). bytes_eq s.trade.symbol symbol) ss))
+        → Some (abstract_security_row security) ≡ find (λ (r : SecurityRow). bytes_eq r.symbol symbol) t.securities
+    by_test true is later f =
+        ap (option_map abstract_security_row) f ∙ ap (λ p. p.1) first
+        ∙ ap (λ x. find (λ (r : SecurityRow). bytes_eq r.symbol x) t.securities) (same_text s.trade.symbol symbol is)
+    by_test false is later f = later f
 
 pub no_status : (id : ℕ) (t : Tables) → None ≡ find (λ r. r.id == id) t.accounts → AnswersQueryAsModel (StatusOf id) (Err NoAccount) t
 unfolding ask checks_of_query

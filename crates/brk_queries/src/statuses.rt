@@ -1,16 +1,18 @@
 //! The view of an account's parties and its last trades.
 
-ghost use Rattle.std.specs.Prelude.{◌≡◌, IfErr, map, take};
+ghost use Rattle.std.specs.Prelude.{◌≡◌, Err, IfErr, IfOk, OnErr, bytes_eq, find, map, option_map, take};
 ghost use Rattle.brk_changes.specs.Rows.{abstract_trade_row};
 ghost use Rattle.brk_queries.specs.QueryResults.{AnswersQueryAsModel};
 ghost use Rattle.brk_model.specs.Joins.{trade_rows_recent_first, trade_rows_of_account};
 ghost use Rattle.brk_model.specs.Queries.{StatusOf};
 ghost use Rattle.brk_model.specs.Run.{IsCallFault};
+ghost use Rattle.brk_money.specs.declared.fault.Fault.TheVariants.{Memory};
 ghost use Rattle.brk_store.specs.Holds.{ReadPost};
 ghost use Rattle.brk_view.specs.Status.{rows_of_trade_status, trade_row_with_security};
 
 use crate::parties::read_account_status;
 use brk_money::{Fault, Id, Planned, Refusal};
+use brk_ref::{Security, Symbol};
 use brk_store::Store;
 use brk_trade::TradeRow;
 use brk_view::{TradeStatus, View, status};
@@ -33,8 +35,32 @@ fn read_trade_with_security<S: Alter>(
     }
 }
 
-// Returns the last trades of an account, each with its security, the most recent first. Changes
-// nothing. Fails with `Memory` or `Store` only.
+// Returns true if the trade of `status` is of the symbol.
+fn is_trade_of_symbol(status: &TradeStatus, symbol: &Symbol) -> bool
+    ensures { result ≡ bytes_eq status.now.trade.symbol symbol.now }
+{
+    status.trade.symbol.as_str() == symbol.as_str()
+}
+
+// Returns the security of the first of `statuses` whose trade is of the symbol, or `None` if there
+// is no such trade. Fails with `Memory` only.
+fn security_of_symbol(statuses: &[TradeStatus], symbol: &Symbol) -> Result<Option<Security>, Fault>
+    ensures security { IfOk result (λ security. security
+        ≡ option_map (λ s. s.security) (find (λ s. bytes_eq s.trade.symbol symbol.now) statuses.now)) }
+    ensures fault { OnErr result (result ≡ Err Memory) }
+{
+    let Some(status) = statuses
+        .iter()
+        .find(|status| is_trade_of_symbol(status, symbol))
+    else {
+        return Ok(None);
+    };
+    let security = status.security.clone()?;
+    Ok(Some(security))
+}
+
+// Returns the last trades of an account, each with its security, the most recent first. Reads the
+// security of each symbol once. Changes nothing. Fails with `Memory` or `Store` only.
 fn read_recent_trades_with_securities<S: Alter>(
     alloc: Global,
     store: &mut Store<S>,
@@ -47,8 +73,12 @@ fn read_recent_trades_with_securities<S: Alter>(
     let mut rest = store.last_fifty_trades_of_account(alloc, account)?;
     let mut statuses = Vec::new(alloc);
     while let Some(trade) = rest.pop() {
-        let status = read_trade_with_security(store, trade)?;
-        statuses.push(status)?;
+        if let Some(security) = security_of_symbol(&statuses, &trade.symbol)? {
+            statuses.push(TradeStatus { trade, security })?;
+        } else {
+            let status = read_trade_with_security(store, trade)?;
+            statuses.push(status)?;
+        }
     }
     statuses.reverse();
     Ok(statuses)
