@@ -20,17 +20,17 @@ one_more ticks i tick inside is = ap (λ x. take i ticks ++ x ∷ []) is ∙ sym
 
 pub loop-tick-init : goal.loop-tick-init
 loop-tick-init g c =
-    retold g.S.Store c.args.store.now c.last_stamp.new.self c.in_ok-last_stamp.last tt
-    (λ last (t : Tables). last ≡ t.last) (λ _. QuotesAndLastStampMatch c.args.ticks.now [] (states_of_quotes c.new-quotes.result.items) c.in_ok-last_stamp.last)
+    retold g.S.Store c.args.store.now c.last_stamp.new.self c.in_ok-last.last tt
+    (λ last (t : Tables). last ≡ t.last) (λ _. QuotesAndLastStampMatch c.args.ticks.now [] (states_of_quotes c.new-quotes.result.items) c.in_ok-last.last)
     (λ t e. (e, subst (λ quotes. AreQuotesOfTicks t c.args.ticks.now [] (states_of_quotes quotes)) (sym c.new-quotes.ensures.items) (no_quotes t c.args.ticks.now)))
-    c.in_ok-last_stamp.ensures.read
+    c.in_ok-last.ensures.read
 
 pub loop-tick-preserved : goal.loop-tick-preserved
 loop-tick-preserved g c =
     let ticks = c.args.ticks.now in
     let i = c.loop-tick.tick-index in
     let tick = c.tick-item.result in
-    let last = c.in_ok-last_stamp.last in
+    let last = c.in_ok-last.last in
     let before = c.loop-tick.quotes.items in
     let lacks : lacks_state_of_symbol (states_of_quotes before) tick ≡ c.has_no_quote_of_symbol.result = sym (ap (λ quotes. lacks_state_of_symbol (states_of_quotes quotes) tick) c.deref.ensures.value) ∙ sym c.has_no_quote_of_symbol.ensures in
     let after : ReadPost {V = Unit {0}} {E = Fault} g.S.Store c.args.store.now c.if-has_no_quote_of_symbol.store (Ok tt) (λ _. QuotesAndLastStampMatch ticks (take i ticks ++ tick ∷ []) (states_of_quotes c.if-has_no_quote_of_symbol.quotes.items) last) =
@@ -61,7 +61,7 @@ pub returns-clause-read : goal.returns-clause-read
 returns-clause-read g c =
     let ticks = c.args.ticks.now in
     let i = c.loop-tick.tick-index in
-    let last = c.in_ok-last_stamp.last in
+    let last = c.in_ok-last.last in
     let quotes = c.loop-tick.quotes in
     retold g.S.Store c.args.store.now c.loop-tick.store tt (last, quotes)
     (λ _. QuotesAndLastStampMatch ticks (take i ticks) (states_of_quotes quotes.items) last) (λ market. QuotesAndLastStampMatch ticks ticks (states_of_quotes market.1.items) market.0)
@@ -72,7 +72,7 @@ pub returns-in_err-push-clause-read : goal.returns-in_err-push-clause-read
 returns-in_err-push-clause-read g c =
     let ticks = c.args.ticks.now in
     let tick = c.tick-item.result in
-    let last = c.in_ok-last_stamp.last in
+    let last = c.in_ok-last.last in
     let p = err_from_is_err_and c.from_residual-in_err-push.result c.from_residual-in_err-push.ensures.1 in
     rw (p.1)
     (read_failed g.S.Store c.args.store.now c.loop-tick.store c.read_quote_of_tick.new.store tt c.in_ok-quote.field-0 p.0

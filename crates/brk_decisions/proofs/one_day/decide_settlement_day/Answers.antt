@@ -9,8 +9,8 @@ returns-clause-read g c =
     let old = c.args.store.now in
     let mid = c.settlement_day.new.self in
     let day = c.args.day in
-    let last = c.in_ok-last_stamp.last in
+    let last = c.in_ok-last.last in
     let rule = c.in_ok-rule.rule in
     decided g.S.Store old mid rule (λ r. SettlementDayAndLastStampMatch r last) (DecidesCommand c.args.now (SetOneDay day)) c.plan_oneday.result
-    (last_and_rule g.S.Store old c.last_stamp.new.self mid rule last c.in_ok-last_stamp.ensures.read c.in_ok-rule.ensures.read)
+    (last_and_rule g.S.Store old c.last_stamp.new.self mid rule last c.in_ok-last.ensures.read c.in_ok-rule.ensures.read)
     (one_day_decided day rule last c.args.now c.get-moment.ensures.high c.plan_oneday.result c.plan_oneday.ensures.planned)

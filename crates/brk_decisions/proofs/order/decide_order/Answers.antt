@@ -13,10 +13,10 @@ returns-clause-read g c =
     let mid = c.read_order_facts.new.store in
     let end = c.plan_order_over_lots.new.lots.store.now in
     let order = c.args.order.now in
-    let last = c.in_ok-last_stamp.last in
+    let last = c.in_ok-last.last in
     let found = c.in_ok-found.found in
     read_at g.S.Store old end _ (search rules) c.plan_order_over_lots.result (DecidesCommand c.args.now (PlaceOrder (abstract_order order)))
     (decided_on g.S.Store old mid end found (OrderFactsAndLastStampMatch order last) (DecidesCommand c.args.now (PlaceOrder (abstract_order order))) c.plan_order_over_lots.result
-    (order_read g.S.Store old c.last_stamp.new.self mid order last found c.in_ok-last_stamp.ensures.read c.in_ok-found.ensures.read)
+    (order_read g.S.Store old c.last_stamp.new.self mid order last found c.in_ok-last.ensures.read c.in_ok-found.ensures.read)
     (rw c.lot_pages-lots.ensures.same at c.plan_order_over_lots.ensures.store_unchanged)
     (λ clean. order_decided order found last c.args.now _ c.get-moment.ensures.high (HoldsRows g.S.Store mid) (λ t h. (clean, c.lot_pages-lots.ensures.remaining t h)) c.plan_order_over_lots.result c.plan_order_over_lots.ensures.planned))

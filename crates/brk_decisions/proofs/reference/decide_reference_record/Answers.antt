@@ -9,8 +9,8 @@ returns-clause-read g c =
     let old = c.args.store.now in
     let mid = c.read_reference_facts.new.store in
     let r = c.args.reference.now in
-    let last = c.in_ok-last_stamp.last in
+    let last = c.in_ok-last.last in
     let found = c.in_ok-found.found in
     decided g.S.Store old mid found (λ f. ReferenceFactsAndLastStampMatch r f last) (DecidesCommand c.args.now (command_adding_record r)) c.plan_reference.result
-    (last_and_found g.S.Store old c.last_stamp.new.self mid r found last c.in_ok-last_stamp.ensures.read c.in_ok-found.ensures.read)
+    (last_and_found g.S.Store old c.last_stamp.new.self mid r found last c.in_ok-last.ensures.read c.in_ok-found.ensures.read)
     (reference_decided r found last c.args.now c.get-moment.ensures.high c.plan_reference.result c.plan_reference.ensures.planned)

@@ -13,9 +13,9 @@ pub returns-clause-read : goal.returns-clause-read
 returns-clause-read g c =
     let old = c.args.store.now in
     let u = c.args.update.now in
-    let last = c.in_ok-last_stamp.last in
+    let last = c.in_ok-last.last in
     let found = c.in_ok-found.found in
     decided g.S.Store old c.read_trades_of_update.new.store found (λ f. UpdateFactsAndLastStampMatch u f last) (DecidesCommand c.args.now (text_update_command u)) c.plan_update.result
     (read_both g.S.Store old c.last_stamp.new.self c.read_trades_of_update.new.store {H = Fault} last found found (λ last (t : Tables). last ≡ t.last) (λ f (t : Tables). UpdateFactsMatchTables t u f) (λ f. UpdateFactsAndLastStampMatch u f last)
-    (λ t e f. (e, f)) c.in_ok-last_stamp.ensures.read c.in_ok-found.ensures.read)
+    (λ t e f. (e, f)) c.in_ok-last.ensures.read c.in_ok-found.ensures.read)
     (update_decided u found last c.args.now c.get-moment.ensures.high c.plan_update.result c.plan_update.ensures.planned)
