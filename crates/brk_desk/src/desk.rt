@@ -259,7 +259,11 @@ impl<S: Alter> Desk<S> {
     /// whatever the result.
     ///
     /// A crash exposes only states that a crash before the call could expose.
-    pub fn broker_explanation_rows(&mut self, alloc: Global, broker: Id) -> Result<Option<BrokerStory>, Fault>
+    pub fn broker_explanation_rows(
+        &mut self,
+        alloc: Global,
+        broker: Id,
+    ) -> Result<Option<BrokerStory>, Fault>
         ensures read { ReadPost S.Store self.old self.new result (IsStoryOfBroker broker) }
         ensures fault { IfErr result IsCallFault }
     {
