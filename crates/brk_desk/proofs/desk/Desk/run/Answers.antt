@@ -16,13 +16,13 @@ loop-made-preserved g c =
     let calls = c.args.calls.now in
     let i = c.loop-made.made-index in
     let item = c.made-item.result in
-    let outcome = c.execute_call-execute_call.result in
+    let outcome = c.execute_call-outcome.result in
     let made = c.loop-made.invariant.made in
     let first = c.args.self.now in
-    let last = c.execute_call-execute_call.new.self in
+    let last = c.execute_call-outcome.new.self in
     let inside : vec_len c.loop-made.out < vec_capacity c.loop-made.out = (let r = c.loop-made.invariant.room in let t = c.loop-made-test.true in omega arith) in
     let pushed = c.push.ensures.items ∙ went_in c.push.result (c.loop-made.out.items ++ outcome ∷ []) c.loop-made.out.items (c.push.ensures.succeeds inside) in
-    let more = made_then (λ old now call outcome new. OutcomePost g.S.Store old new now call outcome) first c.loop-made.self last (take i calls) (item ∷ []) made.0 (outcome ∷ []) made.2 (last, c.execute_call-execute_call.ensures.executed, refl) in
+    let more = made_then (λ old now call outcome new. OutcomePost g.S.Store old new now call outcome) first c.loop-made.self last (take i calls) (item ∷ []) made.0 (outcome ∷ []) made.2 (last, c.execute_call-outcome.ensures.executed, refl) in
     let taken : take i calls ++ item ∷ [] ≡ take (i + 1) calls = ap (λ x. take i calls ++ x ∷ []) c.made-item.is ∙ sym (take_more calls i item c.loop-made-test.true) in
     record {
       made = (
