@@ -3,13 +3,13 @@ use Rattle.std.specs.Prelude.{List, ◌++◌, Result, Ok, Err}
 use Rattle.brk_money.specs.declared.refusal.Refusal.{Refusal}
 use Rattle.brk_model.specs.Forms.{ReadResult, ◌⊛◌}
 
--- The result of a parser with the model's value (`view`) of the parsed record, or with the same
--- refusal.
+-- The result of a parser in the model's values: `Ok` with the model's value (`view`) of the parsed
+-- record, or `Err` with the same refusal.
 abbrev pub abstract_parse_result : {A B : Type 0} → (A → B) → Result A Refusal → ReadResult B
 abstract_parse_result view (Ok x) = Ok (view x)
 abstract_parse_result view (Err refusal) = Err refusal
 
--- The parsed list `front` followed by the parsed list `last`, or, if one of them is refused, its
--- refusal, and if both are, that of the earlier format check.
+-- The parsed list `front` followed by the parsed list `last`. If one of the two is a refusal, the
+-- value is that refusal, and if both are, that of the earlier format check.
 abbrev pub appended_parse_results : {X : Type 0} → ReadResult (List X) → ReadResult (List X) → ReadResult (List X)
 appended_parse_results front last = Ok (λ xs ys. xs ++ ys) ⊛ front ⊛ last

@@ -28,33 +28,34 @@ texts_of_order_fields t =
 abbrev pub abstract_tick : tick.Tick → Tick
 abstract_tick t = record { symbol = t.symbol; price = t.price; qty = t.qty }
 
--- The list of one element, the model's tick with the values of the typed tick `t`.
+-- The list with one element: the model's tick with the values of the typed tick `t`.
 abbrev pub abstract_tick_as_list : tick.Tick → List Tick
 abstract_tick_as_list t = abstract_tick t ∷ []
 
--- The model's ticks with the values of the typed `ticks`.
+-- The model's ticks with the values of the typed `ticks`, in the same sequence.
 abbrev pub abstract_ticks : List tick.Tick → List Tick
 abstract_ticks ticks = map abstract_tick ticks
 
--- The model's ticks with the values of the typed ticks in a vector.
+-- The model's ticks with the values of the typed ticks in the vector `ticks`, in the same sequence.
 abbrev pub abstract_ticks_of_vector : Vec tick.Tick → List Tick
 abstract_ticks_of_vector ticks = abstract_ticks ticks.items
 
--- The model's command that completes the trade of `c` at its price.
+-- The model's command that completes the trade of the typed completion `c` at its price.
 abbrev pub completion_command : completion.Completion → Command
 completion_command c = CompleteTrade c.trade c.price
 
--- The ids in the vector `ids`.
+-- The list of the ids in the vector `ids`.
 abbrev pub ids_of_vector : Vec ℕ → List ℕ
 ids_of_vector ids = ids.items
 
--- The model's command of a typed text update.
+-- The model's command with the values of a typed text update, by its kind.
 abbrev pub text_update_command : told_update.Update → Command
 text_update_command (update.Executors trades) = ChangeExecutors trades
 text_update_command (update.CashTypes account span) = ChangeCashTypes account span.first span.last
 text_update_command (update.CashNames symbol span) = ChangeCashNames symbol span.first span.last
 
--- The model's command that deposits `amount` into `account`, or withdraws it from `account`.
+-- The model's command that deposits `amount` cents into `account`, or withdraws them from
+-- `account`, by the direction.
 abbrev pub cash_movement_command : Direction → (account amount : ℕ) → Command
 cash_movement_command Deposit account amount = DepositCash account amount
 cash_movement_command Withdrawal account amount = WithdrawCash account amount

@@ -4,9 +4,9 @@ ghost use Rattle.brk_ref.specs.Fields.{ParsesAs, texts_of_fields};
 use brk_money::{Id, Refusal};
 use brk_ref::parse_id;
 
-/// Parses the field TRADE: the id of the trade to cancel.
+/// Parses the id of the trade to cancel from the field TRADE.
 ///
-/// Refuses with `BadText` if there is not exactly one field, or if it is not an id. Never
+/// Refuses with `BadText` (18) if there is not exactly one field, or if it is not an id. Never
 /// allocates.
 pub fn parse_canceled_trade_id(fields: &[&[u8]]) -> Result<Id, Refusal>
     ensures { ParsesAs (λ trade. trade) result (read_canceled_trade_id (texts_of_fields fields.now)) }

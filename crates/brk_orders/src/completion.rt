@@ -5,12 +5,12 @@ ghost use Rattle.brk_ref.specs.Fields.{ParsesAs, texts_of_fields};
 use brk_money::{Id, Price, Refusal};
 use brk_ref::{parse_id, parse_price};
 
-/// The completion of a submitted trade, as it is requested (Trade-Result).
+/// The requested completion of a submitted trade (Trade-Result).
 #[derive(Clone, Copy)]
 pub struct Completion {
     /// The trade that is completed.
     pub trade: Id,
-    /// The price of a share at which it was executed.
+    /// The price of a share at which it was executed, in cents.
     pub price: Price,
 }
 

@@ -33,7 +33,7 @@ impl Feed {
     /// The greatest number of ticks of a feed.
     pub const MOST: usize = 20;
 
-    /// Returns the feed of these ticks. Refuses with `BadText` (18) if there are none, and with
+    /// Creates the feed of these ticks. Refuses with `BadText` (18) if there are none, and with
     /// `TooMany` (20) if there are more than 20. Never allocates.
     pub fn new(ticks: Vec<Tick>) -> Result<Feed, Refusal>
         ensures { ParsesAs abstract_ticks result (one_to_twenty_elements (abstract_ticks ticks.items)) }
@@ -55,8 +55,8 @@ impl Feed {
     }
 }
 
-// Returns the rank of a refusal in the sequence of the format checks: texts, quantities, prices,
-// types, and then all others.
+// Returns the rank of a refusal in the sequence of the format checks: 0 for a text, 1 for a
+// quantity, 2 for a price, 3 for a type, and 4 for all other refusals.
 fn rank_of_format_refusal(refusal: Refusal) -> u8
     ensures { result ≡ forms.format_refusal_rank refusal }
 {
@@ -81,8 +81,8 @@ fn refusal_of_earlier_check(one: Refusal, other: Refusal) -> Refusal
     }
 }
 
-// Appends a parsed tick to parsed ticks. If one of them is refused, returns its refusal, and if
-// both are, that of the earlier format check. Fails with `Memory` only.
+// Appends a parsed tick to the ticks parsed before it. If one of the two is a refusal, returns it.
+// If both are, returns that of the earlier format check. Fails with `Memory` only.
 fn append_parsed_tick(
     ticks: Result<Vec<Tick>, Refusal>,
     tick: Result<Tick, Refusal>,
@@ -102,9 +102,10 @@ fn append_parsed_tick(
     }
 }
 
-// Parses the fields of ticks, three for each. All fields are checked, and the refusal is that of
-// the first failing format check, of whichever tick. Refuses a number of fields that is not a
-// multiple of three with `BadText`. Fails with `Memory` only.
+// Parses ticks from their fields, three for each: SYMBOL, PRICE and QTY. Checks all fields, and
+// refuses with the earliest failing format check of any tick: `BadText`, `BadQty` or `BadPrice`.
+// Refuses a number of fields that is not a multiple of three with `BadText`. Fails with `Memory`
+// only.
 fn parse_ticks(alloc: Global, fields: &[&[u8]]) -> Planned<Vec<Tick>>
     ensures read { IfOk result (λ read. ParsesAs abstract_ticks_of_vector read (read_ticks (texts_of_fields fields.now))) }
     ensures fault { OnErr result (result ≡ Err Memory) }
@@ -124,9 +125,10 @@ fn parse_ticks(alloc: Global, fields: &[&[u8]]) -> Planned<Vec<Tick>>
 
 /// Parses a feed from the fields SYMBOL, PRICE and QTY of each tick. Fails with `Memory` only.
 ///
-/// Refuses with `BadText` (18) for a malformed text, otherwise with `BadQty` (8) for a quantity,
-/// with `BadPrice` (9) for a price, and with `TooMany` (20) for more than 20 ticks. All fields are
-/// checked before the number of ticks; no tick at all is `BadText`.
+/// Refuses with `BadText` (18) for a malformed symbol or an incomplete tick, otherwise with
+/// `BadQty` (8) for a quantity, otherwise with `BadPrice` (9) for a price. All fields are checked
+/// before the number of ticks: no tick at all is refused with `BadText`, and more than 20 with
+/// `TooMany` (20).
 pub fn parse_market_feed(alloc: Global, fields: &[&[u8]]) -> Planned<Feed>
     ensures read { IfOk result (λ read. ParsesAs abstract_ticks read (read_feed (texts_of_fields fields.now))) }
     ensures fault { OnErr result (result ≡ Err Memory) }

@@ -1,5 +1,5 @@
 //! Orders, market ticks, cancels, completions, text updates, deposits and withdrawals, and the
-//! settlement day, each as it is requested, with the format checks that make them from fields.
+//! settlement day, each as it is requested, and the functions that parse them from fields.
 #![tactic(auto)]
 
 pub mod cancel;

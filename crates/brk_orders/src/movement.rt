@@ -22,10 +22,10 @@ pub struct Movement {
     pub amount: MovedAmount,
 }
 
-/// Parses a deposit or a withdrawal from the fields ACCOUNT and AMOUNT.
+/// Parses a deposit or a withdrawal, by `direction`, from the fields ACCOUNT and AMOUNT.
 ///
-/// Refuses with `BadText` if there are not exactly two fields, or if a field is malformed or out of
-/// range. Never allocates.
+/// Refuses with `BadText` (18) if there are not exactly two fields, or if a field is malformed or
+/// out of range. Never allocates.
 pub fn parse_cash_movement(direction: Direction, fields: &[&[u8]]) -> Result<Movement, Refusal>
     ensures { ParsesAs movement_command result (read_movement_command (cash_movement_command direction) (texts_of_fields fields.now)) }
 {

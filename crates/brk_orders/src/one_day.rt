@@ -7,23 +7,24 @@ ghost use Rattle.brk_ref.specs.Fields.{ParsesAs, texts_of_fields};
 
 use brk_money::{Day, Refusal, parse_day};
 
-// Parses a day, YYYY-MM-DD. Returns `None` if the bytes are malformed or the day is not within
-// 1970-01-01 to 9999-12-31.
+// Parses a day, such as `2024-03-01`. Returns `None` if the bytes are malformed or the day is not
+// within 1970-01-01 to 9999-12-31.
 fn parse_calendar_day(bytes: &[u8]) -> Option<Day>
     ensures { ok_or result BadText ≡ read_day bytes.now }
 {
     let Some(day) = parse_day(bytes) else {
         return None;
     };
-    // Proof-only: `get` states the limit of the day.
+    // The contract of `get` states the limit of the day. The value is not used.
     let _limit = day.get();
     Some(day)
 }
 
-/// Parses the field DAY: the settlement day, the first day whose completions settle after one day.
+/// Parses the settlement day, the first day whose completions settle after one day, from the field
+/// DAY.
 ///
-/// Refuses with `BadText` if there is not exactly one field, or if it is not a day of the calendar.
-/// Never allocates.
+/// Refuses with `BadText` (18) if there is not exactly one field, or if it is not a day within
+/// 1970-01-01 to 9999-12-31. Never allocates.
 pub fn parse_requested_settlement_day(fields: &[&[u8]]) -> Result<Day, Refusal>
     ensures { ParsesAs (λ day. day) result (read_settlement_day (texts_of_fields fields.now)) }
 {

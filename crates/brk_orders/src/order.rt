@@ -13,7 +13,7 @@ use brk_money::{Fault, Id, OrderType, Planned, Price, Qty, Refusal, TradeType};
 use brk_ref::{Executor, Name, Symbol, TaxId, parse_id, parse_price, parse_qty, parse_trade_type};
 use std::alloc::Global;
 
-/// An order, as it is requested (Trade-Order).
+/// A requested order (Trade-Order).
 #[derive(Drop)]
 pub struct Order {
     /// The account of the order.
@@ -31,7 +31,7 @@ pub struct Order {
     pub executor: Executor,
 }
 
-// The ten fields of an order, as they were received.
+// The bytes of the ten fields of an order, before they are parsed.
 #[derive(Clone, Copy)]
 struct UnparsedOrder<'a> {
     account: &'a [u8],
@@ -46,8 +46,8 @@ struct UnparsedOrder<'a> {
     tax_id: &'a [u8],
 }
 
-// Returns true if the bytes are the word `yes`, false if they are the word `no`, and otherwise
-// `None`.
+// Parses one of two words. Returns true if the bytes are the word `yes`, false if they are the word
+// `no`, and otherwise `None`.
 fn parse_word_as_boolean(yes: &str, no: &str, bytes: &[u8]) -> Option<bool>
     ensures { ok_or result BadText ≡ read_word_as_boolean yes.now no.now bytes.now }
 {
@@ -60,8 +60,8 @@ fn parse_word_as_boolean(yes: &str, no: &str, bytes: &[u8]) -> Option<bool>
     None
 }
 
-// Parses the names and the tax id of an executor. Returns `None` if one is malformed. Fails with
-// `Memory` only.
+// Parses the person who places an order from the first name, the last name and the tax id. Returns
+// `None` if one of them is malformed. Fails with `Memory` only.
 fn parse_executor(
     alloc: Global,
     first_name: &[u8],
@@ -87,8 +87,8 @@ fn parse_executor(
     }))
 }
 
-// Returns the order type, which has no price. Refuses with `BadPrice` if the text of the price is
-// not empty.
+// Returns `order_type`, a market type, which has no price. Refuses with `BadPrice` if the text of
+// the price is not empty.
 fn order_type_without_price(order_type: OrderType, price: &[u8]) -> Result<OrderType, Refusal>
     ensures { result ≡ forms.market_order_type order_type price.now }
 {
@@ -99,7 +99,8 @@ fn order_type_without_price(order_type: OrderType, price: &[u8]) -> Result<Order
     }
 }
 
-// Parses the price of an order. Refuses with `BadPrice` if the text is malformed or out of range.
+// Parses the price that an order asks for, in cents. Refuses with `BadPrice` if the text is
+// malformed or out of range.
 fn parse_order_price(price: &[u8]) -> Result<Price, Refusal>
     ensures { result ≡ read_price price.now }
 {
@@ -120,8 +121,9 @@ fn refusal_of_unknown_type(price: &[u8]) -> Refusal
     }
 }
 
-// Returns the order type of `kind` with its price. Refuses with `BadPrice` if the text of the price
-// does not fit the type, and otherwise with `BadType` if the type is unknown.
+// Returns the order type of `kind`, which is `None` if the type is unknown, with its price. Refuses
+// with `BadPrice` if the text of the price is malformed, or not empty for a market type, and
+// otherwise with `BadType` if the type is unknown.
 fn order_type_with_price(kind: Option<TradeType>, price: &[u8]) -> Result<OrderType, Refusal>
     ensures { result ≡ forms.order_type_with_price kind price.now }
 {
@@ -135,8 +137,9 @@ fn order_type_with_price(kind: Option<TradeType>, price: &[u8]) -> Result<OrderT
     }
 }
 
-// Parses the ten fields of an order, or returns the refusal of malformed fields. Fails with
-// `Memory` only.
+// Parses the ten fields of an order. Refuses with `BadText` if a text, an id or a word is
+// malformed, otherwise with `BadQty` for the quantity, otherwise with `BadPrice` for the price,
+// otherwise with `BadType` for the type. Fails with `Memory` only.
 fn parse_order_fields(alloc: Global, told: UnparsedOrder<'_>) -> Planned<Order>
     ensures read { IfOk result (λ read. ParsesAs abstract_order read (read_order (texts_of_order_fields told.entry))) }
     ensures fault { OnErr result (result ≡ Err Memory) }

@@ -5,7 +5,7 @@ ghost use Rattle.brk_money.specs.declared.refusal.Refusal.TheVariants.{BadText};
 
 use brk_money::{Stamp, parse_whole_number};
 
-/// The stamps from `first` to `last`, both included. There are none if `first` is later than
+/// The stamps from `first` to `last`, both included. It has no stamp if `first` is later than
 /// `last`.
 #[derive(Clone, Copy)]
 pub struct Span {
@@ -13,7 +13,8 @@ pub struct Span {
     pub last: Stamp,
 }
 
-/// Parses a stamp. Returns `None` if the bytes are malformed or out of range.
+/// Parses a stamp, in milliseconds since 1970-01-01 UTC, in decimal digits. Returns `None` if the
+/// bytes are malformed or the stamp is later than 9999-12-31.
 pub fn parse_stamp(bytes: &[u8]) -> Option<Stamp>
     ensures { ok_or result BadText ≡ read_stamp bytes.now }
 {

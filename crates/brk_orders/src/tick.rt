@@ -12,14 +12,15 @@ use std::alloc::Global;
 #[derive(Drop)]
 pub struct Tick {
     pub symbol: Symbol,
-    /// The price of a share.
+    /// The price of a share, in cents.
     pub price: Price,
     /// The number of shares that were traded.
     pub qty: Qty,
 }
 
-// Parses the three fields of a tick, or returns the refusal of malformed fields. Fails with
-// `Memory` only.
+// Parses the three fields of a tick. Refuses with `BadText` if the symbol is malformed, otherwise
+// with `BadQty` for the quantity, otherwise with `BadPrice` for the price. Fails with `Memory`
+// only.
 pub(crate) fn parse_tick_fields(
     alloc: Global,
     symbol: &[u8],

@@ -31,8 +31,8 @@ impl TradeIds {
     /// The greatest number of trades that one row names.
     pub const MOST: usize = 20;
 
-    /// Returns these trades. Refuses with `BadText` (18) if there are none or one is named twice,
-    /// and with `TooMany` (20) if there are more than 20. Never allocates.
+    /// Creates the list of these ids. Refuses with `BadText` (18) if there are none or one occurs
+    /// twice, and otherwise with `TooMany` (20) if there are more than 20. Never allocates.
     pub fn new(ids: Vec<Id>) -> Result<TradeIds, Refusal>
         ensures { ParsesAs (λ trades. trades) result (one_to_twenty_distinct_ids ids.items) }
     {
@@ -63,7 +63,7 @@ fn is_among_ids(id: Id, ids: &[Id]) -> bool
     ids.iter().any(|other| *other == id)
 }
 
-// Returns true if no id occurs twice.
+// Returns true if no id occurs twice in the list.
 fn are_distinct(ids: &[Id]) -> bool
     ensures { result ≡ all_distinct ids.now }
 {
@@ -75,7 +75,8 @@ fn are_distinct(ids: &[Id]) -> bool
     true
 }
 
-// Parses ids of trades. Refuses with `BadText` if a field is malformed. Fails with `Memory` only.
+// Parses the id of a trade from each field, in sequence. Refuses with `BadText` if a field is
+// malformed or out of range. Fails with `Memory` only.
 fn parse_ids(alloc: Global, fields: &[&[u8]]) -> Planned<Vec<Id>>
     ensures read { IfOk result (λ read. ParsesAs ids_of_vector read (read_each_text read_id (texts_of_fields fields.now))) }
     ensures fault { OnErr result (result ≡ Err Memory) }
@@ -90,7 +91,7 @@ fn parse_ids(alloc: Global, fields: &[&[u8]]) -> Planned<Vec<Id>>
     Ok(Ok(ids))
 }
 
-/// Parses 1 to 20 different ids of trades from the fields. Fails with `Memory` only.
+/// Parses 1 to 20 different ids of trades, one from each field. Fails with `Memory` only.
 ///
 /// Refuses with `BadText` (18) if a field is malformed, if an id occurs twice, or if there are
 /// none. Otherwise refuses with `TooMany` (20) if there are more than 20.

@@ -12,7 +12,7 @@ use brk_money::{Id, Planned, Refusal};
 use brk_ref::{Symbol, parse_id};
 use std::alloc::Global;
 
-/// A text update of trades (Trade-Update).
+/// A requested text update (Trade-Update): which text of which trades it replaces.
 #[derive(Drop)]
 pub enum Update {
     /// Updates the executors' names of these trades.
@@ -24,8 +24,11 @@ pub enum Update {
     CashNames { symbol: Symbol, span: Span },
 }
 
-/// Parses an update of executors' names from the fields, 1 to 20 different ids of trades, or
-/// returns the refusal of malformed fields. Fails with `Memory` only.
+/// Parses an update of executors' names from the ids of its trades, 1 to 20 different ones. Fails
+/// with `Memory` only.
+///
+/// Refuses with `BadText` (18) if a field is malformed, if an id occurs twice, or if there are
+/// none. Otherwise refuses with `TooMany` (20) if there are more than 20.
 pub fn parse_update_of_executor_names(alloc: Global, fields: &[&[u8]]) -> Planned<Update>
     ensures read { IfOk result (λ read. ParsesAs text_update_command read (read_and_wrap ChangeExecutors read_distinct_ids (texts_of_fields fields.now))) }
     ensures fault { OnErr result (result ≡ Err Memory) }
@@ -36,8 +39,11 @@ pub fn parse_update_of_executor_names(alloc: Global, fields: &[&[u8]]) -> Planne
     }
 }
 
-/// Parses an update of cash types from the fields ACCOUNT, FROM and TO. Refuses malformed fields,
-/// or another number of them, with `BadText`. Never allocates.
+/// Parses an update of cash types from the fields ACCOUNT, FROM and TO, the last two of them stamps
+/// in milliseconds since 1970-01-01 UTC.
+///
+/// Refuses with `BadText` (18) if there are not exactly three fields, or if one is malformed or out
+/// of range. Never allocates.
 pub fn parse_update_of_cash_types(fields: &[&[u8]]) -> Result<Update, Refusal>
     ensures { ParsesAs text_update_command result (read_cash_type_update (texts_of_fields fields.now)) }
 {
@@ -57,8 +63,11 @@ pub fn parse_update_of_cash_types(fields: &[&[u8]]) -> Result<Update, Refusal>
     Ok(Update::CashTypes { account, span })
 }
 
-/// Parses an update of cash texts from the fields SYMBOL, FROM and TO. Refuses malformed fields, or
-/// another number of them, with `BadText`. Fails with `Memory` only.
+/// Parses an update of cash texts from the fields SYMBOL, FROM and TO, the last two of them stamps
+/// in milliseconds since 1970-01-01 UTC.
+///
+/// Refuses with `BadText` (18) if there are not exactly three fields, or if one is malformed or out
+/// of range. Fails with `Memory` only.
 pub fn parse_update_of_cash_texts(alloc: Global, fields: &[&[u8]]) -> Planned<Update>
     ensures read { IfOk result (λ read. ParsesAs text_update_command read (read_cash_name_update (texts_of_fields fields.now))) }
     ensures fault { OnErr result (result ≡ Err Memory) }

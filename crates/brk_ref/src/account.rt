@@ -17,19 +17,19 @@ pub struct Account {
     pub broker: Id,
     pub name: Name,
     pub tax_status: TaxStatus,
-    /// The balance at the opening of the account.
+    /// The balance at the opening of the account, in cents.
     pub opening: Cents,
 }
 
-/// A row of CUSTOMER_ACCOUNT: an account with its balance.
+/// A row of CUSTOMER_ACCOUNT: an account with its balance in cents.
 #[derive(Drop)]
 pub struct AccountRow {
     pub account: Account,
     pub balance: Cents,
 }
 
-// Parses the six fields of an account, or returns the refusal of malformed fields. Fails with
-// `Memory` only.
+// Parses the six fields of an account. Refuses with `BadText` if one is malformed or out of range.
+// Fails with `Memory` only.
 fn parse_account_fields(
     alloc: Global,
     id: &[u8],
@@ -71,8 +71,9 @@ fn parse_account_fields(
     }))
 }
 
-// Parses the fields of an account, of which `terms` are those after the first three. Refuses
-// malformed fields, and another number of them with `BadText`. Fails with `Memory` only.
+// Parses the six fields of an account, of which `terms` has the last three: NAME, TAXST and
+// OPENING. Refuses with `BadText` if a field is malformed or out of range, or if `terms` has
+// another number of fields. Fails with `Memory` only.
 fn parse_account_with_last_fields(
     alloc: Global,
     id: &[u8],
@@ -89,8 +90,10 @@ fn parse_account_with_last_fields(
     parse_account_fields(alloc, id, customer, broker, name, tax_status, opening)
 }
 
-/// Parses the fields ID, CUSTOMER, BROKER, NAME, TAXST and OPENING of an account, or returns the
-/// refusal of malformed fields. Fails with `Memory` only.
+/// Parses an account from the fields ID, CUSTOMER, BROKER, NAME, TAXST and OPENING.
+///
+/// Refuses with `BadText` (18) if there are not exactly six fields, or if one is malformed or out
+/// of range. Fails with `Memory` only.
 pub fn check_account(alloc: Global, fields: &[&[u8]]) -> Planned<Account>
     ensures read { IfOk result (λ read. ParsesAs abstract_account read (read_account (texts_of_fields fields.now))) }
     ensures fault { OnErr result (result ≡ Err Memory) }

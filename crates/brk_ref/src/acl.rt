@@ -5,10 +5,10 @@ ghost use Rattle.brk_ref.specs.Utf8.{acl_is_utf8};
 
 use crate::text::{Form, Text};
 
-/// The rights of a permission (AP_ACL): four characters, each 0 or 1, which are stored as they are.
+/// The rights of a permission (AP_ACL): four characters, each 0 or 1, which are stored unchanged.
 pub type Acl = Text<AclForm>;
 
-// Returns true if every byte is the digit 0 or 1.
+// Returns true if every byte of the text is the ASCII digit 0 or 1.
 fn has_zeros_and_ones_only(text: &[u8]) -> bool
     ensures { result ≡ list_all (λ c. (c == 48) || (c == 49)) text.now }
 {

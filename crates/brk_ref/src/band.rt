@@ -15,8 +15,8 @@ use crate::trade_type::parse_trade_type;
 use brk_money::{Planned, Qty, Rate, Refusal, TradeType};
 use std::alloc::Global;
 
-/// The commission rate of a tier, a type and an exchange for quantities between two bounds, both
-/// included (a row of COMMISSION_RATE).
+/// The commission rate, in hundredths of a percent, of a tier, a type and an exchange for
+/// quantities between two bounds, both included (a row of COMMISSION_RATE).
 #[derive(Clone, Drop)]
 pub struct Band {
     pub tier: Tier,
@@ -27,7 +27,8 @@ pub struct Band {
     pub rate: Rate,
 }
 
-// Parses two bounds. Returns `None` if one is malformed, or if the first exceeds the second.
+// Parses the two bounds of a band, each a quantity of shares. Returns `None` if one is malformed or
+// out of range, or if `low` exceeds `high`.
 fn parse_quantity_bounds(low: &[u8], high: &[u8]) -> Option<(Qty, Qty)>
     ensures { ok_or result BadQty ≡ read_quantity_bounds low.now high.now }
 {
@@ -44,8 +45,9 @@ fn parse_quantity_bounds(low: &[u8], high: &[u8]) -> Option<(Qty, Qty)>
     }
 }
 
-// Parses the six fields of a band, or returns the refusal of malformed fields. Fails with `Memory`
-// only.
+// Parses the six fields of a band. Refuses with `BadText` if the tier, the exchange or the rate is
+// malformed, otherwise with `BadQty` if a bound is malformed or the bounds are reversed, otherwise
+// with `BadType` if the type is unknown. Fails with `Memory` only.
 fn parse_band_fields(
     alloc: Global,
     tier: &[u8],
@@ -84,8 +86,9 @@ fn parse_band_fields(
     }))
 }
 
-// Parses the fields of a band, of which `terms` are those after the first three. Refuses malformed
-// fields, and another number of them with `BadText`. Fails with `Memory` only.
+// Parses the six fields of a band, of which `terms` has the last three: FROM, TO and RATE. Refuses
+// with `BadText`, `BadQty` or `BadType` if a field is malformed, and with `BadText` if `terms` has
+// another number of fields. Fails with `Memory` only.
 fn parse_band_with_last_fields(
     alloc: Global,
     tier: &[u8],
@@ -102,8 +105,11 @@ fn parse_band_with_last_fields(
     parse_band_fields(alloc, tier, kind, exchange, low, high, rate)
 }
 
-/// Parses the fields TIER, TYPE, EXCHANGE, FROM, TO and RATE of a band, or returns the refusal of
-/// malformed fields. Fails with `Memory` only.
+/// Parses a commission band from the fields TIER, TYPE, EXCHANGE, FROM, TO and RATE.
+///
+/// Refuses with `BadText` (18) if there are not exactly six fields, or if the tier, the exchange or
+/// the rate is malformed; otherwise with `BadQty` (8) if a bound is malformed or FROM exceeds TO;
+/// otherwise with `BadType` (7) if the type is unknown. Fails with `Memory` only.
 pub fn check_band(alloc: Global, fields: &[&[u8]]) -> Planned<Band>
     ensures read { IfOk result (λ read. ParsesAs abstract_band read (read_commission_band (texts_of_fields fields.now))) }
     ensures fault { OnErr result (result ≡ Err Memory) }
@@ -114,15 +120,15 @@ pub fn check_band(alloc: Global, fields: &[&[u8]]) -> Planned<Band>
     parse_band_with_last_fields(alloc, tier, kind, exchange, terms)
 }
 
-// Returns true if the bounds of the band contain the quantity.
+// Returns true if the quantity is within the bounds of the band, both included.
 fn bounds_contain_quantity(band: &Band, qty: Qty) -> bool
     ensures { result ≡ nat_le band.now.from_qty qty && nat_le qty band.now.to_qty }
 {
     band.from_qty.get() <= qty.get() && qty.get() <= band.to_qty.get()
 }
 
-/// Returns true if two bands have the same tier, type and exchange, and bounds that share a
-/// quantity.
+/// Returns true if two bands have the same tier, the same type and the same exchange, and some
+/// quantity is within the bounds of both.
 pub fn bands_share_quantity(one: &Band, other: &Band) -> bool
     ensures { result ≡ bands_overlap (abstract_band one.now) (abstract_band other.now) }
 {
@@ -133,7 +139,8 @@ pub fn bands_share_quantity(one: &Band, other: &Band) -> bool
         && other.from_qty.get() <= one.to_qty.get()
 }
 
-/// Returns the rate of the first band whose bounds contain the quantity, or `None` if no band does.
+/// Returns the rate, in hundredths of a percent, of the first band whose bounds contain the
+/// quantity, or `None` if no band does.
 ///
 /// The tier, type and exchange of a band are not compared: pass the bands of one combination.
 pub fn band_for(bands: &[Band], qty: Qty) -> Option<Rate>
@@ -145,8 +152,8 @@ pub fn band_for(bands: &[Band], qty: Qty) -> Option<Rate>
     Some(band.rate)
 }
 
-/// Returns true if `band` shares a quantity with one of `bands` that has its tier, type and
-/// exchange.
+/// Returns true if one of `bands` has the tier, the type and the exchange of `band`, and some
+/// quantity is within the bounds of both.
 pub fn overlaps(bands: &[Band], band: &Band) -> bool
     ensures { result ≡ list_any (bands_overlap (abstract_band band.now)) (map abstract_band bands.now) }
 {

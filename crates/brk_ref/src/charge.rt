@@ -9,7 +9,7 @@ use crate::tier::Tier;
 use crate::trade_type::parse_trade_type;
 use brk_money::{Refusal, TradeType};
 
-/// The charge for an order of a type by a customer of a tier (a row of CHARGE).
+/// The charge, in cents, for an order of a type by a customer of a tier (a row of CHARGE).
 #[derive(Clone, Copy)]
 pub struct Charge {
     pub kind: TradeType,
@@ -17,7 +17,8 @@ pub struct Charge {
     pub amount: ChargeAmount,
 }
 
-// Parses the three fields of a charge, or returns the refusal of malformed fields.
+// Parses the three fields of a charge. Refuses with `BadText` if the tier or the amount is
+// malformed or out of range, otherwise with `BadType` if the type is unknown. Never allocates.
 fn parse_charge_fields(kind: &[u8], tier: &[u8], amount: &[u8]) -> Result<Charge, Refusal>
     ensures { ParsesAs abstract_charge result (read_charge (kind.now ∷ tier.now ∷ amount.now ∷ [])) }
 {
@@ -33,8 +34,11 @@ fn parse_charge_fields(kind: &[u8], tier: &[u8], amount: &[u8]) -> Result<Charge
     Ok(Charge { kind, tier, amount })
 }
 
-/// Parses the fields TYPE, TIER and AMOUNT of a charge, or returns the refusal of malformed fields.
-/// Never allocates.
+/// Parses a charge from the fields TYPE, TIER and AMOUNT.
+///
+/// Refuses with `BadText` (18) if there are not exactly three fields, or if the tier or the amount
+/// is malformed or out of range; otherwise with `BadType` (7) if the type is unknown. Never
+/// allocates.
 pub fn check_charge(fields: &[&[u8]]) -> Result<Charge, Refusal>
     ensures { ParsesAs abstract_charge result (read_charge (texts_of_fields fields.now)) }
 {

@@ -21,7 +21,7 @@ impl ChargeAmount {
     /// The greatest charge, in cents.
     pub const GREATEST: u32 = 1_000_000;
 
-    /// Returns the charge of `cents` cents, or `None` if it exceeds `GREATEST`.
+    /// Returns the charge of `cents` cents, or `None` if `cents` exceeds `GREATEST`.
     pub fn new(cents: u32) -> Option<ChargeAmount>
         ensures { SomeIff result (cents ≤ ChargeAmount.GREATEST) cents }
     {

@@ -21,8 +21,8 @@ pub struct Customer {
     pub first_name: Name,
 }
 
-// Parses the five fields of a customer, or returns the refusal of malformed fields. Fails with
-// `Memory` only.
+// Parses the five fields of a customer. Refuses with `BadText` if one is malformed or out of range.
+// Fails with `Memory` only.
 fn parse_customer_fields(
     alloc: Global,
     id: &[u8],
@@ -59,8 +59,10 @@ fn parse_customer_fields(
     }))
 }
 
-/// Parses the fields ID, TIER, TAXID, LAST and FIRST of a customer, or returns the refusal of
-/// malformed fields. Fails with `Memory` only.
+/// Parses a customer from the fields ID, TIER, TAXID, LAST and FIRST.
+///
+/// Refuses with `BadText` (18) if there are not exactly five fields, or if one is malformed or out
+/// of range. Fails with `Memory` only.
 pub fn check_customer(alloc: Global, fields: &[&[u8]]) -> Planned<Customer>
     ensures read { IfOk result (λ read. ParsesAs abstract_customer read (read_customer (texts_of_fields fields.now))) }
     ensures fault { OnErr result (result ≡ Err Memory) }

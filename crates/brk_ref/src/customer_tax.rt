@@ -12,7 +12,9 @@ pub struct CustomerTax {
     pub tax: Id,
 }
 
-/// Parses the fields CUSTOMER and TAXRATE, or returns the refusal of malformed fields. Never
+/// Parses a tax of a customer from the fields CUSTOMER and TAXRATE, the ids of the two.
+///
+/// Refuses with `BadText` (18) if there are not exactly two fields, or if one is not an id. Never
 /// allocates.
 pub fn check_customer_tax(fields: &[&[u8]]) -> Result<CustomerTax, Refusal>
     ensures { ParsesAs abstract_customer_tax result (read_customer_tax (texts_of_fields fields.now)) }

@@ -12,15 +12,15 @@ use crate::symbol::Symbol;
 use brk_money::{Planned, Price, Refusal};
 use std::alloc::Global;
 
-/// A security to list, with its first price.
+/// A security to list, with its first price of a share, in cents.
 #[derive(Drop)]
 pub struct Listing {
     pub security: Security,
     pub price: Price,
 }
 
-// Parses the five fields of a listing, or returns the refusal of malformed fields. Fails with
-// `Memory` only.
+// Parses the five fields of a listing. Refuses with `BadText` if a text is malformed, otherwise
+// with `BadPrice` if the price is malformed or out of range. Fails with `Memory` only.
 fn parse_listing_fields(
     alloc: Global,
     symbol: &[u8],
@@ -56,8 +56,12 @@ fn parse_listing_fields(
     Ok(Ok(Listing { security, price }))
 }
 
-/// Parses the fields SYMBOL, NAME, EXCHANGE, SECTOR and PRICE of a listing, or returns the refusal
-/// of malformed fields. Fails with `Memory` only.
+/// Parses a listing, a security with its first price, from the fields SYMBOL, NAME, EXCHANGE,
+/// SECTOR and PRICE.
+///
+/// Refuses with `BadText` (18) if there are not exactly five fields, or if a text is malformed;
+/// otherwise with `BadPrice` (9) if the price is malformed or out of range. Fails with `Memory`
+/// only.
 pub fn check_security(alloc: Global, fields: &[&[u8]]) -> Planned<Listing>
     ensures read { IfOk result (λ read. ParsesAs abstract_listing read (read_listing (texts_of_fields fields.now))) }
     ensures fault { OnErr result (result ≡ Err Memory) }

@@ -21,7 +21,7 @@ impl MovedAmount {
     /// The greatest amount, in cents.
     pub const GREATEST: u64 = 100_000_000_000_000_000;
 
-    /// Returns the amount of `cents` cents, or `None` if it is not within 1 to `GREATEST`.
+    /// Returns the amount of `cents` cents, or `None` if `cents` is not within 1 to `GREATEST`.
     pub fn new(cents: u64) -> Option<MovedAmount>
         ensures { SomeIff result ((1 ≤ cents) × (cents ≤ MovedAmount.GREATEST)) cents }
     {

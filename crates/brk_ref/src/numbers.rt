@@ -9,7 +9,8 @@ use crate::charge_amount::ChargeAmount;
 use crate::moved_amount::MovedAmount;
 use brk_money::{Cents, Id, Price, Qty, Rate, TaxRate, TaxStatus, parse_cents, parse_whole_number};
 
-/// Parses an id. Returns `None` if the bytes are malformed or out of range.
+/// Parses an id, 1 to 10^12 in decimal digits. Returns `None` if the bytes are malformed or the
+/// number is out of range.
 pub fn parse_id(bytes: &[u8]) -> Option<Id>
     ensures { ok_or result BadText ≡ read_id bytes.now }
 {
@@ -19,8 +20,8 @@ pub fn parse_id(bytes: &[u8]) -> Option<Id>
     Id::new(number)
 }
 
-/// Parses the number of a tax status, 0 to 2. Returns `None` if the bytes are malformed or out of
-/// range.
+/// Parses a tax status from its number, 0 to 2. Returns `None` if the bytes are malformed or the
+/// number is out of range.
 pub fn parse_tax_status(bytes: &[u8]) -> Option<TaxStatus>
     ensures { ok_or result BadText ≡ read_tax_status bytes.now }
 {
@@ -30,15 +31,16 @@ pub fn parse_tax_status(bytes: &[u8]) -> Option<TaxStatus>
     TaxStatus::from_number(number)
 }
 
-/// Parses an opening balance. Returns `None` if the bytes are malformed or the amount exceeds 10^17
-/// cents in either direction.
+/// Parses an opening balance, such as `10000.00` or `-0.50`. Returns `None` if the bytes are not
+/// the canonical text of an amount, or if its absolute value exceeds 10^17 cents.
 pub fn parse_opening_balance(bytes: &[u8]) -> Option<Cents>
     ensures { ok_or result BadText ≡ read_opening_balance bytes.now }
 {
     parse_cents(bytes)
 }
 
-/// Parses a quantity. Returns `None` if the bytes are malformed or out of range.
+/// Parses a quantity of shares, 1 to 9,999,999 in decimal digits. Returns `None` if the bytes are
+/// malformed or the number is out of range.
 pub fn parse_qty(bytes: &[u8]) -> Option<Qty>
     ensures { ok_or result BadQty ≡ read_quantity bytes.now }
 {
@@ -48,8 +50,8 @@ pub fn parse_qty(bytes: &[u8]) -> Option<Qty>
     Qty::new(number as u32)
 }
 
-/// Parses a commission rate, in hundredths of a percent. Returns `None` if the bytes are malformed
-/// or out of range.
+/// Parses a commission rate, 0 to 10,000 hundredths of a percent. Returns `None` if the bytes are
+/// malformed or the number is out of range.
 pub fn parse_commission_rate(bytes: &[u8]) -> Option<Rate>
     ensures { ok_or result BadText ≡ read_commission_rate bytes.now }
 {
@@ -59,8 +61,8 @@ pub fn parse_commission_rate(bytes: &[u8]) -> Option<Rate>
     Rate::new(number as u32)
 }
 
-/// Parses a tax rate, in hundred-thousandths. Returns `None` if the bytes are malformed or out of
-/// range.
+/// Parses a tax rate, 0 to 100,000 hundred-thousandths. Returns `None` if the bytes are malformed
+/// or the number is out of range.
 pub fn parse_tax_rate(bytes: &[u8]) -> Option<TaxRate>
     ensures { ok_or result BadText ≡ read_tax_rate_number bytes.now }
 {
@@ -70,8 +72,8 @@ pub fn parse_tax_rate(bytes: &[u8]) -> Option<TaxRate>
     TaxRate::new(number as u32)
 }
 
-// Parses an amount in cents that is not below 0. Returns `None` if the bytes are malformed or
-// exceed 10^17 cents.
+// Parses an amount of 0 to 10^17 cents, both included, such as `10.00`. Returns `None` if the bytes
+// are not the canonical text of an amount, or if the amount is out of range.
 fn parse_unsigned_cents(bytes: &[u8]) -> Option<u64>
     ensures { result ≡ number_within_limit Cents.GREATEST (nonnegative_amount (cents_of_text bytes.now)) }
 {
@@ -85,7 +87,8 @@ fn parse_unsigned_cents(bytes: &[u8]) -> Option<u64>
     Some(cents as u64)
 }
 
-/// Parses a price. Returns `None` if the bytes are malformed or out of range.
+/// Parses the price of a share, 1 to 9,999,999 cents, such as `10.00`. Returns `None` if the bytes
+/// are not the canonical text of an amount, or if the price is out of range.
 pub fn parse_price(bytes: &[u8]) -> Option<Price>
     ensures { ok_or result BadPrice ≡ read_price bytes.now }
 {
@@ -98,7 +101,8 @@ pub fn parse_price(bytes: &[u8]) -> Option<Price>
     Price::new(cents as u32)
 }
 
-/// Parses a charge. Returns `None` if the bytes are malformed or out of range.
+/// Parses a charge, 0 to 1,000,000 cents, such as `5.00`. Returns `None` if the bytes are not the
+/// canonical text of an amount, or if the charge is out of range.
 pub fn parse_charge_amount(bytes: &[u8]) -> Option<ChargeAmount>
     ensures { ok_or result BadText ≡ read_charge_amount bytes.now }
 {
@@ -111,8 +115,8 @@ pub fn parse_charge_amount(bytes: &[u8]) -> Option<ChargeAmount>
     ChargeAmount::new(cents as u32)
 }
 
-/// Parses the amount of a deposit or a withdrawal. Returns `None` if the bytes are malformed, or if
-/// the amount is not within 1 to 10^17 cents.
+/// Parses the amount of a deposit or a withdrawal, 1 to 10^17 cents, such as `250.00`. Returns
+/// `None` if the bytes are not the canonical text of an amount, or if the amount is out of range.
 pub fn parse_moved_amount(bytes: &[u8]) -> Option<MovedAmount>
     ensures { ok_or result BadText ≡ read_movement_amount bytes.now }
 {

@@ -22,8 +22,8 @@ pub struct Permission {
     pub first_name: Name,
 }
 
-// Parses the five fields of a permission, or returns the refusal of malformed fields. Fails with
-// `Memory` only.
+// Parses the five fields of a permission. Refuses with `BadText` if one is malformed or out of
+// range. Fails with `Memory` only.
 fn parse_permission_fields(
     alloc: Global,
     account: &[u8],
@@ -60,8 +60,10 @@ fn parse_permission_fields(
     }))
 }
 
-/// Parses the fields ACCOUNT, ACL, TAXID, LAST and FIRST of a permission, or returns the refusal of
-/// malformed fields. Fails with `Memory` only.
+/// Parses a permission from the fields ACCOUNT, ACL, TAXID, LAST and FIRST.
+///
+/// Refuses with `BadText` (18) if there are not exactly five fields, or if one is malformed or out
+/// of range. Fails with `Memory` only.
 pub fn check_permission(alloc: Global, fields: &[&[u8]]) -> Planned<Permission>
     ensures read { IfOk result (λ read. ParsesAs abstract_permission read (read_permission (texts_of_fields fields.now))) }
     ensures fault { OnErr result (result ≡ Err Memory) }

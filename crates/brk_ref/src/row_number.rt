@@ -32,7 +32,7 @@ impl RowNumber {
         }
     }
 
-    /// Returns the number.
+    /// Returns the number of the row within its batch.
     pub fn get(self) -> u64
         ensures value { result ≡ self }
         ensures low { 1 ≤ self }

@@ -9,7 +9,7 @@ use crate::numbers::{parse_id, parse_tax_rate};
 use brk_money::{Id, Planned, Refusal, TaxRate};
 use std::alloc::Global;
 
-/// A tax with its rate (a row of TAXRATE).
+/// A tax with its rate, in hundred-thousandths (a row of TAXRATE).
 #[derive(Clone, Drop)]
 pub struct Tax {
     pub id: Id,
@@ -17,8 +17,10 @@ pub struct Tax {
     pub rate: TaxRate,
 }
 
-/// Parses the fields ID, NAME and RATE of a tax, or returns the refusal of malformed fields. Fails
-/// with `Memory` only.
+/// Parses a tax from the fields ID, NAME and RATE, the rate in hundred-thousandths.
+///
+/// Refuses with `BadText` (18) if there are not exactly three fields, or if one is malformed or out
+/// of range. Fails with `Memory` only.
 pub fn check_tax_rate(alloc: Global, fields: &[&[u8]]) -> Planned<Tax>
     ensures read { IfOk result (λ read. ParsesAs abstract_tax_rate read (read_tax_rate (texts_of_fields fields.now))) }
     ensures fault { OnErr result (result ≡ Err Memory) }

@@ -38,7 +38,7 @@ impl<F: Form> Model for Text<F> {
 }
 
 impl<F: Form> Text<F> {
-    /// Returns the text, or `None` if it does not have the format.
+    /// Creates a text of the format `F`. Returns `None` if `text` does not have the format.
     pub fn new(text: String) -> Option<Text<F>>
         ensures { ok_or result BadText ≡ read_valid_text F.form (string_bytes text) }
     {
@@ -52,8 +52,8 @@ impl<F: Form> Text<F> {
         }
     }
 
-    /// Copies the bytes as a text. Returns `None` if they do not have the format. Fails with
-    /// `Memory` only.
+    /// Creates a text of the format `F` from a copy of the bytes. Returns `None` if they do not
+    /// have the format. Fails with `Memory` only.
     pub fn parse(alloc: Global, bytes: &[u8]) -> Result<Option<Text<F>>, Fault>
         ensures read { IfOk result (λ text. ok_or text BadText ≡ read_valid_text F.form bytes.now) }
         ensures fault { OnErr result (result ≡ Err Memory) }
@@ -71,14 +71,14 @@ impl<F: Form> Text<F> {
         }))
     }
 
-    /// Returns the text.
+    /// Returns the text as a string slice.
     pub fn as_str(&self) -> &str
         ensures { result.now ≡ self.now }
     {
         self.text.as_str()
     }
 
-    /// Proof-only: its contract states that the text has its format. Does nothing at run time.
+    /// Does nothing. A caller uses it for its contract, which states that the text has its format.
     pub fn prove_text_has_its_format(&self)
         ensures { F.form self.now ≡ true }
     {

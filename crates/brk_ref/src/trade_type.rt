@@ -6,14 +6,14 @@ ghost use Rattle.brk_money.specs.declared.refusal.Refusal.TheVariants.{BadType};
 
 use brk_money::TradeType;
 
-// Returns true if the bytes are the code of the type.
+// Returns true if the bytes are the code of the trade type, such as `TMB` of `MarketBuy`.
 fn is_code_of_trade_type(kind: TradeType, bytes: &[u8]) -> bool
     ensures { result ≡ bytes_eq (trade_type_code kind) bytes.now }
 {
     kind.code().as_bytes() == bytes
 }
 
-/// Parses the code of a trade type. Returns `None` if no type has this code.
+/// Parses a trade type from its code, such as `TMB`. Returns `None` if no type has this code.
 pub fn parse_trade_type(bytes: &[u8]) -> Option<TradeType>
     ensures { ok_or result BadType ≡ read_trade_type bytes.now }
 {

@@ -33,7 +33,7 @@ impl Volume {
         }
     }
 
-    /// Returns the volume before the first trade, 0.
+    /// Returns the volume of a security that was not traded on the market yet: 0 shares.
     pub fn before_first_trade() -> Volume
         ensures { result ≡ 0 }
     {
