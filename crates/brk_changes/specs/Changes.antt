@@ -13,7 +13,7 @@ use Rattle.brk_changes.specs.Rows.{abstract_trade_row, abstract_history_row, abs
 use Rattle.brk_changes.specs.declared.change.Change.{Change}
 use Rattle.brk_changes.specs.declared.change.Change.TheVariants.{AddBroker, AddCustomer, AddAccount, AddPermission, AddSecurity, AddLastTrade, AddCharge, AddBand, AddTaxRate, AddCustomerTax, AddTrade, SetStatus, AddHistory, AddRequest, RemoveRequest, SetLastTrade, CompleteTrade, AddLot, SetLot, RemoveLot, AddLotChange, AddSummary, SetSummary, RemoveSummary, AddSettlement, AddMove, SetBalance, SetBrokerTotals, SetExecutor, SetCashType, SetCashName, SetSettlementDay, AddStoredReply, SetLastStamp}
 
--- The tables `t` with the broker `b` inserted, with 0 completed trades and no commissions.
+-- The tables `t` with the broker `b` inserted, with 0 completed trades and 0 commissions.
 abbrev pub tables_with_broker : Broker → Tables → Tables
 tables_with_broker b t = record t { brokers = insert_row_by_key broker_key (record { id = b.id; name = b.name; trades = pos 0; commissions = 0 }) t.brokers }
 
@@ -74,19 +74,20 @@ tables_with_history_row r t = record t { history = insert_row_by_key history_key
 abbrev pub tables_with_request : RequestRow → Tables → Tables
 tables_with_request r t = record t { requests = insert_row_by_key request_key r t.requests }
 
--- The tables `t` without the request of `trade`.
+-- The tables `t` without the TRADE_REQUEST row of `trade`. They are unchanged if it has none.
 abbrev pub tables_without_request : ℕ → Tables → Tables
 tables_without_request trade t = record t { requests = filter (λ r. not (r.trade == trade)) t.requests }
 
--- The tables `t` with the stamp, the price and the volume of the symbol of `l` in LAST_TRADE set to
--- those of `l`. They are unchanged if the symbol has no row.
+-- The tables `t` with the stamp, the price and the volume in the LAST_TRADE row of the symbol of
+-- `l` set to those of `l`. They are unchanged if the symbol has no row.
 abbrev pub tables_with_last_trade_replaced : LastTradeRow → Tables → Tables
 tables_with_last_trade_replaced l t =
     record t
     { last_trades = update_where (λ r. bytes_eq r.symbol l.symbol) (λ r. record r { stamp = l.stamp; price = l.price; volume = l.volume }) t.last_trades }
 
--- The tables `t` with the status of the trade `id` set to `Completed` and its stamp, price,
--- commission and tax to these. They are unchanged if there is no such trade.
+-- The tables `t` with the status of the trade `id` set to `Completed`, and its stamp, price,
+-- commission and tax set to `stamp`, `price`, `commission` and `tax`, the last three in cents. They
+-- are unchanged if there is no such trade.
 abbrev pub tables_with_trade_completed : (id stamp price commission tax : ℕ) → Tables → Tables
 tables_with_trade_completed id stamp price commission tax t = record t {
   trades = update_where (λ r. r.id == id)
@@ -102,7 +103,8 @@ tables_with_lot r t = record t { holdings = insert_row_by_key holding_key r t.ho
 abbrev pub tables_with_lot_quantity : ℕ → ℤ → Tables → Tables
 tables_with_lot_quantity trade qty t = record t { holdings = update_where (λ r. r.trade == trade) (λ r. record r { qty = qty }) t.holdings }
 
--- The tables `t` without the lot that `trade` opened.
+-- The tables `t` without the HOLDING row of the lot that `trade` opened. They are unchanged if
+-- there is no such lot.
 abbrev pub tables_without_lot : ℕ → Tables → Tables
 tables_without_lot trade t = record t { holdings = filter (λ r. not (r.trade == trade)) t.holdings }
 
@@ -114,13 +116,14 @@ tables_with_lot_change r t = record t { holding_history = insert_row_by_key hold
 abbrev pub tables_with_summary : SummaryRow → Tables → Tables
 tables_with_summary r t = record t { summaries = insert_row_by_key summary_key r t.summaries }
 
--- The tables `t` with the quantity of the summary of the account and the symbol of `s` set to that
--- of `s`. They are unchanged if there is no such summary.
+-- The tables `t` with the quantity in the HOLDING_SUMMARY row of the account and the symbol of `s`
+-- set to that of `s`. They are unchanged if there is no such row.
 abbrev pub tables_with_summary_quantity : SummaryRow → Tables → Tables
 tables_with_summary_quantity s t =
     record t { summaries = update_where (λ r. (r.account == s.account) && bytes_eq r.symbol s.symbol) (λ r. record r { qty = s.qty }) t.summaries }
 
--- The tables `t` without the summary of `account` in `symbol`.
+-- The tables `t` without the HOLDING_SUMMARY row of `account` and `symbol`. They are unchanged if
+-- there is no such row.
 abbrev pub tables_without_summary : ℕ → Text → Tables → Tables
 tables_without_summary account symbol t = record t { summaries = filter (λ r. not ((r.account == account) && bytes_eq r.symbol symbol)) t.summaries }
 
@@ -132,34 +135,34 @@ tables_with_settlement r t = record t { settlements = insert_row_by_key settleme
 abbrev pub tables_with_cash_row : MoveRow → Tables → Tables
 tables_with_cash_row r t = record t { moves = insert_row_by_key move_key r t.moves }
 
--- The tables `t` with the balance of `account` set to `balance`. They are unchanged if there is no
--- such account.
+-- The tables `t` with the balance of `account` set to `balance` cents. They are unchanged if there
+-- is no such account.
 abbrev pub tables_with_balance : ℕ → ℤ → Tables → Tables
 tables_with_balance account balance t = record t { accounts = update_where (λ r. r.id == account) (λ r. record r { balance = balance }) t.accounts }
 
--- The tables `t` with the number of completed trades and the commissions of `broker` set to
--- `trades` and `commissions`. They are unchanged if there is no such broker.
+-- The tables `t` with the number of completed trades of `broker` set to `trades`, and its
+-- commissions to `commissions` cents. They are unchanged if there is no such broker.
 abbrev pub tables_with_broker_totals : ℕ → ℤ → ℕ → Tables → Tables
 tables_with_broker_totals broker trades commissions t =
     record t { brokers = update_where (λ r. r.id == broker) (λ r. record r { trades = trades; commissions = commissions }) t.brokers }
 
--- The tables `t` with the executor's name of `trade` set to `name`. They are unchanged if there is
--- no such trade.
+-- The tables `t` with the executor's name in the TRADE row of `trade` set to `name`. They are
+-- unchanged if there is no such trade.
 abbrev pub tables_with_executor_name : ℕ → Text → Tables → Tables
 tables_with_executor_name trade name t = record t { trades = update_where (λ r. r.id == trade) (λ r. record r { executor = name }) t.trades }
 
--- The tables `t` with the cash type of the settlement of `trade` set to `word`. They are unchanged
--- if the trade has no settlement.
+-- The tables `t` with the settlement text of `trade` (SE_CASH_TYPE) set to `word`. They are
+-- unchanged if the trade has no settlement.
 abbrev pub tables_with_cash_type : ℕ → Text → Tables → Tables
 tables_with_cash_type trade word t = record t { settlements = update_where (λ r. r.trade == trade) (λ r. record r { cash_type = word }) t.settlements }
 
--- The tables `t` with the text of the cash row of `trade` set to `name`. They are unchanged if the
--- trade has no cash row.
+-- The tables `t` with the text in the CASH_MOVE row of `trade` set to `name`. They are unchanged if
+-- the trade has no such row.
 abbrev pub tables_with_cash_text : ℕ → Text → Tables → Tables
 tables_with_cash_text trade name t = record t { moves = update_where (is_cash_row_of_trade trade) (λ r. record r { name = name }) t.moves }
 
 -- The tables `t` with the settlement day, the first day whose completions settle after one day, set
--- to `day`.
+-- to `day`, in days since 1970-01-01.
 abbrev pub tables_with_settlement_day : ℕ → Tables → Tables
 tables_with_settlement_day day t = record t { rule = Some day }
 
@@ -167,11 +170,12 @@ tables_with_settlement_day day t = record t { rule = Some day }
 abbrev pub tables_with_stored_reply : Kept → Tables → Tables
 tables_with_stored_reply k t = record t { kept = insert_row_by_key kept_key k t.kept }
 
--- The tables `t` with the stamp of the last accepted command set to `stamp`.
+-- The tables `t` with the stamp of the last accepted command set to `stamp`, in milliseconds since
+-- 1970-01-01 UTC.
 abbrev pub tables_with_last_stamp : ℕ → Tables → Tables
 tables_with_last_stamp stamp t = record t { last = Some stamp }
 
--- The tables after one row change.
+-- The tables after one typed row change, by its kind: a row is inserted, updated or deleted.
 abbrev pub tables_after_change : Change → Tables → Tables
 tables_after_change (AddBroker broker) = tables_with_broker (abstract_broker broker)
 tables_after_change (AddCustomer customer) = tables_with_customer (abstract_customer customer)

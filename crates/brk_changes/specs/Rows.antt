@@ -55,7 +55,7 @@ abstract_summary_row r = record { account = r.account; symbol = r.symbol; qty = 
 abbrev pub abstract_lot_change_row : lot_change.LotChange → HoldingHistoryRow
 abstract_lot_change_row r = record { lot = r.lot; trade = r.trade; before = r.before; after = r.after }
 
--- The text of a cash type in the column SE_CASH_TYPE.
+-- The settlement text of a cash type, as the column SE_CASH_TYPE has it.
 abbrev pub cash_type_text : CashType → Text
 cash_type_text CashAccount = codes "Cash Account"
 cash_type_text Cash = codes "Cash"
@@ -79,6 +79,7 @@ abstract_move_row r = record { id = r.id; account = r.account; trade = r.trade; 
 abbrev pub lot_age_key : HoldingRow → List KeyPart
 lot_age_key r = number r.stamp ∷ number r.trade ∷ []
 
--- The lots sorted by age (`lot_age_key`), ascending: the oldest first.
+-- The HOLDING rows sorted by the stamp at which their lots were opened, then by the trade that
+-- opened them, ascending: the oldest first.
 abbrev pub lots_oldest_first : List HoldingRow → List HoldingRow
 lots_oldest_first = rows_sorted_by_key lot_age_key

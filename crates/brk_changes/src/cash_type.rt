@@ -1,21 +1,23 @@
 ghost use Rattle.std.specs.Prelude.{◌≡◌};
 ghost use Rattle.brk_changes.specs.Rows.{cash_type_text};
 
-/// The settlement text of a trade (SE_CASH_TYPE): in cash or on margin, each with two texts.
+/// The settlement text of a trade (SE_CASH_TYPE). A trade settles in cash or on margin, and each
+/// has two texts, which a text update exchanges.
 #[derive(Clone, Copy, PartialEq, Eq)]
 pub enum CashType {
-    /// In cash, as a completion records it.
+    /// In cash: the text that a completion records.
     CashAccount,
-    /// In cash, by the other text.
+    /// In cash: the other text.
     Cash,
-    /// On margin, as a completion records it.
+    /// On margin: the text that a completion records.
     Margin,
-    /// On margin, by the other text.
+    /// On margin: the other text.
     MarginAccount,
 }
 
 impl CashType {
-    /// Returns the text of the cash type in the column SE_CASH_TYPE and in replies.
+    /// Returns the settlement text of the cash type, as the column SE_CASH_TYPE and views have it,
+    /// such as `Cash Account`.
     pub fn word(self) -> &'static str
         ensures { result.now ≡ cash_type_text self }
     {

@@ -13,7 +13,7 @@ use brk_ref::{
     Symbol, Tax,
 };
 
-/// A change of one row.
+/// A change of one row of a table: the row is inserted, updated or deleted.
 #[derive(Drop)]
 pub enum Change {
     /// Inserts a broker, with no trades and no commissions yet.
@@ -62,7 +62,7 @@ pub enum Change {
     },
     /// Inserts the lot that a trade opened.
     AddLot(HoldingRow),
-    /// Sets the quantity of the lot that a trade opened.
+    /// Sets the quantity of the lot that a trade opened, below 0 if it was sold short.
     SetLot {
         trade: Id,
         qty: i64,
@@ -84,12 +84,12 @@ pub enum Change {
     AddSettlement(SettlementRow),
     /// Inserts a cash row of a cash trade, a deposit or a withdrawal (CASH_MOVE).
     AddMove(MoveRow),
-    /// Sets the balance of an account.
+    /// Sets the balance of an account, in cents.
     SetBalance {
         account: Id,
         balance: Cents,
     },
-    /// Sets a broker's totals: the number of its completed trades and the sum of their commissions.
+    /// Sets a broker's totals: the number of its completed trades and their commissions, in cents.
     SetBrokerTotals {
         broker: Id,
         trades: i64,
@@ -100,7 +100,7 @@ pub enum Change {
         trade: Id,
         executor: String,
     },
-    /// Sets the text for how a trade is settled (SE_CASH_TYPE).
+    /// Sets the settlement text of a trade (SE_CASH_TYPE).
     SetCashType {
         trade: Id,
         cash_type: CashType,

@@ -28,7 +28,8 @@ impl Schema {
         }
     }
 
-    /// Returns true if cash rows are numbered and may have no trade (CASH_MOVE).
+    /// Returns true if the schema has the table CASH_MOVE, whose cash rows are numbered and may
+    /// have no trade.
     pub fn has_cash_move_table(self) -> bool
         ensures { result ≡ (abstract_schema self).has_cash_move_table }
     {
@@ -38,7 +39,7 @@ impl Schema {
         }
     }
 
-    /// Returns true if the schema has the table of the settlement day (SETTLE_RULE).
+    /// Returns true if the schema has the table SETTLE_RULE, which stores the settlement day.
     pub fn has_settle_rule_table(self) -> bool
         ensures { result ≡ (abstract_schema self).has_settle_rule_table }
     {
@@ -48,7 +49,7 @@ impl Schema {
         }
     }
 
-    /// Returns the greatest quantity of an order or a band, in shares.
+    /// Returns the greatest quantity of an order or of a bound of a band, in shares.
     pub fn greatest_qty(self) -> u32
         ensures { result ≡ (abstract_schema self).greatest_qty }
     {
@@ -58,7 +59,7 @@ impl Schema {
         }
     }
 
-    /// Returns the greatest number of shares of a security that an account holds, or is short of.
+    /// Returns the greatest number of shares of a security that an account may hold or be short of.
     pub fn greatest_summary(self) -> u64
         ensures { result ≡ (abstract_schema self).greatest_summary }
     {

@@ -21,7 +21,7 @@ impl TradeCount {
     /// The greatest count: there are no more trade ids.
     pub const GREATEST: u64 = 1_000_000_000_000;
 
-    /// Returns the count `trades`, or `None` if it exceeds `GREATEST`.
+    /// Returns the count `trades`, or `None` if `trades` exceeds `GREATEST`.
     pub fn new(trades: u64) -> Option<TradeCount>
         ensures { SomeIff result (trades ≤ TradeCount.GREATEST) trades }
     {

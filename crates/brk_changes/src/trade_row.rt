@@ -5,7 +5,8 @@ ghost use Rattle.brk_money.specs.declared.status.Status.TheVariants.{Submitted};
 use brk_money::{Amount, Id, Price, Qty, Stamp, Status, TradeType};
 use brk_ref::{ChargeAmount, Symbol};
 
-/// A trade in its current status (a row of TRADE). It has a price once it is completed.
+/// A trade in its current status (a row of TRADE). It has a price once it is completed. Its stamp
+/// is that of its current status.
 #[derive(Drop)]
 pub struct TradeRow {
     pub id: Id,

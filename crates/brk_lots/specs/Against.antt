@@ -3,7 +3,7 @@ use Rattle.std.specs.Prelude.{ℤ, pos, negsuc, Bool, false, true, nat_lt}
 use Rattle.brk_money.specs.declared.side.Side.{Side}
 use Rattle.brk_money.specs.declared.side.Side.TheVariants.{Buy, Sell}
 
--- True if a trade of the side closes lots of a position that holds the signed number of shares: a
+-- True if a trade of the side closes lots of a position with the signed number of shares: a
 -- purchase if it is below 0, a sale if it is above 0.
 abbrev pub closes_lots : Side → ℤ → Bool
 closes_lots Buy (pos n) = false

@@ -4,28 +4,31 @@ use Rattle.brk_model.specs.Lists.{total_by}
 use Rattle.brk_model.specs.Shares.{Share, Deal, signed_by_side, shares_after_deal, realised_gain}
 use Rattle.brk_lots.specs.declared.lot.Lot.{Lot}
 
--- The sum of the signed quantities of the lots.
+-- The sum of the signed quantities of the lots, in shares.
 abbrev pub lot_quantity_sum : List Lot → ℤ
 lot_quantity_sum ls = total_by (λ l. l.qty) ls
 
--- The cost basis of the lots: the sum of signed quantity times price. It is negative for shares
--- sold short.
+-- The cost basis of the lots, in cents: the sum of signed quantity times price. Lots of shares that
+-- were sold short count below 0.
 abbrev pub lot_cost_basis : List Lot → ℤ
 lot_cost_basis ls = total_by (λ l. l.qty *ℤ pos l.price) ls
 
--- The cost basis of open shares: the sum of their prices, negative for shares sold short.
+-- The cost basis of open shares, in cents: the sum of the prices at which they were opened. Shares
+-- that were sold short count below 0.
 abbrev pub share_cost_basis : List Share → ℤ
 share_cost_basis us = total_by (λ u. signed_by_side u.side u.price) us
 
--- The sum of the quantities of the deals, negative for sales.
+-- The sum of the quantities of the deals, in shares, where sales count below 0.
 abbrev pub deal_quantity_sum : List Deal → ℤ
 deal_quantity_sum ds = total_by (λ d. signed_by_side d.side d.qty) ds
 
--- The value of all purchases minus the value of all sales.
+-- The value of all purchases minus the value of all sales, in cents, where the value of a deal is
+-- its quantity times its price.
 abbrev pub purchases_minus_sales : List Deal → ℤ
 purchases_minus_sales ds = total_by (λ d. signed_by_side d.side (d.qty * d.price)) ds
 
--- The sum of the realised gains of the deals, executed in order from the shares `us`.
+-- The sum of the realised gains of the deals, in cents, applied in sequence to the position with
+-- the shares `us`.
 abbrev pub realised_gain_sum : List Deal → List Share → ℤ
 realised_gain_sum [] us = pos 0
 realised_gain_sum (d ∷ ds) us = realised_gain d us +ℤ realised_gain_sum ds (shares_after_deal us d)

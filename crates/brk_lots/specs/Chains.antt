@@ -6,8 +6,9 @@ use Rattle.brk_model.specs.Tables.{HoldingHistoryRow, row_changes_quantity, hold
 use Rattle.brk_lots.specs.declared.replay.DealTouch.{DealTouch}
 use Rattle.brk_lots.specs.Lots.{list_in_closing_order}
 
--- The changes of the lot of the trade `trade` by the deals `ds`, executed in order from the shares
--- `us`. A deal that does not change the lot has no change in the list.
+-- The changes of the lot of the trade `trade` by the deals `ds`, applied in sequence to the
+-- position with the shares `us`. A deal that does not change the quantity of the lot has no element
+-- in the list.
 abbrev pub changes_of_lot : ℕ → List Deal → List Share → List Touch
 changes_of_lot trade ds us = map touch_of_row (filter row_changes_quantity (holding_history_rows_of_deals trade us ds))
 
@@ -28,22 +29,23 @@ abbrev pub IsLotHistory : List Touch → ℤ → Type 0
 IsLotHistory [] to = pos 0 ≡ to
 IsLotHistory (row ∷ rows) to = (row.before ≡ pos 0) × ShrinksTowardZero row.after rows to
 
--- The change that opens the lot: from 0 to its quantity.
+-- The change that opens the lot `l`: from 0 to its quantity.
 abbrev pub opening_touch : Lot → Touch
 opening_touch l = record { lot = l.trade; before = pos 0; after = l.qty }
 
--- The changes of lots by the deal `d` on the shares `us`: the lots that it closes or reduces, from
--- the end that it takes first, and then the lot that it opens.
+-- The HOLDING_HISTORY rows of the deal `d` on the shares `us`: those of the lots that it closes or
+-- reduces, in the sequence in which it takes them, and then that of the lot that it opens, if any.
 abbrev pub lot_changes_of_deal : Deal → List Share → List HoldingHistoryRow
 lot_changes_of_deal d us =
     map (holding_history_row d.trade) (list_in_closing_order d.is_lifo (touches_of_existing_lots d us)
     ++ map opening_touch (lots_of_shares (opened_shares d us)))
 
--- The changes of lots by the deals, executed in order from the shares `us`.
+-- The HOLDING_HISTORY rows of the deals, applied in sequence to the position with the shares `us`,
+-- deal by deal.
 abbrev pub lot_changes_of_deals : List Deal → List Share → List HoldingHistoryRow
 lot_changes_of_deals [] us = []
 lot_changes_of_deals (d ∷ ds) us = lot_changes_of_deal d us ++ lot_changes_of_deals ds (shares_after_deal us d)
 
--- The row of HOLDING_HISTORY that corresponds to the typed value `t`.
+-- The model's HOLDING_HISTORY row with the values of the typed change `t`.
 abbrev pub abstract_deal_touch : DealTouch → HoldingHistoryRow
 abstract_deal_touch t = record { lot = t.touch.lot; trade = t.trade; before = t.touch.before; after = t.touch.after }

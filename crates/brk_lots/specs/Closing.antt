@@ -10,7 +10,7 @@ use Rattle.brk_lots.specs.Position.{AreOpenedByOtherTrades, AreOpenedBeforeStamp
 -- The value `closing` has the effect of the deal `d` on the shares of the lots `ls`: the touched
 -- lots, the opened lot, the buy value and the sell value.
 pub record IsClosingOfDeal (d : Deal) (ls : List Lot) (closing : Closing) : Type 0 where
-  -- The lots that it touches, from its end.
+  -- The lots that it closes or reduces, in the sequence in which it takes them.
   pub touched : map abstract_touch closing.touched.items ≡ list_in_closing_order d.is_lifo (touches_of_existing_lots d (shares_of_lots ls))
   -- The lot of the shares that it opens.
   pub opened : map abstract_lot (option_to_list closing.opened) ≡ lots_of_shares (opened_shares d (shares_of_lots ls))

@@ -19,8 +19,8 @@ side_of_qty (negsuc n) = Sell
 abbrev pub share_of_lot : Lot → Share
 share_of_lot l = record { side = side_of_qty l.qty; trade = l.trade; price = l.price; stamp = l.stamp }
 
--- The shares of the lots, lot by lot: as many equal shares as the quantity of the lot without its
--- sign.
+-- The single shares of the lots, lot by lot: for each lot as many equal shares as its quantity
+-- without the sign.
 abbrev pub shares_of_lots : List Lot → List Share
 shares_of_lots ls = flat_map (λ l. replicate (unsigned_abs l.qty) (share_of_lot l)) ls
 
@@ -30,14 +30,14 @@ abbrev pub list_in_closing_order : {X : Type 0} → Bool → List X → List X
 list_in_closing_order true xs = reverse xs
 list_in_closing_order false xs = xs
 
--- The model's lot that corresponds to the lot `l` of the program.
+-- The model's lot with the values of the lot `l` of the program.
 abbrev pub abstract_lot : Lot → model.Lot
 abstract_lot l = record { trade = l.trade; price = l.price; stamp = l.stamp; qty = l.qty }
 
--- The model's touched lot that corresponds to `t` of the program.
+-- The model's lot change with the values of the change `t` of the program.
 abbrev pub abstract_touch : Touch → model.Touch
 abstract_touch t = record { lot = t.lot; before = t.before; after = t.after }
 
--- The model's deal that corresponds to the deal `d` of the program.
+-- The model's deal with the values of the deal `d` of the program.
 abbrev pub abstract_deal : Deal → model.Deal
 abstract_deal d = record { trade = d.trade; side = d.side; qty = d.qty; price = d.price; stamp = d.stamp; is_lifo = d.lifo }

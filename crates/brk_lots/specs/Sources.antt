@@ -4,16 +4,16 @@ use Rattle.brk_lots.specs.declared.lot.Lot.{Lot}
 use Rattle.brk_lots.specs.Lots.{list_in_closing_order}
 use Rattle.brk_lots.specs.Position.{IsPositionInAnyOrder}
 
--- The disk assumption of a source, `told`, holds, and `ls` satisfies `remaining`: these are the
--- lots that the source still yields.
+-- The lots `ls` are those that a source still yields (`remaining`), and the disk assumption of that
+-- source (`told`) holds.
 abbrev pub AreLotsOfFaithfulSource : Type 0 → (List Lot → Type 0) → List Lot → Type 0
 AreLotsOfFaithfulSource told remaining ls = told × remaining ls
 
--- The lots `ls` form a position, in any order, and their list satisfies `given`: reversed if `lifo`
--- is true, otherwise as it is.
+-- The lots `ls` form a position, in any order, and `given` holds of them, reversed if `lifo` is
+-- true, and otherwise in their sequence.
 abbrev pub YieldsPosition : (List Lot → Type 0) → Bool → List Lot → Type 0
 YieldsPosition given lifo ls = given (list_in_closing_order lifo ls) × IsPositionInAnyOrder ls
 
--- The list `ls` equals `lots`.
+-- The list `ls` equals the list `lots`.
 abbrev pub EqualsLots : List Lot → List Lot → Type 0
 EqualsLots lots ls = ls ≡ lots

@@ -11,13 +11,15 @@ use Rattle.brk_lots.specs.declared.lot.Lot.{Lot}
 use Rattle.brk_lots.specs.declared.lot.Touch.{Touch}
 use Rattle.brk_lots.specs.Lots.{side_of_qty, shares_of_lots}
 
--- The number of shares that a trade of `q` shares closes of the lots: 0 if the first lot has the
--- side of the trade or there is none, otherwise the smaller of `q` and the number of all shares.
+-- The number of shares that a trade of `q` shares on the side closes of the lots, which have one
+-- side. It is 0 if the first lot has the side of the trade or there is none, and otherwise the
+-- smaller of `q` and the number of all shares.
 abbrev pub closed_share_count : Side → ℕ → List Lot → ℕ
 closed_share_count side q [] = 0
 closed_share_count side q (l ∷ ls) = if is_same_side (side_of_qty l.qty) side then 0 else min q (length (shares_of_lots (l ∷ ls)))
 
--- The touched lots if the first `k` shares of the lots are closed.
+-- The lot changes by which the first `k` shares of the lots are closed: one for each lot that loses
+-- a share, with its quantity before and after.
 abbrev pub touches_of_first_shares : ℕ → List Lot → List Touch
 touches_of_first_shares k [] = []
 touches_of_first_shares k (l ∷ ls) =
@@ -25,33 +27,33 @@ touches_of_first_shares k (l ∷ ls) =
     else record { lot = l.trade; before = l.qty; after = signed_by_side (side_of_qty l.qty) (unsigned_abs l.qty - k) }
     ∷ touches_of_first_shares (k - unsigned_abs l.qty) ls
 
--- The value at which the first `k` shares of the lots were opened.
+-- The value, in cents, at which the first `k` shares of the lots were opened.
 abbrev pub cost_of_first_shares : ℕ → List Lot → ℕ
 cost_of_first_shares k [] = 0
 cost_of_first_shares k (l ∷ ls) = min k (unsigned_abs l.qty) * l.price + cost_of_first_shares (k - unsigned_abs l.qty) ls
 
 -- `over`, `taken` and `cost` are the result of closing the lots `ls` by a trade of `qty` shares on
--- `side`: the quantity that closed no share, the touched lots, and the value at which the closed
--- shares were opened.
+-- `side`: the quantity that closes no share, the changes of the lots that it closes or reduces, and
+-- the value, in cents, at which the closed shares were opened.
 pub record IsResultOfClosingLots (side : Side) (qty : ℕ) (ls : List Lot) (taken : List Touch) (over cost : ℕ) : Type 0 where
   pub left : over + closed_share_count side qty ls ≡ qty
   pub rows : taken ≡ touches_of_first_shares (closed_share_count side qty ls) ls
   pub shares : cost ≡ cost_of_first_shares (closed_share_count side qty ls) ls
 
--- The buy value of closed shares: the traded value if the trade is a purchase, the opening value if
--- it is a sale.
+-- The buy value of closed shares, in cents: the traded value if the trade is a purchase, the
+-- opening value if it is a sale.
 abbrev pub buy_value_by_side : Side → ℕ → ℕ → ℕ
 buy_value_by_side Buy traded opened = traded
 buy_value_by_side Sell traded opened = opened
 
--- The sell value of closed shares: the opening value if the trade is a purchase, the traded value
--- if it is a sale.
+-- The sell value of closed shares, in cents: the opening value if the trade is a purchase, the
+-- traded value if it is a sale.
 abbrev pub sell_value_by_side : Side → ℕ → ℕ → ℕ
 sell_value_by_side Buy traded opened = opened
 sell_value_by_side Sell traded opened = traded
 
--- The quantity of the lot `l` after the touches: that of the first touch of this lot, or its own if
--- there is none.
+-- The signed quantity of the lot `l` after the changes: that of the first change of this lot, or
+-- its own if there is none.
 abbrev pub quantity_after_touches : List Touch → Lot → ℤ
 quantity_after_touches [] l = l.qty
 quantity_after_touches (t ∷ ts) l = if nat_eq t.lot l.trade then t.after else quantity_after_touches ts l
@@ -60,11 +62,11 @@ quantity_after_touches (t ∷ ts) l = if nat_eq t.lot l.trade then t.after else 
 abbrev pub lot_with_nonzero_quantity : ℤ → Lot → List Lot
 lot_with_nonzero_quantity qty l = if int_eq qty (pos 0) then [] else record { trade = l.trade; price = l.price; qty = qty; stamp = l.stamp } ∷ []
 
--- The rest of the lot `l` after the touches, as a list of one element, or the empty list if they
--- close it.
+-- The rest of the lot `l` after the changes `ts`, as a list of one element, or the empty list if
+-- they close it.
 abbrev pub rest_of_lot_after_touches : List Touch → Lot → List Lot
 rest_of_lot_after_touches ts l = lot_with_nonzero_quantity (quantity_after_touches ts l) l
 
--- The rests of the lots `ls` after the touches, without the lots that these close.
+-- The rests of the lots `ls` after the changes `ts`, without the lots that these close.
 abbrev pub lots_after_touches : List Touch → List Lot → List Lot
 lots_after_touches ts ls = flat_map (rest_of_lot_after_touches ts) ls

@@ -27,7 +27,9 @@ pub fn closes_lots(side: Side, held: i64) -> bool
 }
 
 /// Returns the effect of a trade that closes no lot: it opens a lot of all its shares
-/// (Trade-Result). Both values are 0.
+/// (Trade-Result). The buy value and the sell value of the closed shares are 0.
+///
+/// The caller checks with `closes_lots` that the trade closes no lot.
 pub fn open_lot_without_closing(
     alloc: Global,
     side: Side,

@@ -18,9 +18,9 @@ use std::alloc::Global;
 /// opens.
 #[derive(Drop)]
 pub struct Closing {
-    /// The lots that it closes or reduces, in the order of the source.
+    /// The lots that it closes or reduces, in the sequence in which the source returns them.
     pub touched: Vec<Touch>,
-    /// The lot that it opens with the remaining shares.
+    /// The lot that it opens with the remaining shares, or `None` if none remain.
     pub opened: Option<Lot>,
     /// Buy value of the closed shares, in cents.
     pub buy_value: Wide,
@@ -28,7 +28,8 @@ pub struct Closing {
     pub sell_value: Wide,
 }
 
-// Returns the lot that a trade opens with `shares` shares, or `None` if `shares` is 0.
+// Returns the lot that a trade opens with `shares` shares, or `None` if `shares` is 0. `price` is
+// in cents, and the quantity of the lot is below 0 for a sale.
 pub(crate) fn opened_lot(
     side: Side,
     shares: u32,

@@ -1,6 +1,7 @@
 use brk_money::{Id, Price, Qty, Side, Stamp};
 
-/// A completed trade, as it is applied to the position of its account and security.
+/// The effect of a completed trade on the position of its account and security: side, quantity,
+/// price, and which lots it closes first.
 #[derive(Clone, Copy, PartialEq, Eq)]
 pub struct Deal {
     pub trade: Id,
@@ -10,6 +11,6 @@ pub struct Deal {
     pub price: Price,
     /// The stamp of the completion.
     pub stamp: Stamp,
-    /// True if it closes the lots that were opened last.
+    /// True if it closes the newest lots first, false if the oldest.
     pub lifo: bool,
 }

@@ -6,7 +6,8 @@ use crate::lot::Lot;
 use crate::source::LotSource;
 use brk_money::Fault;
 
-/// The lots of a position from one end. Never allocates and never returns an error.
+/// A source of the lots of a position, which returns them from one end. It never allocates and
+/// never fails.
 #[derive(Drop)]
 pub struct PositionEnd<'a> {
     lots: &'a [Lot],
@@ -18,8 +19,8 @@ pub struct PositionEnd<'a> {
 }
 
 impl<'a> PositionEnd<'a> {
-    // Returns the source of these lots, from the last on if `lifo`, otherwise from the first on.
-    // None of the lots may have 0 shares.
+    // Creates the source of these lots, which returns them from the last to the first if `lifo`,
+    // and otherwise from the first to the last. None of the lots may have 0 shares.
     pub(crate) fn new(lots: &'a [Lot], lifo: bool) -> PositionEnd<'a>
         requires { All (λ l. l.qty ≢ pos 0) lots.now }
         ensures remaining { ⟦<PositionEnd<'static> as LotSource>⟧.remaining result (list_in_closing_order lifo lots.now) }
@@ -40,7 +41,7 @@ impl LotSource for PositionEnd<'_> {
 
     ghost leads = { λ _ _. ⊤ };
 
-    // It counts the lots that it returned.
+    // The number of lots that it returned.
     ghost asked = { λ end. end.total - length end.lots.now };
 
     ghost faulted = { λ _. 0 };

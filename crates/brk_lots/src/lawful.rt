@@ -30,7 +30,7 @@ fn is_one_sided_and_ascending(lots: &[Lot]) -> bool
     true
 }
 
-// Returns true if `rest` is empty, or if its first lot was opened by another trade.
+// Returns true if `rest` is empty, or if another trade than `trade` opened its first lot.
 fn next_lot_is_of_other_trade(trade: Id, rest: &[Lot]) -> bool
     ensures { IsTrue result ↔ FirstLotSatisfies (λ l. l.trade ≢ trade) rest.now }
 {
@@ -40,7 +40,7 @@ fn next_lot_is_of_other_trade(trade: Id, rest: &[Lot]) -> bool
     }
 }
 
-// Returns true if no two neighbours were opened by the same trade.
+// Returns true if no two neighbours of the list were opened by the same trade.
 fn neighbours_differ_in_trade(lots: &[Lot]) -> bool
     ensures { IsTrue result ↔ NeighboursDifferInTrade lots.now }
 {
@@ -52,7 +52,7 @@ fn neighbours_differ_in_trade(lots: &[Lot]) -> bool
     true
 }
 
-// Sorts the lots by the trade that opened them.
+// Sorts the lots by the id of the trade that opened them, ascending.
 fn sort_lots_by_trade(lots: &mut [Lot])
     ensures permutation { IsPermutation lots.old lots.new }
     ensures order { IsNonDecreasingBy (λ l. l.trade) lots.new }
@@ -60,7 +60,7 @@ fn sort_lots_by_trade(lots: &mut [Lot])
     lots.sort_unstable_by_key(|lot| lot.trade.get());
 }
 
-// Sorts the lots by stamp.
+// Sorts the lots by stamp, ascending.
 fn sort_lots_by_stamp(lots: &mut [Lot])
     ensures permutation { IsPermutation lots.old lots.new }
     ensures order { IsNonDecreasingBy (λ l. l.stamp) lots.new }
@@ -68,9 +68,10 @@ fn sort_lots_by_stamp(lots: &mut [Lot])
     lots.sort_unstable_by_key(|lot| lot.stamp.get().unsigned_abs());
 }
 
-// Returns true if the lots form a position, the oldest first. The lots are unchanged: they are
-// sorted by trade, so that lots of the same trade become neighbours, and then by stamp again, which
-// restores their order since the stamps are strictly ascending.
+// Returns true if the lots form a position, the oldest first: no lot has 0 shares, all have one
+// side, no two were opened by the same trade, and the stamps are strictly ascending. The lots are
+// unchanged after the call, which sorts them by trade, to compare neighbours, and then by stamp
+// again.
 pub(crate) fn is_position(lots: &mut [Lot]) -> bool
     ensures lots { lots.new ≡ lots.old }
     ensures position { IsTrue result ↔ IsPosition lots.old }
@@ -84,7 +85,7 @@ pub(crate) fn is_position(lots: &mut [Lot]) -> bool
     distinct
 }
 
-// Returns true if all lots were opened before the stamp and by other trades.
+// Returns true if all lots were opened by other trades than `trade`, and before `stamp`.
 pub(crate) fn all_lots_precede_trade(lots: &[Lot], trade: Id, stamp: Stamp) -> bool
     ensures { IsTrue result ↔ All (λ l. (l.trade ≢ trade) × (l.stamp < stamp)) lots.now }
 {

@@ -11,9 +11,10 @@ ghost use Rattle.brk_lots.specs.Deals.{AreAscendingDeals};
 ghost use Rattle.brk_lots.specs.Lots.{shares_of_lots, abstract_lot};
 ghost use Rattle.brk_lots.specs.Position.{AreOpenedByOtherTrades, IsPosition};
 
-/// Proves for the shares that any deals leave that they have one side. Proves for lots of these
-/// shares that they total the signed quantities of the deals, and that their cost basis equals
-/// realised gains plus purchases minus sales.
+/// Proves three properties of the shares that are open after any deals, from the empty position on:
+/// they have one side; lots of exactly these shares total the signed quantities of the deals; and
+/// the cost basis of these lots equals the realised gains plus the purchases minus the sales, in
+/// cents.
 pub fn replayed_lots_match_their_deals()
     ensures one_side { (deals : List Deal) → (side : Side) × AllByRecursion (λ u. u.side ≡ side) (replay deals) }
     ensures quantities { (deals : List Deal) (ls : List Lot) → shares_of_lots ls ≡ replay deals → lot_quantity_sum ls ≡ deal_quantity_sum deals }
@@ -24,7 +25,8 @@ pub fn replayed_lots_match_their_deals()
 /// Proves for deals of distinct trades with strictly ascending stamps that the changes of each lot
 /// form a chain. The first starts at 0 and opens the lot, each later one starts where the one
 /// before it ended and ends strictly nearer to 0, and the last ends at the current quantity. Proves
-/// also that the lot of a deal's trade has the shares that the deal opens.
+/// also that the quantity of the lot of a deal's trade is the number of shares that the deal opens,
+/// below 0 for a sale.
 pub fn lot_histories_are_chains()
     ensures history { (deals : List Deal) (trade : ℕ) → AreAscendingDeals deals
         → IsLotHistory (changes_of_lot trade deals []) (lot_quantity (replay deals) trade) }
@@ -32,15 +34,15 @@ pub fn lot_histories_are_chains()
         lot_quantity (shares_after_deal (shares_of_lots ls) d) d.trade ≡ signed_by_side d.side (d.qty - closed_share_count_of_deal d (shares_of_lots ls)) }
 {}
 
-/// Proves that the history of a deal consists of the lots that it touches and the lot that it
-/// opens, if its trade opened no lot of the position before.
+/// Proves that the lot changes of a deal are those of the lots that it closes or reduces, followed
+/// by that of the lot that it opens, if its trade opened no lot of the position before.
 pub fn history_is_touched_and_opened_lots()
     ensures { (d : Deal) (ls : List Lot) → IsPosition ls → AreOpenedByOtherTrades d.trade ls →
         lot_touches_of_deal d (shares_of_lots ls)
         ≡ touches_of_existing_lots d (shares_of_lots ls) ++ map opening_touch (lots_of_shares (opened_shares d (shares_of_lots ls))) }
 {}
 
-/// Proves that the lots of a position equal the lots of its shares.
+/// Proves that the lots of a position equal the lots that the model forms from its single shares.
 pub fn position_lots_equal_lots_of_shares()
     ensures { (ls : List Lot) → IsPosition ls → map abstract_lot ls ≡ lots_of_shares (shares_of_lots ls) }
 {}

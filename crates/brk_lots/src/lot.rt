@@ -14,6 +14,7 @@ pub struct Lot {
     pub trade: Id,
     /// The price of a share, in cents.
     pub price: Price,
+    /// The number of its shares, below 0 if they were sold short.
     pub qty: i64,
     /// The stamp of the trade's completion.
     pub stamp: Stamp,
@@ -24,6 +25,7 @@ pub struct Lot {
 pub struct Touch {
     /// The trade that opened the lot.
     pub lot: Id,
+    /// The signed quantity of the lot before the change and after it.
     pub before: i64,
     pub after: i64,
 }
@@ -44,7 +46,8 @@ impl Lot {
         self.qty.unsigned_abs()
     }
 
-    // Returns the quantity with `shares` shares less, with the sign of the lot.
+    // Returns the signed quantity of the lot after `shares` of its shares are closed, which must
+    // not be more than it has.
     fn quantity_after_closing(&self, shares: u32) -> i64
         requires { shares ≤ unsigned_abs self.now.qty }
         ensures { result ≡ signed_by_side (side_of_qty self.now.qty) (unsigned_abs self.now.qty - shares) }
@@ -56,7 +59,8 @@ impl Lot {
         }
     }
 
-    // Returns the change of the lot that closes `shares` of its shares.
+    // Returns the change of the lot, its quantity before and after, that closes `shares` of its
+    // shares.
     pub(crate) fn touch_closing_shares(&self, shares: u32) -> Touch
         requires { shares ≤ unsigned_abs self.now.qty }
         ensures { result
@@ -80,7 +84,7 @@ pub fn are_same_side(a: Side, b: Side) -> bool
     }
 }
 
-// Returns the number of shares as a signed quantity: below 0 for a sale.
+// Returns the number of shares as a signed quantity: above 0 for a purchase, below 0 for a sale.
 pub(crate) fn signed_qty(side: Side, shares: u32) -> i64
     ensures { result ≡ signed_by_side side shares }
 {

@@ -37,7 +37,7 @@ impl Model for Position {
 }
 
 impl Position {
-    /// Returns the position without lots.
+    /// Creates a position without lots.
     pub fn new(alloc: Global) -> Position
         ensures { result ≡ [] }
     {
@@ -47,7 +47,7 @@ impl Position {
         }
     }
 
-    /// Returns the position of these lots, the oldest first, or `None` if they do not form one.
+    /// Creates a position of these lots, the oldest first. Returns `None` if they do not form one.
     /// Never allocates.
     pub fn from_lots(mut lots: Vec<Lot>) -> Option<Position>
         ensures { MatchOption result (IsPosition lots.items → ⊥) (λ position. (position ≡ lots.items) × IsPosition lots.items) }
@@ -59,7 +59,7 @@ impl Position {
         }
     }
 
-    /// Returns the lots, the oldest first.
+    /// Returns the lots of the position, the oldest first.
     pub fn lots(&self) -> &[Lot]
         ensures lots { result.now ≡ self.now }
         ensures position { IsPosition self.now }
@@ -76,8 +76,8 @@ impl Position {
         all_lots_precede_trade(self.lots(), trade, stamp)
     }
 
-    /// Applies `closing`, the closing of this position by a trade, from either end. The position
-    /// then has the shares that the trade did not close, followed by those that it opened.
+    /// Applies `closing`, the effect of a trade on this position. The position then has the shares
+    /// that the trade did not close, followed by those that it opened.
     ///
     /// Fails with `Memory` only. The position is then unchanged.
     pub fn apply(&mut self, closing: &Closing) -> Result<(), Fault>
@@ -96,7 +96,7 @@ impl Position {
         Ok(())
     }
 
-    /// Returns the lots as a source: from the back if `lifo`, otherwise from the front. Never
+    /// Returns a source of the lots: the newest first if `lifo`, otherwise the oldest first. Never
     /// allocates.
     pub fn from_end(&self, lifo: bool) -> PositionEnd<'_>
         ensures remaining { ⟦<PositionEnd<'static> as LotSource>⟧.remaining result (list_in_closing_order lifo self.now) }

@@ -20,7 +20,8 @@ pub struct DealTouch {
     pub touch: Touch,
 }
 
-// Appends the lots that a trade touched, in order. Fails with `Memory` only.
+// Appends to `rows` the changes `touched` of the lots that `trade` closed or reduced, in sequence.
+// Fails with `Memory` only.
 fn append_touched_lots(rows: &mut Vec<DealTouch>, trade: Id, touched: &[Touch]) -> Result<(), Fault>
     ensures added { OnOk result (map abstract_deal_touch rows.new.items
         ≡ map abstract_deal_touch rows.old.items ++ map (holding_history_row trade) (map abstract_touch touched.now)) }
@@ -35,7 +36,8 @@ fn append_touched_lots(rows: &mut Vec<DealTouch>, trade: Id, touched: &[Touch]) 
     Ok(())
 }
 
-// Appends the lot that a trade opened, if it opened one. Fails with `Memory` only.
+// Appends to `rows` the change by which `trade` opened a lot, from 0 to its quantity, or nothing if
+// `opened` is `None`. Fails with `Memory` only.
 fn append_opened_lot(rows: &mut Vec<DealTouch>, trade: Id, opened: Option<Lot>) -> Result<(), Fault>
     ensures added { OnOk result (map abstract_deal_touch rows.new.items
         ≡ map abstract_deal_touch rows.old.items ++ map (holding_history_row trade) (map opening_touch (map abstract_lot (option_to_list opened)))) }
@@ -52,8 +54,8 @@ fn append_opened_lot(rows: &mut Vec<DealTouch>, trade: Id, opened: Option<Lot>) 
     Ok(())
 }
 
-// Appends the lots that a trade touched, in order, and then the lot that it opened. Fails with
-// `Memory` only.
+// Appends to `rows` the changes of the lots that `trade` closed or reduced, in sequence, and then
+// that of the lot that it opened, if any. Fails with `Memory` only.
 fn append_lot_changes(rows: &mut Vec<DealTouch>, trade: Id, closing: &Closing) -> Result<(), Fault>
     ensures added { OnOk result (map abstract_deal_touch rows.new.items ≡ map abstract_deal_touch rows.old.items
         ++ map (holding_history_row trade) (map abstract_touch closing.now.touched.items
@@ -65,8 +67,8 @@ fn append_lot_changes(rows: &mut Vec<DealTouch>, trade: Id, closing: &Closing) -
 }
 
 impl Position {
-    /// Returns the position after deals of distinct trades with ascending stamps. Fails with
-    /// `Memory` only.
+    /// Returns the position after `deals`, applied in sequence from the empty position on. They
+    /// must have distinct trades and strictly ascending stamps. Fails with `Memory` only.
     pub fn replay(alloc: Global, deals: &[Deal]) -> Result<Position, Fault>
         requires { AreAscendingDeals (map abstract_deal deals.now) }
         ensures shares { IfOk result (λ position. shares_of_lots position ≡ replay (map abstract_deal deals.now)) }
@@ -76,9 +78,12 @@ impl Position {
         Position::replay_with_lot_changes(alloc, deals, &mut rows)
     }
 
-    /// Returns the position after deals of distinct trades with ascending stamps. Appends to
-    /// `rows`, deal by deal, the lots that it touched, from its end, and the lot that it opened.
-    /// Fails with `Memory` only.
+    /// Returns the position after `deals`, applied in sequence from the empty position on. They
+    /// must have distinct trades and strictly ascending stamps.
+    ///
+    /// Appends to `rows`, for each deal, the changes of the lots that it closed or reduced, in the
+    /// sequence in which it took them, and then that of the lot that it opened, if any. Fails with
+    /// `Memory` only.
     pub fn replay_with_lot_changes(
         alloc: Global,
         deals: &[Deal],

@@ -6,34 +6,34 @@ ghost use Rattle.brk_money.specs.declared.fault.Fault.TheVariants.{Memory};
 use crate::lot::Touch;
 use brk_money::Fault;
 
-// A receiver of the lots that a walk touches, one at a time.
+// A receiver of lot changes: it takes each lot that is closed or reduced, one at a time.
 pub(crate) trait TouchReceiver {
-    // Relates the receiver to the rows that were added.
+    // Relates the receiver to the lot changes that were added to it.
     ghost holds: { Self → List Touch → Type 0 };
 
     // The faults with which a call may fail.
     ghost fails: { Fault → Type 0 };
 
-    // Receives the next touched lot.
+    // Takes the next lot change.
     fn add(&mut self, row: Touch) -> Result<(), Fault>
         ensures added { OnOk result ((rows : List Touch) → holds self.old rows → holds self.new (rows ++ row ∷ [])) }
         ensures fault { IfErr result fails };
 }
 
-// Stores the rows.
+// A vector stores the lot changes.
 impl TouchReceiver for Vec<Touch> {
     ghost holds = { λ kept rows. kept.items ≡ rows };
 
     ghost fails = { λ fault. fault ≡ Memory };
 
-    // Appends the row. Fails with `Memory` only.
+    // Appends the lot change to the vector. Fails with `Memory` only.
     fn add(&mut self, row: Touch) -> Result<(), Fault> {
         self.push(row)?;
         Ok(())
     }
 }
 
-// Stores no rows, and never allocates.
+// A receiver that discards the lot changes. It never allocates.
 #[derive(Drop)]
 pub(crate) struct TouchDiscarder;
 
@@ -42,7 +42,7 @@ impl TouchReceiver for TouchDiscarder {
 
     ghost fails = { λ _. ⊥ };
 
-    // Ignores the row. Never fails.
+    // Discards the lot change. Never fails.
     fn add(&mut self, _row: Touch) -> Result<(), Fault> {
         Ok(())
     }

@@ -5,14 +5,14 @@ ghost use Rattle.brk_money.specs.declared.fault.Fault.{Fault};
 use crate::lot::Lot;
 use brk_money::Fault;
 
-/// A source of the lots of a position from one of its ends. As long as it reads faithfully, it
-/// skips no lot and repeats none.
+/// A source of the lots of a position, from one of its ends. It skips no lot and repeats none,
+/// unless a read of the disk returned other bytes than were written.
 pub trait LotSource {
-    /// Relates the source to the lots that remain, in the order in which it yields them.
+    /// Relates the source to the lots that remain, in the sequence in which it returns them.
     ghost remaining: { Self → List Lot → Type 0 };
 
-    /// Every read of the underlying store so far met the disk assumption. Always true if the source
-    /// reads no disk.
+    /// The disk assumption: every read of the underlying store so far returned what was written.
+    /// True of a source that reads no disk.
     ghost reads_faithfully: { Self → Type 0 };
 
     /// Relates the source to each state of it, and of the store that it reads, to which calls can
@@ -29,8 +29,8 @@ pub trait LotSource {
     /// The effect of a call that fails: the source before it, the fault, and the source after it.
     ghost fails: { Self → Fault → Self → Type 0 };
 
-    /// Returns the next lot, or `None` after the last, as long as the source reads faithfully. An
-    /// error leaves the remaining lots unchanged, so the call may be retried.
+    /// Returns the next lot, or `None` after the last. An error does not change the remaining lots,
+    /// so the call may be retried.
     fn next(&mut self) -> Result<Option<Lot>, Fault>
         ensures leads { leads self.old self.new }
         ensures given { IfOk result (λ given. reads_faithfully self.new → (ls : List Lot) → remaining self.old ls →
@@ -42,12 +42,12 @@ pub trait LotSource {
         ensures asked { asked self.new ≤ asked self.old + 1 }
         ensures faulted { IfOk result (λ given. faulted self.new ≡ faulted self.old) };
 
-    /// A source is related to itself.
+    /// `leads` relates each source to itself.
     ghost reflexive: { (p : Self) → leads p p };
 
-    /// The relation is transitive.
+    /// `leads` is transitive.
     ghost transitive: { (p q r : Self) → leads p q → leads q r → leads p r };
 
-    /// If reads met the disk assumption up to a later state, they did up to an earlier one.
+    /// If the disk assumption holds in a later state of the source, it held in an earlier one.
     ghost faithful_before: { (p q : Self) → leads p q → reads_faithfully q → reads_faithfully p };
 }

@@ -19,8 +19,8 @@ pub struct Values {
     pub sell_value: Amount,
 }
 
-// Returns the buy value and the sell value of shares that a trade of the side closes at the value
-// `traded` and that were opened at the value `opened`.
+// Returns the buy value and the sell value, in cents, of shares that a trade of the side closes at
+// the value `traded` and that were opened at the value `opened`.
 pub(crate) fn closing_values(side: Side, traded: u64, opened: u64) -> Values
     requires traded { traded ≤ greatest_amount }
     requires opened { opened ≤ greatest_amount }
@@ -40,11 +40,11 @@ pub(crate) fn closing_values(side: Side, traded: u64, opened: u64) -> Values
     }
 }
 
-/// Returns the buy value and the sell value of the shares that an order at `price` would close
-/// (Trade-Order). Changes no lot and never allocates.
+/// Returns the buy value and the sell value, in cents, of the shares that an order at `price` would
+/// close (Trade-Order). Changes no lot and never allocates.
 ///
-/// It requests at most one lot more than it would touch, also if it fails. Fails with a fault of
-/// the source only.
+/// It requests at most one lot more than the order would touch, also if it fails. Fails with a
+/// fault of the source only.
 pub fn estimate_closing_values<L: LotSource>(
     source: &mut L,
     side: Side,

@@ -13,23 +13,26 @@ use crate::source::LotSource;
 use crate::values::{Values, closing_values};
 use brk_money::{Fault, Price, Qty, Side};
 
-// The quantity that closed no share, and the value at which the closed shares were opened, in
-// cents.
+// The quantity that closed no share (`left`), and the value at which the closed shares were opened,
+// in cents (`cost`).
 #[derive(Drop)]
 struct CloseCost {
     left: u32,
     cost: u64,
 }
 
-// The quantity that closed no share, and the buy value and the sell value of the closed shares.
+// The quantity that closed no share (`left`), and the buy value and the sell value of the closed
+// shares, in cents (`values`).
 #[derive(Drop)]
 pub(crate) struct CloseValues {
     pub left: u32,
     pub values: Values,
 }
 
-// Closes lots of the other side until the quantity is used up, and adds each touched lot to `rows`.
-// Returns the quantity that closed no share and the value at which the closed shares were opened.
+// Closes lots of the other side until the quantity is used up, the source has no lot left, or the
+// next lot has the side of the trade. Adds the change of each lot to `rows`. Returns the quantity
+// that closed no share, and the value, in cents, at which the closed shares were opened. Fails with
+// a fault of the source or of `rows`.
 fn close_lots_with_cost<L: LotSource, R: TouchReceiver>(
     source: &mut L,
     side: Side,
@@ -71,8 +74,10 @@ fn close_lots_with_cost<L: LotSource, R: TouchReceiver>(
     Ok(CloseCost { left, cost })
 }
 
-// Closes lots of the other side until the quantity is used up, and adds each touched lot to `rows`.
-// Returns the quantity that closed no share and the values of the closed shares.
+// Closes lots of the other side until the quantity is used up, the source has no lot left, or the
+// next lot has the side of the trade. Adds the change of each lot to `rows`. Returns the quantity
+// that closed no share, and the buy value and the sell value, in cents, of the shares that were
+// closed at `price`. Fails with a fault of the source or of `rows`.
 pub(crate) fn close_lots_with_values<L: LotSource, R: TouchReceiver>(
     source: &mut L,
     side: Side,

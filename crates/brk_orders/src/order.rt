@@ -123,7 +123,8 @@ fn refusal_of_unknown_type(price: &[u8]) -> Refusal
 
 // Returns the order type of `kind`, which is `None` if the type is unknown, with its price. Refuses
 // with `BadPrice` if the text of the price is malformed, or not empty for a market type, and
-// otherwise with `BadType` if the type is unknown.
+// otherwise with `BadType` if the type is unknown. With an unknown type, an empty text is not
+// malformed.
 fn order_type_with_price(kind: Option<TradeType>, price: &[u8]) -> Result<OrderType, Refusal>
     ensures { result ≡ forms.order_type_with_price kind price.now }
 {

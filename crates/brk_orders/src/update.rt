@@ -15,12 +15,13 @@ use std::alloc::Global;
 /// A requested text update (Trade-Update): which text of which trades it replaces.
 #[derive(Drop)]
 pub enum Update {
-    /// Updates the executors' names of these trades.
+    /// Updates the executors' names of the trades with these ids.
     Executors(TradeIds),
-    /// Updates the cash types of an account's trades that were completed between two stamps.
+    /// Updates the settlement texts of the first 20 trades of an account that were completed
+    /// between two stamps, both included.
     CashTypes { account: Id, span: Span },
-    /// Updates the texts of the cash rows of a security's cash trades that were completed between
-    /// two stamps.
+    /// Updates the texts of the cash rows of the first 20 cash trades of a security that were
+    /// completed between two stamps, both included.
     CashNames { symbol: Symbol, span: Span },
 }
 

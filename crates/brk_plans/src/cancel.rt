@@ -11,8 +11,9 @@ use brk_changes::Change;
 use brk_money::{Fault, Id, Planned, Refusal, Stamp, Status, stamp_after};
 use std::alloc::Global;
 
-// Returns the refusal of a cancel of a trade with the status `found`, none if it does not exist:
-// `NoTrade`, or `WrongStatus` if it is not pending. Returns `None` if neither applies.
+// Returns the refusal of a cancel of the trade whose status is `found`: `NoTrade` if it is `None`,
+// so that there is no such trade, or `WrongStatus` if it is not pending. Returns `None` if the
+// trade is pending.
 fn refusal_of_cancel(found: Option<Status>) -> Option<Refusal>
     ensures { result ≡ first_refusal (cancel_checks found) }
 {
@@ -23,8 +24,8 @@ fn refusal_of_cancel(found: Option<Status>) -> Option<Refusal>
     }
 }
 
-// Returns the row changes that cancel a trade, and that set the last stamp. Fails with `Memory`
-// only.
+// Returns the row changes that cancel the pending trade at `stamp` and set the last stamp. Fails
+// with `Memory` only.
 fn create_cancel_changes(alloc: Global, trade: Id, stamp: Stamp) -> Result<Vec<Change>, Fault>
     ensures changes { IfOk result (λ changes. changes.items ≡ row_changes_of_cancel trade stamp) }
     ensures fault { OnErr result (result ≡ Err Memory) }
@@ -35,8 +36,8 @@ fn create_cancel_changes(alloc: Global, trade: Id, stamp: Stamp) -> Result<Vec<C
     Ok(changes)
 }
 
-/// Plans the cancel of a trade from its status, `None` if it does not exist, and the stamp of the
-/// last accepted command.
+/// Plans the cancel of a trade. `found` is its status, or `None` if there is no such trade, `last`
+/// the stamp of the last accepted command, and `now` the clock reading.
 ///
 /// The plan sets the status, adds a history row, deletes the request and sets the last stamp. Its
 /// reply has the stamp.

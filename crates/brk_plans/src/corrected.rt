@@ -2,8 +2,8 @@ use brk_changes::{CashType, TradeRow};
 use brk_money::{Id, Qty, TradeType};
 use brk_ref::Name;
 
-/// The settlement text of a completed trade (SE_CASH_TYPE), and whether it is a cash trade or a
-/// margin trade.
+/// A completed trade with its settlement text (SE_CASH_TYPE), and true if it is a cash trade, false
+/// if it is a margin trade.
 #[derive(Clone, Copy)]
 pub struct SettlementText {
     pub trade: Id,
@@ -11,8 +11,8 @@ pub struct SettlementText {
     pub cash_type: CashType,
 }
 
-/// The text of the cash row of a completed cash trade (CM_NAME), and the facts from which its new
-/// text is formed.
+/// A completed cash trade with the text of its cash row (CM_NAME), and the type and the quantity
+/// from which its new text is formed.
 #[derive(Drop)]
 pub struct CashText {
     pub trade: Id,
@@ -21,8 +21,8 @@ pub struct CashText {
     pub name: String,
 }
 
-/// The trades that a text update selects, in sequence, with the facts from which their new texts
-/// are formed.
+/// The trades whose text a text update replaces, in sequence, with the present texts and the values
+/// from which the new ones are formed.
 #[derive(Drop)]
 pub enum TextUpdate {
     /// Trades whose executors' names are updated.

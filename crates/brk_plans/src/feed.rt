@@ -20,8 +20,8 @@ use brk_orders::{Feed, Tick};
 use brk_ref::{LastTrade, Symbol, Volume};
 use std::alloc::Global;
 
-/// Returns true if a market price of `price` triggers a pending trade of the type `kind` with the
-/// requested price `bid` (Market-Feed). A stop loss and a limit buy are triggered at the bid or
+/// Returns true if a market price of `price` cents triggers a pending trade of the type `kind` with
+/// the requested price `bid` (Market-Feed). A stop loss and a limit buy are triggered at the bid or
 /// below, a limit sell at the bid or above, and market types never.
 pub fn price_triggers_trade(kind: TradeType, bid: Price, price: Price) -> bool
     ensures { result ≡ definition.is_triggering_price kind bid price }
@@ -34,14 +34,14 @@ pub fn price_triggers_trade(kind: TradeType, bid: Price, price: Price) -> bool
     }
 }
 
-// Returns true if the last trade of the quote is of the symbol.
+// Returns true if the quote is that of the symbol.
 fn is_quote_of_symbol(quote: &Quote, symbol: &Symbol) -> bool
     ensures { result ≡ is_state_of_symbol symbol.now (state_of_quote quote.now) }
 {
     quote.last.symbol.as_str() == symbol.as_str()
 }
 
-/// Returns true if none of the quotes is of the tick's symbol.
+/// Returns true if none of the quotes is that of the tick's symbol.
 pub fn has_no_quote_of_symbol(quotes: &[Quote], tick: &Tick) -> bool
     ensures { result ≡ lacks_state_of_symbol (states_of_quotes quotes.now) tick.now }
 {
@@ -50,7 +50,7 @@ pub fn has_no_quote_of_symbol(quotes: &[Quote], tick: &Tick) -> bool
         .any(|quote| is_quote_of_symbol(quote, &tick.symbol))
 }
 
-// Returns true if the symbol of at least one tick has no quote.
+// Returns true if none of the quotes is that of the symbol of some tick.
 fn has_tick_without_quote(quotes: &[Quote], ticks: &[Tick]) -> bool
     ensures { result ≡ list_any (lacks_state_of_symbol (states_of_quotes quotes.now)) ticks.now }
 {
@@ -59,9 +59,9 @@ fn has_tick_without_quote(quotes: &[Quote], ticks: &[Tick]) -> bool
         .any(|tick| has_no_quote_of_symbol(quotes, tick))
 }
 
-// Returns the last trade of the symbol after the tick: its price is that of the tick, its stamp is
-// `stamp`, and its volume is greater by the quantity of the tick. Refuses with `Range(Volume)` if
-// the volume would exceed its limit.
+// Returns the last trade `last` of a symbol after the tick: its price is that of the tick, its
+// stamp is `stamp`, and its volume is greater by the quantity of the tick. Refuses with
+// `Range(Volume)` if the volume would exceed its limit, 10^17 shares.
 fn checked_last_trade_after_tick(
     stamp: Stamp,
     tick: &Tick,
@@ -83,7 +83,7 @@ fn checked_last_trade_after_tick(
     })
 }
 
-// Returns the row change that sets the last trade of a symbol. Fails with `Memory` only.
+// Returns the row change that sets the last trade of a symbol to `last`. Fails with `Memory` only.
 fn create_last_trade_change(last: &LastTrade) -> Result<Change, Fault>
     ensures change { IfOk result (λ change. change ≡ SetLastTrade last.now) }
     ensures fault { OnErr result (result ≡ Err Memory) }
@@ -96,8 +96,8 @@ fn create_last_trade_change(last: &LastTrade) -> Result<Change, Fault>
     }))
 }
 
-// Appends to `changes` the row changes that submit the trades whose requests the price triggers,
-// and to `ids` the ids of these trades. Fails with `Memory` only.
+// Appends to `changes` the row changes that submit, at `stamp`, the trades of those requests that
+// the price triggers, and to `ids` the ids of these trades. Fails with `Memory` only.
 fn append_submission_changes(
     stamp: Stamp,
     price: Price,
@@ -118,7 +118,8 @@ fn append_submission_changes(
     Ok(())
 }
 
-// Returns the elements of `requests` that the price does not trigger. Fails with `Memory` only.
+// Returns those of the requests that the price does not trigger, in sequence. Fails with `Memory`
+// only.
 fn requests_not_triggered(
     alloc: Global,
     price: Price,
@@ -136,9 +137,9 @@ fn requests_not_triggered(
     Ok(waiting)
 }
 
-// Returns the quote after the tick. Appends the row changes of the tick to `changes` and the trades
-// that it triggers to `ids`. A tick of another symbol changes nothing. Refuses with `Range(Volume)`
-// if the volume would exceed its limit. Fails with `Memory` only.
+// Returns the quote after the tick. Appends the row changes of the tick to `changes`, and the ids
+// of the trades that it triggers to `ids`. A tick of another symbol changes nothing. Refuses with
+// `Range(Volume)` if the volume would exceed its limit. Fails with `Memory` only.
 fn apply_tick_to_quote(
     alloc: Global,
     stamp: Stamp,
@@ -170,9 +171,9 @@ fn apply_tick_to_quote(
     Ok(Ok(Quote { last, requests }))
 }
 
-// Returns the quotes after the tick. Appends the row changes of the tick to `changes` and the
-// trades that it triggers to `ids`. Refuses with `Range(Volume)` if a volume would exceed its
-// limit. Fails with `Memory` only.
+// Returns the quotes after the tick. Appends the row changes of the tick to `changes`, and the ids
+// of the trades that it triggers to `ids`. Refuses with `Range(Volume)` if a volume would exceed
+// its limit. Fails with `Memory` only.
 fn apply_tick_to_quotes(
     alloc: Global,
     stamp: Stamp,
@@ -201,8 +202,8 @@ fn apply_tick_to_quotes(
     Ok(Ok(after))
 }
 
-// Proof-only: proves that the volume of no quote exceeds its limit. Reads the volumes and changes
-// nothing.
+// Reads the volumes of the quotes and changes nothing. A caller uses it for its contract, which
+// states that no volume exceeds its limit.
 fn prove_volumes_are_within_limit(quotes: &[Quote])
     ensures { list_any exceeds_volume_limit (states_of_quotes quotes.now) ≡ false }
 {
@@ -211,9 +212,9 @@ fn prove_volumes_are_within_limit(quotes: &[Quote])
     }
 }
 
-// Applies the ticks in sequence. Appends their row changes to `changes` and the trades that they
-// trigger to `ids`. Refuses with `Range(Volume)` if a volume would exceed its limit. Fails with
-// `Memory` only.
+// Applies the ticks in sequence to the quotes. Appends their row changes to `changes`, and the ids
+// of the trades that they trigger to `ids`. Refuses with `Range(Volume)` if a volume would exceed
+// its limit. Fails with `Memory` only.
 fn apply_ticks_to_quotes(
     alloc: Global,
     stamp: Stamp,
@@ -243,10 +244,10 @@ fn apply_ticks_to_quotes(
     Ok(Ok(()))
 }
 
-/// Plans a feed from the quotes of its symbols, one for each symbol, and the stamp of the last
-/// accepted command.
+/// Plans a feed. `quotes` has one quote for each of its symbols, `last` is the stamp of the last
+/// accepted command, and `now` the clock reading.
 ///
-/// Each tick in order sets the last trade of its symbol and submits the trades whose requests it
+/// Each tick in sequence sets the last trade of its symbol and submits the trades whose requests it
 /// triggers, after the changes of the ticks before it. The plan then sets the last stamp. Its reply
 /// has the stamp and the triggered trades.
 ///

@@ -47,7 +47,8 @@ fn movement_cash_text(direction: Direction) -> &'static str
     }
 }
 
-/// Returns the sum of `balance` and `amount`, or `None` if it is not within the limit of a balance.
+/// Returns the sum of `balance` and `amount` in cents, or `None` if its absolute value exceeds the
+/// limit of a balance, 10^17 cents.
 pub fn add_within_balance_limit(balance: Cents, amount: Cents) -> Option<Cents>
     ensures { MatchOption result
         (nat_lt greatest_amount (nat_abs (balance +ℤ amount)) ≡ true)
@@ -56,8 +57,9 @@ pub fn add_within_balance_limit(balance: Cents, amount: Cents) -> Option<Cents>
     Cents::new(balance.get() + amount.get())
 }
 
-// Returns the balance of the account after the movement, or the first refusal that applies of
-// `NoAccount`, `Range(Balance)` and `Range(Moves)`.
+// Returns the balance of the account after the movement, in cents, or the first refusal that
+// applies: `NoAccount`; `Range(Balance)`, if the balance would exceed its limit; or `Range(Moves)`,
+// if there are already `Id::GREATEST` deposits and withdrawals.
 fn checked_balance_after_movement(
     movement: &Movement,
     found: &MovementPlanFacts,
@@ -98,8 +100,8 @@ fn create_movement_cash_row(
     })
 }
 
-// Returns the row changes of a movement: the cash row is added, and the balance of the account and
-// the last stamp are set. Fails with `Memory` only.
+// Returns the row changes of a movement: the cash row `row` is added, the balance of `account` is
+// set to `balance`, and the last stamp to `stamp`. Fails with `Memory` only.
 fn create_movement_changes(
     alloc: Global,
     account: Id,
@@ -141,15 +143,15 @@ fn create_movement_plan(
     })
 }
 
-/// Plans a deposit or a withdrawal from the facts in the tables and the stamp of the last accepted
-/// command.
+/// Plans a deposit or a withdrawal from the facts in the tables, `found`. `last` is the stamp of
+/// the last accepted command, and `now` the clock reading.
 ///
 /// The plan adds a cash row with the number `found.next`, and sets the balance of the account and
 /// the last stamp. Its reply has the stamp, the number and the balance in cents.
 ///
-/// Refuses with the first that applies of `NoAccount`; `Range(Balance)`; `Range(Moves)`, if there
-/// are `Id::GREATEST` deposits and withdrawals; and `ClockEnd`, if no later stamp is left. Fails
-/// with `Memory` only.
+/// Refuses with the first that applies of `NoAccount`; `Range(Balance)`, if the balance would
+/// exceed its limit; `Range(Moves)`, if there are already `Id::GREATEST` deposits and withdrawals;
+/// and `ClockEnd`, if no later stamp is left. Fails with `Memory` only.
 pub fn plan_move(
     alloc: Global,
     movement: &Movement,

@@ -10,7 +10,8 @@ use brk_changes::Change;
 use brk_money::{Day, Fault, Planned, Refusal, Stamp, day_of, stamp_after};
 use std::alloc::Global;
 
-// Returns the row changes that set the settlement day and the last stamp. Fails with `Memory` only.
+// Returns the row changes that set the settlement day to `day` and the last stamp to `stamp`. Fails
+// with `Memory` only.
 fn create_settlement_day_changes(
     alloc: Global,
     day: Day,
@@ -26,7 +27,8 @@ fn create_settlement_day_changes(
 }
 
 /// Plans to set `day` as the settlement day, the first day whose completions settle after one day.
-/// `rule` is the one that is set, if any, and `last` the stamp of the last accepted command.
+/// `rule` is the settlement day that is set already, if any, `last` the stamp of the last accepted
+/// command, and `now` the clock reading.
 ///
 /// The plan sets the day and the last stamp. Its reply has the stamp.
 ///

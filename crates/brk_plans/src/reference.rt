@@ -30,8 +30,8 @@ pub enum Reference {
     CustomerTax(CustomerTax),
 }
 
-/// The facts in the tables that decide on a record. A field that records of its kind do not need
-/// may have any value.
+/// The facts in the tables that decide on a new record of reference data. A field that the records
+/// of its kind do not need may have any value.
 #[derive(Clone, Copy, PartialEq, Eq)]
 pub struct ReferenceFacts {
     /// True if a record with its key exists: of a permission the account and the tax id, of a
@@ -66,7 +66,8 @@ fn refusal_if_exists(found: bool) -> Option<Refusal>
     if found { Some(Refusal::Exists) } else { None }
 }
 
-// Returns the first refusal that applies to the record, by its kind, or `None`.
+// Returns the first refusal that applies to a new record of reference data against the facts
+// `found`, or `None` if none applies.
 fn reference_refusal(reference: &Reference, found: ReferenceFacts) -> Option<Refusal>
     ensures { result ≡ first_refusal (reference_checks reference.now found) }
 {
@@ -83,7 +84,8 @@ fn reference_refusal(reference: &Reference, found: ReferenceFacts) -> Option<Ref
     }
 }
 
-// Returns the first refusal that applies to a new account, or `None`.
+// Returns the first refusal that applies to a new account: `NoCustomer`, `NoBroker`, `Exists` or
+// `Range(Accounts)`. Returns `None` if none applies.
 fn account_refusal(found: ReferenceFacts) -> Option<Refusal>
     ensures { result ≡ first_refusal (account_checks found) }
 {
@@ -102,7 +104,8 @@ fn account_refusal(found: ReferenceFacts) -> Option<Refusal>
     None
 }
 
-// Returns the first refusal that applies to a new permission, or `None`.
+// Returns the first refusal that applies to a new permission: `NoAccount` or `Exists`. Returns
+// `None` if neither applies.
 fn permission_refusal(found: ReferenceFacts) -> Option<Refusal>
     ensures { result ≡ first_refusal (permission_checks found) }
 {
@@ -112,7 +115,9 @@ fn permission_refusal(found: ReferenceFacts) -> Option<Refusal>
     refusal_if_exists(found.same_id)
 }
 
-// Returns the first refusal that applies to a new commission band, or `None`.
+// Returns the first refusal that applies to a new commission band: `BadQty`, if its bounds are
+// reversed, or `Overlap`, if another band shares a quantity with it. Returns `None` if neither
+// applies.
 fn band_refusal(band: &Band, found: ReferenceFacts) -> Option<Refusal>
     ensures { result ≡ first_refusal (band_checks band.now found) }
 {
@@ -125,8 +130,9 @@ fn band_refusal(band: &Band, found: ReferenceFacts) -> Option<Refusal>
     None
 }
 
-// Returns true if the sum of a customer's rates plus another rate exceeds the greatest rate, or if
-// the sum is `None`, which exceeds it itself.
+// Returns true if `rates`, the sum of a customer's tax rates, plus `rate` exceeds the greatest rate
+// (hundred-thousandths). If `rates` is `None`, the sum exceeds it already, and the function returns
+// true.
 fn sum_exceeds_greatest_tax_rate(rates: Option<TaxRate>, rate: TaxRate) -> bool
     ensures { result ≡ spec.exceeds_greatest_tax_rate rates (Some rate) }
 {
@@ -136,7 +142,8 @@ fn sum_exceeds_greatest_tax_rate(rates: Option<TaxRate>, rate: TaxRate) -> bool
     }
 }
 
-// Returns the first refusal that applies to a new tax of a customer, or `None`.
+// Returns the first refusal that applies to a new tax of a customer: `NoCustomer`, `NoTax`,
+// `Exists` or `TaxSum`. Returns `None` if none applies.
 fn customer_tax_refusal(found: ReferenceFacts) -> Option<Refusal>
     ensures { result ≡ first_refusal (customer_tax_checks found) }
 {
@@ -155,7 +162,8 @@ fn customer_tax_refusal(found: ReferenceFacts) -> Option<Refusal>
     None
 }
 
-// Returns the row change that adds the record, of a listing its security. Fails if memory runs out.
+// Returns the row change that adds the record; for a listing, the one that adds its SECURITY row.
+// Fails if memory runs out.
 fn create_record_change(reference: &Reference) -> Result<Change, AllocError>
     ensures { IfOk result (λ change. change ≡ row_change_adding_record reference.now) }
 {
@@ -172,8 +180,8 @@ fn create_record_change(reference: &Reference) -> Result<Change, AllocError>
     }
 }
 
-// Returns the first LAST_TRADE row of a newly listed security: its first price, volume 0 and the
-// stamp. Fails if memory runs out.
+// Returns the first LAST_TRADE row of a newly listed security, with its first price, volume 0 and
+// the stamp. Fails if memory runs out.
 fn create_first_last_trade_row(listing: &Listing, stamp: Stamp) -> Result<LastTrade, AllocError>
     ensures { IfOk result (λ row. row ≡ spec.first_last_trade_of_listing stamp listing.now) }
 {
@@ -185,8 +193,8 @@ fn create_first_last_trade_row(listing: &Listing, stamp: Stamp) -> Result<LastTr
     })
 }
 
-// Returns the row changes that add the record, of a listing its LAST_TRADE row too, and that set
-// the last stamp. Fails with `Memory` only.
+// Returns the row changes that add the record, for a listing also its LAST_TRADE row, and that set
+// the last stamp to `stamp`. Fails with `Memory` only.
 fn create_reference_changes(
     alloc: Global,
     reference: &Reference,
@@ -204,11 +212,11 @@ fn create_reference_changes(
     Ok(changes)
 }
 
-/// Plans a record of reference data from the facts in the tables and the stamp of the last accepted
-/// command.
+/// Plans a new record of reference data from the facts in the tables, `found`. `last` is the stamp
+/// of the last accepted command, and `now` the clock reading.
 ///
-/// The plan adds its row, of a security its last trade too, and sets the last stamp. Its reply has
-/// the stamp.
+/// The plan adds the row of the record, for a listing also its LAST_TRADE row, and sets the last
+/// stamp. Its reply has the stamp.
 ///
 /// Refuses with the first that applies of `BadQty` (the bounds of a band are reversed),
 /// `NoAccount`, `NoCustomer`, `NoBroker`, `NoTax`, `Exists`, `Overlap`, `TaxSum` and

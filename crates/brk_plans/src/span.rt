@@ -4,14 +4,14 @@ ghost use Rattle.brk_plans.specs.Feed as spec;
 use brk_money::Price;
 use brk_orders::Tick;
 
-/// The lowest and the highest of some prices.
+/// The lowest and the highest of some prices, in cents.
 #[derive(Clone, Copy, Drop)]
 pub struct Span {
     pub lowest: Price,
     pub highest: Price,
 }
 
-// Returns the span widened to include the price.
+// Returns the span of prices, widened to include the price.
 fn widen_price_span(span: Span, price: Price) -> Span
     ensures { result ≡ spec.span_including_price price span }
 {
@@ -28,8 +28,8 @@ fn widen_price_span(span: Span, price: Price) -> Span
     Span { lowest, highest }
 }
 
-/// Returns the lowest and the highest price of the ticks of the first tick's symbol. Ticks of other
-/// symbols do not count.
+/// Returns the lowest and the highest price, in cents, of the ticks that have the symbol of
+/// `first`, `first` included. Ticks of other symbols do not count.
 pub fn first_symbol_price_span(first: &Tick, others: &[Tick]) -> Span
     ensures { result ≡ spec.price_span_of_first_symbol first.now others.now }
 {

@@ -16,7 +16,7 @@ use brk_orders::Update;
 use brk_ref::Name;
 use std::alloc::Global;
 
-// Returns the refusal of a text update whose target does not exist: `NoTrade`, `NoAccount` or
+// Returns the refusal of a text update if what it names does not exist: `NoTrade`, `NoAccount` or
 // `NoSecurity`, by the kind of the update.
 fn refusal_if_target_is_missing(update: &Update) -> Refusal
     ensures { result ≡ spec.missing_target_refusal update.now }
@@ -28,7 +28,8 @@ fn refusal_if_target_is_missing(update: &Update) -> Refusal
     }
 }
 
-// Returns the row change that sets the new executor's name of a trade. Fails with `Memory` only.
+// Returns the row change that replaces the executor's name of a trade by its new one
+// (`toggle_executor_name`). Fails with `Memory` only.
 fn create_executor_name_change(alloc: Global, trade: &TradeRow) -> Result<Change, Fault>
     ensures change { IfOk result (λ change. tables_after_change change ≡ executor_name_update trade.now) }
     ensures fault { OnErr result (result ≡ Err Memory) }
@@ -40,7 +41,8 @@ fn create_executor_name_change(alloc: Global, trade: &TradeRow) -> Result<Change
     })
 }
 
-// Returns the row change that sets the new settlement text of a trade.
+// Returns the row change that replaces the settlement text of a trade by its new one
+// (`toggle_cash_type`).
 fn create_cash_type_change(settled: &SettlementText) -> Change
     ensures { tables_after_change result ≡ cash_type_update settled.now }
 {
@@ -50,7 +52,8 @@ fn create_cash_type_change(settled: &SettlementText) -> Change
     }
 }
 
-// Returns the row change that sets the new cash text of a trade. Fails with `Memory` only.
+// Returns the row change that replaces the cash text of a trade by its new one
+// (`toggle_cash_text`). `security` is the name of its security. Fails with `Memory` only.
 fn create_cash_text_change(alloc: Global, security: &Name, paid: &CashText) -> Result<Change, Fault>
     ensures change { IfOk result (λ change. tables_after_change change ≡ cash_text_update security.now paid.now) }
     ensures fault { OnErr result (result ≡ Err Memory) }
@@ -62,8 +65,8 @@ fn create_cash_text_change(alloc: Global, security: &Name, paid: &CashText) -> R
     })
 }
 
-// Returns the row changes that set the new executors' names of the trades, in sequence. Fails with
-// `Memory` only.
+// Returns the row changes that replace the executors' names of the trades by their new ones, in
+// sequence. Fails with `Memory` only.
 fn create_executor_name_changes(alloc: Global, trades: &[TradeRow]) -> Result<Vec<Change>, Fault>
     ensures changes { IfOk result (λ changes. map tables_after_change changes.items ≡ map executor_name_update trades.now) }
     ensures fault { OnErr result (result ≡ Err Memory) }
@@ -75,8 +78,8 @@ fn create_executor_name_changes(alloc: Global, trades: &[TradeRow]) -> Result<Ve
     Ok(changes)
 }
 
-// Returns the row changes that set the new settlement texts of the trades, in sequence. Fails with
-// `Memory` only.
+// Returns the row changes that replace the settlement texts of the trades by their new ones, in
+// sequence. Fails with `Memory` only.
 fn create_cash_type_changes(alloc: Global, settled: &[SettlementText]) -> Result<Vec<Change>, Fault>
     ensures changes { IfOk result (λ changes. map tables_after_change changes.items ≡ map cash_type_update settled.now) }
     ensures fault { OnErr result (result ≡ Err Memory) }
@@ -88,8 +91,8 @@ fn create_cash_type_changes(alloc: Global, settled: &[SettlementText]) -> Result
     Ok(changes)
 }
 
-// Returns the row changes that set the new cash texts of the trades, in sequence. Fails with
-// `Memory` only.
+// Returns the row changes that replace the cash texts of the trades by their new ones, in sequence.
+// `security` is the name of their security. Fails with `Memory` only.
 fn create_cash_text_changes(
     alloc: Global,
     security: &Name,
@@ -118,7 +121,7 @@ fn create_text_changes(alloc: Global, found: &TextUpdate) -> Result<Vec<Change>,
     }
 }
 
-// Returns the number of trades that a text update selects.
+// Returns the number of trades whose text a text update replaces.
 fn count_updated_trades(found: &TextUpdate) -> usize
     ensures { result ≡ count_of_updated_trades found.now }
 {
@@ -129,14 +132,15 @@ fn count_updated_trades(found: &TextUpdate) -> usize
     }
 }
 
-/// Plans a text update (Trade-Update) from the trades that it selects, `None` if what it names does
-/// not exist, and the stamp of the last accepted command.
+/// Plans a text update (Trade-Update). `found` has the trades that it selects, or is `None` if what
+/// it names does not exist, `last` is the stamp of the last accepted command, and `now` the clock
+/// reading.
 ///
-/// The plan updates one text of each trade and sets the last stamp. Its reply has the stamp and the
-/// number of trades. No status and no stamp of a trade changes.
+/// The plan replaces one text of each trade and sets the last stamp. Its reply has the stamp and
+/// the number of trades. No status and no stamp of a trade changes.
 ///
-/// Refuses with `NoTrade`, `NoAccount` or `NoSecurity` if `found` is `None`, and with `ClockEnd` if
-/// no later stamp is left. Fails with `Memory` only.
+/// Refuses with `NoTrade`, `NoAccount` or `NoSecurity`, by the kind of the update, if `found` is
+/// `None`, and otherwise with `ClockEnd` if no later stamp is left. Fails with `Memory` only.
 pub fn plan_update(
     alloc: Global,
     update: &Update,

@@ -5,8 +5,9 @@ ghost use Rattle.brk_plans.specs.Waiting.{row_changes_from_pending};
 use brk_changes::{Change, HistoryRow};
 use brk_money::{Fault, Id, Stamp, Status};
 
-// Appends the row changes by which a pending trade changes to another status: its status is set, a
-// history row is added, and its request is deleted. Fails with `Memory` only.
+// Appends to `changes` the row changes by which a pending trade changes to the status `status` at
+// `stamp`: its status is set, a history row is added, and its request is deleted. Fails with
+// `Memory` only.
 pub(crate) fn append_changes_from_pending(
     trade: Id,
     status: Status,

@@ -1,4 +1,4 @@
-//! Text updates: the name of an executor, the settlement text and the cash text of a trade.
+//! The new texts of text updates: of an executor's name, a settlement text and a cash text.
 
 ghost use Rattle.std.specs.Prelude.{◌≡◌, ◌≤◌, ◌∷◌, ◌++◌, IfOk, OnOk, codes, decimal, length, string_bytes};
 ghost use Rattle.brk_model.specs.Lists.{contains_text, replace_text};
@@ -42,8 +42,8 @@ fn contains_part(text: &str, part: &str) -> bool
     text.contains(part)
 }
 
-/// Returns the executor's name with each " X " replaced by a space. If the name has no " X ", each
-/// space is replaced by " X ". Fails if memory runs out.
+/// Returns the new name of an executor: the name with each " X " replaced by a space or, if it has
+/// no " X ", with each space replaced by " X ". Fails if memory runs out.
 pub fn toggle_executor_name(alloc: Global, name: &str) -> Result<String, AllocError>
     ensures { IfOk result (λ result. string_bytes result ≡ definition.updated_executor_name name.now) }
 {
@@ -54,9 +54,9 @@ pub fn toggle_executor_name(alloc: Global, name: &str) -> Result<String, AllocEr
     }
 }
 
-/// Returns the new settlement text: of a cash trade (`is_cash`) `Cash` if the present one is
-/// `CashAccount`, otherwise `CashAccount`; of a margin trade `Margin` if it is `MarginAccount`,
-/// otherwise `MarginAccount`.
+/// Returns the new settlement text of a trade whose present one is `cash_type`: for a cash trade
+/// (`is_cash`) `Cash` if the present one is `CashAccount`, otherwise `CashAccount`; for a margin
+/// trade `Margin` if it is `MarginAccount`, otherwise `MarginAccount`.
 pub fn toggle_cash_type(is_cash: bool, cash_type: CashType) -> CashType
     ensures { cash_type_text result ≡ spec.toggled_cash_type_text is_cash (cash_type_text cash_type) }
 {
@@ -68,15 +68,16 @@ pub fn toggle_cash_type(is_cash: bool, cash_type: CashType) -> CashType
     }
 }
 
-// Appends a space, the quantity and `words`. Fails if memory runs out.
+// Appends to `text` a space, the quantity in decimal digits, and the text `words`. Fails if memory
+// runs out.
 fn append_quantity_and_words(text: &mut String, qty: Qty, words: &str) -> Result<(), AllocError>
     ensures { OnOk result (string_bytes text.new ≡ string_bytes text.old ++ 32 ∷ decimal qty ++ words.now) }
 {
     write!(text, " {}{words}", qty.get())
 }
 
-// Returns the cash text of a trade: the name of its type, its quantity, `words`, and the name of
-// its security. Fails if memory runs out.
+// Returns the cash text of a trade: the name of its type, a space, its quantity, the text `words`,
+// and the name of its security. Fails if memory runs out.
 fn format_cash_text(
     alloc: Global,
     paid: &CashText,
@@ -91,8 +92,10 @@ fn format_cash_text(
     Ok(text)
 }
 
-/// Returns the new cash text of a trade with the name of its security: with " Shares of " if the
-/// present text contains " shares of ", otherwise with " shares of ". Fails if memory runs out.
+/// Returns the new cash text of a trade, in which " Shares of " replaces " shares of ", or the
+/// other way round: the name of its type, its quantity, " Shares of " if the present text contains
+/// " shares of " and " shares of " otherwise, and the name of its security. Fails if memory runs
+/// out.
 pub fn toggle_cash_text(
     alloc: Global,
     paid: &CashText,
