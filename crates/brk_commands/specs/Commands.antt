@@ -1,11 +1,11 @@
--- The command of the model that a command represents.
+-- The model's command of each typed command.
 use Rattle.brk_model.specs.Commands.{Command, PlaceOrder, FeedTicks, CancelTrade, SetOneDay}
 use Rattle.brk_plans.specs.Commands as books
 use Rattle.brk_orders.specs.Records.{movement_command, abstract_order, completion_command, abstract_ticks, text_update_command}
 use Rattle.brk_commands.specs.declared.command.Command as told
 use Rattle.brk_commands.specs.declared.command.Command.TheVariants as command
 
--- The model's command with the values of a typed command.
+-- The model's command with the values of a typed command, by its kind.
 abbrev pub abstract_command : told.Command → Command
 abstract_command (command.Add reference) = books.command_adding_record reference
 abstract_command (command.Order order) = PlaceOrder (abstract_order order)

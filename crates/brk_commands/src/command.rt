@@ -2,10 +2,10 @@ use brk_money::{Day, Id};
 use brk_orders::{Completion, Feed, Movement, Order, Update};
 use brk_plans::Reference;
 
-/// A command to the desk. It is well-formed by construction.
+/// A command to the desk, parsed: every field of it is well-formed.
 #[derive(Drop)]
 pub enum Command {
-    /// Adds a reference record.
+    /// Adds a record of reference data.
     Add(Reference),
     /// Places an order (Trade-Order).
     Order(Order),

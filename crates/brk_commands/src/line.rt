@@ -15,7 +15,8 @@ use brk_plans::{Completed, Estimate, Ordered, Reply};
 use itoa::Buffer;
 use std::alloc::{AllocError, Global};
 
-// Returns the text of a stamp, which is the line of a `Booked` reply. Fails if memory runs out.
+// Returns the line of a `Booked` reply: its stamp, in milliseconds since 1970-01-01 UTC, in decimal
+// digits. Fails if memory runs out.
 fn booked_reply_text(alloc: Global, stamp: Stamp) -> Result<String, AllocError>
     ensures { IfOk result (λ line. string_bytes line ≡ model.line_text (replies.Booked stamp)) }
 {
@@ -23,7 +24,8 @@ fn booked_reply_text(alloc: Global, stamp: Stamp) -> Result<String, AllocError>
     String::from_str(alloc, digits.format(stamp.get().unsigned_abs()))
 }
 
-// Appends the seven fields of an estimate, each after a comma. Fails if memory runs out.
+// Appends the seven fields of an estimate, each after a comma: the price, the buy value, the sell
+// value, the tax, the commission, the charge and the assets. Fails if memory runs out.
 fn append_estimate_fields(line: &mut String, estimate: &Estimate) -> Result<(), AllocError>
     ensures { OnOk result (string_bytes line.new
         ≡ string_bytes line.old ++ fields_after_separators 44 (model.estimate_fields (abstract_estimate estimate.now))) }
@@ -55,7 +57,8 @@ fn placed_order_text(alloc: Global, ordered: &Ordered) -> Result<String, AllocEr
     )
 }
 
-// Returns the line of an `Ordered` reply. Fails if memory runs out.
+// Returns the line of an `Ordered` reply: the stamp, the id and the status of the trade, and the
+// seven fields of its estimate. Fails if memory runs out.
 fn ordered_reply_text(alloc: Global, ordered: &Ordered) -> Result<String, AllocError>
     ensures { IfOk result (λ line. string_bytes line
         ≡ model.line_text (replies.Ordered ordered.now.stamp ordered.now.trade ordered.now.status (abstract_estimate ordered.now.estimate))) }
@@ -65,15 +68,15 @@ fn ordered_reply_text(alloc: Global, ordered: &Ordered) -> Result<String, AllocE
     Ok(line)
 }
 
-// Appends a comma and the id of a trade. Fails if memory runs out.
+// Appends a comma and the id of a trade, in decimal digits. Fails if memory runs out.
 fn append_trade_id_after_comma(line: &mut String, trade: Id) -> Result<(), AllocError>
     ensures { OnOk result (string_bytes line.new ≡ string_bytes line.old ++ (44 ∷ decimal trade)) }
 {
     write!(line, ",{}", trade.get())
 }
 
-// Returns the line of a `Ticked` reply: the stamp, and the triggered trades. Fails if memory runs
-// out.
+// Returns the line of a `Ticked` reply: the stamp, and the ids of the triggered trades. Fails if
+// memory runs out.
 fn ticked_reply_text(alloc: Global, stamp: Stamp, triggered: &[Id]) -> Result<String, AllocError>
     ensures { IfOk result (λ line. string_bytes line ≡ model.line_text (replies.Ticked stamp triggered.now)) }
 {
@@ -84,14 +87,15 @@ fn ticked_reply_text(alloc: Global, stamp: Stamp, triggered: &[Id]) -> Result<St
     Ok(line)
 }
 
-// Returns the line of a `Canceled` reply. Fails if memory runs out.
+// Returns the line of a `Canceled` reply: the stamp and the status code `CNCL`. Fails if memory
+// runs out.
 fn canceled_reply_text(alloc: Global, stamp: Stamp) -> Result<String, AllocError>
     ensures { IfOk result (λ line. string_bytes line ≡ model.line_text (replies.CanceledTrade stamp)) }
 {
     format!(in alloc; "{},CNCL", stamp.get().unsigned_abs())
 }
 
-/// Returns the text of a day, YYYY-MM-DD. Fails with `Memory` only.
+/// Returns the text of a day, such as `2024-03-01`. Fails with `Memory` only.
 pub fn day_text(alloc: Global, day: Day) -> Result<String, Fault>
     ensures text { IfOk result (λ text. string_bytes text ≡ spelling.day_text day) }
     ensures fault { OnErr result (result ≡ Err Memory) }
@@ -121,7 +125,7 @@ fn append_commission_tax_and_amount(
     )
 }
 
-// Appends a comma and the text of a day. Fails if memory runs out.
+// Appends a comma and `day`, the text of a day. Fails if memory runs out.
 fn append_day_field(line: &mut String, day: &str) -> Result<(), AllocError>
     ensures { OnOk result (string_bytes line.new ≡ string_bytes line.old ++ fields_after_separators 44 (day.now ∷ [])) }
 {
@@ -143,7 +147,8 @@ fn append_values_and_balance(line: &mut String, completed: &Completed) -> Result
     )
 }
 
-// Returns the line of a `Completed` reply. Fails with `Memory` only.
+// Returns the line of a `Completed` reply: the stamp, the commission, the tax, the settlement
+// amount, the due day, the buy value, the sell value and the balance. Fails with `Memory` only.
 fn completed_reply_text(alloc: Global, completed: &Completed) -> Result<String, Fault>
     ensures line { IfOk result (λ line. string_bytes line ≡ model.line_text (replies.CompletedTrade completed.now.stamp (abstract_completion completed.now))) }
     ensures fault { OnErr result (result ≡ Err Memory) }
@@ -164,8 +169,8 @@ fn changed_reply_text(alloc: Global, stamp: Stamp, count: usize) -> Result<Strin
     format!(in alloc; "{},{count}", stamp.get().unsigned_abs())
 }
 
-// Returns the line of a `Moved` reply: the stamp, the id of the cash row, and the balance. Fails if
-// memory runs out.
+// Returns the line of a `Moved` reply: the stamp, the id of the cash row, and the balance of the
+// account, such as `10.00`. Fails if memory runs out.
 fn moved_reply_text(
     alloc: Global,
     stamp: Stamp,

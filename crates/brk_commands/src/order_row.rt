@@ -14,22 +14,23 @@ use brk_money::{Id, OrderType, Wide};
 use brk_orders::{Completion, Order, Tick};
 use std::alloc::{AllocError, Global};
 
-/// Returns the word for a trade's account: `cash` or `margin`.
+/// Returns the word for the account type of a trade: `cash` if `is_cash`, otherwise `margin`.
 pub fn cash_or_margin_word(is_cash: bool) -> &'static str
     ensures { result.now ≡ model.cash_or_margin_word is_cash }
 {
     if is_cash { "cash" } else { "margin" }
 }
 
-/// Returns the word for the end from which lots are closed: `lifo` or `fifo`.
+/// Returns the word for the sequence in which a trade closes lots: `lifo` if `is_lifo` (the newest
+/// first), otherwise `fifo` (the oldest first).
 pub fn lifo_or_fifo_word(is_lifo: bool) -> &'static str
     ensures { result.now ≡ model.lifo_or_fifo_word is_lifo }
 {
     if is_lifo { "lifo" } else { "fifo" }
 }
 
-// Returns the kind of an order and its first four fields, joined by byte 31: account, type, symbol
-// and quantity. Fails if memory runs out.
+// Returns the first five fields of the row of an order, joined by byte 31: the kind `order`, the
+// account, the type, the symbol and the quantity. Fails if memory runs out.
 fn first_order_fields_text(alloc: Global, order: &Order) -> Result<String, AllocError>
     ensures { IfOk result (λ row. string_bytes row ≡ join_with_byte 31 (codes "order" ∷ take 4 (model.order_fields (abstract_order order.now)))) }
 {
@@ -54,8 +55,8 @@ fn append_price_field(row: &mut String, order_type: OrderType) -> Result<(), All
     }
 }
 
-// Appends the last five fields of an order, each after byte 31: cash or margin, the end from which
-// it closes lots, and the names and the tax id of its executor. Fails if memory runs out.
+// Appends the last five fields of the row of an order, each after byte 31: `cash` or `margin`,
+// `lifo` or `fifo`, and the names and the tax id of its executor. Fails if memory runs out.
 fn append_last_order_fields(row: &mut String, order: &Order) -> Result<(), AllocError>
     ensures { OnOk result (string_bytes row.new ≡ string_bytes row.old ++ fields_after_separators 31 (drop 5 (model.order_fields (abstract_order order.now)))) }
 {
@@ -70,8 +71,8 @@ fn append_last_order_fields(row: &mut String, order: &Order) -> Result<(), Alloc
     )
 }
 
-/// Returns the row of an order, its fields joined by byte 31. PRICE is empty if the order asks for
-/// none. Fails if memory runs out.
+/// Returns the row of an order, as it is stored under a key: its fields joined by byte 31. PRICE is
+/// empty if the order asks for none. Fails if memory runs out.
 pub fn order_row_text(alloc: Global, order: &Order) -> Result<String, AllocError>
     ensures { IfOk result (λ row. string_bytes row ≡ model.row_text (PlaceOrder (abstract_order order.now))) }
 {
@@ -81,7 +82,8 @@ pub fn order_row_text(alloc: Global, order: &Order) -> Result<String, AllocError
     Ok(row)
 }
 
-// Appends the three fields of a tick, each after byte 31. Fails if memory runs out.
+// Appends the three fields of a tick, each after byte 31: the symbol, the price and the quantity.
+// Fails if memory runs out.
 fn append_tick_fields(row: &mut String, tick: &Tick) -> Result<(), AllocError>
     ensures { OnOk result (string_bytes row.new ≡ string_bytes row.old ++ fields_after_separators 31 (model.tick_fields (abstract_tick tick.now))) }
 {
@@ -94,8 +96,8 @@ fn append_tick_fields(row: &mut String, tick: &Tick) -> Result<(), AllocError>
     )
 }
 
-/// Returns the row of a feed of these ticks, its fields joined by byte 31. Fails if memory runs
-/// out.
+/// Returns the row of a feed of these ticks, as it is stored under a key: its fields joined by byte
+/// 31. Fails if memory runs out.
 pub fn feed_row_text(alloc: Global, ticks: &[Tick]) -> Result<String, AllocError>
     ensures { IfOk result (λ row. string_bytes row ≡ model.row_text (FeedTicks (abstract_ticks ticks.now))) }
 {
@@ -106,14 +108,16 @@ pub fn feed_row_text(alloc: Global, ticks: &[Tick]) -> Result<String, AllocError
     Ok(row)
 }
 
-/// Returns the row that cancels a trade, its fields joined by byte 31. Fails if memory runs out.
+/// Returns the row that cancels a trade, as it is stored under a key: its fields joined by byte 31.
+/// Fails if memory runs out.
 pub fn cancel_row_text(alloc: Global, trade: Id) -> Result<String, AllocError>
     ensures { IfOk result (λ row. string_bytes row ≡ model.row_text (CancelTrade trade)) }
 {
     format!(in alloc; "cancel\x1f{}", trade.get())
 }
 
-/// Returns the row that completes a trade, its fields joined by byte 31. Fails if memory runs out.
+/// Returns the row that completes a trade, as it is stored under a key: its fields joined by byte
+/// 31. Fails if memory runs out.
 pub fn result_row_text(alloc: Global, completion: &Completion) -> Result<String, AllocError>
     ensures { IfOk result (λ row. string_bytes row ≡ model.row_text (completion_command completion.now)) }
 {

@@ -15,8 +15,8 @@ use brk_ref::{
 };
 use std::alloc::Global;
 
-// Parses the command that adds a broker, or returns the refusal of malformed fields. Fails with
-// `Memory` only.
+// Parses the command that adds a broker from the fields after its kind. Refuses malformed fields
+// with `BadText`. Fails with `Memory` only.
 fn parse_broker_command(alloc: Global, fields: &[&[u8]]) -> Planned<Command>
     ensures read { IfOk result (λ read. ParsesAs abstract_command read (read_and_wrap AddBroker read_broker (texts_of_fields fields.now))) }
     ensures fault { OnErr result (result ≡ Err Memory) }
@@ -27,8 +27,8 @@ fn parse_broker_command(alloc: Global, fields: &[&[u8]]) -> Planned<Command>
     }
 }
 
-// Parses the command that adds a customer, or returns the refusal of malformed fields. Fails with
-// `Memory` only.
+// Parses the command that adds a customer from the fields after its kind. Refuses malformed fields
+// with `BadText`. Fails with `Memory` only.
 fn parse_customer_command(alloc: Global, fields: &[&[u8]]) -> Planned<Command>
     ensures read { IfOk result (λ read. ParsesAs abstract_command read (read_and_wrap AddCustomer read_customer (texts_of_fields fields.now))) }
     ensures fault { OnErr result (result ≡ Err Memory) }
@@ -39,8 +39,8 @@ fn parse_customer_command(alloc: Global, fields: &[&[u8]]) -> Planned<Command>
     }
 }
 
-// Parses the command that adds an account, or returns the refusal of malformed fields. Fails with
-// `Memory` only.
+// Parses the command that adds an account from the fields after its kind. Refuses malformed fields
+// with `BadText`. Fails with `Memory` only.
 fn parse_account_command(alloc: Global, fields: &[&[u8]]) -> Planned<Command>
     ensures read { IfOk result (λ read. ParsesAs abstract_command read (read_and_wrap AddAccount read_account (texts_of_fields fields.now))) }
     ensures fault { OnErr result (result ≡ Err Memory) }
@@ -51,8 +51,8 @@ fn parse_account_command(alloc: Global, fields: &[&[u8]]) -> Planned<Command>
     }
 }
 
-// Parses the command that adds a permission, or returns the refusal of malformed fields. Fails with
-// `Memory` only.
+// Parses the command that adds a permission from the fields after its kind. Refuses malformed
+// fields with `BadText`. Fails with `Memory` only.
 fn parse_permission_command(alloc: Global, fields: &[&[u8]]) -> Planned<Command>
     ensures read { IfOk result (λ read. ParsesAs abstract_command read (read_and_wrap AddPermission read_permission (texts_of_fields fields.now))) }
     ensures fault { OnErr result (result ≡ Err Memory) }
@@ -63,8 +63,8 @@ fn parse_permission_command(alloc: Global, fields: &[&[u8]]) -> Planned<Command>
     }
 }
 
-// Parses the command that lists a security, or returns the refusal of malformed fields. Fails with
-// `Memory` only.
+// Parses the command that lists a security from the fields after its kind. Refuses malformed fields
+// with `BadText` or `BadPrice`. Fails with `Memory` only.
 fn parse_listing_command(alloc: Global, fields: &[&[u8]]) -> Planned<Command>
     ensures read { IfOk result (λ read. ParsesAs abstract_command read (read_and_wrap AddSecurity read_listing (texts_of_fields fields.now))) }
     ensures fault { OnErr result (result ≡ Err Memory) }
@@ -75,7 +75,8 @@ fn parse_listing_command(alloc: Global, fields: &[&[u8]]) -> Planned<Command>
     }
 }
 
-// Parses the command that adds a charge, or returns the refusal of malformed fields.
+// Parses the command that adds a charge from the fields after its kind. Refuses malformed fields
+// with `BadText` or `BadType`.
 fn parse_charge_command(fields: &[&[u8]]) -> Result<Command, Refusal>
     ensures { ParsesAs abstract_command result (read_and_wrap AddCharge read_charge (texts_of_fields fields.now)) }
 {
@@ -85,8 +86,8 @@ fn parse_charge_command(fields: &[&[u8]]) -> Result<Command, Refusal>
     }
 }
 
-// Parses the command that adds a commission band, or returns the refusal of malformed fields. Fails
-// with `Memory` only.
+// Parses the command that adds a commission band from the fields after its kind. Refuses malformed
+// fields with `BadText`, `BadQty` or `BadType`. Fails with `Memory` only.
 fn parse_band_command(alloc: Global, fields: &[&[u8]]) -> Planned<Command>
     ensures read { IfOk result (λ read. ParsesAs abstract_command read (read_and_wrap AddBand read_commission_band (texts_of_fields fields.now))) }
     ensures fault { OnErr result (result ≡ Err Memory) }
@@ -97,8 +98,8 @@ fn parse_band_command(alloc: Global, fields: &[&[u8]]) -> Planned<Command>
     }
 }
 
-// Parses the command that adds a tax with its rate, or returns the refusal of malformed fields.
-// Fails with `Memory` only.
+// Parses the command that adds a tax with its rate from the fields after its kind. Refuses
+// malformed fields with `BadText`. Fails with `Memory` only.
 fn parse_tax_rate_command(alloc: Global, fields: &[&[u8]]) -> Planned<Command>
     ensures read { IfOk result (λ read. ParsesAs abstract_command read (read_and_wrap AddTaxRate read_tax_rate (texts_of_fields fields.now))) }
     ensures fault { OnErr result (result ≡ Err Memory) }
@@ -109,7 +110,8 @@ fn parse_tax_rate_command(alloc: Global, fields: &[&[u8]]) -> Planned<Command>
     }
 }
 
-// Parses the command that adds a tax of a customer, or returns the refusal of malformed fields.
+// Parses the command that adds a tax of a customer from the fields after its kind. Refuses
+// malformed fields with `BadText`.
 fn parse_customer_tax_command(fields: &[&[u8]]) -> Result<Command, Refusal>
     ensures { ParsesAs abstract_command result (read_and_wrap AddCustomerTax read_customer_tax (texts_of_fields fields.now)) }
 {
@@ -119,9 +121,9 @@ fn parse_customer_tax_command(fields: &[&[u8]]) -> Result<Command, Refusal>
     }
 }
 
-// Parses a command of the kind `permission`, `security`, `charge`, `band`, `taxrate` or `custtax`,
-// or of a kind of `parse_trading_or_later_kind`. Refuses any other kind with `BadText`. Fails with
-// `Memory` only.
+// Parses a command of a kind other than `broker`, `customer` and `account` from the fields after
+// the kind. Refuses an unknown kind, and these three, with `BadText`, and malformed fields with the
+// refusal of their format check. Fails with `Memory` only.
 fn parse_other_reference_or_later_kind(
     alloc: Global,
     kind: &[u8],
@@ -153,8 +155,8 @@ fn parse_other_reference_or_later_kind(
     parse_trading_or_later_kind(alloc, kind, fields)
 }
 
-// Parses a command of `kind` from the fields after it. Refuses an unknown kind with `BadText`.
-// Fails with `Memory` only.
+// Parses a command of the kind `kind` from the fields after it. Refuses an unknown kind with
+// `BadText`, and malformed fields with the refusal of their format check. Fails with `Memory` only.
 fn parse_command_of_kind(alloc: Global, kind: &[u8], fields: &[&[u8]]) -> Planned<Command>
     ensures read { IfOk result (λ read. ParsesAs abstract_command read (parse_by_first_field row_parsers (kind.now ∷ texts_of_fields fields.now))) }
     ensures fault { OnErr result (result ≡ Err Memory) }
@@ -171,8 +173,11 @@ fn parse_command_of_kind(alloc: Global, kind: &[u8], fields: &[&[u8]]) -> Planne
     parse_other_reference_or_later_kind(alloc, kind, fields)
 }
 
-/// Parses the command of a row from its fields, the kind first, or returns the refusal of malformed
-/// fields. Refuses an unknown kind with `BadText`. Fails with `Memory` only.
+/// Parses the command of a row from its fields, the kind first.
+///
+/// Refuses an unknown kind, or no field at all, with `BadText` (18), and malformed fields with the
+/// first format check that fails: `BadText` (18), `BadQty` (8), `BadPrice` (9), `BadType` (7), or
+/// `TooMany` (20) for more than 20 ticks or ids. Fails with `Memory` only.
 pub fn parse_row(alloc: Global, fields: &[&[u8]]) -> Planned<Command>
     ensures read { IfOk result (λ read. ParsesAs abstract_command read (parse_by_first_field row_parsers (texts_of_fields fields.now))) }
     ensures fault { OnErr result (result ≡ Err Memory) }

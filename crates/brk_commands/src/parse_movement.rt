@@ -9,7 +9,8 @@ use crate::command::Command;
 use brk_money::Refusal;
 use brk_orders::{Direction, parse_cash_movement, parse_requested_settlement_day};
 
-// Parses the command of a deposit or a withdrawal, or returns the refusal of malformed fields.
+// Parses the command of a deposit or a withdrawal, by `direction`, from the fields after its kind.
+// Refuses malformed fields with `BadText`.
 fn parse_movement_command(direction: Direction, fields: &[&[u8]]) -> Result<Command, Refusal>
     ensures { ParsesAs abstract_command result (read_movement_command (cash_movement_command direction) (texts_of_fields fields.now)) }
 {
@@ -19,7 +20,8 @@ fn parse_movement_command(direction: Direction, fields: &[&[u8]]) -> Result<Comm
     }
 }
 
-// Parses the command that sets the settlement day, or returns the refusal of malformed fields.
+// Parses the command that sets the settlement day from the fields after its kind. Refuses malformed
+// fields with `BadText`.
 fn parse_settlement_day_command(fields: &[&[u8]]) -> Result<Command, Refusal>
     ensures { ParsesAs abstract_command result (read_and_wrap SetOneDay read_settlement_day (texts_of_fields fields.now)) }
 {
@@ -29,8 +31,8 @@ fn parse_settlement_day_command(fields: &[&[u8]]) -> Result<Command, Refusal>
     }
 }
 
-// Parses a command of the kind `deposit`, `withdraw` or `oneday`. Refuses any other kind with
-// `BadText`.
+// Parses a command of the kind `deposit`, `withdraw` or `oneday` from the fields after the kind.
+// Refuses any other kind, and malformed fields, with `BadText`.
 pub(crate) fn parse_movement_or_settlement_day(
     kind: &[u8],
     fields: &[&[u8]],

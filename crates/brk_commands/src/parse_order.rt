@@ -11,8 +11,8 @@ use brk_money::{Planned, Refusal};
 use brk_orders::{parse_canceled_trade_id, parse_completion, parse_market_feed, parse_trade_order};
 use std::alloc::Global;
 
-// Parses the command of an order, or returns the refusal of malformed fields. Fails with `Memory`
-// only.
+// Parses the command of an order from the fields after its kind. Refuses malformed fields with
+// `BadText`, `BadQty`, `BadPrice` or `BadType`. Fails with `Memory` only.
 fn parse_order_command(alloc: Global, fields: &[&[u8]]) -> Planned<Command>
     ensures read { IfOk result (λ read. ParsesAs abstract_command read (read_and_wrap PlaceOrder read_order (texts_of_fields fields.now))) }
     ensures fault { OnErr result (result ≡ Err Memory) }
@@ -23,8 +23,9 @@ fn parse_order_command(alloc: Global, fields: &[&[u8]]) -> Planned<Command>
     }
 }
 
-// Parses the command of a market feed, or returns the refusal of malformed fields. Fails with
-// `Memory` only.
+// Parses the command of a market feed from the fields after its kind. Refuses malformed fields with
+// `BadText`, `BadQty` or `BadPrice`, and more than 20 ticks with `TooMany`. Fails with `Memory`
+// only.
 fn parse_feed_command(alloc: Global, fields: &[&[u8]]) -> Planned<Command>
     ensures read { IfOk result (λ read. ParsesAs abstract_command read (read_and_wrap FeedTicks read_feed (texts_of_fields fields.now))) }
     ensures fault { OnErr result (result ≡ Err Memory) }
@@ -35,7 +36,8 @@ fn parse_feed_command(alloc: Global, fields: &[&[u8]]) -> Planned<Command>
     }
 }
 
-// Parses the command of a cancel, or returns the refusal of malformed fields.
+// Parses the command that cancels a trade from the fields after its kind. Refuses malformed fields
+// with `BadText`.
 fn parse_cancel_command(fields: &[&[u8]]) -> Result<Command, Refusal>
     ensures { ParsesAs abstract_command result (read_and_wrap CancelTrade read_canceled_trade_id (texts_of_fields fields.now)) }
 {
@@ -45,7 +47,8 @@ fn parse_cancel_command(fields: &[&[u8]]) -> Result<Command, Refusal>
     }
 }
 
-// Parses the command that completes a trade, or returns the refusal of malformed fields.
+// Parses the command that completes a trade from the fields after its kind. Refuses malformed
+// fields with `BadText` or `BadPrice`.
 fn parse_completion_command(fields: &[&[u8]]) -> Result<Command, Refusal>
     ensures { ParsesAs abstract_command result (read_result_command (texts_of_fields fields.now)) }
 {
@@ -55,8 +58,9 @@ fn parse_completion_command(fields: &[&[u8]]) -> Result<Command, Refusal>
     }
 }
 
-// Parses a command of the kind `order`, `feed`, `cancel` or `result`, or of a kind of
-// `parse_update_or_later_kind`. Refuses any other kind with `BadText`. Fails with `Memory` only.
+// Parses a command of a kind that is not reference data: `order`, `feed`, `cancel`, `result`, a
+// text update, a deposit, a withdrawal or `oneday`. Refuses any other kind with `BadText`, and
+// malformed fields with the refusal of their format check. Fails with `Memory` only.
 pub(crate) fn parse_trading_or_later_kind(
     alloc: Global,
     kind: &[u8],

@@ -14,8 +14,8 @@ use brk_orders::{
 };
 use std::alloc::Global;
 
-// Parses the command that updates executors' names, or returns the refusal of malformed fields.
-// Fails with `Memory` only.
+// Parses the command that updates executors' names from the fields after its kind. Refuses
+// malformed fields with `BadText`, and more than 20 ids with `TooMany`. Fails with `Memory` only.
 fn parse_executor_update_command(alloc: Global, fields: &[&[u8]]) -> Planned<Command>
     ensures read { IfOk result (λ read. ParsesAs abstract_command read (read_and_wrap ChangeExecutors read_distinct_ids (texts_of_fields fields.now))) }
     ensures fault { OnErr result (result ≡ Err Memory) }
@@ -26,7 +26,8 @@ fn parse_executor_update_command(alloc: Global, fields: &[&[u8]]) -> Planned<Com
     }
 }
 
-// Parses the command that updates cash types, or returns the refusal of malformed fields.
+// Parses the command that updates settlement texts from the fields after its kind. Refuses
+// malformed fields with `BadText`.
 fn parse_cash_type_update_command(fields: &[&[u8]]) -> Result<Command, Refusal>
     ensures { ParsesAs abstract_command result (read_cash_type_update (texts_of_fields fields.now)) }
 {
@@ -36,8 +37,8 @@ fn parse_cash_type_update_command(fields: &[&[u8]]) -> Result<Command, Refusal>
     }
 }
 
-// Parses the command that updates cash texts, or returns the refusal of malformed fields. Fails
-// with `Memory` only.
+// Parses the command that updates cash texts from the fields after its kind. Refuses malformed
+// fields with `BadText`. Fails with `Memory` only.
 fn parse_cash_text_update_command(alloc: Global, fields: &[&[u8]]) -> Planned<Command>
     ensures read { IfOk result (λ read. ParsesAs abstract_command read (read_cash_name_update (texts_of_fields fields.now))) }
     ensures fault { OnErr result (result ≡ Err Memory) }
@@ -48,9 +49,9 @@ fn parse_cash_text_update_command(alloc: Global, fields: &[&[u8]]) -> Planned<Co
     }
 }
 
-// Parses a command of the kind `upname`, `upcash` or `uptext`, or of a kind of
-// `parse_movement_or_settlement_day`. Refuses any other kind with `BadText`. Fails with `Memory`
-// only.
+// Parses a command of the kind `upname`, `upcash`, `uptext`, `deposit`, `withdraw` or `oneday` from
+// the fields after the kind. Refuses any other kind with `BadText`, and malformed fields with the
+// refusal of their format check. Fails with `Memory` only.
 pub(crate) fn parse_update_or_later_kind(
     alloc: Global,
     kind: &[u8],

@@ -11,15 +11,15 @@ use brk_orders::{Span, Update};
 use brk_ref::Symbol;
 use std::alloc::{AllocError, Global};
 
-// Appends byte 31 and the id of a trade. Fails if memory runs out.
+// Appends byte 31 and the id of a trade, in decimal digits. Fails if memory runs out.
 fn append_trade_id_after_separator(row: &mut String, trade: Id) -> Result<(), AllocError>
     ensures { OnOk result (string_bytes row.new ≡ string_bytes row.old ++ 31 ∷ decimal trade) }
 {
     write!(row, "\x1f{}", trade.get())
 }
 
-// Returns the row that updates the executors' names of trades, its fields joined by byte 31. Fails
-// if memory runs out.
+// Returns the row that updates the executors' names of trades, as it is stored under a key: its
+// fields joined by byte 31. Fails if memory runs out.
 fn executor_update_row_text(alloc: Global, trades: &[Id]) -> Result<String, AllocError>
     ensures { IfOk result (λ row. string_bytes row ≡ model.row_text (ChangeExecutors trades.now)) }
 {
@@ -30,8 +30,8 @@ fn executor_update_row_text(alloc: Global, trades: &[Id]) -> Result<String, Allo
     Ok(row)
 }
 
-// Returns the row that updates the cash types of an account, its fields joined by byte 31. Fails if
-// memory runs out.
+// Returns the row that updates the settlement texts of an account's trades between two stamps, as
+// it is stored under a key: its fields joined by byte 31. Fails if memory runs out.
 fn cash_type_update_row_text(alloc: Global, account: Id, span: Span) -> Result<String, AllocError>
     ensures { IfOk result (λ row. string_bytes row ≡ model.row_text (ChangeCashTypes account span.first span.last)) }
 {
@@ -43,8 +43,8 @@ fn cash_type_update_row_text(alloc: Global, account: Id, span: Span) -> Result<S
     )
 }
 
-// Returns the row that updates the cash texts of a symbol, its fields joined by byte 31. Fails if
-// memory runs out.
+// Returns the row that updates the cash texts of a symbol's trades between two stamps, as it is
+// stored under a key: its fields joined by byte 31. Fails if memory runs out.
 fn cash_text_update_row_text(
     alloc: Global,
     symbol: &Symbol,
@@ -60,7 +60,8 @@ fn cash_text_update_row_text(
     )
 }
 
-/// Returns the row of a text update, its fields joined by byte 31. Fails if memory runs out.
+/// Returns the row of a text update, as it is stored under a key: its fields joined by byte 31.
+/// Fails if memory runs out.
 pub fn update_row_text(alloc: Global, update: &Update) -> Result<String, AllocError>
     ensures { IfOk result (λ row. string_bytes row ≡ model.row_text (text_update_command update.now)) }
 {

@@ -13,20 +13,20 @@ use Rattle.brk_changes.specs.declared.change.Change.TheVariants.{SetLastStamp}
 use Rattle.brk_plans.specs.declared.plan.Plan.{Plan}
 use Rattle.brk_plans.specs.declared.reply.Reply.TheVariants as reply
 
--- The checks of a cancel against the status of its trade: the trade exists and is pending. The
--- status is none if the trade does not exist.
+-- The checks of a cancel against the status of its trade, which is none if there is no such trade:
+-- the trade exists (`NoTrade`), and it is pending (`WrongStatus`).
 abbrev pub cancel_checks : Option Status → List RefusalCheck
 cancel_checks None = (true, NoTrade) ∷ []
 cancel_checks (Some status) = (not (is_same_trade_status status Pending), WrongStatus status) ∷ []
 
--- The row changes of a cancel at `stamp`: those by which `trade` changes from pending to canceled,
--- and the last stamp.
+-- The row changes of a cancel of `trade` at `stamp`: those by which it changes from pending to
+-- canceled, and the change of the last stamp.
 abbrev pub row_changes_of_cancel : ℕ → ℕ → List Change
 row_changes_of_cancel trade stamp = row_changes_from_pending trade Canceled stamp ++ SetLastStamp stamp ∷ []
 
--- `plan` cancels `trade`, whose status is `found`, at the stamp of the command. The trade passes
--- its checks, and a later stamp is left. Its row changes are `row_changes_of_cancel`, and its reply
--- has the stamp. `last` is the stamp of the last accepted command, and `now` the clock reading.
+-- `plan` cancels `trade`, whose status is `found`, at the stamp of the command, where `last` is the
+-- stamp of the last accepted command and `now` the clock reading. The trade passes its checks, a
+-- later stamp is left, the row changes are `row_changes_of_cancel`, and the reply has the stamp.
 pub record IsCancelPlan (trade : ℕ) (found : Option Status) (last : Option ℕ) (now : ℕ) (plan : Plan) : Type 0 where
   pub stamp : ℕ
   pub accepted : first_refusal (cancel_checks found ++ later_stamp_check last now ∷ []) ≡ None

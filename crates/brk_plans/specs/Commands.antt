@@ -4,7 +4,7 @@ use Rattle.brk_ref.specs.Records.{abstract_broker, abstract_customer, abstract_a
 use Rattle.brk_plans.specs.declared.reference.Reference.{Reference}
 use Rattle.brk_plans.specs.declared.reference.Reference.TheVariants as reference
 
--- The model's command that adds a typed record of reference data.
+-- The model's command that adds a typed record of reference data, by its kind.
 abbrev pub command_adding_record : Reference → Command
 command_adding_record (reference.Broker broker) = AddBroker (abstract_broker broker)
 command_adding_record (reference.Customer customer) = AddCustomer (abstract_customer customer)

@@ -19,12 +19,12 @@ use Rattle.brk_plans.specs.declared.movement.MovementPlanFacts.{MovementPlanFact
 use Rattle.brk_plans.specs.declared.plan.Plan.{Plan}
 use Rattle.brk_plans.specs.declared.reply.Reply.TheVariants as reply
 
--- The `amount` of a movement in cents, negated for a withdrawal.
+-- The `amount` of a movement in cents: above 0 for a deposit, below 0 for a withdrawal.
 abbrev pub signed_cash_amount : Direction → ℕ → ℤ
 signed_cash_amount Deposit amount = pos amount
 signed_cash_amount Withdrawal amount = neg_ℤ (pos amount)
 
--- The amount of the movement `m` in cents, negated for a withdrawal.
+-- The amount of the movement `m` in cents: above 0 for a deposit, below 0 for a withdrawal.
 abbrev pub signed_amount_of_movement : Movement → ℤ
 signed_amount_of_movement m = signed_cash_amount m.direction m.amount
 
@@ -33,13 +33,14 @@ abbrev pub cash_text_of_direction : Direction → Text
 cash_text_of_direction Deposit = codes "Deposit"
 cash_text_of_direction Withdrawal = codes "Withdrawal"
 
--- The balance of the account after the movement `m`, in cents, where a missing account counts as
--- balance 0.
+-- The balance of the account after the movement `m`, in cents, from the facts `found`. A missing
+-- account counts as balance 0.
 abbrev pub balance_after_movement : Movement → MovementPlanFacts → ℤ
 balance_after_movement m found = unwrap_or found.balance (pos 0) +ℤ signed_amount_of_movement m
 
--- The checks of the movement `m` against the facts `found`: the account exists, the balance after
--- it does not exceed the limit, and not all numbers of movements are used.
+-- The checks of the movement `m` against the facts `found`: the account exists (`NoAccount`), the
+-- balance after it does not exceed the limit (`Range(Balance)`), and there are fewer deposits and
+-- withdrawals than the greatest number (`Range(Moves)`).
 abbrev pub movement_checks : Movement → MovementPlanFacts → List RefusalCheck
 movement_checks m found =
     (is_none found.balance, NoAccount) ∷ (nat_lt greatest_amount (nat_abs (balance_after_movement m found)), Range limit.Balance)
@@ -52,22 +53,23 @@ cash_row_of_movement m number stamp =
     record { id = number; account = m.account; trade = None; stamp = stamp; amount = signed_amount_of_movement m; name = cash_text_of_direction m.direction }
 
 -- The row changes of a movement: the cash row `row` is added, the balance of `account` is set to
--- `balance`, and the last stamp to `stamp`.
+-- `balance` cents, and the last stamp to `stamp`.
 abbrev pub row_changes_of_movement : ℕ → MoveRow → ℤ → ℕ → List Change
 row_changes_of_movement account row balance stamp = change.AddMove row ∷ change.SetBalance account balance ∷ change.SetLastStamp stamp ∷ []
 
--- `plan` adds the cash row of the movement `m` with the id `number`, and sets the balance of its
--- account to `balance` and the last stamp to `stamp`. Its reply has the stamp, the id and the
--- balance.
+-- `plan` adds the cash row of the movement `m` with the id `number`, sets the balance of its
+-- account to `balance` cents and the last stamp to `stamp`, and its reply has the stamp, the id and
+-- the balance.
 pub record AppliesMovement (m : Movement) (number : ℕ) (balance : ℤ) (stamp : ℕ) (plan : Plan) : Type 0 where
   pub row : MoveRow
   pub posted : abstract_move_row row ≡ cash_row_of_movement m number stamp
   pub replied : plan.reply ≡ reply.Moved stamp number balance
   pub changes : plan.changes.items ≡ row_changes_of_movement m.account row balance stamp
 
--- `plan` applies the movement `m` at the stamp of the command, with the next id of a cash row and
--- the balance after it. The movement passes its checks against the facts `found`, and a later stamp
--- is left. `last` is the last stamp, and `now` the clock reading.
+-- `plan` applies the movement `m` at the stamp of the command, where `found` are the facts in the
+-- tables, `last` is the stamp of the last accepted command, and `now` the clock reading. The
+-- movement passes its checks, a later stamp is left, and the plan has the next id of a cash row and
+-- the balance after the movement.
 pub record IsMovementPlan (m : Movement) (found : MovementPlanFacts) (last : Option ℕ) (now : ℕ) (plan : Plan) : Type 0 where
   pub stamp : ℕ
   pub accepted : first_refusal (movement_checks m found ++ later_stamp_check last now ∷ []) ≡ None

@@ -22,64 +22,68 @@ use Rattle.brk_plans.specs.declared.corrected.SettlementText.{SettlementText}
 use Rattle.brk_plans.specs.declared.plan.Plan.{Plan}
 use Rattle.brk_plans.specs.declared.reply.Reply.TheVariants.{Changed}
 
--- The new settlement text of a trade whose present one is `word`: of a cash trade (`is_cash`)
--- `Cash` if it is `Cash Account`, otherwise `Cash Account`; of a margin trade `Margin` if it is
+-- The new settlement text of a trade whose present one is `word`: for a cash trade (`is_cash`)
+-- `Cash` if it is `Cash Account`, otherwise `Cash Account`; for a margin trade `Margin` if it is
 -- `Margin Account`, otherwise `Margin Account`.
 abbrev pub toggled_cash_type_text : Bool → Text → Text
 toggled_cash_type_text is_cash word =
     if is_cash then toggled_word (codes "Cash Account") (codes "Cash") word else toggled_word (codes "Margin Account") (codes "Margin") word
 
--- The new cash text of a trade whose present one is `name`. Its words are " Shares of " if `name`
--- contains " shares of ", and otherwise " shares of ".
+-- The new cash text of a trade whose present one is `name`: the name of its type, its quantity, "
+-- Shares of " if `name` contains " shares of " and " shares of " otherwise, and the name `security`
+-- of its security.
 abbrev pub toggled_cash_text : TradeType → ℕ → Text → Text → Text
 toggled_cash_text kind qty security name =
     if contains_text (codes " shares of ") name then cash_row_name_from_parts (codes " Shares of ") kind qty security else cash_row_name_from_parts (codes " shares of ") kind qty security
 
--- The new cash text of the trade of `p`, where `security` is the name of its security. Its words
--- are " Shares of " if the present text contains " shares of ", and otherwise " shares of ".
+-- The new cash text of the trade of `p`, where `security` is the name of its security. It has "
+-- Shares of " if the present text contains " shares of ", and otherwise " shares of ".
 abbrev pub toggled_cash_text_of_trade : Text → CashText → Text
 toggled_cash_text_of_trade security p = toggled_cash_text p.kind p.qty security (string_bytes p.name)
 
--- The refusal of a text update whose target does not exist: `NoTrade`, `NoAccount` or `NoSecurity`,
--- by the kind of the update.
+-- The refusal of a text update if what it names does not exist: `NoTrade`, `NoAccount` or
+-- `NoSecurity`, by the kind of the update.
 abbrev pub missing_target_refusal : told.Update → Refusal
 missing_target_refusal (update.Executors trades) = NoTrade
 missing_target_refusal (update.CashTypes account span) = NoAccount
 missing_target_refusal (update.CashNames symbol span) = NoSecurity
 
--- The check of the text update `u`: the trades, the account or the security that it names exist.
--- `found` is none if one of them is missing.
+-- The check of the text update `u`: what it names exists, that is its trades (`NoTrade`), its
+-- account (`NoAccount`) or its security (`NoSecurity`). `found` is none if it does not exist.
 abbrev pub update_checks : told.Update → Option TextUpdate → List RefusalCheck
 update_checks u found = (is_none found, missing_target_refusal u) ∷ []
 
--- The update of the tables that replaces the executor's name of `trade` by its new one.
+-- The function on tables that replaces the executor's name of `trade` by its new one
+-- (`updated_executor_name`).
 abbrev pub executor_name_update : TradeRow → Tables → Tables
 executor_name_update trade = tables_with_executor_name trade.id (updated_executor_name (string_bytes trade.executor))
 
--- The update of the tables that replaces the settlement text of the trade of `s` by its new one.
+-- The function on tables that replaces the settlement text of the trade of `s` by its new one
+-- (`toggled_cash_type_text`).
 abbrev pub cash_type_update : SettlementText → Tables → Tables
 cash_type_update s = tables_with_cash_type s.trade (toggled_cash_type_text s.is_cash (cash_type_text s.cash_type))
 
--- The update of the tables that replaces the cash text of the trade of `p` by its new one, where
--- `security` is the name of its security.
+-- The function on tables that replaces the cash text of the trade of `p` by its new one
+-- (`toggled_cash_text_of_trade`), where `security` is the name of its security.
 abbrev pub cash_text_update : Text → CashText → Tables → Tables
 cash_text_update security p = tables_with_cash_text p.trade (toggled_cash_text_of_trade security p)
 
--- The updates of the tables, one for each selected trade, in the sequence of the trades.
+-- The functions on tables that replace the text of each selected trade by its new one, in the
+-- sequence of the trades.
 abbrev pub table_updates_of_text_update : TextUpdate → List (Tables → Tables)
 table_updates_of_text_update (corrected.Executors trades) = map executor_name_update trades.items
 table_updates_of_text_update (corrected.CashTypes settled) = map cash_type_update settled.items
 table_updates_of_text_update (corrected.CashNames security paid) = map (cash_text_update security) paid.items
 
--- The number of trades that a text update selects.
+-- The number of trades whose text a text update replaces.
 abbrev pub count_of_updated_trades : TextUpdate → ℕ
 count_of_updated_trades (corrected.Executors trades) = length trades.items
 count_of_updated_trades (corrected.CashTypes settled) = length settled.items
 count_of_updated_trades (corrected.CashNames security paid) = length paid.items
 
--- `plan` updates one text of each trade of `found` at the stamp of the command and sets the last
--- stamp. A later stamp is left, and the reply has the stamp and the number of the trades. `last` is
--- the last stamp, and `now` the clock reading.
+-- `plan` replaces one text of each trade of `found` and sets the last stamp to that of the command,
+-- where `last` is the last stamp and `now` the clock reading. A later stamp is left, and the reply
+-- has the stamp and the number of the trades.
 pub record IsUpdatePlan (found : TextUpdate) (last : Option ℕ) (now : ℕ) (plan : Plan) : Type 0 where
   pub stamp : ℕ
   pub stamped : stamp_after last now ≡ Some stamp

@@ -15,18 +15,20 @@ use Rattle.brk_lots.specs.Sources.{YieldsPosition}
 use Rattle.brk_lots.specs.declared.lot.Lot.{Lot}
 use Rattle.brk_lots.specs.declared.values.Values.{Values}
 
--- The tax on the realised gain of `values` at the sum of rates `rates`, in cents; 0 if gains are
--- not taxable at the tax status `status`.
+-- The tax on the realised gain of `values`, in cents, where `rates` is the sum of the tax rates in
+-- hundred-thousandths. It is 0 if gains are not taxable at the tax status `status`, or if there is
+-- no gain.
 abbrev pub tax_on_gain_at_status : TaxStatus → ℕ → Values → ℕ
 tax_on_gain_at_status status rates values = if is_taxable_status status then tax (pos values.sell_value -ℤ pos values.buy_value) rates else 0
 
--- The commission of an order with the terms `terms`, in cents.
+-- The commission of an order with the terms `terms`, in cents: the rate times the quantity times
+-- the price.
 abbrev pub commission_from_terms : Terms → ℕ
 commission_from_terms terms = commission terms.rate terms.qty terms.price
 
--- `terms` are those of the order `o` in `base`: its side, quantity and price, the tax status and
--- the assets of its account, and the tax rates, the commission rate and the charge that apply.
--- Nothing is said of `held`.
+-- `terms` are the terms of the order `o` in `base`: its side, quantity and price, the tax status
+-- and the assets of its account, and the tax rates, the commission rate and the charge that apply.
+-- The record says nothing of `terms.held`.
 pub record AreOrderTermsInBase (base : Base) (o : Order) (terms : Terms) : Type 0 where
   pub side : terms.side ≡ side_of_trade_type (trade_type_of_order o.order_type)
   pub qty : terms.qty ≡ o.qty
@@ -41,14 +43,14 @@ pub record AreOrderTermsInBase (base : Base) (o : Order) (terms : Terms) : Type 
       ≡ Some terms.charge
   pub assets : terms.assets ≡ assets_of_account base o.account
 
--- The deal of an order with the terms `terms`, as the trade `trade` at `stamp`, which closes the
--- newest lots first if `lifo`.
+-- The deal of an order with the terms `terms` that is placed as the trade `trade` and completed at
+-- its price and at `stamp`. It closes the newest lots first if `lifo`, otherwise the oldest.
 abbrev pub deal_from_terms : Terms → (trade stamp : ℕ) → Bool → Deal
 deal_from_terms terms trade stamp lifo = record { trade = trade; side = terms.side; qty = terms.qty; price = terms.price; stamp = stamp; is_lifo = lifo }
 
 -- From `before` to `after`, the number of reads of the source grew by at most one more than the
--- number of lots that an order with the terms `terms` touches, for any lots that the source may
--- have (`given`), none of them opened by its trade. Vacuous if there are no such lots.
+-- number of lots that an order with the terms `terms` closes or reduces, for any lots that the
+-- source may have (`given`), none of them opened by its trade. Vacuous if there are no such lots.
 abbrev pub OrderReadsAtMostOneLotMore : Terms → (List Lot → Type 0) → (before after : ℕ) → Type 0
 OrderReadsAtMostOneLotMore terms given before after =
     (ls : List Lot) (trade stamp : ℕ) (lifo : Bool) → YieldsPosition given lifo ls → AreOpenedByOtherTrades trade ls

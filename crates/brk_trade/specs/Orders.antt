@@ -36,8 +36,9 @@ use Rattle.brk_plans.specs.declared.reply.Reply.TheVariants.{Ordered}
 use Rattle.brk_changes.specs.declared.request_row.RequestRow.{RequestRow}
 use Rattle.brk_changes.specs.declared.trade_row.TradeRow.{TradeRow}
 
--- The checks of an order against the facts `found`: its account and its security exist, its
--- executor is permitted, and a charge and a commission rate apply.
+-- The checks of an order against the facts `found`: its account and its security exist
+-- (`NoAccount`, `NoSecurity`), its executor is permitted (`NotPermitted`), and a charge and a
+-- commission rate apply (`NoCharge`, `NoRate`).
 abbrev pub order_checks : OrderPlanFacts → List RefusalCheck
 order_checks found =
     (is_none found.account, NoAccount) ∷ (is_none found.last_price, NoSecurity) ∷ (not found.is_permitted, NotPermitted)
@@ -84,8 +85,8 @@ pub record EstimatesCheckedOrder (order : Order) (found : OrderPlanFacts) (given
   pub accepted : first_refusal (order_checks found) ≡ None
   pub estimated : MatchesModelEstimate (terms_of_order order found) given estimate
 
--- The check that an id is left for a new trade, where `last` is the greatest id in use. Trades are
--- numbered from 1 without a gap.
+-- The check that an id is left for a new trade (`Range(Trades)`), where `last` is the greatest id
+-- in use, or none if there are no trades. Trades are numbered from 1 without a gap.
 abbrev pub free_trade_id_check : Option ℕ → RefusalCheck
 free_trade_id_check last = (nat_le greatest_id (unwrap_or last 0), Range limit.Trades)
 
@@ -93,8 +94,8 @@ free_trade_id_check last = (nat_le greatest_id (unwrap_or last 0), Range limit.T
 abbrev pub next_trade_id : Option ℕ → ℕ
 next_trade_id last = unwrap_or last 0 + 1
 
--- The TRADE row of `order` with the terms `terms`, its id, stamp and texts. It has its first
--- status, no price, and tax 0.
+-- The TRADE row of `order` with the terms `terms`, the id `trade`, the stamp, the symbol and the
+-- executor's name that are passed. It has the first status of its type, no price, and tax 0.
 abbrev pub trade_row_with_texts : Order → Terms → (trade stamp : ℕ) → (symbol executor : Text) → tables.TradeRow
 trade_row_with_texts order terms trade stamp symbol executor = record {
   id = trade;
@@ -114,8 +115,8 @@ trade_row_with_texts order terms trade stamp symbol executor = record {
   is_lifo = order.is_lifo;
 }
 
--- The TRADE row of `order` with the terms `terms`, its id and stamp, its symbol, and the name of
--- its executor.
+-- The TRADE row of `order` with the terms `terms`, the id `trade` and the stamp that are passed,
+-- the symbol of the order, and the name of its executor.
 abbrev pub trade_row_of_order : Order → Terms → (trade stamp : ℕ) → tables.TradeRow
 trade_row_of_order order terms trade stamp =
     trade_row_with_texts order terms trade stamp order.symbol (model_orders.executor_name (abstract_executor order.executor))
@@ -127,25 +128,25 @@ request_row_of_order order terms broker trade =
     if is_market_type (trade_type_of_order order.order_type) then None
     else Some (record { trade = trade; kind = trade_type_of_order order.order_type; symbol = order.symbol; qty = order.qty; bid = terms.price; broker = broker })
 
--- The row changes that add a trade: its TRADE row `row`, its first TRADE_HISTORY row, its
--- `request`, if any, and the last stamp.
+-- The row changes that add a trade: its TRADE row `row`, its first TRADE_HISTORY row and its
+-- request, if any, are added, and the last stamp is set to that of the row.
 abbrev pub row_changes_of_order : TradeRow → Option RequestRow → List Change
 row_changes_of_order row request =
     change.AddTrade row ∷ change.AddHistory (record { trade = row.id; status = row.status; stamp = row.stamp })
     ∷ map change.AddRequest (option_to_list request) ++ change.SetLastStamp row.stamp ∷ []
 
 -- `changes` are the row changes that add `trade`, which `order` placed with the terms `terms` at
--- `stamp`.
+-- `stamp`. `broker` is the broker of its account.
 pub record AreOrderChanges (order : Order) (terms : Terms) (broker trade stamp : ℕ) (changes : List Change) : Type 0 where
   pub row : TradeRow
   pub added : abstract_trade_row row ≡ trade_row_of_order order terms trade stamp
   pub changed : changes ≡ row_changes_of_order row (request_row_of_order order terms broker trade)
 
--- `plan` adds the trade of `order` at the stamp of the command, with the next id. The order passes
--- its checks against the facts `found`, an id and a later stamp are left, and the reply has the
--- stamp, the id, the first status and the estimate from the lots of the source
--- (`MatchesModelEstimate`). `given` holds of the lists of lots that the source may have, `last` is
--- the last stamp, and `now` the clock reading.
+-- `plan` adds the trade of `order` at the stamp of the command, with the next id, where `found` are
+-- the facts in the tables, `given` holds of the lists of lots that the source may have, `last` is
+-- the last stamp, and `now` the clock reading. The order passes its checks, an id and a later stamp
+-- are left, and the reply has the stamp, the id, the first status and the estimate from the lots of
+-- the source (`MatchesModelEstimate`).
 pub record IsOrderPlan (order : Order) (found : OrderPlanFacts) (given : List Lot → Type 0) (last : Option ℕ) (now : ℕ) (plan : Plan) : Type 0 where
   pub stamp : ℕ
   pub estimate : Estimate

@@ -19,25 +19,26 @@ use Rattle.brk_trade.specs.declared.outcome.ResultFigures.{ResultFigures}
 use Rattle.brk_trade.specs.declared.result_found.ResultPlanFacts.{ResultPlanFacts}
 use Rattle.brk_changes.specs.declared.trade_row.TradeRow.{TradeRow}
 
--- The greatest value of a trade, in cents: the greatest quantity at the greatest price.
+-- The greatest value of a trade, in cents: the greatest quantity times the greatest price.
 abbrev pub greatest_trade_value : ℕ
 greatest_trade_value = greatest_qty * greatest_price
 
--- The deal of the trade `t`, completed at `price` and `stamp`.
+-- The deal of the trade of the TRADE row `t`, completed at `price` and `stamp`.
 abbrev pub deal_of_trade_row : TradeRow → (price stamp : ℕ) → Deal
 deal_of_trade_row t price stamp = record { trade = t.id; side = side_of_trade_type t.kind; qty = t.qty; price = price; stamp = stamp; is_lifo = t.is_lifo }
 
 -- The number of shares of the trade's security that its account holds after the trade, below 0 if
--- sold short.
+-- sold short: those in the summary, or 0 if there is none, plus or minus the quantity of the trade.
 abbrev pub shares_held_after_trade : ResultPlanFacts → ℤ
 shares_held_after_trade found = unwrap_or found.summary (pos 0) +ℤ signed_by_side (side_of_trade_type found.trade.kind) found.trade.qty
 
--- The commission of the trade at `price`, in cents, at the rate of its band, or at rate 0 if it has
--- no band.
+-- The commission of the trade at `price`, in cents, at the rate of its band. The rate counts as 0
+-- if there is no band.
 abbrev pub commission_of_result : ResultPlanFacts → ℕ → ℕ
 commission_of_result found price = commission (unwrap_or found.rate 0) found.trade.qty price
 
--- The tax on the realised gain of `values`, in cents, for the account of the trade.
+-- The tax on the realised gain of `values`, in cents, at the tax status of the trade's account and
+-- the rates of its customer.
 abbrev pub tax_of_result : ResultPlanFacts → Values → ℕ
 tax_of_result found values = tax_on_gain_at_status found.account.tax_status found.rates values
 
@@ -53,34 +54,36 @@ settlement_amount_of_result found price values =
     signed_proceeds (side_of_trade_type found.trade.kind) (found.trade.qty * price) -ℤ pos (found.trade.charge + commission_of_result found price
     + withheld_tax_of_result found values)
 
--- The balance of the account plus `amount` after a cash trade, and the balance alone after a margin
--- trade, in cents.
+-- The balance of the account in cents: plus `amount` after a cash trade, and unchanged after a
+-- margin trade.
 abbrev pub balance_after_settlement_amount : ResultPlanFacts → ℤ → ℤ
 balance_after_settlement_amount found amount = if found.trade.is_cash then found.account.balance +ℤ amount else found.account.balance
 
--- The balance of the account after the trade, in cents.
+-- The balance of the account after the trade, in cents: plus the settlement amount for a cash
+-- trade, and unchanged for a margin trade.
 abbrev pub balance_after_result : ResultPlanFacts → ℕ → Values → ℤ
 balance_after_result found price values = balance_after_settlement_amount found (settlement_amount_of_result found price values)
 
--- The commissions of the broker after the trade, in cents.
+-- The commissions of the account's broker after the trade, in cents: those before it plus its own
+-- commission.
 abbrev pub broker_commissions_after_result : ResultPlanFacts → ℕ → ℕ
 broker_commissions_after_result found price = found.broker.commissions + commission_of_result found price
 
--- The checks of a result that need no lots: the trade is submitted, a commission rate applies, and
--- the shares held after it do not exceed the limit.
+-- The checks of a result that need no lots: the trade is submitted (`WrongStatus`), a commission
+-- rate applies (`NoRate`), and the shares held after it do not exceed the limit (`Range(Summary)`).
 abbrev pub checks_before_reading_lots : ResultPlanFacts → List RefusalCheck
 checks_before_reading_lots found =
     (not (is_same_trade_status found.trade.status Submitted), WrongStatus found.trade.status) ∷ (is_none found.rate, NoRate)
     ∷ (nat_lt greatest_summary (nat_abs (shares_held_after_trade found)), Range limit.Summary) ∷ []
 
--- The check that `stamp` is not none and that the due day of a completion at it is within the
--- calendar. `rule` is the settlement day, if any.
+-- The check that there is a stamp, `stamp`, and that the due day of a completion at it is not after
+-- 9999-12-31 (`ClockEnd`). `rule` is the settlement day, if any.
 abbrev pub due_day_check : Option ℕ → Option ℕ → RefusalCheck
 due_day_check rule stamp = (option_map_or (λ s. nat_lt greatest_day (due_day_of_completion_stamp rule s)) stamp true, ClockEnd)
 
--- The checks of a result that need the values of the closed shares or the stamp. The balance after
--- a cash trade and the broker's commissions do not exceed their limits, a stamp is left, and the
--- due day is within the calendar.
+-- The checks of a result that need the values of the closed shares or the stamp: the balance after
+-- a cash trade and the broker's commissions do not exceed their limits (`Range(Balance)`,
+-- `Range(Broker)`), a stamp is left, and the due day is not after 9999-12-31 (`ClockEnd`).
 abbrev pub checks_after_reading_lots : ResultPlanFacts → ℕ → Values → Option ℕ → List RefusalCheck
 checks_after_reading_lots found price values stamp =
     (found.trade.is_cash && nat_lt greatest_amount (nat_abs (balance_after_result found price values)), Range limit.Balance)
@@ -91,12 +94,12 @@ checks_after_reading_lots found price values stamp =
 abbrev pub result_checks : ResultPlanFacts → ℕ → Values → Option ℕ → List RefusalCheck
 result_checks found price values stamp = checks_before_reading_lots found ++ checks_after_reading_lots found price values stamp
 
--- The buy value and the sell value of `closing`, in cents, without their signs.
+-- The buy value and the sell value of `closing`, in cents, as natural numbers: the absolute values.
 abbrev pub values_of_closing : Closing → Values
 values_of_closing closing = record { buy_value = nat_abs closing.buy_value; sell_value = nat_abs closing.sell_value }
 
--- The figures of the completed trade, from the facts `found`, its price, the values of the closed
--- shares and its stamp.
+-- The figures of the completed trade from the facts `found`, its price in cents, the values of the
+-- closed shares, and its stamp.
 abbrev pub figures_of_result : ResultPlanFacts → ℕ → Values → ℕ → ResultFigures
 figures_of_result found price values stamp = record {
   stamp = stamp;

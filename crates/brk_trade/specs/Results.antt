@@ -35,17 +35,17 @@ use Rattle.brk_plans.specs.declared.reply.Completed.{Completed}
 use Rattle.brk_plans.specs.declared.reply.Reply.TheVariants as reply
 use Rattle.brk_changes.specs.declared.trade_row.TradeRow.{TradeRow}
 
--- The row change of the lot of `touch`: the lot is deleted if none of its shares is left, and
--- otherwise its quantity is set.
+-- The row change of the HOLDING row of the lot of `touch`: the lot is deleted if none of its shares
+-- is left, and otherwise its quantity is set.
 abbrev pub row_change_of_touched_holding : Touch → Change
 row_change_of_touched_holding touch = if is_zero touch.after then change.RemoveLot touch.lot else change.SetLot touch.lot touch.after
 
--- The row change that adds the HOLDING_HISTORY row of `touch`, made by `trade`.
+-- The row change that adds the HOLDING_HISTORY row of the lot change `touch`, which `trade` made.
 abbrev pub row_change_adding_lot_history : ℕ → Touch → Change
 row_change_adding_lot_history trade touch = change.AddLotChange (record { lot = touch.lot; trade = trade; before = touch.before; after = touch.after })
 
 -- The row changes of the lot of `touch`, which `trade` closes or reduces: of its HOLDING row, and
--- of its history.
+-- of its new HOLDING_HISTORY row.
 abbrev pub row_changes_of_touched_lot : ℕ → Touch → List Change
 row_changes_of_touched_lot trade touch = row_change_of_touched_holding touch ∷ row_change_adding_lot_history trade touch ∷ []
 
@@ -55,15 +55,16 @@ row_changes_of_opened_lot t lot =
     change.AddLot (record { trade = lot.trade; account = t.account; symbol = t.symbol; stamp = lot.stamp; price = lot.price; qty = lot.qty })
     ∷ change.AddLotChange (record { lot = lot.trade; trade = lot.trade; before = pos 0; after = lot.qty }) ∷ []
 
--- The row change of the summary of the account and the symbol of `t`: it is added if there was
--- none, deleted if `qty` is 0, and otherwise set to `qty`.
+-- The row change of the HOLDING_SUMMARY row of the account and the symbol of `t`: the row is added
+-- if there was none, deleted if `qty` is 0, and otherwise set to `qty`.
 abbrev pub row_change_of_summary : Option ℤ → TradeRow → ℤ → Change
 row_change_of_summary None t qty = change.AddSummary (record { account = t.account; symbol = t.symbol; qty = qty })
 row_change_of_summary (Some held) t qty =
     if is_zero qty then change.RemoveSummary t.account t.symbol
     else change.SetSummary (record { account = t.account; symbol = t.symbol; qty = qty })
 
--- The settlement text of a newly completed cash trade (`is_cash`) or margin trade.
+-- The settlement text that a completion records: `CashAccount` for a cash trade (`is_cash`),
+-- `Margin` for a margin trade.
 abbrev pub first_cash_type_of_trade : Bool → CashType
 first_cash_type_of_trade is_cash = if is_cash then cash_type.CashAccount else cash_type.Margin
 
@@ -90,28 +91,31 @@ cash_row_of_result found outcome =
     })
     else None
 
--- The row changes of a cash row: `row` is added, and the balance of `account` is set to `balance`.
+-- The row changes of the cash row `row`: it is added, and the balance of `account` is set to
+-- `balance` cents.
 abbrev pub row_changes_of_cash_row : ℕ → ℤ → MoveRow → List Change
 row_changes_of_cash_row account balance row = change.AddMove row ∷ change.SetBalance account balance ∷ []
 
--- The row changes of the completed `trade` itself: the values of its completion, and its
--- TRADE_HISTORY row.
+-- The row changes of the completed trade itself: the values of its completion are set, and its
+-- TRADE_HISTORY row is added.
 abbrev pub row_changes_of_completed_trade : ℕ → ℕ → ResultFigures → List Change
 row_changes_of_completed_trade trade price outcome =
     change.CompleteTrade trade outcome.stamp price outcome.commission outcome.tax
     ∷ change.AddHistory (record { trade = trade; status = status.Completed; stamp = outcome.stamp }) ∷ []
 
--- The row change of the totals of the account's broker: one more completed trade, and its
--- `commissions`.
+-- The row change that sets the totals of the account's broker: one more completed trade, and
+-- `commissions`, its new commissions in cents.
 abbrev pub row_change_of_broker_totals : ResultPlanFacts → ℕ → Change
 row_change_of_broker_totals found commissions = change.SetBrokerTotals found.account.broker (pos (found.broker.trades + 1)) commissions
 
--- The row change that adds the SETTLEMENT row of the trade `t`.
+-- The row change that adds the SETTLEMENT row of the trade `t`: its settlement text, and the due
+-- day and the settlement amount of the figures `outcome`.
 abbrev pub row_change_adding_settlement : TradeRow → ResultFigures → Change
 row_change_adding_settlement t outcome =
     change.AddSettlement (record { trade = t.id; cash_type = first_cash_type_of_trade t.is_cash; due_day = outcome.due_day; amount = outcome.amount })
 
--- The row changes of the account's summary, of the broker's totals and of the settlement.
+-- The row changes of the account's summary, of the broker's totals and of the settlement, in this
+-- sequence.
 abbrev pub summary_broker_settlement_changes : ResultPlanFacts → ResultFigures → List Change
 summary_broker_settlement_changes found outcome =
     row_change_of_summary found.summary found.trade outcome.summary ∷ row_change_of_broker_totals found outcome.commissions
@@ -129,14 +133,15 @@ row_changes_of_result found price closing outcome cash =
     ++ flat_map (row_changes_of_cash_row found.trade.account outcome.balance) (option_to_list cash)
     ++ change.SetLastStamp outcome.stamp ∷ []
 
--- `changes` complete the trade of `found` at `price` with the closed and opened lots of `closing`
--- and the figures `outcome`. They add a cash row if it is a cash trade.
+-- `changes` are the row changes that complete the trade of `found` at `price` with the closed and
+-- opened lots of `closing` and the figures `outcome`. They add a cash row if it is a cash trade.
 pub record AreResultChanges (found : ResultPlanFacts) (price : ℕ) (closing : Closing) (outcome : ResultFigures) (changes : List Change) : Type 0 where
   pub cash : Option MoveRow
   pub moved : option_map abstract_move_row cash ≡ cash_row_of_result found outcome
   pub changed : changes ≡ row_changes_of_result found price closing outcome cash
 
--- Those figures of a completed trade that its reply has.
+-- The reply of a completion with the figures `outcome`, which omits the shares held and the
+-- broker's commissions.
 abbrev pub completed_reply_of_figures : ResultFigures → Completed
 completed_reply_of_figures outcome = record {
   stamp = outcome.stamp;
@@ -150,7 +155,7 @@ completed_reply_of_figures outcome = record {
 }
 
 -- The number of shares of the trade's security that its account holds before the trade, below 0 if
--- sold short; 0 if there is no summary.
+-- sold short, and 0 if there is no summary.
 abbrev pub shares_held_before_trade : ResultPlanFacts → ℤ
 shares_held_before_trade found = unwrap_or found.summary (pos 0)
 
@@ -160,15 +165,15 @@ abbrev pub AreLotsBeforeTrade : (List Lot → Type 0) → ResultPlanFacts → Li
 AreLotsBeforeTrade given found ls =
     YieldsPosition given found.trade.is_lifo ls × AreOpenedByOtherTrades found.trade.id ls × (shares_held_before_trade found ≡ lot_quantity_sum ls)
 
--- The account holds no shares that the trade of `found` would close.
+-- The account of the trade of `found` holds no shares that this trade would close.
 abbrev pub ClosesNoHeldShares : ResultPlanFacts → Type 0
 ClosesNoHeldShares found = closes_lots (side_of_trade_type found.trade.kind) (shares_held_before_trade found) ≡ false
 
--- `plan` completes the trade of `found` at `price` and the stamp of the command. The result passes
--- all its checks, and the row changes and the reply follow from `closing`, the lots that the trade
--- closes and opens. The clause `closes` is vacuous if no lots of the source match the summary
--- (`AreLotsBeforeTrade`). `given` holds of the lists of lots that the source may have, `last` is
--- the last stamp, and `now` the clock reading.
+-- `plan` completes the trade of `found` at `price` and the stamp of the command, where `given`
+-- holds of the lists of lots that the source may have, `last` is the last stamp, and `now` the
+-- clock reading. The result passes all its checks, and the row changes and the reply follow from
+-- `closing`, the lots that the trade closes and opens. The clause `closes` is vacuous if no lots of
+-- the source match the summary (`AreLotsBeforeTrade`).
 pub record IsResultPlan (found : ResultPlanFacts) (price : ℕ) (given : List Lot → Type 0) (last : Option ℕ) (now : ℕ) (plan : Plan) : Type 0 where
   pub stamp : ℕ
   pub closing : Closing
@@ -178,7 +183,7 @@ pub record IsResultPlan (found : ResultPlanFacts) (price : ℕ) (given : List Lo
   pub replied : plan.reply ≡ reply.Completed (completed_reply_of_figures (figures_of_result found price (values_of_closing closing) stamp))
   pub changes : AreResultChanges found price closing (figures_of_result found price (values_of_closing closing) stamp) plan.changes.items
 
--- The trade exists, and `plan` completes it (`IsResultPlan`).
+-- The trade exists, and `plan` completes it (`IsResultPlan`). False if there is no such trade.
 abbrev pub CompletesExistingTrade : Option ResultPlanFacts → ℕ → (List Lot → Type 0) → Option ℕ → ℕ → Plan → Type 0
 CompletesExistingTrade None price given last now plan = ⊥
 CompletesExistingTrade (Some found) price given last now plan = IsResultPlan found price given last now plan
@@ -197,8 +202,8 @@ pub record IsRefusalOfExistingTrade (found : ResultPlanFacts) (price : ℕ) (giv
       → first_refusal (result_checks found price (closing_values_of_deal (deal_of_trade_row found.trade price stamp) (shares_of_lots ls)) (stamp_after last now))
       ≡ Some refusal
 
--- `refusal` is that of a result: `NoTrade` if there is no such trade, and otherwise the first one
--- that applies (`IsRefusalOfExistingTrade`).
+-- `refusal` is the refusal of a result: `NoTrade` if there is no such trade, and otherwise the
+-- first one that applies (`IsRefusalOfExistingTrade`).
 abbrev pub IsResultRefusal : Option ResultPlanFacts → ℕ → (List Lot → Type 0) → Option ℕ → ℕ → Refusal → Type 0
 IsResultRefusal None price given last now refusal = refusal ≡ NoTrade
 IsResultRefusal (Some found) price given last now refusal = IsRefusalOfExistingTrade found price given last now refusal
@@ -208,8 +213,8 @@ abbrev pub stamp_or_clock_reading : Option ℕ → ℕ → ℕ
 stamp_or_clock_reading stamp now = unwrap_or stamp now
 
 -- From `before` to `after`, the number of reads of the source grew by at most one more than the
--- number of lots that the trade touches, and not at all if there is no such trade. Vacuous if no
--- lots of the source match the summary (`AreLotsBeforeTrade`).
+-- number of lots that the trade closes or reduces, and not at all if there is no such trade.
+-- Vacuous if no lots of the source match the summary (`AreLotsBeforeTrade`).
 abbrev pub ResultReadsAtMostOneLotMore : Option ResultPlanFacts → ℕ → ℕ → (List Lot → Type 0) → (before after : ℕ) → Type 0
 ResultReadsAtMostOneLotMore None price stamp given before after = after ≤ before
 ResultReadsAtMostOneLotMore (Some found) price stamp given before after =

@@ -17,8 +17,8 @@ use brk_money::{Fault, Id, Price, Qty, Status};
 use brk_ref::Name;
 use std::alloc::{AllocError, Global};
 
-// Appends the row changes of the completed trade itself: the values of its completion, and its
-// history row. Fails with `Memory` only.
+// Appends to `changes` the row changes of the completed trade itself: the values of its completion
+// are set, and its TRADE_HISTORY row is added. Fails with `Memory` only.
 fn append_completed_trade_changes(
     trade: Id,
     price: Price,
@@ -43,8 +43,8 @@ fn append_completed_trade_changes(
     Ok(())
 }
 
-// Returns the row change of a touched lot: the lot is deleted if none of its shares is left, and
-// otherwise its quantity is set.
+// Returns the row change of the HOLDING row of a touched lot: the lot is deleted if none of its
+// shares is left, and otherwise its quantity is set.
 fn create_touched_lot_change(touch: &Touch) -> Change
     ensures { result ≡ spec.row_change_of_touched_holding touch.now }
 {
@@ -58,7 +58,7 @@ fn create_touched_lot_change(touch: &Touch) -> Change
     }
 }
 
-// Returns the row change that adds the history row of a lot that `trade` touched.
+// Returns the row change that adds the HOLDING_HISTORY row of a lot that `trade` touched.
 fn create_lot_history_change(trade: Id, touch: &Touch) -> Change
     ensures { result ≡ spec.row_change_adding_lot_history trade touch.now }
 {
@@ -70,8 +70,8 @@ fn create_lot_history_change(trade: Id, touch: &Touch) -> Change
     })
 }
 
-// Appends the row changes of a lot that `trade` touched, and of its history. Fails with `Memory`
-// only.
+// Appends to `changes` the row changes of one lot that `trade` touched: of its HOLDING row, and of
+// its new HOLDING_HISTORY row. Fails with `Memory` only.
 fn append_touched_lot_changes(
     trade: Id,
     touch: &Touch,
@@ -85,8 +85,8 @@ fn append_touched_lot_changes(
     Ok(())
 }
 
-// Appends the row changes of all lots that `trade` touched, and of their histories. Fails with
-// `Memory` only.
+// Appends to `changes` the row changes of all lots that `trade` touched, in sequence: of their
+// HOLDING rows, and of their new HOLDING_HISTORY rows. Fails with `Memory` only.
 fn append_changes_of_all_touched_lots(
     trade: Id,
     touched: &[Touch],
@@ -101,8 +101,8 @@ fn append_changes_of_all_touched_lots(
     Ok(())
 }
 
-// Appends the row changes that add the lot that the trade opens and its history row, or nothing if
-// it opens none. Fails with `Memory` only.
+// Appends to `changes` the row changes that add the lot that the trade opens and its
+// HOLDING_HISTORY row, or nothing if it opens none. Fails with `Memory` only.
 fn append_opened_lot_changes(
     trade: &TradeRow,
     opened: Option<Lot>,
@@ -131,8 +131,9 @@ fn append_opened_lot_changes(
     Ok(())
 }
 
-// Returns the row change of the summary of the trade's account and symbol: it is added if there was
-// none, deleted if its quantity is 0 now, and otherwise set. Fails with `Memory` only.
+// Returns the row change of the HOLDING_SUMMARY row of the trade's account and symbol: the row is
+// added if there was none, deleted if the account holds no shares after the trade, and otherwise
+// set. Fails with `Memory` only.
 fn create_summary_change(found: &ResultPlanFacts, outcome: &ResultFigures) -> Result<Change, Fault>
     ensures change { IfOk result (λ change. change ≡ spec.row_change_of_summary found.now.summary found.now.trade outcome.now.summary) }
     ensures fault { OnErr result (result ≡ Err Memory) }
@@ -157,7 +158,8 @@ fn create_summary_change(found: &ResultPlanFacts, outcome: &ResultFigures) -> Re
     }))
 }
 
-// Returns the settlement text of a newly completed cash trade (`is_cash`) or margin trade.
+// Returns the settlement text that a completion records: `CashAccount` for a cash trade
+// (`is_cash`), `Margin` for a margin trade.
 fn first_cash_type(is_cash: bool) -> CashType
     ensures { result ≡ spec.first_cash_type_of_trade is_cash }
 {
@@ -168,8 +170,8 @@ fn first_cash_type(is_cash: bool) -> CashType
     }
 }
 
-// Returns the row change of the totals of the account's broker: one more completed trade, and its
-// new commissions.
+// Returns the row change that sets the totals of the account's broker: one more completed trade,
+// and `commissions`, its new commissions in cents.
 fn create_broker_totals_change(found: &ResultPlanFacts, commissions: Amount) -> Change
     ensures { result ≡ spec.row_change_of_broker_totals found.now commissions }
 {
@@ -180,7 +182,8 @@ fn create_broker_totals_change(found: &ResultPlanFacts, commissions: Amount) -> 
     }
 }
 
-// Returns the row change that adds the settlement.
+// Returns the row change that adds the SETTLEMENT row of the trade: its settlement text, its due
+// day and its settlement amount.
 fn create_settlement_change(trade: &TradeRow, outcome: &ResultFigures) -> Change
     ensures { result ≡ spec.row_change_adding_settlement trade.now outcome.now }
 {
@@ -192,8 +195,8 @@ fn create_settlement_change(trade: &TradeRow, outcome: &ResultFigures) -> Change
     })
 }
 
-// Appends the row changes of the account's summary, of the broker's totals and of the settlement.
-// Fails with `Memory` only.
+// Appends to `changes` the row changes of the account's summary, of the broker's totals and of the
+// settlement, in this sequence. Fails with `Memory` only.
 fn append_summary_and_settlement_changes(
     found: &ResultPlanFacts,
     outcome: &ResultFigures,
@@ -209,7 +212,8 @@ fn append_summary_and_settlement_changes(
     Ok(())
 }
 
-// Appends a space, the quantity and the text " shares of " to `name`. Fails if memory runs out.
+// Appends to `name` a space, the quantity in decimal digits, and the text " shares of ". Fails if
+// memory runs out.
 fn append_quantity_text(name: &mut String, qty: Qty) -> Result<(), AllocError>
     ensures { OnOk result (string_bytes name.new ≡ string_bytes name.old ++ spec.quantity_in_cash_text qty) }
 {
@@ -231,8 +235,8 @@ fn format_trade_cash_text(
     Ok(name)
 }
 
-// Returns the cash row of the completed trade, or `None` if it is a margin trade. Fails if memory
-// runs out.
+// Returns the CASH_MOVE row of the completed trade, or `None` if it is a margin trade. Fails if
+// memory runs out.
 fn create_result_cash_row(
     alloc: Global,
     found: &ResultPlanFacts,
@@ -253,8 +257,8 @@ fn create_result_cash_row(
     }))
 }
 
-// Appends the row changes of the cash row, if any: it is added, and the balance of the account is
-// set. Fails with `Memory` only.
+// Appends to `changes` the row changes of the cash row: it is added, and the balance of the account
+// is set. Appends nothing if `cash` is `None`. Fails with `Memory` only.
 fn append_cash_row_changes(
     account: Id,
     outcome: &ResultFigures,
@@ -276,8 +280,9 @@ fn append_cash_row_changes(
     Ok(())
 }
 
-// Returns all row changes of a completion, in sequence, with those of the cash row, if any. Fails
-// with `Memory` only.
+// Returns all row changes of a completion, in sequence: of the trade, of the lots, of the summary,
+// the broker's totals and the settlement, of the cash row `cash`, if any, and of the last stamp.
+// Fails with `Memory` only.
 fn create_result_changes(
     alloc: Global,
     found: &ResultPlanFacts,
@@ -300,8 +305,9 @@ fn create_result_changes(
     Ok(changes)
 }
 
-// Returns the row changes that complete the trade with these closed and opened lots and these
-// figures. Fails with `Memory` only.
+// Creates the cash row of the trade, if it is a cash trade, and returns all row changes that
+// complete the trade with the closed and opened lots of `closing` and the figures `outcome`. Fails
+// with `Memory` only.
 pub(crate) fn create_completion_changes(
     alloc: Global,
     found: &ResultPlanFacts,

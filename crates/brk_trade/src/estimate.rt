@@ -28,9 +28,9 @@ pub struct Terms {
     /// The requested price in cents: the last price for a market order, otherwise the order's own.
     pub price: Price,
     pub tax_status: TaxStatus,
-    /// The sum of the tax rates that the account's customer pays.
+    /// The sum of the tax rates that the account's customer pays, in hundred-thousandths.
     pub rates: TaxRate,
-    /// The rate of the band of the quantity.
+    /// The commission rate of the band of the quantity, in hundredths of a percent.
     pub rate: Rate,
     /// The charge of the order's type and the customer's tier, in cents.
     pub charge: ChargeAmount,
@@ -40,7 +40,7 @@ pub struct Terms {
     pub held: i64,
 }
 
-// Returns true if gains are taxable at the tax status.
+// Returns true if gains of an account with the tax status are taxable.
 fn is_taxable_status(status: TaxStatus) -> bool
     ensures { result ≡ spec.is_taxable_status status }
 {
@@ -58,8 +58,9 @@ fn realised_gain_of_values(values: Values) -> Cents
     Cents::new(values.sell_value.get() as i64 - values.buy_value.get() as i64).unwrap()
 }
 
-/// Returns the tax on the realised gain of shares, at the sum of the rates that the account's
-/// customer pays; 0 if gains are not taxable at the tax status.
+/// Returns the tax on the realised gain of shares, in cents. `rates` is the sum of the rates that
+/// the account's customer pays, in hundred-thousandths. The tax is 0 if gains are not taxable at
+/// the tax status, or if there is no gain.
 pub fn tax_on_realised_gain(values: Values, status: TaxStatus, rates: TaxRate) -> Amount
     ensures { result ≡ tax_on_gain_at_status status rates values }
 {
@@ -70,8 +71,9 @@ pub fn tax_on_realised_gain(values: Values, status: TaxStatus, rates: TaxRate) -
     }
 }
 
-// Returns the buy value and the sell value of the shares that an order would close. Fails only with
-// a fault of the source. Reads no lot if the account holds no shares that the order would close.
+// Returns the buy value and the sell value, in cents, of the shares that an order would close.
+// Fails only with a fault of the source. Reads no lot if the account holds no shares that the order
+// would close; both values are then 0.
 fn values_of_shares_to_close<L: LotSource>(source: &mut L, terms: &Terms) -> Result<Values, Fault>
     ensures leads { L.leads source.old source.new }
     ensures values { IfOk result (λ values. (ls : List Lot) (trade stamp : ℕ) (lifo : Bool) →

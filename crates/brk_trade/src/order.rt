@@ -47,9 +47,10 @@ pub struct OrderPlanFacts {
     pub is_permitted: bool,
     /// The charge of its type and the customer's tier, or `None` if there is none.
     pub charge: Option<ChargeAmount>,
-    /// The rate of the band of its quantity, or `None` if there is none.
+    /// The commission rate of the band of its quantity, in hundredths of a percent, or `None` if
+    /// there is none.
     pub rate: Option<Rate>,
-    /// The sum of the tax rates that the account's customer pays.
+    /// The sum of the tax rates that the account's customer pays, in hundred-thousandths.
     pub rates: TaxRate,
     /// The balance of the account plus the market value of its holdings, in cents.
     pub assets: Wide,
@@ -67,7 +68,8 @@ struct Placement {
     broker: Id,
 }
 
-// Returns the price that the order asks for, or `last` if it asks for none.
+// Returns the price that the order asks for, or `last`, the last price of its security, if it asks
+// for none; both are in cents.
 fn requested_price(order: &Order, last: Price) -> Price
     ensures { result ≡ spec.requested_price_or_last order.now last }
 {
@@ -159,7 +161,8 @@ fn next_free_trade_id(last: Option<Id>) -> Option<Id>
     }
 }
 
-// Returns the first status of an order: submitted for a market order, otherwise pending.
+// Returns the first status of an order of the type: `Submitted` for a market type, otherwise
+// `Pending`.
 fn first_status(kind: TradeType) -> Status
     ensures { result ≡ model.first_status kind }
 {
@@ -181,8 +184,9 @@ fn executor_name(alloc: Global, executor: &Executor) -> Result<String, AllocErro
     Ok(name)
 }
 
-// Returns the TRADE row of a new order with this commission, id, stamp and these texts: in its
-// first status, without a price, with tax 0.
+// Returns the TRADE row of a new order with the terms, the commission in cents, the id, the stamp,
+// the symbol and the executor's name that are passed: in its first status, without a price, with
+// tax 0.
 fn create_trade_row_with_texts(
     order: &Order,
     terms: &Terms,
@@ -214,7 +218,8 @@ fn create_trade_row_with_texts(
     }
 }
 
-// Returns the TRADE row of a new order with this commission, id and stamp. Fails if memory runs
+// Returns the TRADE row of a new order with the terms, the commission in cents, the id and the
+// stamp that are passed: in its first status, without a price, with tax 0. Fails if memory runs
 // out.
 fn create_order_trade_row(
     alloc: Global,
@@ -232,8 +237,8 @@ fn create_order_trade_row(
     Ok(create_trade_row_with_texts(order, terms, commission, trade, stamp, symbol, executor))
 }
 
-// Returns the TRADE_REQUEST row of a new trade, or `None` if it is of a market order. Fails if
-// memory runs out.
+// Returns the TRADE_REQUEST row of the new trade `trade` of an order, or `None` for a market order.
+// Fails if memory runs out.
 fn create_order_request_row(
     order: &Order,
     placement: &Placement,
@@ -254,8 +259,8 @@ fn create_order_request_row(
     }))
 }
 
-// Returns the row changes that add a trade: its row, its first history row and its request, if any;
-// and that set the last stamp. Fails if memory runs out.
+// Returns the row changes that add the TRADE row `row`, its first TRADE_HISTORY row and its
+// request, if any, and that set the last stamp to that of the row. Fails if memory runs out.
 fn create_new_trade_changes(
     alloc: Global,
     row: TradeRow,
@@ -279,8 +284,8 @@ fn create_new_trade_changes(
     Ok(changes)
 }
 
-// Returns the row changes of an accepted order with this commission, id and stamp. Fails if memory
-// runs out.
+// Returns the row changes of an accepted order with the placement, the commission in cents, the id
+// and the stamp that are passed. Fails if memory runs out.
 fn create_order_changes(
     alloc: Global,
     order: &Order,
@@ -299,9 +304,9 @@ fn create_order_changes(
     Ok(changes)
 }
 
-/// Plans an order from the facts in the tables, the lots of its account and symbol, which `source`
-/// returns in the sequence in which the order closes them, and the stamp of the last accepted
-/// command (Trade-Order).
+/// Plans an order from the facts in the tables, `found`, and the lots of its account and symbol,
+/// which `source` returns in the sequence in which the order closes them (Trade-Order). `last` is
+/// the stamp of the last accepted command, and `now` the clock reading.
 ///
 /// The plan adds the trade with its first status, and its request if it is pending, and sets the
 /// last stamp. Its reply has the stamp, the number, the status and the estimate.

@@ -41,15 +41,15 @@ pub struct ResultFigures {
     pub sell_value: Amount,
 }
 
-// The facts of a result that are known before lots are read: the commission rate, and the number of
-// shares held after it.
+// The values of a result that are known before lots are read: the commission rate, in hundredths of
+// a percent, and the number of shares held after the trade.
 #[derive(Clone, Copy)]
 pub(crate) struct RateAndSummary {
     pub rate: Rate,
     pub summary: i64,
 }
 
-// Returns the quantity, negated for a sale.
+// Returns the quantity, below 0 for a sale.
 fn signed_quantity_of_side(side: Side, qty: u32) -> i128
     ensures { result ≡ shares.signed_by_side side qty }
 {
@@ -59,8 +59,8 @@ fn signed_quantity_of_side(side: Side, qty: u32) -> i128
     }
 }
 
-// Returns the number of shares of the trade's security that its account holds after it, below 0 if
-// sold short, or `None` if it exceeds the limit.
+// Returns the number of shares of the trade's security that its account holds after the trade,
+// below 0 if sold short, or `None` if it exceeds 9,999,999,999 either way.
 fn shares_held_if_within_limit(found: &ResultPlanFacts) -> Option<i64>
     ensures { MatchOption result
         (nat_lt greatest_summary (nat_abs (spec.shares_held_after_trade found.now)) ≡ true)
@@ -74,8 +74,9 @@ fn shares_held_if_within_limit(found: &ResultPlanFacts) -> Option<i64>
     Some(after as i64)
 }
 
-// Returns the commission rate and the shares held after the trade, or the first refusal that
-// applies before lots are read: `WrongStatus`, `NoRate` or `Range(Summary)`.
+// Returns the commission rate of the trade and the shares held after it, or the first refusal that
+// applies before lots are read: `WrongStatus`, if the trade is not submitted; `NoRate`; or
+// `Range(Summary)`, if the shares held would exceed their limit.
 pub(crate) fn checked_rate_and_summary(found: &ResultPlanFacts) -> Result<RateAndSummary, Refusal>
     ensures { MatchResult result
         (λ known. (first_refusal (checks_before_reading_lots found.now) ≡ None) × (found.now.rate ≡ Some known.rate)
@@ -94,8 +95,9 @@ pub(crate) fn checked_rate_and_summary(found: &ResultPlanFacts) -> Result<RateAn
     Ok(RateAndSummary { rate, summary })
 }
 
-// Returns the figures of the completion, or the first refusal that applies with the values of the
-// closed shares: `Range(Balance)`, `Range(Broker)` or `ClockEnd`.
+// Returns the figures of the completion, or the first refusal that applies once lots are read:
+// `Range(Balance)`, if the balance would exceed its limit; `Range(Broker)`, if the broker's
+// commissions would; or `ClockEnd`, if `stamp` is `None` or the due day is after 9999-12-31.
 pub(crate) fn checked_result_figures(
     found: &ResultPlanFacts,
     price: Price,

@@ -1,4 +1,4 @@
-//! Who may order for an account.
+//! The check that an executor may place orders for an account.
 
 ghost use Rattle.std.specs.Prelude.{◌≡◌, map};
 ghost use Rattle.brk_model.specs.Orders as orders;
@@ -32,8 +32,9 @@ fn permission_names_executor(permission: &Permission, executor: &Executor) -> bo
     )
 }
 
-/// Returns true if the executor may place orders for an account (Trade-Order). First name, last
-/// name and tax id must be those of `customer` or of one of `permissions`.
+/// Returns true if the executor may place orders for an account of `customer` with these
+/// permissions (Trade-Order): the first name, the last name and the tax id of the executor are
+/// those of the customer or of one permission.
 pub fn executor_may_place_orders(
     customer: &Customer,
     permissions: &[Permission],

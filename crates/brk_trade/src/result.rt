@@ -18,7 +18,7 @@ use brk_money::{Fault, Planned, Price, Refusal, Stamp, stamp_after};
 use brk_plans::{Completed, Plan, Reply};
 use std::alloc::Global;
 
-// Returns those figures of a completed trade that its reply has.
+// Returns the reply of a completion, from the figures of the completed trade.
 fn create_completed_reply(outcome: &ResultFigures) -> Completed
     ensures { result ≡ completed_reply_of_figures outcome.now }
 {
@@ -34,9 +34,9 @@ fn create_completed_reply(outcome: &ResultFigures) -> Completed
     }
 }
 
-// Returns the lots that the trade closes, and the lot that it opens, if it opens one. Fails with
-// `Memory` or a fault of the source. Reads no lot if the account holds no shares that the trade
-// would close.
+// Returns the effect of the trade at `price` and `stamp` on the lots: the lots that it closes or
+// reduces, and the lot that it opens, if any. Fails with `Memory` or a fault of the source. Reads
+// no lot if the account holds no shares that the trade would close.
 fn close_or_open_lots<L: LotSource>(
     alloc: Global,
     source: &mut L,
@@ -69,17 +69,17 @@ fn close_or_open_lots<L: LotSource>(
 
 /// Plans the result of a trade at `price` (Trade-Result). `found` has the facts in the tables, and
 /// is `None` if there is no such trade. `source` returns the lots of the trade's account and symbol
-/// in the sequence in which the trade closes them, and `last` is the stamp of the last accepted
-/// command.
+/// in the sequence in which the trade closes them, `last` is the stamp of the last accepted
+/// command, and `now` the clock reading.
 ///
 /// The plan completes the trade: it closes lots, opens one with the rest of the quantity, if any,
-/// changes the summary, adds to the broker totals and settles the trade. A cash trade adds a cash
-/// row and changes the balance of its account. The plan then sets the last stamp. Its reply has the
-/// figures of the completion.
+/// changes the summary, adds to the broker totals and adds the settlement. For a cash trade it adds
+/// a cash row and changes the balance of the account. The plan then sets the last stamp. Its reply
+/// has the figures of the completion.
 ///
 /// Refuses with the first that applies of `NoTrade`; `WrongStatus`, if the trade is not submitted;
 /// `NoRate`; `Range(Summary)`; `Range(Balance)`, of a cash trade; `Range(Broker)`; and `ClockEnd`,
-/// if no later stamp is left or the due day is after the last day.
+/// if no later stamp is left or the due day is after 9999-12-31.
 ///
 /// Fails with `Memory` or a fault of the source. Reads no lot if the account holds no shares that
 /// the trade would close.

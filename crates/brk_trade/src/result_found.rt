@@ -2,7 +2,7 @@ use brk_changes::{BrokerTotals, TradeRow};
 use brk_money::{Cents, Day, Id, MoveId, Rate, TaxRate, TaxStatus};
 use brk_ref::Name;
 
-/// The account of a trade that is to be completed.
+/// The facts of a trade's account that decide on its result.
 #[derive(Clone, Copy, PartialEq, Eq)]
 pub struct ResultAccount {
     /// Its broker.
@@ -27,9 +27,10 @@ pub struct ResultPlanFacts {
     pub summary: Option<i64>,
     /// The name of the trade's security.
     pub security: Name,
-    /// The rate of the band of the trade's quantity, or `None` if there is none.
+    /// The commission rate of the band of the trade's quantity, in hundredths of a percent, or
+    /// `None` if there is none.
     pub rate: Option<Rate>,
-    /// The sum of the tax rates that the account's customer pays.
+    /// The sum of the tax rates that the account's customer pays, in hundred-thousandths.
     pub rates: TaxRate,
     /// The first day whose completions settle after one day, or `None` if it is not set (SR_DAY).
     pub rule: Option<Day>,

@@ -19,8 +19,8 @@ use brk_lots::{Closing, Values};
 use brk_money::{Cents, Day, Price, Qty, Rate, Side, Stamp, TaxStatus, Wide, commission};
 use brk_plans::add_within_balance_limit;
 
-// Returns the value of closed shares, which is within 0 and the greatest value of a trade, as an
-// amount.
+// Returns the value of closed shares, in cents, as an amount. The value must be within 0 and the
+// greatest value of a trade.
 fn value_as_amount(value: Wide) -> Amount
     requires low { pos 0 ≤ℤ value }
     requires high { value ≤ℤ pos greatest_trade_value }
@@ -29,8 +29,8 @@ fn value_as_amount(value: Wide) -> Amount
     Amount::new(value.get() as u64).unwrap()
 }
 
-// Returns the buy value and the sell value of the closed shares as amounts. They are at most the
-// value of a trade of `qty` at the greatest price.
+// Returns the buy value and the sell value of the closed shares, in cents, as amounts. Each is at
+// most the value of a trade of `qty` at the greatest price.
 pub(crate) fn values_of_closed_shares(qty: Qty, closing: &Closing) -> Values
     requires bought { (pos 0 ≤ℤ closing.now.buy_value) × (closing.now.buy_value ≤ℤ pos (qty * greatest_price)) }
     requires sold { (pos 0 ≤ℤ closing.now.sell_value) × (closing.now.sell_value ≤ℤ pos (qty * greatest_price)) }
@@ -44,8 +44,8 @@ pub(crate) fn values_of_closed_shares(qty: Qty, closing: &Closing) -> Values
     }
 }
 
-// Returns the commission of a trade at a price and a rate, in cents, which is at most the greatest
-// value of a trade.
+// Returns the commission of a trade at `price` and at `rate` (hundredths of a percent), in cents.
+// It is at most the greatest value of a trade.
 #[tactic(auto, using(crate::proofs::Bounds::commission_high))]
 pub(crate) fn commission_at_price_and_rate(trade: &TradeRow, price: Price, rate: Rate) -> Amount
     ensures value { result ≡ amounts.commission rate trade.now.qty price }
@@ -67,8 +67,8 @@ pub(crate) fn tax_on_closed_shares(found: &ResultPlanFacts, values: Values) -> A
     tax_on_realised_gain(values, found.account.tax_status, found.rates)
 }
 
-// Returns the part of the tax that is withheld from the settlement, in cents: all of it if the tax
-// status withholds it, otherwise 0.
+// Returns the part of the tax that is withheld from the settlement, in cents: all of it at the tax
+// status `Withheld`, otherwise 0.
 fn withheld_part_of_tax(status: TaxStatus, tax: Amount) -> u64
     ensures { result ≡ (if is_withholding_status status then tax else 0) }
 {
@@ -78,7 +78,8 @@ fn withheld_part_of_tax(status: TaxStatus, tax: Amount) -> u64
     }
 }
 
-// Returns the value, in cents, negated for a purchase, minus `taken_off`.
+// Returns the proceeds of a trade minus the costs `taken_off`, in cents. The proceeds are `value`
+// for a sale, and `value` below 0 for a purchase.
 fn proceeds_less_costs(side: Side, value: u64, taken_off: u64) -> Cents
     requires value { value ≤ greatest_trade_value }
     requires taken_off { taken_off ≤ 3 * greatest_trade_value }
@@ -112,8 +113,8 @@ pub(crate) fn settlement_amount_of_trade(
     proceeds_less_costs(trade.kind.side(), value, taken_off)
 }
 
-// Returns the balance of the account plus `amount` after a cash trade, or `None` if it exceeds the
-// limit. A margin trade leaves it unchanged.
+// Returns the balance of the account, in cents: for a cash trade plus `amount`, or `None` if the
+// sum exceeds 10^17 cents either way; for a margin trade unchanged.
 pub(crate) fn balance_if_within_limit(found: &ResultPlanFacts, amount: Cents) -> Option<Cents>
     ensures { MatchOption result
         (found.now.trade.is_cash && nat_lt greatest_amount (nat_abs (spec.balance_after_settlement_amount found.now amount)) ≡ true)
@@ -126,7 +127,8 @@ pub(crate) fn balance_if_within_limit(found: &ResultPlanFacts, amount: Cents) ->
     add_within_balance_limit(found.account.balance, amount)
 }
 
-// Returns the commissions of the broker plus `commission`, or `None` if they exceed the limit.
+// Returns the commissions of the broker plus `commission`, in cents, or `None` if the sum exceeds
+// 10^17 cents.
 pub(crate) fn commissions_if_within_limit(
     broker: BrokerTotals,
     commission: Amount,
@@ -138,8 +140,8 @@ pub(crate) fn commissions_if_within_limit(
     Amount::new(broker.commissions.get() + commission.get())
 }
 
-// Returns the due day of a trade that is completed at `stamp`, or `None` if it is after the last
-// day of the calendar.
+// Returns the due day of a trade that is completed at `stamp`, or `None` if it is after 9999-12-31.
+// `rule` is the settlement day, if it is set.
 pub(crate) fn due_day_if_in_calendar(rule: Option<Day>, stamp: Stamp) -> Option<Day>
     ensures { MatchOption result
         (nat_lt greatest_day (derived.due_day_of_completion_stamp rule stamp) ≡ true)

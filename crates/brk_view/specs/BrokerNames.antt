@@ -1,4 +1,4 @@
--- Names that are read from fields, each counted once.
+-- Names that are parsed from fields, each counted once.
 use Rattle.std.specs.Prelude.{Bool, not, if◌then◌else◌, List, [], ◌∷◌, ◌++◌, filter, Ok, Err, bytes_eq}
 use Rattle.std.specs.Global.{Vec}
 use Rattle.std.specs.List.{list_any}
@@ -6,7 +6,7 @@ use Rattle.brk_money.specs.Spelling.{Text}
 use Rattle.brk_model.specs.Forms.{ReadResult}
 use Rattle.brk_model.specs.Lists.{distinct_texts}
 
--- True if `name` is one of `names`.
+-- True if `name` equals one of `names`.
 abbrev pub contains_name : List Text → Text → Bool
 contains_name names name = list_any (bytes_eq name) names
 
@@ -14,21 +14,21 @@ contains_name names name = list_any (bytes_eq name) names
 abbrev pub names_with_new_name : List Text → Text → List Text
 names_with_new_name names name = if contains_name names name then names else names ++ name ∷ []
 
--- The names in `more`, without duplicates, that are not in `names`.
+-- The names of `more` that are not in `names`, each at its first position only.
 abbrev pub distinct_new_names : List Text → List Text → List Text
 distinct_new_names names more = filter (λ name. not (contains_name names name)) (distinct_texts more)
 
--- The list `names` followed by those parsed names that are not in it, without duplicates, or the
--- refusal of parsing.
+-- The list `names` followed by those parsed names that are not in it, each at its first position
+-- only; the refusal of parsing if there is one.
 abbrev pub names_then_new_names : List Text → ReadResult (List Text) → ReadResult (List Text)
 names_then_new_names names (Ok more) = Ok (names ++ distinct_new_names names more)
 names_then_new_names names (Err refusal) = Err refusal
 
--- The parsed names, each at its first position only, or the refusal of parsing.
+-- The parsed names, each at its first position only; the refusal of parsing if there is one.
 abbrev pub distinct_parsed_names : ReadResult (List Text) → ReadResult (List Text)
 distinct_parsed_names (Ok names) = Ok (distinct_texts names)
 distinct_parsed_names (Err refusal) = Err refusal
 
--- The names in the vector `names`.
+-- The list of the names in the vector `names`.
 abbrev pub names_of_vector : Vec Text → List Text
 names_of_vector names = names.items

@@ -1,4 +1,4 @@
--- The rows that a view carries, beside the texts that it shows.
+-- The typed rows that a view has, in addition to the texts that it shows.
 use Rattle.std.specs.Prelude.{◌≡◌, ◌&&◌, ◌==◌, ℕ, Bool, List, Option, bytes_eq, filter, map, take}
 use Rattle.brk_changes.specs.Rows.{abstract_trade_row}
 use Rattle.brk_model.specs.Joins.{trade_rows_oldest_first, trade_rows_recent_first, trade_rows_of_account}
@@ -14,19 +14,20 @@ use Rattle.brk_view.specs.Status.{rows_of_trade_status, trade_row_with_security}
 use Rattle.brk_view.specs.declared.view.View.{View}
 use Rattle.brk_view.specs.declared.view.View.TheVariants as view
 
--- The first twenty trades that pass `test`, the oldest first, each with its settlement, cash row
--- and statuses in the tables `t`.
+-- The first twenty trades of the tables `t` that pass `test`, the oldest first, each with its
+-- settlement, its cash row and its statuses.
 abbrev pub first_twenty_trades_with_rows : Tables → (TradeRow → Bool) → List LookedUpRows
 first_twenty_trades_with_rows t test = map (table_rows_of_trade t) (take 20 (trade_rows_oldest_first (filter test t.trades)))
 
--- The last fifty trades of `account`, the most recent first, each with its security in the tables
--- `t`.
+-- The last fifty trades of `account` in the tables `t`, the most recent first, each with its
+-- security.
 abbrev pub last_fifty_trades_with_security : Tables → ℕ → List (TradeRow × Option SecurityRow)
 last_fifty_trades_with_security t account = map (trade_row_with_security t) (take 50 (trade_rows_recent_first (trade_rows_of_account t account)))
 
--- The view has the variant of the query, and its rows of trades and of lot changes equal, in all
--- columns, those that the query selects from the tables `t`. For a query of accounts, of submitted
--- trades, of an estimate or of volumes it states the variant only.
+-- The view is of the kind of the query, and its rows of trades and of lot changes equal, in all
+-- columns, those that the query selects from the tables `t`. False if the view is of another kind.
+-- For a query of accounts, of submitted trades, of an estimate or of volumes it states the kind
+-- only.
 abbrev pub HasRowsOfQuery : Query → View → Tables → Type 0
 HasRowsOfQuery (PositionOf customer) (view.Position accounts) t = Unit {0}
 HasRowsOfQuery (PositionOfTaxId tax_id) (view.Position accounts) t = Unit {0}

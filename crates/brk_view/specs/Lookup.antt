@@ -49,13 +49,12 @@ abbrev pub price_and_cost_fields : tables.TradeRow → List Text
 price_and_cost_fields t =
     option_map_or nonnegative_cents_text t.price [] ∷ nonnegative_cents_text t.charge ∷ nonnegative_cents_text t.commission ∷ nonnegative_cents_text t.tax ∷ []
 
--- The last two of the fifteen fields of the trade `t`: cash or margin, and the end from which it
--- closes lots.
+-- The last two of the fifteen fields of the trade `t`: `cash` or `margin`, and `lifo` or `fifo`.
 abbrev pub cash_and_lot_end_fields : tables.TradeRow → List Text
 cash_and_lot_end_fields t = cash_or_margin_word t.is_cash ∷ lifo_or_fifo_word t.is_lifo ∷ []
 
--- The records of the looked-up trade `l`: of the trade, of its settlement and its cash row, if any,
--- and of each of its statuses.
+-- The records of the looked-up trade `l`: one of the trade, one of its settlement and one of its
+-- cash row, if any, and one of each of its statuses.
 abbrev pub records_of_looked_up_trade : LookedUp → View
 records_of_looked_up_trade l =
     model.trade_record (abstract_trade_row l.trade)
@@ -70,7 +69,8 @@ pub record LookedUpRows : Type 0 where
   pub moves : List tables.MoveRow
   pub history : List StatusMoment
 
--- The rows of the looked-up trade `l`, as rows of the tables.
+-- The trade, settlement, cash row and statuses of the looked-up trade `l`, as rows of the model's
+-- tables.
 abbrev pub rows_of_looked_up_trade : LookedUp → LookedUpRows
 rows_of_looked_up_trade l = record {
   trade = abstract_trade_row l.trade;
@@ -83,8 +83,8 @@ rows_of_looked_up_trade l = record {
 abbrev pub status_of_history_row : tables.HistoryRow → StatusMoment
 status_of_history_row r = record { stamp = r.stamp; status = r.status }
 
--- The trade `row` with its settlements, its cash rows and its statuses in the tables `t`, the
--- oldest first.
+-- The TRADE row `row` with its settlements, its cash rows and its statuses in the tables `t`. The
+-- statuses are sorted by stamp, ascending.
 abbrev pub table_rows_of_trade : Tables → tables.TradeRow → LookedUpRows
 table_rows_of_trade t row = record {
   trade = row;
@@ -93,8 +93,8 @@ table_rows_of_trade t row = record {
   history = map status_of_history_row (sort_by (λ a b. nat_lt a.stamp b.stamp) (history_rows_with_trade_id t row.id));
 }
 
--- `settlement` and `cash` are all rows of SETTLEMENT and of CASH_MOVE that the tables `t` have of
--- `trade`, and `history` are its rows of TRADE_HISTORY.
+-- `settlement` and `cash` are all SETTLEMENT and all CASH_MOVE rows that the tables `t` have of
+-- `trade`, and `history` are its TRADE_HISTORY rows.
 pub record AreRowsOfTrade (t : Tables) (trade : TradeRow) (settlement : Option SettlementRow) (cash : Option MoveRow) (history : List HistoryRow) : Type 0 where
   pub settlement_rows : option_to_list (option_map abstract_settlement_row settlement) ≡ filter (λ s. s.trade == trade.id) t.settlements
   pub cash_rows : option_to_list (option_map abstract_move_row cash) ≡ filter (model.is_cash_row_of_trade trade.id) t.moves

@@ -1,10 +1,10 @@
--- The query of the model that a `Query` represents.
+-- The model's query of each typed query.
 use Rattle.brk_model.specs.Queries as model
 use Rattle.brk_orders.specs.Records.{abstract_order}
 use Rattle.brk_view.specs.declared.query.Query.{Query}
 use Rattle.brk_view.specs.declared.query.Query.TheVariants.{Position, PositionOfTaxId, Recent, Status, Submitted, Estimate, Trades, AccountTrades, SymbolTrades, Lots, Volume}
 
--- The model's query with the values of a typed query.
+-- The model's query with the values of a typed query, by its kind.
 abbrev pub abstract_query : Query → model.Query
 abstract_query (Position customer) = model.PositionOf customer
 abstract_query (PositionOfTaxId tax_id) = model.PositionOfTaxId tax_id

@@ -28,19 +28,21 @@ abbrev pub last_five_status_fields : TradeStatus → List Text
 last_five_status_fields s =
     decimal s.trade.qty ∷ string_bytes s.trade.executor ∷ nonnegative_cents_text s.trade.charge ∷ s.security.name ∷ s.security.exchange ∷ []
 
--- The record of a trade with its security, in ten fields.
+-- The record of a trade with its security, in ten fields: the id, stamp, status, type, symbol,
+-- quantity, executor and charge of the trade, and the name and the exchange of its security.
 abbrev pub trade_status_record : TradeStatus → List Text
 trade_status_record s = first_five_status_fields s.trade ++ last_five_status_fields s
 
--- The trade and the security of `s`, as rows of the tables.
+-- The trade and the security of `s`, as rows of the model's tables.
 abbrev pub rows_of_trade_status : TradeStatus → tables.TradeRow × Option SecurityRow
 rows_of_trade_status s = (abstract_trade_row s.trade, Some (abstract_security_row s.security))
 
--- The trade `row` with the row of its security in the tables `t`, or with none if there is no such
--- security.
+-- The TRADE row `row` with the SECURITY row of its symbol in the tables `t`, or with none if there
+-- is no such security.
 abbrev pub trade_row_with_security : Tables → tables.TradeRow → tables.TradeRow × Option SecurityRow
 trade_row_with_security t row = (row, security_row_with_symbol t row.symbol)
 
--- The record of the parties of the account `a`, followed by those of its trades.
+-- The records of the account `a`: one of the names of its customer and its broker, followed by one
+-- of each of its trades.
 abbrev pub records_of_account_status : AccountStatus → model.View
 records_of_account_status a = party_names_record a ∷ map trade_status_record a.trades.items

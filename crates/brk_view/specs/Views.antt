@@ -1,4 +1,4 @@
--- The view of the model that a `View` represents: its records of texts.
+-- The model's view of each typed view: its records of texts.
 use Rattle.std.specs.Prelude.{Bool, List, [], ◌∷◌, flat_map, map, decimal, pos, String, string_bytes}
 use Rattle.std.specs.Global.{Global, Vec}
 use Rattle.brk_plans.specs.declared.estimate.Estimate as estimate
@@ -38,7 +38,7 @@ estimate_record e =
     ∷ cents_text (pos e.charge)
     ∷ cents_text e.assets ∷ []
 
--- The records of a view, each a list of texts, by its variant.
+-- The records of a typed view, each a list of texts, by its kind.
 abbrev pub records_of_view : View → model.View
 records_of_view (view.Position accounts) = map account_worth_record accounts.items
 records_of_view (view.Recent recent) = records_of_activity recent
@@ -49,10 +49,10 @@ records_of_view (view.Volume brokers) = map broker_volume_record brokers.items
 records_of_view (view.Submitted trades) = map submitted_trade_record trades.items
 records_of_view (view.Estimate estimate) = estimate_record estimate ∷ []
 
--- The bytes of each of `texts`, the texts of one record.
+-- The bytes of each of the strings `texts`, which are the fields of one record.
 abbrev pub texts_of_record : Vec (String Global) → List Text
 texts_of_record texts = map string_bytes texts.items
 
--- The bytes of the texts of each of `records`.
+-- The bytes of the strings of each of `records`.
 abbrev pub texts_of_records : Vec (Vec (String Global)) → model.View
 texts_of_records records = map texts_of_record records.items

@@ -24,10 +24,12 @@ broker_volume_record v = v.name ∷ decimal v.broker ∷ cents_text v.volume ∷
 abbrev pub request_value_at_bid : RequestRow → ℕ
 request_value_at_bid r = r.qty * r.bid
 
--- The volume of the broker `b` in `sector`, in cents, with its id and its name.
+-- The broker `b` with its volume in `sector`, in cents: the value at bid prices of its pending
+-- requests in that sector.
 abbrev pub volume_of_broker_in_sector : Tables → Text → BrokerRow → BrokerVolume
 volume_of_broker_in_sector t sector b = record { broker = b.id; name = b.name; volume = pos (sector_volume_of_broker t sector b.id) }
 
--- True if the broker `b` has one of `names`, and a pending request in `sector`.
+-- True if the broker `b` has one of `names`, and at least one pending request in `sector` in the
+-- tables `t`.
 abbrev pub has_name_and_pending_request : Tables → Text → List Text → BrokerRow → Bool
 has_name_and_pending_request t sector names b = list_any (bytes_eq b.name) names && nat_lt 0 (length (sector_requests_of_broker t sector b.id))

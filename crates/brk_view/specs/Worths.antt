@@ -6,7 +6,7 @@ use Rattle.brk_model.specs.Tables.{Tables, AccountRow}
 use Rattle.brk_view.specs.declared.worths.AccountWorth.{AccountWorth}
 
 -- The id and the balance of the account `a`, and the market value of its holdings in the tables
--- `t`.
+-- `t`, both in cents.
 abbrev pub worth_of_account : Tables → AccountRow → AccountWorth
 worth_of_account t a = record { account = a.id; balance = a.balance; assets = market_value_of_account_row t a }
 

@@ -11,7 +11,7 @@ use brk_ref::Name;
 use std::alloc::Global;
 use std::marker::Model;
 
-/// The 1 to 20 different broker names that a query names, in sequence.
+/// The 1 to 20 different broker names that a query names, in the sequence of its arguments.
 #[derive(Drop)]
 pub struct BrokerNames {
     names: Vec<Name>,
@@ -32,8 +32,8 @@ impl BrokerNames {
     /// The greatest number of names.
     pub const MOST: usize = 20;
 
-    // Returns these names, which are different. Refuses with `BadText` (18) if there are none, and
-    // with `TooMany` (20) if there are more than 20. Never allocates.
+    // Creates the list of these names, which must be different. Refuses with `BadText` (18) if
+    // there are none, and with `TooMany` (20) if there are more than 20. Never allocates.
     fn from_distinct_names(names: Vec<Name>) -> Result<BrokerNames, Refusal>
         requires { distinct_texts names.items ≡ names.items }
         ensures { ParsesAs (λ told. told) result (one_to_twenty_elements names.items) }
@@ -47,7 +47,7 @@ impl BrokerNames {
         Ok(BrokerNames { names })
     }
 
-    /// Returns the names, in sequence.
+    /// Returns the names, in the sequence of the query's arguments.
     pub fn names(&self) -> &[Name]
         ensures names { result.now ≡ self.now }
         ensures distinct { distinct_texts result.now ≡ result.now }
@@ -56,14 +56,14 @@ impl BrokerNames {
     }
 }
 
-// Returns true if `name` is one of `names`.
+// Returns true if `name` equals one of `names`.
 fn is_among_names(name: &Name, names: &[Name]) -> bool
     ensures { result ≡ contains_name names.now name.now }
 {
     names.iter().any(|other| name.as_str() == other.as_str())
 }
 
-// Appends `name` if it is not one of `names`. Fails with `Memory` only.
+// Appends `name` to `names` if it is not one of them. Fails with `Memory` only.
 #[tactic(auto, using(crate::proofs::Distinct::still_distinct))]
 fn push_name_if_absent(names: &mut Vec<Name>, name: Name) -> Result<(), Fault>
     ensures names { OnOk result (names.new.items ≡ names_with_new_name names.old.items name) }
@@ -75,8 +75,8 @@ fn push_name_if_absent(names: &mut Vec<Name>, name: Name) -> Result<(), Fault>
     Ok(())
 }
 
-// Parses names, and returns each at its first position only. Refuses with `BadText` if a field is
-// malformed. Fails with `Memory` only.
+// Parses a name from each field, in sequence, and returns each name at its first position only.
+// Refuses with `BadText` if a field is malformed. Fails with `Memory` only.
 fn parse_distinct_names(alloc: Global, fields: &[&[u8]]) -> Planned<Vec<Name>>
     ensures read { IfOk result (λ read. ParsesAs names_of_vector read (distinct_parsed_names (read_each_text read_name (texts_of_fields fields.now)))) }
     ensures distinct { IfOk result (λ read. IfOk read (λ names. distinct_texts names.items ≡ names.items)) }
@@ -92,7 +92,8 @@ fn parse_distinct_names(alloc: Global, fields: &[&[u8]]) -> Planned<Vec<Name>>
     Ok(Ok(names))
 }
 
-/// Parses 1 to 20 broker names, each counted once. Fails with `Memory` only.
+/// Parses 1 to 20 broker names, one from each field; a name that occurs more than once is counted
+/// once. Fails with `Memory` only.
 ///
 /// Refuses with `BadText` (18) if a field is malformed or there are none, and otherwise with
 /// `TooMany` (20) if there are more than 20. All fields are checked before the number of names.

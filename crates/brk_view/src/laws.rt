@@ -13,17 +13,17 @@ ghost use Rattle.brk_model.specs.Tables.{Tables};
 ghost use Rattle.brk_view.specs.Views.{records_of_view, has_submitted_status, record_of_submitted_row};
 ghost use Rattle.brk_view.specs.declared.view.View.TheVariants as views;
 
-/// Proves that the records of the submitted rows of TRADE are the view of the submitted trades, if
-/// the rows are sorted by id.
+/// Proves that the records of those TRADE rows that are submitted equal the view of the submitted
+/// trades, if the rows are sorted by id, ascending.
 pub fn submitted_rows_are_the_view()
-    // If the rows are sorted by id, ascending.
+    // For tables whose TRADE rows are sorted by id, ascending.
     ensures sorted { (t : Tables) → is_sorted_by_unique_key trade_key t.trades ≡ true
         → map record_of_submitted_row (filter has_submitted_status t.trades) ≡ submitted_trades_view t }
-    // As a store reads the rows, sorted by id.
+    // For any tables, with the TRADE rows sorted by id, as a store reads them.
     ensures stored { (t : Tables) → map record_of_submitted_row (filter has_submitted_status (tables_sorted_by_key t).trades) ≡ submitted_trades_view t }
 {}
 
-/// Proves that the view of a model's estimate is one record of its seven fields.
+/// Proves that the view of an estimate of the model is one record, that of its seven fields.
 pub fn estimate_view_is_one_record()
     ensures { (e : Estimate) → records_of_view (views.Estimate (estimate_from_model e)) ≡ estimate_fields e ∷ [] }
 {}

@@ -17,7 +17,7 @@ use brk_changes::{HistoryRow, MoveRow, SettlementRow, TradeRow};
 use brk_money::{Fault, Stamp, Status};
 use std::alloc::Global;
 
-/// A status of a trade and its stamp.
+/// A status of a trade and the stamp at which the trade reached it.
 #[derive(Clone, Copy)]
 pub struct StatusMoment {
     pub stamp: Stamp,
@@ -27,7 +27,7 @@ pub struct StatusMoment {
 impl Ranked for StatusMoment {
     ghost before = { is_older_status };
 
-    /// Returns true if the status has a smaller stamp than another.
+    /// Returns true if the status has a smaller stamp than `other`.
     fn ranks_before(&self, other: &StatusMoment) -> bool {
         self.stamp.get() < other.stamp.get()
     }
@@ -36,7 +36,7 @@ impl Ranked for StatusMoment {
 impl Ranked for TradeRow {
     ghost before = { is_older_trade };
 
-    /// Returns true if the trade has a smaller stamp than another, or the same stamp and a smaller
+    /// Returns true if the trade has a smaller stamp than `other`, or the same stamp and a smaller
     /// id.
     fn ranks_before(&self, other: &TradeRow) -> bool {
         if self.stamp.get() == other.stamp.get() {
@@ -58,7 +58,8 @@ pub struct LookedUp {
     pub history: Vec<StatusMoment>,
 }
 
-// Returns the statuses of a trade with their stamps, the oldest first. Fails with `Memory` only.
+// Returns the statuses of a trade with their stamps, from its TRADE_HISTORY rows, sorted by stamp,
+// ascending. Fails with `Memory` only.
 fn sorted_statuses_of_history(
     alloc: Global,
     history: &[HistoryRow],
@@ -76,8 +77,8 @@ fn sorted_statuses_of_history(
     sort_rows_by_rank(alloc, moments)
 }
 
-/// Returns a trade with its settlement, its cash row and its statuses, which are sorted, the oldest
-/// first. Fails with `Memory` only.
+/// Returns a trade with its settlement, its cash row and its statuses, from their rows. Sorts the
+/// statuses by stamp, ascending. Fails with `Memory` only.
 #[tactic(auto, using(crate::proofs::Shown::one_shown, crate::proofs::Shown::one_carried))]
 pub fn create_looked_up_trade(
     alloc: Global,
@@ -101,8 +102,8 @@ pub fn create_looked_up_trade(
     })
 }
 
-/// Returns the trades sorted by the stamp of their last status, then by id, ascending. Fails with
-/// `Memory` only.
+/// Returns the trades sorted by the stamp of their current status, then by id, ascending. Fails
+/// with `Memory` only.
 #[tactic(auto, using(crate::proofs::Shown::older_shown))]
 pub fn sort_trades_oldest_first(
     alloc: Global,
@@ -114,8 +115,9 @@ pub fn sort_trades_oldest_first(
     sort_rows_by_rank(alloc, trades)
 }
 
-/// Returns the view of trades selected by their ids (Trade-Lookup). The caller passes them with
-/// their settlement, cash row and history, the oldest first. Does not allocate.
+/// Returns the view of trades that a query selects by their ids (Trade-Lookup), without reading a
+/// table. The caller passes these trades with their settlement, cash row and history, the oldest
+/// first. Does not allocate.
 pub fn lookup_ids(trades: Vec<LookedUp>) -> View
     ensures records { records_of_view result ≡ flat_map records_of_looked_up_trade trades.items }
     ensures value { result ≡ views.Lookup trades }
@@ -127,8 +129,9 @@ pub fn lookup_ids(trades: Vec<LookedUp>) -> View
     View::Lookup(trades)
 }
 
-/// Returns the view of an account's trades between two stamps (Trade-Lookup). The caller passes the
-/// first 20 with their settlement, cash row and history, the oldest first. Does not allocate.
+/// Returns the view of an account's trades between two stamps (Trade-Lookup), without reading a
+/// table. The caller passes the first 20 of them with their settlement, cash row and history, the
+/// oldest first. Does not allocate.
 pub fn lookup_account(trades: Vec<LookedUp>) -> View
     ensures records { records_of_view result ≡ flat_map records_of_looked_up_trade trades.items }
     ensures value { result ≡ views.Lookup trades }
@@ -141,8 +144,9 @@ pub fn lookup_account(trades: Vec<LookedUp>) -> View
     View::Lookup(trades)
 }
 
-/// Returns the view of a symbol's trades between two stamps (Trade-Lookup). The caller passes the
-/// first 20 with their settlement, cash row and history, the oldest first. Does not allocate.
+/// Returns the view of a symbol's trades between two stamps (Trade-Lookup), without reading a
+/// table. The caller passes the first 20 of them with their settlement, cash row and history, the
+/// oldest first. Does not allocate.
 pub fn lookup_symbol(trades: Vec<LookedUp>) -> View
     ensures records { records_of_view result ≡ flat_map records_of_looked_up_trade trades.items }
     ensures value { result ≡ views.Lookup trades }

@@ -20,8 +20,8 @@ use brk_money::{Planned, Refusal};
 use brk_orders::parse_trade_order;
 use std::alloc::Global;
 
-// Parses the query of the submitted trades, which has no argument. Refuses any argument with
-// `BadText`.
+// Parses the query of the submitted trades, which has no argument. Refuses with `BadText` if there
+// is one.
 fn parse_submitted_trades_query(arguments: &[&[u8]]) -> Result<Query, Refusal>
     ensures { ParsesAs abstract_query result (read_no_arguments SubmittedTrades (texts_of_fields arguments.now)) }
 {
@@ -31,8 +31,8 @@ fn parse_submitted_trades_query(arguments: &[&[u8]]) -> Result<Query, Refusal>
     Ok(Query::Submitted)
 }
 
-// Parses the query of an order's estimate, whose arguments are the fields of the order, or returns
-// the refusal of these. Fails with `Memory` only.
+// Parses the query of an order's estimate, whose arguments are the ten fields of the order. Refuses
+// malformed arguments with `BadText`, `BadQty`, `BadPrice` or `BadType`. Fails with `Memory` only.
 fn parse_estimate_query(alloc: Global, arguments: &[&[u8]]) -> Planned<Query>
     ensures read { IfOk result (λ read. ParsesAs abstract_query read (read_and_wrap EstimateOf read_order (texts_of_fields arguments.now))) }
     ensures fault { OnErr result (result ≡ Err Memory) }
@@ -44,7 +44,8 @@ fn parse_estimate_query(alloc: Global, arguments: &[&[u8]]) -> Planned<Query>
 }
 
 // Parses a query of the view `trades`, `accounttrades`, `symboltrades`, `lots` or `volume`. Refuses
-// any other view with `BadText`. Fails with `Memory` only.
+// any other view, and malformed arguments, with `BadText`, and more than 20 ids or names with
+// `TooMany`. Fails with `Memory` only.
 fn parse_lookup_or_volume_query(alloc: Global, view: &str, arguments: &[&[u8]]) -> Planned<Query>
     ensures read { IfOk result (λ read. ParsesAs abstract_query read (parse_by_first_field (lookup_view_parsers ++ volume_view_parsers) (view.now
         ∷ texts_of_fields arguments.now))) }
@@ -60,8 +61,9 @@ fn parse_lookup_or_volume_query(alloc: Global, view: &str, arguments: &[&[u8]]) 
     }
 }
 
-// Parses a query of the view `customer`, `taxid`, `recent` or `status`, or of a view of
-// `parse_lookup_or_volume_query`. Refuses any other view with `BadText`. Fails with `Memory` only.
+// Parses a query of any view but `submitted` and `estimate`. Refuses an unknown view, these two,
+// and malformed arguments with `BadText`, and more than 20 ids or names with `TooMany`. Fails with
+// `Memory` only.
 fn parse_account_or_later_query(alloc: Global, view: &str, arguments: &[&[u8]]) -> Planned<Query>
     ensures read { IfOk result (λ read. ParsesAs abstract_query read (parse_by_first_field (account_view_parsers ++ lookup_view_parsers
         ++ volume_view_parsers) (view.now
@@ -77,16 +79,17 @@ fn parse_account_or_later_query(alloc: Global, view: &str, arguments: &[&[u8]]) 
     }
 }
 
-/// Parses a query from the name of its view and its arguments, or returns the refusal of malformed
-/// arguments. Refuses an unknown name or a wrong number of arguments with `BadText`. Fails with
-/// `Memory` only.
+/// Parses a query from the name of its view and its arguments. Fails with `Memory` only.
 ///
 /// `submitted` has no argument, and `estimate` the ten fields of an order, with their refusals.
 /// `customer` has the id of a customer, `taxid` a tax id, `recent` and `status` the id of an
 /// account. `trades` has 1 to 20 different trade ids, `accounttrades` an account and two stamps,
 /// `symboltrades` a symbol and two stamps, `lots` an account and a stamp. `volume` has a sector and
-/// 1 to 20 broker names, each counted once. More than 20 ids or names are refused with `TooMany`,
-/// if the arguments are otherwise well-formed.
+/// 1 to 20 broker names, each counted once.
+///
+/// Refuses an unknown name, a wrong number of arguments, or a malformed argument with `BadText`
+/// (18), and more than 20 ids or names with `TooMany` (20) if the arguments are otherwise
+/// well-formed.
 #[tactic(auto, unfolding(brk_model::specs::Ask::parse_query))]
 pub fn parse_query(alloc: Global, view: &str, arguments: &[&[u8]]) -> Planned<Query>
     ensures read { IfOk result (λ read. ParsesAs abstract_query read (model.parse_query view.now (texts_of_fields arguments.now))) }

@@ -12,7 +12,8 @@ use brk_money::{Planned, Refusal};
 use brk_ref::{TaxId, parse_id};
 use std::alloc::Global;
 
-// Parses the query of the accounts of a customer. Refuses malformed arguments with `BadText`.
+// Parses the query of the balances and market values of a customer's accounts from its one
+// argument, the id of the customer. Refuses malformed arguments with `BadText`.
 pub(crate) fn parse_position_query(arguments: &[&[u8]]) -> Result<Query, Refusal>
     ensures { ParsesAs abstract_query result (read_single_argument (read_and_wrap PositionOf read_id) (texts_of_fields arguments.now)) }
 {
@@ -25,8 +26,9 @@ pub(crate) fn parse_position_query(arguments: &[&[u8]]) -> Result<Query, Refusal
     Ok(Query::Position(customer))
 }
 
-// Parses the query of the accounts of the customer with a tax id. Refuses malformed arguments with
-// `BadText`. Fails with `Memory` only.
+// Parses the query of the balances and market values of a customer's accounts from its one
+// argument, the tax id of the customer. Refuses malformed arguments with `BadText`. Fails with
+// `Memory` only.
 pub(crate) fn parse_position_of_tax_id_query(alloc: Global, arguments: &[&[u8]]) -> Planned<Query>
     ensures read { IfOk result (λ read. ParsesAs abstract_query read (read_single_argument (read_and_wrap PositionOfTaxId read_tax_id) (texts_of_fields arguments.now))) }
     ensures fault { OnErr result (result ≡ Err Memory) }
@@ -40,8 +42,8 @@ pub(crate) fn parse_position_of_tax_id_query(alloc: Global, arguments: &[&[u8]])
     Ok(Ok(Query::PositionOfTaxId(tax_id)))
 }
 
-// Parses the query of an account's last trades and their statuses. Refuses malformed arguments with
-// `BadText`.
+// Parses the query of an account's last trades and their statuses from its one argument, the id of
+// the account. Refuses malformed arguments with `BadText`.
 pub(crate) fn parse_recent_trades_query(arguments: &[&[u8]]) -> Result<Query, Refusal>
     ensures { ParsesAs abstract_query result (read_single_argument (read_and_wrap RecentOf read_id) (texts_of_fields arguments.now)) }
 {
@@ -54,8 +56,8 @@ pub(crate) fn parse_recent_trades_query(arguments: &[&[u8]]) -> Result<Query, Re
     Ok(Query::Recent(account))
 }
 
-// Parses the query of an account's parties and its last trades. Refuses malformed arguments with
-// `BadText`.
+// Parses the query of the names of an account's customer and broker, and of its last trades, from
+// its one argument, the id of the account. Refuses malformed arguments with `BadText`.
 pub(crate) fn parse_account_status_query(arguments: &[&[u8]]) -> Result<Query, Refusal>
     ensures { ParsesAs abstract_query result (read_single_argument (read_and_wrap StatusOf read_id) (texts_of_fields arguments.now)) }
 {

@@ -15,8 +15,9 @@ use brk_orders::{Span, parse_stamp};
 use brk_ref::{Name, Symbol, parse_id};
 use std::alloc::Global;
 
-// Parses the query of trades by their ids, or returns the refusal of malformed ids. Fails with
-// `Memory` only.
+// Parses the query of trades from its arguments, 1 to 20 different ids. Refuses with `BadText` if
+// an argument is malformed, if an id occurs twice, or if there are none, and otherwise with
+// `TooMany` if there are more than 20. Fails with `Memory` only.
 pub(crate) fn parse_trades_query(alloc: Global, arguments: &[&[u8]]) -> Planned<Query>
     ensures read { IfOk result (λ read. ParsesAs abstract_query read (read_and_wrap TradesWith read_distinct_ids (texts_of_fields arguments.now))) }
     ensures fault { OnErr result (result ≡ Err Memory) }
@@ -27,8 +28,8 @@ pub(crate) fn parse_trades_query(alloc: Global, arguments: &[&[u8]]) -> Planned<
     }
 }
 
-// Parses the query of an account's trades between two stamps. Refuses malformed arguments with
-// `BadText`.
+// Parses the query of an account's trades between two stamps from its arguments: the account, the
+// first stamp and the last. Refuses malformed arguments with `BadText`.
 pub(crate) fn parse_account_trades_query(arguments: &[&[u8]]) -> Result<Query, Refusal>
     ensures { ParsesAs abstract_query result (read_value_and_stamps read_id (λ account first last. TradesOfAccount account first last) (texts_of_fields arguments.now)) }
 {
@@ -48,8 +49,8 @@ pub(crate) fn parse_account_trades_query(arguments: &[&[u8]]) -> Result<Query, R
     Ok(Query::AccountTrades { account, span })
 }
 
-// Parses the query of a symbol's trades between two stamps. Refuses malformed arguments with
-// `BadText`. Fails with `Memory` only.
+// Parses the query of a symbol's trades between two stamps from its arguments: the symbol, the
+// first stamp and the last. Refuses malformed arguments with `BadText`. Fails with `Memory` only.
 pub(crate) fn parse_symbol_trades_query(alloc: Global, arguments: &[&[u8]]) -> Planned<Query>
     ensures read { IfOk result (λ read. ParsesAs abstract_query read (read_value_and_stamps read_symbol (λ symbol first last. TradesOfSymbol symbol first last) (texts_of_fields arguments.now))) }
     ensures fault { OnErr result (result ≡ Err Memory) }
@@ -70,8 +71,8 @@ pub(crate) fn parse_symbol_trades_query(alloc: Global, arguments: &[&[u8]]) -> P
     Ok(Ok(Query::SymbolTrades { symbol, span }))
 }
 
-// Parses the query of the lots that an account's first trade at or after a stamp touched. Refuses
-// malformed arguments with `BadText`.
+// Parses the query of the lots that the oldest trade of an account at or after a stamp touched,
+// from its arguments: the account and the stamp. Refuses malformed arguments with `BadText`.
 pub(crate) fn parse_lots_query(arguments: &[&[u8]]) -> Result<Query, Refusal>
     ensures { ParsesAs abstract_query result (read_lots_query (texts_of_fields arguments.now)) }
 {
@@ -87,8 +88,10 @@ pub(crate) fn parse_lots_query(arguments: &[&[u8]]) -> Result<Query, Refusal>
     Ok(Query::Lots { account, first })
 }
 
-// Parses the query of the brokers' volumes in a sector, or returns the refusal of malformed
-// arguments. All fields are checked before the number of names. Fails with `Memory` only.
+// Parses the query of the brokers' volumes in a sector from its arguments: the sector and 1 to 20
+// broker names. Checks all arguments before the number of names: refuses malformed arguments, or no
+// name at all, with `BadText`, and otherwise more than 20 names with `TooMany`. Fails with `Memory`
+// only.
 #[tactic(auto, using(brk_ref::proofs::Applied::text_left, brk_ref::proofs::Applied::text_right))]
 pub(crate) fn parse_volume_query(alloc: Global, arguments: &[&[u8]]) -> Planned<Query>
     ensures read { IfOk result (λ read. ParsesAs abstract_query read (read_volume_query (texts_of_fields arguments.now))) }

@@ -4,7 +4,7 @@ use brk_money::{Id, Stamp};
 use brk_orders::{Order, Span};
 use brk_ref::{Name, Symbol, TaxId};
 
-/// A query to a desk. It is well-formed by construction.
+/// A query to a desk, parsed: every argument of it is well-formed.
 #[derive(Drop)]
 pub enum Query {
     /// The balances and market values of a customer's accounts (Customer-Position).
@@ -12,19 +12,19 @@ pub enum Query {
     /// The balances and market values of the accounts of the customer with a tax id
     /// (Customer-Position).
     PositionOfTaxId(TaxId),
-    /// The last trades of an account and their statuses (Customer-Position).
+    /// The last ten trades of an account and their statuses (Customer-Position).
     Recent(Id),
-    /// The names of an account's customer and broker, and its last trades (Trade-Status).
+    /// The names of an account's customer and broker, and its last fifty trades (Trade-Status).
     Status(Id),
     /// The submitted trades.
     Submitted,
     /// The estimate of an order, as if it were placed now (Trade-Order).
     Estimate(Order),
-    /// These trades, with their settlement, cash row and history (Trade-Lookup).
+    /// The trades with these ids, with their settlement, cash row and history (Trade-Lookup).
     Trades(NamedTrades),
-    /// The first trades of an account between two stamps (Trade-Lookup).
+    /// The first 20 trades of an account between two stamps (Trade-Lookup).
     AccountTrades { account: Id, span: Span },
-    /// The first trades of a symbol between two stamps (Trade-Lookup).
+    /// The first 20 trades of a symbol between two stamps (Trade-Lookup).
     SymbolTrades { symbol: Symbol, span: Span },
     /// The changes of the lots that the first trade of an account at or after a stamp touched
     /// (Trade-Lookup).

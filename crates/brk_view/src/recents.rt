@@ -19,7 +19,7 @@ use brk_changes::{HistoryRow, TradeRow};
 use brk_money::Fault;
 use std::alloc::Global;
 
-/// The last trades of an account, and their statuses with the stamps of these.
+/// The last trades of an account, and all their statuses with stamps.
 #[derive(Drop)]
 pub struct Activity {
     /// The trades, the most recent first.
@@ -31,8 +31,8 @@ pub struct Activity {
 impl Ranked for HistoryRow {
     ghost before = { is_newer_status };
 
-    /// Returns true if the status has a greater stamp than another, or the same stamp and a greater
-    /// trade.
+    /// Returns true if the status has a greater stamp than `other`, or the same stamp and a trade
+    /// with a greater id.
     fn ranks_before(&self, other: &HistoryRow) -> bool {
         if self.stamp.get() == other.stamp.get() {
             return self.trade.get() > other.trade.get();
@@ -41,9 +41,9 @@ impl Ranked for HistoryRow {
     }
 }
 
-/// Returns the view of an account's last trades (Customer-Position). The caller passes the trades,
-/// the most recent first, and all rows of their history, which are sorted by stamp, then by trade,
-/// descending. Fails with `Memory` only.
+/// Returns the view of an account's last trades (Customer-Position), without reading a table. The
+/// caller passes the last ten trades, the most recent first, and all their TRADE_HISTORY rows,
+/// which this function sorts by stamp, then by trade, descending. Fails with `Memory` only.
 pub fn recent(alloc: Global, trades: Vec<TradeRow>, history: Vec<HistoryRow>) -> Result<View, Fault>
     ensures records { IfOk result (λ view. records_of_view view
         ≡ map recent_trade_record (map abstract_trade_row trades.items) ++ map recent_status_record (sort_by is_newer_status history.items)) }

@@ -1,4 +1,4 @@
-//! The parties of an account, and its last trades.
+//! The parties of an account, its customer and its broker, and its last trades.
 
 ghost use Rattle.std.specs.Prelude.{◌≡◌, ◌==◌, ◌∷◌, [], ℕ, Some, filter, flat_map, map, take};
 ghost use Rattle.brk_changes.specs.Rows.{abstract_trade_row};
@@ -21,7 +21,7 @@ pub struct TradeStatus {
     pub security: Security,
 }
 
-/// The parties of an account, and its last trades, the most recent first.
+/// The names of an account's customer and broker, and its last trades, the most recent first.
 #[derive(Drop)]
 pub struct AccountStatus {
     /// The last and the first name of the account's customer.
@@ -32,7 +32,7 @@ pub struct AccountStatus {
     pub trades: Vec<TradeStatus>,
 }
 
-/// Returns a trade with its security. Does not allocate.
+/// Returns a trade together with its security. Does not allocate.
 #[tactic(auto, using(crate::proofs::Shown::trade_shown, crate::proofs::Shown::trade_carried))]
 pub fn trade_status(trade: TradeRow, security: Security) -> TradeStatus
     ensures shown { (t : Tables) → security_row_with_symbol t trade.symbol ≡ Some (abstract_security_row security)
@@ -43,8 +43,9 @@ pub fn trade_status(trade: TradeRow, security: Security) -> TradeStatus
     TradeStatus { trade, security }
 }
 
-/// Returns the view of an account's trades (Trade-Status). The caller passes the names of its
-/// parties and its last trades, the most recent first, each with its security. Does not allocate.
+/// Returns the view of an account's trades (Trade-Status), without reading a table. The caller
+/// passes the names of the account's customer and broker, and its last fifty trades, the most
+/// recent first, each with its security. Does not allocate.
 #[tactic(auto, using(crate::proofs::Shown::status_shown))]
 pub fn status(account: AccountStatus) -> View
     ensures records { records_of_view result ≡ party_names_record account ∷ map trade_status_record account.trades.items }

@@ -16,7 +16,8 @@ use brk_changes::TradeRow;
 use brk_money::Fault;
 use std::alloc::Global;
 
-// Returns the values of a submitted trade that a view shows. Fails with `Memory` only.
+// Returns the values of a submitted trade that a view shows: its id, type, symbol, quantity and bid
+// price. Fails with `Memory` only.
 fn submitted_trade(row: &TradeRow) -> Result<SubmittedTrade, Fault>
     ensures shown { IfOk result (λ trade. submitted_trade_record trade ≡ record_of_submitted_row (abstract_trade_row row.now)) }
     ensures fault { OnErr result (result ≡ Err Memory) }
@@ -31,8 +32,9 @@ fn submitted_trade(row: &TradeRow) -> Result<SubmittedTrade, Fault>
     })
 }
 
-/// Returns the view of the submitted trades (Trade-Order). It shows every row, in the given order,
-/// so the caller passes exactly the submitted rows, sorted by id. Fails with `Memory` only.
+/// Returns the view of the submitted trades (Trade-Order). It shows every row that is passed, in
+/// the same sequence, so the caller passes exactly the submitted rows, sorted by id. Fails with
+/// `Memory` only.
 pub fn submitted(alloc: Global, rows: &[TradeRow]) -> Result<View, Fault>
     ensures records { IfOk result (λ view. records_of_view view ≡ map record_of_submitted_row (map abstract_trade_row rows.now)) }
     ensures value { IfOk result (λ view. (trades : Vec SubmittedTrade)

@@ -26,9 +26,9 @@ pub enum View {
     /// The balances and market values of a customer's accounts, sorted by market value, then by id,
     /// ascending (Customer-Position).
     Position(Vec<AccountWorth>),
-    /// The last trades of an account and their statuses (Customer-Position).
+    /// The last ten trades of an account and their statuses (Customer-Position).
     Recent(Activity),
-    /// The names of an account's customer and broker, and its last trades (Trade-Status).
+    /// The names of an account's customer and broker, and its last fifty trades (Trade-Status).
     Status(AccountStatus),
     /// The submitted trades, sorted by id, ascending.
     Submitted(Vec<SubmittedTrade>),

@@ -1,4 +1,4 @@
-//! The volumes of brokers: the value of their pending requests.
+//! The volumes of brokers: the value of their pending requests at the bid prices.
 
 ghost use Rattle.std.specs.Prelude.{◌≡◌, ◌≤◌, Err, IfOk, List, OnErr, filter, map, pos, sum_by};
 ghost use Rattle.std.specs.Global.{Vec};
@@ -47,7 +47,7 @@ fn broker_precedes_by_name(one: &BrokerVolume, other: &BrokerVolume) -> bool
 impl Ranked for BrokerVolume {
     ghost before = { precedes_by_volume };
 
-    /// Returns true if the broker has a greater volume than another, or the same volume and is
+    /// Returns true if the broker has a greater volume than `other`, or the same volume and is
     /// before it when they are sorted by name, then by id.
     fn ranks_before(&self, other: &BrokerVolume) -> bool {
         if self.volume.get() == other.volume.get() {
@@ -65,7 +65,7 @@ fn request_bid_value(request: &RequestRow) -> u128
     u128::from(request.qty.get()) * u128::from(request.bid.get())
 }
 
-/// Returns the sum of the values of requests at their bid prices, in cents.
+/// Returns the sum of the values of requests in cents: each has its quantity times its bid price.
 pub fn total_bid_value_of_requests(requests: &[RequestRow]) -> Wide
     ensures { result ≡ pos (sum_by request_value_at_bid (map abstract_request_row requests.now)) }
 {
@@ -77,8 +77,8 @@ pub fn total_bid_value_of_requests(requests: &[RequestRow]) -> Wide
 }
 
 /// Returns the view of the brokers' volumes in a sector (Broker-Volume), sorted by volume,
-/// descending, then by name and id, ascending. The caller passes the brokers with one of the names
-/// and a pending request in the sector. Fails with `Memory` only.
+/// descending, then by name and id, ascending. The caller passes the brokers that have one of the
+/// names of the query and a pending request in the sector. Fails with `Memory` only.
 pub fn broker_volume(alloc: Global, brokers: Vec<BrokerVolume>) -> Result<View, Fault>
     ensures records { IfOk result (λ view. records_of_view view ≡ map broker_volume_record (sort_by precedes_by_volume brokers.items)) }
     ensures value { IfOk result (λ view. (sorted : Vec BrokerVolume)

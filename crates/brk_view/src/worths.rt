@@ -31,8 +31,8 @@ pub struct AccountWorth {
 impl Ranked for AccountWorth {
     ghost before = { precedes_by_market_value };
 
-    /// Returns true if the account has a smaller market value than another, or the same value and a
-    /// smaller id.
+    /// Returns true if the account has a smaller market value than `other`, or the same market
+    /// value and a smaller id.
     fn ranks_before(&self, other: &AccountWorth) -> bool {
         if self.assets.get() == other.assets.get() {
             return self.account.get() < other.account.get();
@@ -41,8 +41,8 @@ impl Ranked for AccountWorth {
     }
 }
 
-/// Returns the view of a customer's accounts (Customer-Position), sorted by market value, then by
-/// id, ascending. Fails with `Memory` only.
+/// Returns the view of a customer's accounts with their balances and market values
+/// (Customer-Position), sorted by market value, then by id, ascending. Fails with `Memory` only.
 pub fn position(alloc: Global, accounts: Vec<AccountWorth>) -> Result<View, Fault>
     ensures records { IfOk result (λ view. records_of_view view ≡ map account_worth_record (sort_by precedes_by_market_value accounts.items)) }
     ensures value { IfOk result (λ view. (sorted : Vec AccountWorth)

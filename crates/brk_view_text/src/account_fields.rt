@@ -29,7 +29,8 @@ fn account_worth_texts(alloc: Global, account: &AccountWorth) -> Result<Vec<Stri
     Ok(texts)
 }
 
-// Returns a record for each account. Fails with `Memory` only.
+// Returns a record for each account: its id, its balance and the market value of its holdings.
+// Fails with `Memory` only.
 pub(crate) fn account_worth_records(
     alloc: Global,
     accounts: &[AccountWorth],
@@ -45,7 +46,8 @@ pub(crate) fn account_worth_records(
     Ok(records)
 }
 
-// Returns the record of one of an account's last trades. Fails with `Memory` only.
+// Returns the record of one of an account's last trades: the word `trade`, its id, its symbol and
+// its quantity. Fails with `Memory` only.
 fn recent_trade_texts(alloc: Global, trade: &TradeRow) -> Result<Vec<String>, Fault>
     ensures texts { IfOk result (λ texts. texts_of_record texts ≡ recents.recent_trade_record (abstract_trade_row trade.now)) }
     ensures fault { OnErr result (result ≡ Err Memory) }
@@ -58,7 +60,8 @@ fn recent_trade_texts(alloc: Global, trade: &TradeRow) -> Result<Vec<String>, Fa
     Ok(texts)
 }
 
-// Returns the record of a status of one of an account's last trades. Fails with `Memory` only.
+// Returns the record of a status of one of an account's last trades: the word `history`, the id of
+// the trade, the name of the status and its stamp. Fails with `Memory` only.
 fn recent_status_texts(alloc: Global, row: &HistoryRow) -> Result<Vec<String>, Fault>
     ensures texts { IfOk result (λ texts. texts_of_record texts ≡ recents.recent_status_record row.now) }
     ensures fault { OnErr result (result ≡ Err Memory) }
@@ -71,7 +74,7 @@ fn recent_status_texts(alloc: Global, row: &HistoryRow) -> Result<Vec<String>, F
     Ok(texts)
 }
 
-// Returns a record for each of an account's last trades. Fails with `Memory` only.
+// Returns a record for each of an account's last trades, in sequence. Fails with `Memory` only.
 fn recent_trade_records(alloc: Global, trades: &[TradeRow]) -> Result<Vec<Vec<String>>, Fault>
     ensures records { IfOk result (λ records. texts_of_records records ≡ map recents.recent_trade_record (map abstract_trade_row trades.now)) }
     ensures fault { OnErr result (result ≡ Err Memory) }
@@ -84,7 +87,8 @@ fn recent_trade_records(alloc: Global, trades: &[TradeRow]) -> Result<Vec<Vec<St
     Ok(records)
 }
 
-// Appends a record for each status of an account's last trades. Fails with `Memory` only.
+// Appends to `records` a record for each status of an account's last trades, in sequence. Fails
+// with `Memory` only.
 fn append_recent_status_records(
     alloc: Global,
     records: &mut Vec<Vec<String>>,
@@ -111,7 +115,8 @@ pub(crate) fn activity_records(alloc: Global, recent: &Activity) -> Result<Vec<V
     Ok(records)
 }
 
-// Returns the record of the names of an account's customer and broker. Fails with `Memory` only.
+// Returns the record of the names of an account's customer and broker: last name, first name, name
+// of the broker. Fails with `Memory` only.
 fn party_name_texts(alloc: Global, account: &AccountStatus) -> Result<Vec<String>, Fault>
     ensures texts { IfOk result (λ texts. texts_of_record texts ≡ statuses.party_names_record account.now) }
     ensures fault { OnErr result (result ≡ Err Memory) }
@@ -123,7 +128,8 @@ fn party_name_texts(alloc: Global, account: &AccountStatus) -> Result<Vec<String
     Ok(texts)
 }
 
-// Returns the first five of the ten fields of a trade. Fails with `Memory` only.
+// Returns the first five of the ten fields of a trade in the view of an account's status: its id,
+// stamp, status, type and symbol. Fails with `Memory` only.
 fn first_five_status_texts(alloc: Global, trade: &TradeRow) -> Result<Vec<String>, Fault>
     ensures texts { IfOk result (λ texts. texts_of_record texts ≡ statuses.first_five_status_fields trade.now) }
     ensures fault { OnErr result (result ≡ Err Memory) }
@@ -137,8 +143,9 @@ fn first_five_status_texts(alloc: Global, trade: &TradeRow) -> Result<Vec<String
     Ok(texts)
 }
 
-// Appends the last five of the ten fields of a trade, of which the last two are those of its
-// security. Fails with `Memory` only.
+// Appends to `texts` the last five of the ten fields of a trade in the view of an account's status:
+// its quantity, executor and charge, and the name and the exchange of its security. Fails with
+// `Memory` only.
 fn append_last_five_status_texts(
     alloc: Global,
     texts: &mut Vec<String>,
@@ -156,7 +163,8 @@ fn append_last_five_status_texts(
     Ok(())
 }
 
-// Returns the record of a trade with its security, in ten fields. Fails with `Memory` only.
+// Returns the record of a trade with its security in the view of an account's status, in ten
+// fields. Fails with `Memory` only.
 fn trade_status_texts(alloc: Global, status: &TradeStatus) -> Result<Vec<String>, Fault>
     ensures texts { IfOk result (λ texts. texts_of_record texts ≡ statuses.trade_status_record status.now) }
     ensures fault { OnErr result (result ≡ Err Memory) }
@@ -166,7 +174,8 @@ fn trade_status_texts(alloc: Global, status: &TradeStatus) -> Result<Vec<String>
     Ok(texts)
 }
 
-// Appends a record for each trade with its security. Fails with `Memory` only.
+// Appends to `records` a record for each trade with its security, in sequence. Fails with `Memory`
+// only.
 fn append_trade_status_records(
     alloc: Global,
     records: &mut Vec<Vec<String>>,
@@ -182,8 +191,8 @@ fn append_trade_status_records(
     Ok(())
 }
 
-// Returns the record of the names of an account's parties, followed by those of its trades. Fails
-// with `Memory` only.
+// Returns the record of the names of an account's customer and broker, followed by one of each of
+// its trades. Fails with `Memory` only.
 pub(crate) fn account_status_records(
     alloc: Global,
     account: &AccountStatus,

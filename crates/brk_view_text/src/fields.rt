@@ -19,7 +19,7 @@ use brk_plans::Estimate;
 use brk_view::view::{SubmittedTrade, View};
 use std::alloc::Global;
 
-// Returns the texts of amounts, in sequence. Fails with `Memory` only.
+// Returns the texts of amounts, such as `-12.05`, in sequence. Fails with `Memory` only.
 fn amount_texts(alloc: Global, amounts: &[Wide]) -> Result<Vec<String>, Fault>
     ensures texts { IfOk result (λ texts. texts_of_record texts ≡ map cents_text amounts.now) }
     ensures fault { OnErr result (result ≡ Err Memory) }
@@ -32,7 +32,8 @@ fn amount_texts(alloc: Global, amounts: &[Wide]) -> Result<Vec<String>, Fault>
     Ok(texts)
 }
 
-// Returns the record of a submitted trade. Fails with `Memory` only.
+// Returns the record of a submitted trade: its id, type, symbol, quantity and bid price. Fails with
+// `Memory` only.
 fn submitted_trade_texts(alloc: Global, trade: &SubmittedTrade) -> Result<Vec<String>, Fault>
     ensures texts { IfOk result (λ texts. texts_of_record texts ≡ submitted_trade_record trade.now) }
     ensures fault { OnErr result (result ≡ Err Memory) }
@@ -46,7 +47,7 @@ fn submitted_trade_texts(alloc: Global, trade: &SubmittedTrade) -> Result<Vec<St
     Ok(texts)
 }
 
-// Returns a record for each submitted trade. Fails with `Memory` only.
+// Returns a record for each submitted trade, in sequence. Fails with `Memory` only.
 fn submitted_trade_records(
     alloc: Global,
     trades: &[SubmittedTrade],
@@ -62,7 +63,8 @@ fn submitted_trade_records(
     Ok(records)
 }
 
-// Returns a list of one record, that of the estimate. Fails with `Memory` only.
+// Returns a list of one record, that of the estimate: its price, buy value, sell value, tax,
+// commission, charge and assets. Fails with `Memory` only.
 fn estimate_records(alloc: Global, estimate: &Estimate) -> Result<Vec<Vec<String>>, Fault>
     ensures records { IfOk result (λ records. texts_of_records records ≡ estimate_record estimate.now ∷ []) }
     ensures fault { OnErr result (result ≡ Err Memory) }
@@ -82,9 +84,10 @@ fn estimate_records(alloc: Global, estimate: &Estimate) -> Result<Vec<Vec<String
     Ok(records)
 }
 
-/// Returns the records of a view, as texts. The fields of a submitted trade are T_ID, TYPE, SYMBOL,
-/// QTY and T_BID_PRICE; those of an estimate are PRICE, BUY, SELL, TAX, COMMISSION, CHARGE and
-/// ASSETS. Each amount is in its canonical form. Fails with `Memory` only.
+/// Returns the records of a view, each a list of texts. The fields of a submitted trade are T_ID,
+/// TYPE, SYMBOL, QTY and T_BID_PRICE; those of an estimate are PRICE, BUY, SELL, TAX, COMMISSION,
+/// CHARGE and ASSETS. Each amount is in its canonical form, such as `-12.05`. Fails with `Memory`
+/// only.
 pub fn view_fields(alloc: Global, view: &View) -> Result<Vec<Vec<String>>, Fault>
     ensures records { IfOk result (λ records. texts_of_records records ≡ records_of_view view.now) }
     // If the estimate is one of the model, its record equals that of the model.

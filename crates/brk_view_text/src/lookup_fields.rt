@@ -29,8 +29,8 @@ fn first_five_trade_texts(alloc: Global, trade: &TradeRow) -> Result<Vec<String>
     Ok(texts)
 }
 
-// Appends the fields 6 to 9 of a trade: its symbol, quantity, bid price and executor. Fails with
-// `Memory` only.
+// Appends to `texts` the fields 6 to 9 of the fifteen fields of a trade: its symbol, quantity, bid
+// price and executor. Fails with `Memory` only.
 fn append_order_texts(alloc: Global, texts: &mut Vec<String>, trade: &TradeRow) -> Result<(), Fault>
     ensures texts { OnOk result (texts_of_record texts.new ≡ texts_of_record texts.old ++ order_fields_of_trade (abstract_trade_row trade.now)) }
     ensures fault { OnErr result (result ≡ Err Memory) }
@@ -42,8 +42,8 @@ fn append_order_texts(alloc: Global, texts: &mut Vec<String>, trade: &TradeRow) 
     Ok(())
 }
 
-// Appends the fields 10 to 13 of a trade: its price, which is empty if it is not completed, charge,
-// commission and tax. Fails with `Memory` only.
+// Appends to `texts` the fields 10 to 13 of the fifteen fields of a trade: its price, which is
+// empty if it is not completed, charge, commission and tax. Fails with `Memory` only.
 fn append_price_and_cost_texts(
     alloc: Global,
     texts: &mut Vec<String>,
@@ -60,8 +60,8 @@ fn append_price_and_cost_texts(
     Ok(())
 }
 
-// Appends the last two of the fifteen fields of a trade: cash or margin, and the end from which it
-// closes lots. Fails with `Memory` only.
+// Appends to `texts` the last two of the fifteen fields of a trade: `cash` or `margin`, and `lifo`
+// or `fifo`. Fails with `Memory` only.
 fn append_cash_and_lot_end_texts(
     alloc: Global,
     texts: &mut Vec<String>,
@@ -75,7 +75,9 @@ fn append_cash_and_lot_end_texts(
     Ok(())
 }
 
-// Returns the record of a looked-up trade, in fifteen fields. Fails with `Memory` only.
+// Returns the record of a looked-up trade, in fifteen fields: the word `trade`, its id, stamp,
+// status, type, symbol, quantity, bid price, executor, price, charge, commission and tax, `cash` or
+// `margin`, and `lifo` or `fifo`. Fails with `Memory` only.
 fn looked_up_trade_texts(alloc: Global, trade: &TradeRow) -> Result<Vec<String>, Fault>
     ensures texts { IfOk result (λ texts. texts_of_record texts ≡ model.trade_record (abstract_trade_row trade.now)) }
     ensures fault { OnErr result (result ≡ Err Memory) }
@@ -87,7 +89,8 @@ fn looked_up_trade_texts(alloc: Global, trade: &TradeRow) -> Result<Vec<String>,
     Ok(texts)
 }
 
-// Returns the record of a settlement. Fails with `Memory` only.
+// Returns the record of a settlement: the word `settlement`, the settlement text, the due day and
+// the amount. Fails with `Memory` only.
 fn settlement_texts(alloc: Global, row: SettlementRow) -> Result<Vec<String>, Fault>
     ensures texts { IfOk result (λ texts. texts_of_record texts ≡ model.settlement_record (abstract_settlement_row row)) }
     ensures fault { OnErr result (result ≡ Err Memory) }
@@ -100,7 +103,8 @@ fn settlement_texts(alloc: Global, row: SettlementRow) -> Result<Vec<String>, Fa
     Ok(texts)
 }
 
-// Returns the record of a cash row. Fails with `Memory` only.
+// Returns the record of a cash row: the word `cash`, its stamp, its amount and its text. Fails with
+// `Memory` only.
 fn cash_row_texts(alloc: Global, row: &MoveRow) -> Result<Vec<String>, Fault>
     ensures texts { IfOk result (λ texts. texts_of_record texts ≡ model.cash_record (abstract_move_row row.now)) }
     ensures fault { OnErr result (result ≡ Err Memory) }
@@ -113,7 +117,8 @@ fn cash_row_texts(alloc: Global, row: &MoveRow) -> Result<Vec<String>, Fault>
     Ok(texts)
 }
 
-// Returns the record of a status of a trade. Fails with `Memory` only.
+// Returns the record of a status of a trade: the word `history`, its stamp and its code. Fails with
+// `Memory` only.
 fn history_status_texts(alloc: Global, moment: StatusMoment) -> Result<Vec<String>, Fault>
     ensures texts { IfOk result (λ texts. texts_of_record texts ≡ history_status_record moment) }
     ensures fault { OnErr result (result ≡ Err Memory) }
@@ -125,7 +130,8 @@ fn history_status_texts(alloc: Global, moment: StatusMoment) -> Result<Vec<Strin
     Ok(texts)
 }
 
-// Appends the record of a settlement, or nothing if there is none. Fails with `Memory` only.
+// Appends to `records` the record of the settlement, or nothing if `row` is `None`. Fails with
+// `Memory` only.
 fn append_settlement_record(
     alloc: Global,
     records: &mut Vec<Vec<String>>,
@@ -142,7 +148,8 @@ fn append_settlement_record(
     Ok(())
 }
 
-// Appends the record of a cash row, or nothing if there is none. Fails with `Memory` only.
+// Appends to `records` the record of the cash row, or nothing if `row` is `None`. Fails with
+// `Memory` only.
 fn append_cash_record(
     alloc: Global,
     records: &mut Vec<Vec<String>>,
@@ -159,7 +166,7 @@ fn append_cash_record(
     Ok(())
 }
 
-// Appends a record for each status of a trade. Fails with `Memory` only.
+// Appends to `records` a record for each status of a trade, in sequence. Fails with `Memory` only.
 fn append_history_records(
     alloc: Global,
     records: &mut Vec<Vec<String>>,
@@ -175,7 +182,7 @@ fn append_history_records(
     Ok(())
 }
 
-// Appends the record of a looked-up trade. Fails with `Memory` only.
+// Appends to `records` the record of the trade itself, in fifteen fields. Fails with `Memory` only.
 fn append_trade_record(
     alloc: Global,
     records: &mut Vec<Vec<String>>,
@@ -189,8 +196,8 @@ fn append_trade_record(
     Ok(())
 }
 
-// Appends the records of a looked-up trade: of the trade, its settlement, its cash row and its
-// statuses. Fails with `Memory` only.
+// Appends to `records` the records of a looked-up trade: of the trade, its settlement and its cash
+// row, if any, and its statuses. Fails with `Memory` only.
 fn append_looked_up_records(
     alloc: Global,
     records: &mut Vec<Vec<String>>,
@@ -206,8 +213,8 @@ fn append_looked_up_records(
     Ok(())
 }
 
-// Returns the records of trades, each with its settlement, cash row and history. Fails with
-// `Memory` only.
+// Returns the records of looked-up trades, trade by trade: of the trade, its settlement and its
+// cash row, if any, and its statuses. Fails with `Memory` only.
 pub(crate) fn looked_up_trade_records(
     alloc: Global,
     trades: &[LookedUp],

@@ -11,8 +11,8 @@ use brk_money::Fault;
 use brk_view::lots::{LotTouch, TouchedLots};
 use std::alloc::Global;
 
-// Returns the text of a number of shares, with a minus sign if they were sold short. Fails with
-// `Memory` only.
+// Returns the text of a number of shares in decimal digits, with a minus sign if they were sold
+// short. Fails with `Memory` only.
 fn signed_shares_text(alloc: Global, shares: i64) -> Result<String, Fault>
     ensures text { IfOk result (λ text. string_bytes text ≡ signed_decimal shares) }
     ensures fault { OnErr result (result ≡ Err Memory) }
@@ -20,7 +20,8 @@ fn signed_shares_text(alloc: Global, shares: i64) -> Result<String, Fault>
     Ok(format!(in alloc; "{}", shares)?)
 }
 
-// Returns the record of a lot change. Fails with `Memory` only.
+// Returns the record of a lot change: the lot, the trade that made the change, and the quantity of
+// the lot before and after it. Fails with `Memory` only.
 fn lot_change_texts(alloc: Global, touch: LotTouch) -> Result<Vec<String>, Fault>
     ensures texts { IfOk result (λ texts. texts_of_record texts ≡ lot_change_record touch) }
     ensures fault { OnErr result (result ≡ Err Memory) }
@@ -34,7 +35,7 @@ fn lot_change_texts(alloc: Global, touch: LotTouch) -> Result<Vec<String>, Fault
     Ok(texts)
 }
 
-// Appends a record for each lot change. Fails with `Memory` only.
+// Appends to `records` a record for each lot change, in sequence. Fails with `Memory` only.
 fn append_lot_change_records(
     alloc: Global,
     records: &mut Vec<Vec<String>>,
@@ -50,8 +51,8 @@ fn append_lot_change_records(
     Ok(())
 }
 
-// Returns the record of the trade that touched the lots, which has its id only. Fails with `Memory`
-// only.
+// Returns the record of the trade that touched the lots, which has one field, the id of the trade.
+// Fails with `Memory` only.
 fn touching_trade_texts(alloc: Global, lots: &TouchedLots) -> Result<Vec<String>, Fault>
     ensures texts { IfOk result (λ texts. texts_of_record texts ≡ decimal lots.now.trade ∷ []) }
     ensures fault { OnErr result (result ≡ Err Memory) }
@@ -61,8 +62,8 @@ fn touching_trade_texts(alloc: Global, lots: &TouchedLots) -> Result<Vec<String>
     Ok(texts)
 }
 
-// Returns the record of the trade that touched the lots, followed by those of the lot changes, or
-// no record if there is no trade. Fails with `Memory` only.
+// Returns the record of the trade that touched the lots, followed by one of each lot change, or no
+// record if `lots` is `None`. Fails with `Memory` only.
 pub(crate) fn records_of_touched_lots(
     alloc: Global,
     lots: &Option<TouchedLots>,

@@ -9,7 +9,7 @@ ghost use Rattle.brk_money.specs.declared.fault.Fault.TheVariants.{Memory};
 use brk_money::{Fault, Price, Stamp, Wide};
 use std::alloc::Global;
 
-// Returns a copy of a text. Fails with `Memory` only.
+// Returns a copy of the text `word`. Fails with `Memory` only.
 pub(crate) fn copy_text(alloc: Global, word: &str) -> Result<String, Fault>
     ensures text { IfOk result (λ text. string_bytes text ≡ word.now) }
     ensures fault { OnErr result (result ≡ Err Memory) }
@@ -17,7 +17,7 @@ pub(crate) fn copy_text(alloc: Global, word: &str) -> Result<String, Fault>
     Ok(String::from_str(alloc, word)?)
 }
 
-// Returns the text of a number in decimal digits. Fails with `Memory` only.
+// Returns the text of a number, in decimal digits. Fails with `Memory` only.
 pub(crate) fn number_text(alloc: Global, number: u64) -> Result<String, Fault>
     ensures text { IfOk result (λ text. string_bytes text ≡ decimal number) }
     ensures fault { OnErr result (result ≡ Err Memory) }
@@ -25,7 +25,8 @@ pub(crate) fn number_text(alloc: Global, number: u64) -> Result<String, Fault>
     Ok(format!(in alloc; "{}", number)?)
 }
 
-// Returns the text of a stamp, its milliseconds in decimal digits. Fails with `Memory` only.
+// Returns the text of a stamp: its milliseconds since 1970-01-01 UTC, in decimal digits. Fails with
+// `Memory` only.
 pub(crate) fn stamp_text(alloc: Global, stamp: Stamp) -> Result<String, Fault>
     ensures text { IfOk result (λ text. string_bytes text ≡ decimal stamp) }
     ensures fault { OnErr result (result ≡ Err Memory) }
@@ -33,7 +34,7 @@ pub(crate) fn stamp_text(alloc: Global, stamp: Stamp) -> Result<String, Fault>
     number_text(alloc, stamp.get().unsigned_abs())
 }
 
-// Returns the text of an amount in its canonical form. Fails with `Memory` only.
+// Returns the text of an amount in its canonical form, such as `-12.05`. Fails with `Memory` only.
 pub(crate) fn amount_text(alloc: Global, amount: Wide) -> Result<String, Fault>
     ensures text { IfOk result (λ text. string_bytes text ≡ cents_text amount) }
     ensures fault { OnErr result (result ≡ Err Memory) }
@@ -41,7 +42,7 @@ pub(crate) fn amount_text(alloc: Global, amount: Wide) -> Result<String, Fault>
     Ok(format!(in alloc; "{}", amount)?)
 }
 
-// Returns the text of a price in its canonical form, or an empty text if there is none. Fails with
+// Returns the text of a price, such as `10.00`, or an empty text if it is `None`. Fails with
 // `Memory` only.
 pub(crate) fn optional_price_text(alloc: Global, price: Option<Price>) -> Result<String, Fault>
     ensures text { IfOk result (λ text. string_bytes text ≡ option_map_or text_of_price price []) }

@@ -10,7 +10,8 @@ use brk_money::Fault;
 use brk_view::volumes::BrokerVolume;
 use std::alloc::Global;
 
-// Returns the record of a broker: its name, its id and its volume. Fails with `Memory` only.
+// Returns the record of a broker's volume: the name of the broker, its id and its volume. Fails
+// with `Memory` only.
 fn broker_volume_texts(alloc: Global, broker: &BrokerVolume) -> Result<Vec<String>, Fault>
     ensures texts { IfOk result (λ texts. texts_of_record texts ≡ broker_volume_record broker.now) }
     ensures fault { OnErr result (result ≡ Err Memory) }
@@ -22,7 +23,8 @@ fn broker_volume_texts(alloc: Global, broker: &BrokerVolume) -> Result<Vec<Strin
     Ok(texts)
 }
 
-// Returns a record for each broker. Fails with `Memory` only.
+// Returns a record for each broker's volume, in sequence: the name of the broker, its id and its
+// volume. Fails with `Memory` only.
 pub(crate) fn broker_volume_records(
     alloc: Global,
     brokers: &[BrokerVolume],
