@@ -1364,7 +1364,7 @@ module _ {sheets} (desk : Schema) (raw : RawSheets) {are} where
 def sheets_spec():
     """What the sheets are in the model"""
     rows = lambda d: f's.{sheet_field(d)}' if d[0] in VALUES else f'map {record_meaning(d)} s.{sheet_field(d)}.items'
-    out = f"""-- The tables of the model that the rows of a desk's tables stand for.
+    out = f"""-- The model's tables with the values of a desk's typed rows.
 use Rattle.std.specs.Prelude.{{map}}
 use Rattle.brk_model.specs.Tables.{{Tables}}
 {meanings()}

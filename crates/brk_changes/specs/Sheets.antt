@@ -1,4 +1,4 @@
--- The tables of the model that the rows of a desk's tables stand for.
+-- The model's tables with the values of a desk's typed rows.
 use Rattle.std.specs.Prelude.{map}
 use Rattle.brk_model.specs.Tables.{Tables}
 use Rattle.brk_ref.specs.Records.{abstract_kept_row, abstract_broker_row, abstract_customer, abstract_account_row, abstract_permission, abstract_security_row, abstract_last_trade_row, abstract_charge, abstract_band, abstract_tax_rate, abstract_customer_tax}

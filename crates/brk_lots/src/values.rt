@@ -57,8 +57,8 @@ pub fn estimate_closing_values<L: LotSource>(
     ensures values { IfOk result (λ values. (ls : List Lot) (trade stamp : ℕ) (lifo : Bool) →
         YieldsPosition (AreLotsOfFaithfulSource (L.reads_faithfully source.new) (L.remaining source.old)) lifo ls →
         values ≡ closing_values_of_deal (record { trade = trade; side = side; qty = qty; price = price; stamp = stamp; is_lifo = lifo }) (shares_of_lots ls)) }
-    // It requests at most one lot a share, and at most one lot more than a trade that opened none
-    // of them would touch, also if it fails.
+    // It requests at most one lot for each share, and at most one lot more than a trade that opened
+    // none of them would close or reduce, also if it fails.
     ensures requests_at_most_shares { L.asked source.new ≤ L.asked source.old + qty }
     ensures requests_at_most_touched { (ls : List Lot) (trade stamp : ℕ) (lifo : Bool) →
         YieldsPosition (AreLotsOfFaithfulSource (L.reads_faithfully source.new) (L.remaining source.old)) lifo ls → AreOpenedByOtherTrades trade ls →
