@@ -107,8 +107,8 @@ pub fn estimate_order<L: LotSource>(source: &mut L, terms: &Terms) -> Result<Est
         → YieldsPosition (AreLotsOfFaithfulSource (L.reads_faithfully source.new) (L.remaining source.old)) o.is_lifo ls →
         terms.now.held ≡ lot_quantity_sum ls → estimate ≡ estimate_from_model (spec_orders.estimate base o)) }
     ensures commission { IfOk result (λ estimate. estimate.commission ≡ commission_from_terms terms.now) }
-    // It reads at most one lot more than the order would close or reduce, also if it fails, and none
-    // if the account holds no shares that the order would close.
+    // It reads at most one lot more than the order would close or reduce, also if it fails, and
+    // none if the account holds no shares that the order would close.
     ensures asked { OrderReadsAtMostOneLotMore terms.now (AreLotsOfFaithfulSource (L.reads_faithfully source.new) (L.remaining source.old)) (L.asked source.old) (L.asked source.new) }
     ensures reads_no_lot { closes_lots terms.now.side terms.now.held ≡ false → source.new ≡ source.old }
     // A fault of the source is never ignored, and is returned unchanged.
