@@ -5,13 +5,23 @@ use Rattle.brk_money.specs.declared.status.Status.{Status}
 use Rattle.brk_money.specs.declared.status.Status.TheVariants.{Completed}
 use Rattle.brk_model.specs.Lists.{update_where}
 use Rattle.brk_model.specs.Records.{Broker, Customer, Account, Permission, Charge, Band, TaxRate, CustomerTax, Kept}
-use Rattle.brk_model.specs.Tables.{Tables, SecurityRow, LastTradeRow, TradeRow, HistoryRow, RequestRow, HoldingRow, SummaryRow, HoldingHistoryRow, SettlementRow, MoveRow}
-use Rattle.brk_model.specs.Keys.{insert_row_by_key, broker_key, customer_key, account_key, permission_key, security_key, last_trade_key, charge_key, band_key, tax_rate_key, customer_tax_key, kept_key, trade_key, history_key, request_key, holding_key, summary_key, holding_history_key, settlement_key, move_key}
+use Rattle.brk_model.specs.Tables.{Tables, SecurityRow, LastTradeRow, TradeRow, HistoryRow, RequestRow}
+use Rattle.brk_model.specs.Tables.{HoldingRow, SummaryRow, HoldingHistoryRow, SettlementRow, MoveRow}
+use Rattle.brk_model.specs.Keys.{insert_row_by_key, broker_key, customer_key, account_key, permission_key, security_key}
+use Rattle.brk_model.specs.Keys.{last_trade_key, charge_key, band_key, tax_rate_key, customer_tax_key, kept_key, trade_key}
+use Rattle.brk_model.specs.Keys.{history_key, request_key, holding_key, summary_key, holding_history_key, settlement_key, move_key}
 use Rattle.brk_model.specs.LookupView.{is_cash_row_of_trade}
-use Rattle.brk_ref.specs.Records.{abstract_broker, abstract_customer, abstract_account, abstract_permission, abstract_security_row, abstract_last_trade_row, abstract_charge, abstract_band, abstract_tax_rate, abstract_customer_tax, abstract_kept_row}
-use Rattle.brk_changes.specs.Rows.{abstract_trade_row, abstract_history_row, abstract_request_row, abstract_holding_row, abstract_summary_row, abstract_lot_change_row, cash_type_text, abstract_settlement_row, abstract_move_row}
+use Rattle.brk_ref.specs.Records.{abstract_broker, abstract_customer, abstract_account, abstract_permission, abstract_security_row}
+use Rattle.brk_ref.specs.Records.{abstract_last_trade_row, abstract_charge, abstract_band, abstract_tax_rate, abstract_customer_tax}
+use Rattle.brk_ref.specs.Records.{abstract_kept_row}
+use Rattle.brk_changes.specs.Rows.{abstract_trade_row, abstract_history_row, abstract_request_row, abstract_holding_row}
+use Rattle.brk_changes.specs.Rows.{abstract_summary_row, abstract_lot_change_row, cash_type_text, abstract_settlement_row}
+use Rattle.brk_changes.specs.Rows.{abstract_move_row}
 use Rattle.brk_changes.specs.declared.change.Change.{Change}
-use Rattle.brk_changes.specs.declared.change.Change.TheVariants.{AddBroker, AddCustomer, AddAccount, AddPermission, AddSecurity, AddLastTrade, AddCharge, AddBand, AddTaxRate, AddCustomerTax, AddTrade, SetStatus, AddHistory, AddRequest, RemoveRequest, SetLastTrade, CompleteTrade, AddLot, SetLot, RemoveLot, AddLotChange, AddSummary, SetSummary, RemoveSummary, AddSettlement, AddMove, SetBalance, SetBrokerTotals, SetExecutor, SetCashType, SetCashName, SetSettlementDay, AddStoredReply, SetLastStamp}
+use Rattle.brk_changes.specs.declared.change.Change.TheVariants.{AddBroker, AddCustomer, AddAccount, AddPermission, AddSecurity, AddLastTrade, AddCharge, AddBand, AddTaxRate}
+use Rattle.brk_changes.specs.declared.change.Change.TheVariants.{AddCustomerTax, AddTrade, SetStatus, AddHistory, AddRequest, RemoveRequest, SetLastTrade, CompleteTrade, AddLot}
+use Rattle.brk_changes.specs.declared.change.Change.TheVariants.{SetLot, RemoveLot, AddLotChange, AddSummary, SetSummary, RemoveSummary, AddSettlement, AddMove, SetBalance}
+use Rattle.brk_changes.specs.declared.change.Change.TheVariants.{SetBrokerTotals, SetExecutor, SetCashType, SetCashName, SetSettlementDay, AddStoredReply, SetLastStamp}
 
 -- The tables `t` with the broker `b` inserted, with 0 completed trades and 0 commissions.
 abbrev pub tables_with_broker : Broker → Tables → Tables

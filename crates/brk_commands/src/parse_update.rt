@@ -1,7 +1,8 @@
 ghost use Rattle.std.specs.Prelude.{◌≡◌, ◌∷◌, ◌++◌, IfOk, OnErr, Err};
 ghost use Rattle.brk_model.specs.Commands.{ChangeExecutors};
 ghost use Rattle.brk_model.specs.Forms.{read_distinct_ids};
-ghost use Rattle.brk_model.specs.Parse.{movement_row_parsers, parse_by_first_field, read_and_wrap, read_cash_type_update, read_cash_name_update, update_row_parsers};
+ghost use Rattle.brk_model.specs.Parse.{movement_row_parsers, parse_by_first_field, read_and_wrap};
+ghost use Rattle.brk_model.specs.Parse.{read_cash_type_update, read_cash_name_update, update_row_parsers};
 ghost use Rattle.brk_money.specs.declared.fault.Fault.TheVariants.{Memory};
 ghost use Rattle.brk_ref.specs.Fields.{ParsesAs, texts_of_fields};
 ghost use Rattle.brk_commands.specs.Commands.{abstract_command};

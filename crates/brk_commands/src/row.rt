@@ -7,7 +7,8 @@ ghost use Rattle.brk_commands.specs.Commands.{abstract_command};
 ghost use Rattle.brk_model.specs.Commands.{AddAccount, AddBand, AddBroker, AddCharge, AddCustomer, AddCustomerTax, AddPermission, AddSecurity, AddTaxRate};
 ghost use Rattle.brk_model.specs.Rows as model;
 ghost use Rattle.brk_money.specs.declared.fault.Fault.TheVariants.{Memory};
-ghost use Rattle.brk_ref.specs.Records.{abstract_account, abstract_band, abstract_broker, abstract_charge, abstract_customer, abstract_customer_tax, abstract_listing, abstract_permission, abstract_tax_rate};
+ghost use Rattle.brk_ref.specs.Records.{abstract_account, abstract_band, abstract_broker, abstract_charge, abstract_customer};
+ghost use Rattle.brk_ref.specs.Records.{abstract_customer_tax, abstract_listing, abstract_permission, abstract_tax_rate};
 
 use crate::command::Command;
 use crate::movement_row::{movement_row_text, settlement_day_row_text};

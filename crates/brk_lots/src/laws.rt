@@ -3,7 +3,8 @@
 ghost use Rattle.std.specs.Prelude.{◌≡◌, ◌-◌, ◌+ℤ◌, ◌++◌, List, [], ℕ, map};
 ghost use Rattle.std.specs.List.{AllByRecursion};
 ghost use Rattle.brk_money.specs.declared.side.Side.{Side};
-ghost use Rattle.brk_model.specs.Shares.{Deal, replay, lot_quantity, lots_of_shares, lot_touches_of_deal, touches_of_existing_lots, opened_shares, shares_after_deal, closed_share_count_of_deal, signed_by_side};
+ghost use Rattle.brk_model.specs.Shares.{Deal, replay, lot_quantity, lots_of_shares, lot_touches_of_deal, touches_of_existing_lots};
+ghost use Rattle.brk_model.specs.Shares.{opened_shares, shares_after_deal, closed_share_count_of_deal, signed_by_side};
 ghost use Rattle.brk_lots.specs.declared.lot.Lot.{Lot};
 ghost use Rattle.brk_lots.specs.Books.{deal_quantity_sum, realised_gain_sum, lot_cost_basis, lot_quantity_sum, purchases_minus_sales};
 ghost use Rattle.brk_lots.specs.Chains.{IsLotHistory, opening_touch, changes_of_lot};

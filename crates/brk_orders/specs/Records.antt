@@ -16,8 +16,15 @@ use Rattle.brk_orders.specs.declared.update.Update.TheVariants as update
 
 -- The model's order with the values of the typed order `o`.
 abbrev pub abstract_order : order.Order → Order
-abstract_order o =
-    record { account = o.account; order_type = o.order_type; symbol = o.symbol; qty = o.qty; is_cash = o.is_cash; is_lifo = o.is_lifo; executor = abstract_executor o.executor }
+abstract_order o = record {
+  account = o.account;
+  order_type = o.order_type;
+  symbol = o.symbol;
+  qty = o.qty;
+  is_cash = o.is_cash;
+  is_lifo = o.is_lifo;
+  executor = abstract_executor o.executor;
+}
 
 -- The bytes of the ten fields `t` of an order, in the sequence of the row.
 abbrev pub texts_of_order_fields : told.UnparsedOrder → List Text

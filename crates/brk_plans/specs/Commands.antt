@@ -1,6 +1,8 @@
 -- The commands of the model for records of reference data.
 use Rattle.brk_model.specs.Commands.{Command, AddBroker, AddCustomer, AddAccount, AddPermission, AddSecurity, AddCharge, AddBand, AddTaxRate, AddCustomerTax}
-use Rattle.brk_ref.specs.Records.{abstract_broker, abstract_customer, abstract_account, abstract_permission, abstract_listing, abstract_charge, abstract_band, abstract_tax_rate, abstract_customer_tax}
+use Rattle.brk_ref.specs.Records.{abstract_broker, abstract_customer, abstract_account, abstract_permission}
+use Rattle.brk_ref.specs.Records.{abstract_listing, abstract_charge, abstract_band, abstract_tax_rate}
+use Rattle.brk_ref.specs.Records.{abstract_customer_tax}
 use Rattle.brk_plans.specs.declared.reference.Reference.{Reference}
 use Rattle.brk_plans.specs.declared.reference.Reference.TheVariants as reference
 

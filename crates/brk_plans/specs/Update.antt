@@ -34,7 +34,8 @@ toggled_cash_type_text is_cash word =
 -- of its security.
 abbrev pub toggled_cash_text : TradeType → ℕ → Text → Text → Text
 toggled_cash_text kind qty security name =
-    if contains_text (codes " shares of ") name then cash_row_name_from_parts (codes " Shares of ") kind qty security else cash_row_name_from_parts (codes " shares of ") kind qty security
+    if contains_text (codes " shares of ") name then cash_row_name_from_parts (codes " Shares of ") kind qty security
+    else cash_row_name_from_parts (codes " shares of ") kind qty security
 
 -- The new cash text of the trade of `p`, where `security` is the name of its security. It has "
 -- Shares of " if the present text contains " shares of ", and otherwise " shares of ".

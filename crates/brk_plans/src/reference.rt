@@ -4,7 +4,9 @@ ghost use Rattle.brk_money.specs.declared.fault.Fault.TheVariants.{Memory};
 ghost use Rattle.brk_money.specs.declared.refusal.Refusal.TheVariants.{Exists};
 ghost use Rattle.brk_plans.specs.Reference as spec;
 ghost use Rattle.brk_changes.specs.declared.change.Change.TheVariants as change;
-ghost use Rattle.brk_plans.specs.Reference.{IsReferencePlan, account_checks, band_checks, later_stamp_check, customer_tax_checks, exceeds_greatest_tax_rate, permission_checks, row_change_adding_record, row_changes_adding_record, reference_checks};
+ghost use Rattle.brk_plans.specs.Reference.{IsReferencePlan, account_checks, band_checks, later_stamp_check, customer_tax_checks};
+ghost use Rattle.brk_plans.specs.Reference.{exceeds_greatest_tax_rate, permission_checks, row_change_adding_record, row_changes_adding_record};
+ghost use Rattle.brk_plans.specs.Reference.{reference_checks};
 
 use crate::plan::Plan;
 use crate::reply::Reply;

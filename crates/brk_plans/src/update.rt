@@ -4,7 +4,8 @@ ghost use Rattle.brk_money.specs.declared.fault.Fault.TheVariants.{Memory};
 ghost use Rattle.brk_changes.specs.Changes.{tables_after_change};
 ghost use Rattle.brk_plans.specs.Reference.{later_stamp_check};
 ghost use Rattle.brk_plans.specs.Update as spec;
-ghost use Rattle.brk_plans.specs.Update.{IsUpdatePlan, cash_text_update, cash_type_update, count_of_updated_trades, executor_name_update, update_checks, table_updates_of_text_update};
+ghost use Rattle.brk_plans.specs.Update.{IsUpdatePlan, cash_text_update, cash_type_update, count_of_updated_trades};
+ghost use Rattle.brk_plans.specs.Update.{executor_name_update, update_checks, table_updates_of_text_update};
 
 use crate::corrected::{CashText, SettlementText, TextUpdate};
 use crate::plan::Plan;

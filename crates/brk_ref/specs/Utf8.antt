@@ -34,9 +34,11 @@ byte_equal_to_ascii_is_ascii mark c below h = let k : c ≡ mark = eqb-true c ma
 -- A byte that is an ASCII letter or digit is below 128.
 alphanumeric_byte_is_ascii : (c : ℕ) → is_ascii_alphanumeric c ≡ true → c < 128
 alphanumeric_byte_is_ascii c h =
-    holds_by_either_disjunct _ _ (c
-    < 128) (holds_by_either_disjunct _ _ (c
-    < 128) (byte_in_ascii_range_is_ascii 48 57 c (omega arith)) (byte_in_ascii_range_is_ascii 65 90 c (omega arith))) (byte_in_ascii_range_is_ascii 97 122 c (omega arith)) h
+    holds_by_either_disjunct _ _ (c < 128)
+    (holds_by_either_disjunct _ _ (c < 128)
+    (byte_in_ascii_range_is_ascii 48 57 c (omega arith))
+    (byte_in_ascii_range_is_ascii 65 90 c (omega arith)))
+    (byte_in_ascii_range_is_ascii 97 122 c (omega arith)) h
 
 -- A text is ASCII if each of its bytes passes `test`, and only bytes below 128 pass `test`.
 text_is_ascii_if_each_byte_is : (test : ℕ → Bool) → ((c : ℕ) → test c ≡ true → c < 128) → (text : List ℕ) → list_all test text ≡ true → IsAscii text
@@ -62,9 +64,11 @@ pub symbol_is_utf8 : (text : List ℕ) → is_symbol text ≡ true → IsUtf8 te
 symbol_is_utf8 =
     word_is_utf8 15 _
     (λ c. holds_by_either_disjunct _ _ (c < 128)
-    (holds_by_either_disjunct _ _ (c
-    < 128) (holds_by_either_disjunct _ _ (c
-    < 128) (byte_in_ascii_range_is_ascii 65 90 c (omega arith)) (byte_in_ascii_range_is_ascii 48 57 c (omega arith))) (byte_equal_to_ascii_is_ascii 46 c (omega arith)))
+    (holds_by_either_disjunct _ _ (c < 128)
+    (holds_by_either_disjunct _ _ (c < 128)
+    (byte_in_ascii_range_is_ascii 65 90 c (omega arith))
+    (byte_in_ascii_range_is_ascii 48 57 c (omega arith)))
+    (byte_equal_to_ascii_is_ascii 46 c (omega arith)))
     (byte_equal_to_ascii_is_ascii 45 c (omega arith)))
 
 -- A text that has the format of an exchange is UTF-8.
@@ -76,9 +80,12 @@ pub batch_name_is_utf8 : (text : List ℕ) → is_batch_name text ≡ true → I
 batch_name_is_utf8 =
     word_is_utf8 40 _
     (λ c. holds_by_either_disjunct _ _ (c < 128)
-    (holds_by_either_disjunct _ _ (c
-    < 128) (holds_by_either_disjunct _ _ (c
-    < 128) (alphanumeric_byte_is_ascii c) (byte_equal_to_ascii_is_ascii 46 c (omega arith))) (byte_equal_to_ascii_is_ascii 45 c (omega arith))) (byte_equal_to_ascii_is_ascii 95 c (omega arith)))
+    (holds_by_either_disjunct _ _ (c < 128)
+    (holds_by_either_disjunct _ _ (c < 128)
+    (alphanumeric_byte_is_ascii c)
+    (byte_equal_to_ascii_is_ascii 46 c (omega arith)))
+    (byte_equal_to_ascii_is_ascii 45 c (omega arith)))
+    (byte_equal_to_ascii_is_ascii 95 c (omega arith)))
 
 -- A text that has the format of the rights of a permission is UTF-8.
 pub acl_is_utf8 : (text : List ℕ) → is_acl text ≡ true → IsUtf8 text

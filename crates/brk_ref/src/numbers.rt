@@ -2,7 +2,8 @@ ghost use Rattle.std.specs.Prelude.{◌≡◌};
 ghost use Rattle.std.specs.Option.{ok_or};
 ghost use Rattle.brk_money.specs.Spelling.{number_within_limit, cents_of_text};
 ghost use Rattle.brk_money.specs.declared.cents.TheConstants.Cents;
-ghost use Rattle.brk_model.specs.Forms.{read_movement_amount, read_charge_amount, read_commission_rate, read_id, read_opening_balance, read_price, read_quantity, read_tax_rate_number, read_tax_status, nonnegative_amount};
+ghost use Rattle.brk_model.specs.Forms.{read_movement_amount, read_charge_amount, read_commission_rate, read_id, read_opening_balance};
+ghost use Rattle.brk_model.specs.Forms.{read_price, read_quantity, read_tax_rate_number, read_tax_status, nonnegative_amount};
 ghost use Rattle.brk_money.specs.declared.refusal.Refusal.TheVariants.{BadPrice, BadQty, BadText};
 
 use crate::charge_amount::ChargeAmount;

@@ -4,7 +4,8 @@ use Rattle.brk_money.specs.OrderTypes.{trade_type_of_order}
 use Rattle.brk_money.specs.Amounts.{commission, tax}
 use Rattle.brk_money.specs.Kinds.{side_of_trade_type}
 use Rattle.brk_money.specs.declared.tax_status.TaxStatus.{TaxStatus}
-use Rattle.brk_model.specs.Base.{Base, is_taxable_status, tax_status_in_accounts, tax_rate_sum_of_customer, customer_id_of_account, tier_of_account, exchange_of_security, commission_band_for_quantity, charge_for_type_and_tier}
+use Rattle.brk_model.specs.Base.{Base, is_taxable_status, tax_status_in_accounts, tax_rate_sum_of_customer, customer_id_of_account}
+use Rattle.brk_model.specs.Base.{tier_of_account, exchange_of_security, commission_band_for_quantity, charge_for_type_and_tier}
 use Rattle.brk_model.specs.Commands.{Order}
 use Rattle.brk_model.specs.Orders.{requested_price, assets_of_account}
 use Rattle.brk_trade.specs.declared.estimate.Terms.{Terms}
@@ -36,7 +37,8 @@ pub record AreOrderTermsInBase (base : Base) (o : Order) (terms : Terms) : Type 
   pub tax_status : terms.tax_status ≡ tax_status_in_accounts base.accounts o.account
   pub rates : terms.rates ≡ tax_rate_sum_of_customer base (customer_id_of_account base o.account)
   -- The rate is that of the band that the model finds.
-  pub rate : option_map (λ b. b.rate) (commission_band_for_quantity base (tier_of_account base o.account) (trade_type_of_order o.order_type) (exchange_of_security base o.symbol) o.qty)
+  pub rate : option_map (λ b. b.rate)
+      (commission_band_for_quantity base (tier_of_account base o.account) (trade_type_of_order o.order_type) (exchange_of_security base o.symbol) o.qty)
       ≡ Some terms.rate
   -- The charge is the one that the model finds.
   pub charge : option_map (λ c. c.amount) (charge_for_type_and_tier base (trade_type_of_order o.order_type) (tier_of_account base o.account))

@@ -1,5 +1,6 @@
 -- Orders: their checks, their estimates, and the plan of an accepted one.
-use Rattle.std.specs.Prelude.{◌≡◌, ℕ, ◌+◌, Bool, not, nat_le, is_none, unwrap_or, if◌then◌else◌, pos, List, [], ◌∷◌, ◌++◌, map, Option, Some, None, option_to_list}
+use Rattle.std.specs.Prelude.{◌≡◌, ℕ, ◌+◌, Bool, not, nat_le, is_none, unwrap_or, if◌then◌else◌, pos}
+use Rattle.std.specs.Prelude.{List, [], ◌∷◌, ◌++◌, map, Option, Some, None, option_to_list}
 use Rattle.std.specs.Option.{option_map_or}
 use Rattle.brk_trade.specs.Estimates.{AreOrderTermsInBase, commission_from_terms}
 use Rattle.brk_plans.specs.Replies.{estimate_from_model}
@@ -126,7 +127,14 @@ trade_row_of_order order terms trade stamp =
 abbrev pub request_row_of_order : Order → Terms → (broker trade : ℕ) → Option RequestRow
 request_row_of_order order terms broker trade =
     if is_market_type (trade_type_of_order order.order_type) then None
-    else Some (record { trade = trade; kind = trade_type_of_order order.order_type; symbol = order.symbol; qty = order.qty; bid = terms.price; broker = broker })
+    else Some (record {
+      trade = trade;
+      kind = trade_type_of_order order.order_type;
+      symbol = order.symbol;
+      qty = order.qty;
+      bid = terms.price;
+      broker = broker;
+    })
 
 -- The row changes that add a trade: its TRADE row `row`, its first TRADE_HISTORY row and its
 -- request, if any, are added, and the last stamp is set to that of the row.
@@ -154,5 +162,11 @@ pub record IsOrderPlan (order : Order) (found : OrderPlanFacts) (given : List Lo
   pub stamped : stamp_after last now ≡ Some stamp
   pub estimated : MatchesModelEstimate (terms_of_order order found) given estimate
   pub replied : plan.reply
-      ≡ Ordered (record { stamp = stamp; trade = next_trade_id found.last_trade; status = model_orders.first_status (trade_type_of_order order.order_type); estimate = estimate })
-  pub changes : AreOrderChanges order (terms_of_order order found) (option_map_or (λ a. a.broker) found.account 0) (next_trade_id found.last_trade) stamp plan.changes.items
+      ≡ Ordered (record {
+        stamp = stamp;
+        trade = next_trade_id found.last_trade;
+        status = model_orders.first_status (trade_type_of_order order.order_type);
+        estimate = estimate;
+      })
+  pub changes : AreOrderChanges order (terms_of_order order found) (option_map_or (λ a. a.broker) found.account 0)
+      (next_trade_id found.last_trade) stamp plan.changes.items

@@ -1,5 +1,6 @@
 -- Results of submitted trades: the row changes of a completion, and the plan of an accepted result.
-use Rattle.std.specs.Prelude.{◌≡◌, ℕ, ◌+◌, ◌≤◌, IfSome, Bool, false, ℤ, pos, if◌then◌else◌, List, [], ◌∷◌, ◌++◌, codes, decimal, length, flat_map, Option, Some, None, option_map, option_to_list, unwrap_or}
+use Rattle.std.specs.Prelude.{◌≡◌, ℕ, ◌+◌, ◌≤◌, IfSome, Bool, false, ℤ, pos, if◌then◌else◌, List, [], ◌∷◌, ◌++◌, codes}
+use Rattle.std.specs.Prelude.{decimal, length, flat_map, Option, Some, None, option_map, option_to_list, unwrap_or}
 use Rattle.brk_lots.specs.Values.{closing_values_of_deal}
 use Rattle.brk_lots.specs.Closing.{IsClosingOfDeal}
 use Rattle.brk_lots.specs.Lots.{shares_of_lots}
@@ -199,7 +200,8 @@ pub record IsRefusalOfExistingTrade (found : ResultPlanFacts) (price : ℕ) (giv
   -- `refusal` is that of the first check that fails, with the values of those shares of the lots
   -- that the trade would close.
   pub late : (ls : List Lot) (stamp : ℕ) → AreLotsBeforeTrade given found ls
-      → first_refusal (result_checks found price (closing_values_of_deal (deal_of_trade_row found.trade price stamp) (shares_of_lots ls)) (stamp_after last now))
+      → first_refusal
+        (result_checks found price (closing_values_of_deal (deal_of_trade_row found.trade price stamp) (shares_of_lots ls)) (stamp_after last now))
       ≡ Some refusal
 
 -- `refusal` is the refusal of a result: `NoTrade` if there is no such trade, and otherwise the

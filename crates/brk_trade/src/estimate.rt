@@ -79,7 +79,8 @@ fn values_of_shares_to_close<L: LotSource>(source: &mut L, terms: &Terms) -> Res
     ensures values { IfOk result (λ values. (ls : List Lot) (trade stamp : ℕ) (lifo : Bool) →
         YieldsPosition (AreLotsOfFaithfulSource (L.reads_faithfully source.new) (L.remaining source.old)) lifo ls → terms.now.held ≡ lot_quantity_sum ls →
         values ≡ closing_values_of_deal (deal_from_terms terms.now trade stamp lifo) (shares_of_lots ls)) }
-    ensures asked { OrderReadsAtMostOneLotMore terms.now (AreLotsOfFaithfulSource (L.reads_faithfully source.new) (L.remaining source.old)) (L.asked source.old) (L.asked source.new) }
+    ensures asked { OrderReadsAtMostOneLotMore terms.now
+        (AreLotsOfFaithfulSource (L.reads_faithfully source.new) (L.remaining source.old)) (L.asked source.old) (L.asked source.new) }
     ensures reads_no_lot { closes_lots terms.now.side terms.now.held ≡ false → source.new ≡ source.old }
     ensures faulted { IfOk result (λ values. L.faulted source.new ≡ L.faulted source.old) }
     ensures fault { IfErr result (λ fault. (before : L) × L.fails before fault source.new) }
@@ -109,7 +110,8 @@ pub fn estimate_order<L: LotSource>(source: &mut L, terms: &Terms) -> Result<Est
     ensures commission { IfOk result (λ estimate. estimate.commission ≡ commission_from_terms terms.now) }
     // It reads at most one lot more than the order would close or reduce, also if it fails, and
     // none if the account holds no shares that the order would close.
-    ensures asked { OrderReadsAtMostOneLotMore terms.now (AreLotsOfFaithfulSource (L.reads_faithfully source.new) (L.remaining source.old)) (L.asked source.old) (L.asked source.new) }
+    ensures asked { OrderReadsAtMostOneLotMore terms.now
+        (AreLotsOfFaithfulSource (L.reads_faithfully source.new) (L.remaining source.old)) (L.asked source.old) (L.asked source.new) }
     ensures reads_no_lot { closes_lots terms.now.side terms.now.held ≡ false → source.new ≡ source.old }
     // A fault of the source is never ignored, and is returned unchanged.
     ensures faulted { IfOk result (λ estimate. L.faulted source.new ≡ L.faulted source.old) }

@@ -12,7 +12,9 @@ ghost use Rattle.brk_trade.specs.Estimates.{OrderReadsAtMostOneLotMore, commissi
 ghost use Rattle.brk_trade.specs.Orders as spec;
 ghost use Rattle.brk_plans.specs.Reference.{later_stamp_check};
 ghost use Rattle.brk_changes.specs.Rows.{abstract_trade_row};
-ghost use Rattle.brk_trade.specs.Orders.{AreOrderChanges, EstimatesCheckedOrder, IsOrderPlan, IsCheckedPlacement, order_checks, terms_of_order, free_trade_id_check};
+ghost use Rattle.brk_trade.specs.Orders.{AreOrderChanges, EstimatesCheckedOrder, IsOrderPlan};
+ghost use Rattle.brk_trade.specs.Orders.{IsCheckedPlacement, order_checks, terms_of_order};
+ghost use Rattle.brk_trade.specs.Orders.{free_trade_id_check};
 
 use crate::estimate::{Terms, estimate_order};
 use brk_changes::{Amount, Change, HistoryRow, RequestRow, TradeRow};
@@ -131,7 +133,8 @@ pub fn plan_estimate<L: LotSource>(
         (λ refusal. first_refusal (order_checks found.now) ≡ Some refusal)) }
     ensures refused { IfOk result (λ planned. OnErr planned (source.new ≡ source.old)) }
     // It reads at most one lot more than the order would touch, also if it fails.
-    ensures asked { OrderReadsAtMostOneLotMore (terms_of_order order.now found.now) (AreLotsOfFaithfulSource (L.reads_faithfully source.new) (L.remaining source.old)) (L.asked source.old) (L.asked source.new) }
+    ensures asked { OrderReadsAtMostOneLotMore (terms_of_order order.now found.now)
+        (AreLotsOfFaithfulSource (L.reads_faithfully source.new) (L.remaining source.old)) (L.asked source.old) (L.asked source.new) }
     // It reads no lot if the account holds no shares that the order would close.
     ensures reads_no_lot { closes_lots (terms_of_order order.now found.now).side (terms_of_order order.now found.now).held ≡ false → source.new ≡ source.old }
     // A fault of the source is never ignored, and is returned unchanged.
@@ -329,7 +332,8 @@ pub fn plan_order<L: LotSource>(
         (λ refusal. first_refusal (order_checks found.now ++ free_trade_id_check found.now.last_trade ∷ later_stamp_check last now ∷ []) ≡ Some refusal)) }
     ensures refused { IfOk result (λ planned. OnErr planned (source.new ≡ source.old)) }
     // It reads at most one lot more than the order would touch, also if it fails.
-    ensures asked { OrderReadsAtMostOneLotMore (terms_of_order order.now found.now) (AreLotsOfFaithfulSource (L.reads_faithfully source.new) (L.remaining source.old)) (L.asked source.old) (L.asked source.new) }
+    ensures asked { OrderReadsAtMostOneLotMore (terms_of_order order.now found.now)
+        (AreLotsOfFaithfulSource (L.reads_faithfully source.new) (L.remaining source.old)) (L.asked source.old) (L.asked source.new) }
     // It reads no lot if the account holds no shares that the order would close.
     ensures reads_no_lot { closes_lots (terms_of_order order.now found.now).side (terms_of_order order.now found.now).held ≡ false → source.new ≡ source.old }
     // A fault of the source is never ignored, and is returned unchanged.

@@ -8,7 +8,8 @@ ghost use Rattle.brk_model.specs.Shares.{touches_of_existing_lots};
 ghost use Rattle.brk_money.specs.Moments as moments;
 ghost use Rattle.brk_money.specs.declared.fault.Fault.{Fault};
 ghost use Rattle.brk_trade.specs.Outcomes.{deal_of_trade_row};
-ghost use Rattle.brk_trade.specs.Results.{AreLotsBeforeTrade, ResultReadsAtMostOneLotMore, CompletesExistingTrade, IsResultRefusal, ClosesNoHeldShares, stamp_or_clock_reading, completed_reply_of_figures};
+ghost use Rattle.brk_trade.specs.Results.{AreLotsBeforeTrade, ResultReadsAtMostOneLotMore, CompletesExistingTrade};
+ghost use Rattle.brk_trade.specs.Results.{IsResultRefusal, ClosesNoHeldShares, stamp_or_clock_reading, completed_reply_of_figures};
 
 use crate::completion::create_completion_changes;
 use crate::outcome::{ResultFigures, checked_rate_and_summary, checked_result_figures};
@@ -93,10 +94,13 @@ pub fn plan_result<L: LotSource>(
 ) -> Planned<Plan>
     ensures leads { L.leads source.old source.new }
     ensures planned { IfOk result (λ planned. MatchResult planned
-        (CompletesExistingTrade (option_map (λ f. f.now) found.entry) price (AreLotsOfFaithfulSource (L.reads_faithfully source.new) (L.remaining source.old)) last now)
-        (IsResultRefusal (option_map (λ f. f.now) found.entry) price (AreLotsOfFaithfulSource (L.reads_faithfully source.new) (L.remaining source.old)) last now)) }
+        (CompletesExistingTrade (option_map (λ f. f.now) found.entry) price
+        (AreLotsOfFaithfulSource (L.reads_faithfully source.new) (L.remaining source.old)) last now)
+        (IsResultRefusal (option_map (λ f. f.now) found.entry) price
+        (AreLotsOfFaithfulSource (L.reads_faithfully source.new) (L.remaining source.old)) last now)) }
     // It reads at most one lot more than the trade touches, also if it fails.
-    ensures asked { ResultReadsAtMostOneLotMore (option_map (λ f. f.now) found.entry) price (stamp_or_clock_reading (moments.stamp_after last now) now) (AreLotsOfFaithfulSource (L.reads_faithfully source.new) (L.remaining source.old)) (L.asked source.old) (L.asked source.new) }
+    ensures asked { ResultReadsAtMostOneLotMore (option_map (λ f. f.now) found.entry) price (stamp_or_clock_reading (moments.stamp_after last now) now)
+        (AreLotsOfFaithfulSource (L.reads_faithfully source.new) (L.remaining source.old)) (L.asked source.old) (L.asked source.new) }
     // It reads no lot if the account holds no shares that the trade would close.
     ensures reads_no_lot { IfSome (option_map (λ f. f.now) found.entry) (λ f. ClosesNoHeldShares f → source.new ≡ source.old) }
     // A fault of the source is never ignored, and is returned unchanged.

@@ -2,7 +2,8 @@
 use Rattle.brk_model.specs.Queries as model
 use Rattle.brk_orders.specs.Records.{abstract_order}
 use Rattle.brk_view.specs.declared.query.Query.{Query}
-use Rattle.brk_view.specs.declared.query.Query.TheVariants.{Position, PositionOfTaxId, Recent, Status, Submitted, Estimate, Trades, AccountTrades, SymbolTrades, Lots, Volume}
+use Rattle.brk_view.specs.declared.query.Query.TheVariants.{Position, PositionOfTaxId, Recent, Status, Submitted, Estimate}
+use Rattle.brk_view.specs.declared.query.Query.TheVariants.{Trades, AccountTrades, SymbolTrades, Lots, Volume}
 
 -- The model's query with the values of a typed query, by its kind.
 abbrev pub abstract_query : Query → model.Query

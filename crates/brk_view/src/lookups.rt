@@ -7,7 +7,8 @@ ghost use Rattle.brk_model.specs.Lists.{contains_number, sort_by};
 ghost use Rattle.brk_model.specs.LookupView.{row_stamp_is_between, trade_lookup_records, trade_lookup_view};
 ghost use Rattle.brk_model.specs.Tables.{Tables};
 ghost use Rattle.brk_money.specs.declared.fault.Fault.TheVariants.{Memory};
-ghost use Rattle.brk_view.specs.Lookup.{AreRowsOfTrade, records_of_looked_up_trade, rows_of_looked_up_trade, table_rows_of_trade, status_of_typed_history_row, is_older_trade, is_older_status};
+ghost use Rattle.brk_view.specs.Lookup.{AreRowsOfTrade, records_of_looked_up_trade, rows_of_looked_up_trade};
+ghost use Rattle.brk_view.specs.Lookup.{table_rows_of_trade, status_of_typed_history_row, is_older_trade, is_older_status};
 ghost use Rattle.brk_view.specs.Views.{records_of_view};
 ghost use Rattle.brk_view.specs.declared.view.View.TheVariants as views;
 

@@ -30,7 +30,8 @@ pub(crate) fn parse_position_query(arguments: &[&[u8]]) -> Result<Query, Refusal
 // argument, the tax id of the customer. Refuses malformed arguments with `BadText`. Fails with
 // `Memory` only.
 pub(crate) fn parse_position_of_tax_id_query(alloc: Global, arguments: &[&[u8]]) -> Planned<Query>
-    ensures read { IfOk result (λ read. ParsesAs abstract_query read (read_single_argument (read_and_wrap PositionOfTaxId read_tax_id) (texts_of_fields arguments.now))) }
+    ensures read { IfOk result (λ read. ParsesAs abstract_query read
+        (read_single_argument (read_and_wrap PositionOfTaxId read_tax_id) (texts_of_fields arguments.now))) }
     ensures fault { OnErr result (result ≡ Err Memory) }
 {
     let [tax_id] = arguments else {

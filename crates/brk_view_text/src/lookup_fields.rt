@@ -4,7 +4,8 @@ ghost use Rattle.std.specs.Prelude.{◌≡◌, ◌++◌, ◌∷◌, [], Err, IfO
 ghost use Rattle.brk_changes.specs.Rows.{abstract_move_row, abstract_settlement_row, abstract_trade_row};
 ghost use Rattle.brk_model.specs.LookupView as model;
 ghost use Rattle.brk_money.specs.declared.fault.Fault.TheVariants.{Memory};
-ghost use Rattle.brk_view.specs.Lookup.{cash_and_lot_end_fields, price_and_cost_fields, records_of_looked_up_trade, history_status_record, first_five_trade_fields, order_fields_of_trade};
+ghost use Rattle.brk_view.specs.Lookup.{cash_and_lot_end_fields, price_and_cost_fields, records_of_looked_up_trade};
+ghost use Rattle.brk_view.specs.Lookup.{history_status_record, first_five_trade_fields, order_fields_of_trade};
 ghost use Rattle.brk_view.specs.Views.{texts_of_record, texts_of_records};
 
 use crate::texts::{amount_text, copy_text, number_text, optional_price_text, stamp_text};
