@@ -18,10 +18,12 @@ use Rattle.brk_changes.specs.Rows.{abstract_trade_row, abstract_history_row, abs
 use Rattle.brk_changes.specs.Rows.{abstract_summary_row, abstract_lot_change_row, cash_type_text, abstract_settlement_row}
 use Rattle.brk_changes.specs.Rows.{abstract_move_row}
 use Rattle.brk_changes.specs.declared.change.Change.{Change}
-use Rattle.brk_changes.specs.declared.change.Change.TheVariants.{AddBroker, AddCustomer, AddAccount, AddPermission, AddSecurity, AddLastTrade, AddCharge, AddBand, AddTaxRate}
-use Rattle.brk_changes.specs.declared.change.Change.TheVariants.{AddCustomerTax, AddTrade, SetStatus, AddHistory, AddRequest, RemoveRequest, SetLastTrade, CompleteTrade, AddLot}
-use Rattle.brk_changes.specs.declared.change.Change.TheVariants.{SetLot, RemoveLot, AddLotChange, AddSummary, SetSummary, RemoveSummary, AddSettlement, AddMove, SetBalance}
-use Rattle.brk_changes.specs.declared.change.Change.TheVariants.{SetBrokerTotals, SetExecutor, SetCashType, SetCashName, SetSettlementDay, AddStoredReply, SetLastStamp}
+use Rattle.brk_changes.specs.declared.change.Change.TheVariants.{AddBroker, AddCustomer, AddAccount, AddPermission, AddSecurity, AddLastTrade}
+use Rattle.brk_changes.specs.declared.change.Change.TheVariants.{AddCharge, AddBand, AddTaxRate, AddCustomerTax, AddTrade, SetStatus, AddHistory}
+use Rattle.brk_changes.specs.declared.change.Change.TheVariants.{AddRequest, RemoveRequest, SetLastTrade, CompleteTrade, AddLot, SetLot, RemoveLot}
+use Rattle.brk_changes.specs.declared.change.Change.TheVariants.{AddLotChange, AddSummary, SetSummary, RemoveSummary, AddSettlement, AddMove}
+use Rattle.brk_changes.specs.declared.change.Change.TheVariants.{SetBalance, SetBrokerTotals, SetExecutor, SetCashType, SetCashName, SetSettlementDay}
+use Rattle.brk_changes.specs.declared.change.Change.TheVariants.{AddStoredReply, SetLastStamp}
 
 -- The tables `t` with the broker `b` inserted, with 0 completed trades and 0 commissions.
 abbrev pub tables_with_broker : Broker → Tables → Tables

@@ -6,9 +6,10 @@ ghost use Rattle.brk_money.specs.declared.fault.Fault.TheVariants.{Memory};
 ghost use Rattle.brk_money.specs.declared.refusal.Limit.TheVariants as limit;
 ghost use Rattle.brk_money.specs.declared.refusal.Refusal.TheVariants.{Range};
 ghost use Rattle.brk_plans.specs.Feed as spec;
-ghost use Rattle.brk_plans.specs.Feed.{IsFeedPlan, row_changes_of_tick, row_changes_of_ticks, exceeds_volume_limit, feed_checks, states_of_quotes, state_of_quote};
-ghost use Rattle.brk_plans.specs.Feed.{trades_triggered_by_tick, trades_triggered_by_ticks, is_state_of_symbol, last_trade_after_tick, lacks_state_of_symbol};
-ghost use Rattle.brk_plans.specs.Feed.{states_after_ticks, states_after_tick, row_changes_of_submissions, trades_triggered_at_price, requests_not_triggered_at_price};
+ghost use Rattle.brk_plans.specs.Feed.{IsFeedPlan, row_changes_of_tick, row_changes_of_ticks, exceeds_volume_limit, feed_checks, states_of_quotes};
+ghost use Rattle.brk_plans.specs.Feed.{state_of_quote, trades_triggered_by_tick, trades_triggered_by_ticks, is_state_of_symbol};
+ghost use Rattle.brk_plans.specs.Feed.{last_trade_after_tick, lacks_state_of_symbol, states_after_ticks, states_after_tick};
+ghost use Rattle.brk_plans.specs.Feed.{row_changes_of_submissions, trades_triggered_at_price, requests_not_triggered_at_price};
 ghost use Rattle.brk_plans.specs.Reference.{later_stamp_check};
 ghost use Rattle.brk_changes.specs.declared.change.Change.TheVariants.{SetLastTrade};
 
