@@ -8,7 +8,7 @@ use Rattle.brk_money.specs.declared.tax_status.TaxStatus.TheVariants.{Untaxed}
 use Rattle.brk_ref.specs.declared.account.AccountRow.{AccountRow}
 use Rattle.brk_audit.specs.declared.account_terms.AccountTerms.{AccountTerms}
 
--- The broker and the tax status in the account's row.
+-- The broker and the tax status in the row `a` of CUSTOMER_ACCOUNT.
 abbrev pub terms_of_account_row : AccountRow → AccountTerms
 terms_of_account_row a = record { broker = a.account.broker; tax_status = a.account.tax_status }
 

@@ -4,11 +4,11 @@ use Rattle.brk_money.specs.Kinds.{is_same_trade_status}
 use Rattle.brk_money.specs.declared.status.Status.TheVariants.{Completed, Pending}
 use Rattle.brk_model.specs.Tables.{Tables, TradeRow}
 
--- True if the status of the trade's row is `Completed`.
+-- True if the status in the row `r` of TRADE is `Completed`.
 abbrev pub is_completed_row : TradeRow → Bool
 is_completed_row r = is_same_trade_status r.status Completed
 
--- True if the status of the trade's row is `Pending`.
+-- True if the status in the row `r` of TRADE is `Pending`.
 abbrev pub is_pending_row : TradeRow → Bool
 is_pending_row r = is_same_trade_status r.status Pending
 

@@ -1,4 +1,4 @@
--- Completed trades by position, and the lots that they leave.
+-- Completed trades by position, and the lots that remain after them.
 use Rattle.std.specs.Prelude.{◌≡◌, ◌&&◌, ◌||◌, ◌==◌, Bool, true, false, ⊤, List, [], ◌∷◌, ◌++◌, map, unwrap_or, bytes_eq}
 use Rattle.std.specs.List.{AllByRecursion}
 use Rattle.brk_money.specs.Kinds.{side_of_trade_type}
@@ -7,7 +7,8 @@ use Rattle.brk_model.specs.Shares.{Deal, Lot, lots_of_shares, replay}
 use Rattle.brk_model.specs.Tables.{HoldingHistoryRow, HoldingRow, TradeRow}
 use Rattle.brk_lots.specs.Chains.{lot_changes_of_deals}
 
--- The deal of the completed trade `r`. A missing price counts 0.
+-- The deal of the completed trade `r`: its effect on its position, at its price in cents. A missing
+-- price counts as 0.
 abbrev pub deal_of_completed_row : TradeRow → Deal
 deal_of_completed_row r =
     record { trade = r.id; side = side_of_trade_type r.kind; qty = r.qty; price = unwrap_or r.price 0; stamp = r.stamp; is_lifo = r.is_lifo }
@@ -24,7 +25,7 @@ position_sort_key r = number r.account ∷ word r.symbol ∷ number r.stamp ∷ 
 abbrev pub is_before_by_position : TradeRow → TradeRow → Bool
 is_before_by_position r s = is_row_key_less position_sort_key r s
 
--- True if the two trades have the same number or the same stamp.
+-- True if the two trades have the same id or the same stamp.
 abbrev pub has_same_id_or_stamp : TradeRow → TradeRow → Bool
 has_same_id_or_stamp r s = (r.id == s.id) || (r.stamp == s.stamp)
 
@@ -37,21 +38,21 @@ FirstElementSatisfies P (x ∷ xs) = P x
 abbrev pub holding_row_in_position_of_trade : TradeRow → Lot → HoldingRow
 holding_row_in_position_of_trade r l = record { trade = l.trade; account = r.account; symbol = r.symbol; stamp = l.stamp; price = l.price; qty = l.qty }
 
--- The rows of HOLDING of the lots that the trades `run` leave, executed in order, with the account
--- and the symbol of the trade `r`.
+-- The rows of HOLDING of the lots that remain after the trades `run`, executed in order from no
+-- lots, with the account and the symbol of the trade `r`.
 abbrev pub holding_rows_left_by_trades : TradeRow → List TradeRow → List HoldingRow
 holding_rows_left_by_trades r run = map (holding_row_in_position_of_trade r) (lots_of_shares (replay (map deal_of_completed_row run)))
 
--- The rows are the lots that the trades leave, position by position. The trades of one position are
--- neighbours in the list.
+-- The rows are the rows of HOLDING of the lots that remain after the trades, position by position.
+-- The trades of one position are neighbours in the list and are executed in its order.
 pub data AreLotsLeftByTrades : List TradeRow → List HoldingRow → Type 0 where
   nothing : AreLotsLeftByTrades [] []
   position : (r : TradeRow) (run later : List TradeRow) (rows : List HoldingRow) → AllByRecursion (λ s. is_same_position r s ≡ true) run
       → AllByRecursion (λ s. is_same_position r s ≡ false) later
       → AreLotsLeftByTrades later rows → AreLotsLeftByTrades (r ∷ run ++ later) (holding_rows_left_by_trades r (r ∷ run) ++ rows)
 
--- The rows are the lot changes of the trades, position by position. The trades of one position are
--- neighbours in the list.
+-- The rows are the rows of HOLDING_HISTORY of the lot changes of the trades, position by position.
+-- The trades of one position are neighbours in the list and are executed in its order.
 pub data AreLotChangesOfTrades : List TradeRow → List HoldingHistoryRow → Type 0 where
   untouched : AreLotChangesOfTrades [] []
   moves : (r : TradeRow) (run later : List TradeRow) (rows : List HoldingHistoryRow) → AllByRecursion (λ s. is_same_position r s ≡ true) run

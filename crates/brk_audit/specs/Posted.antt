@@ -2,6 +2,6 @@
 use Rattle.brk_audit.specs.Settling.{MoveRowFigures}
 use Rattle.brk_audit.specs.declared.cash.Posted as declared
 
--- The figures of the typed value `p`, as the specification has them.
+-- The figures of a row of CASH_MOVE with the values of the program's figures `p`.
 abbrev pub abstract_posted_figures : declared.Posted → MoveRowFigures
 abstract_posted_figures p = record { account = p.account; trade = p.trade; stamp = p.stamp; amount = p.amount }

@@ -7,7 +7,7 @@ use Rattle.brk_money.specs.declared.status.Status.{Status}
 use Rattle.brk_money.specs.declared.status.Status.TheVariants.{Completed, Active, Submitted, Pending, Canceled}
 use Rattle.brk_model.specs.Tables.{HistoryRow, MoveRow, TradeRow}
 
--- True if a trade can begin with the status: `Submitted` or `Pending`.
+-- True if the history of a trade can begin with the status: `Submitted` or `Pending`.
 abbrev pub is_first_status : Status → Bool
 is_first_status Completed = false
 is_first_status Active = false
@@ -15,40 +15,43 @@ is_first_status Submitted = true
 is_first_status Pending = true
 is_first_status Canceled = false
 
--- True if the trade's row `r` has the status and the stamp of the history row `h`.
+-- True if the row `r` of TRADE has the status and the stamp of the row `h` of TRADE_HISTORY.
 abbrev pub has_status_and_stamp_of_row : TradeRow → HistoryRow → Bool
 has_status_and_stamp_of_row r h = is_same_trade_status r.status h.status && (r.stamp == h.stamp)
 
--- The value `first` if the two statuses of a history, sorted by code, can be a valid sequence that
--- ends in the first of them, `second` if one that ends in the second, and false if they cannot be a
--- valid sequence.
+-- One of two values, by the two statuses of a history, sorted by code: `first` if they can be a
+-- valid status sequence that ends in the first of them, `second` if they can be one that ends in
+-- the second, and false if they cannot be a valid sequence.
 abbrev pub choice_by_last_of_two_statuses : Status → Status → Bool → Bool → Bool
 choice_by_last_of_two_statuses Completed Submitted first second = first
 choice_by_last_of_two_statuses Canceled Pending first second = first
 choice_by_last_of_two_statuses Pending Submitted first second = second
 choice_by_last_of_two_statuses _ _ first second = false
 
--- True if the history of the two rows is a valid status sequence by their stamps, and the trade's
--- row has the status and the stamp of its last row.
+-- True if the statuses of the history rows `a` and `b`, sorted by status code, form a valid status
+-- sequence in the order of their stamps, and the row `r` of TRADE has the status and the stamp of
+-- the later one.
 abbrev pub is_valid_two_row_history : TradeRow → HistoryRow → HistoryRow → Bool
 is_valid_two_row_history r a b =
     choice_by_last_of_two_statuses a.status b.status (nat_lt b.stamp a.stamp && has_status_and_stamp_of_row r a) (nat_lt a.stamp b.stamp
     && has_status_and_stamp_of_row r b)
 
--- The value `told` if the three statuses of a history, sorted by code, can be a valid sequence,
--- otherwise false.
+-- The value `told` if the three statuses of a history, sorted by code, can be a valid status
+-- sequence; otherwise false.
 abbrev pub choice_if_valid_three_statuses : Status → Status → Status → Bool → Bool
 choice_if_valid_three_statuses Completed Pending Submitted told = told
 choice_if_valid_three_statuses _ _ _ told = false
 
--- True if the history of the three rows is a valid status sequence by their stamps, and the trade's
--- row has the status and the stamp of its last row.
+-- True if the statuses of the history rows `a`, `b` and `c`, sorted by status code, form a valid
+-- status sequence in the order of their stamps, and the row `r` of TRADE has the status and the
+-- stamp of the last one.
 abbrev pub is_valid_three_row_history : TradeRow → HistoryRow → HistoryRow → HistoryRow → Bool
 is_valid_three_row_history r a b c =
     choice_if_valid_three_statuses a.status b.status c.status (nat_lt b.stamp c.stamp && nat_lt c.stamp a.stamp && has_status_and_stamp_of_row r a)
 
--- True if the history rows of the trade, sorted by status code, are a valid status sequence by
--- their stamps, and the trade's row has the status and the stamp of the last one.
+-- True if the statuses of the history rows, sorted by status code, form a valid status sequence in
+-- the order of their stamps, and the row `r` of TRADE has the status and the stamp of the last one.
+-- False if there are no rows.
 abbrev pub is_valid_history : TradeRow → List HistoryRow → Bool
 is_valid_history r [] = false
 is_valid_history r (h ∷ []) = is_first_status h.status && has_status_and_stamp_of_row r h
@@ -56,17 +59,19 @@ is_valid_history r (a ∷ b ∷ []) = is_valid_two_row_history r a b
 is_valid_history r (a ∷ b ∷ c ∷ []) = is_valid_three_row_history r a b c
 is_valid_history r (a ∷ b ∷ c ∷ d ∷ hs) = false
 
--- True if the history rows of each trade are a valid status sequence (`is_valid_history`). The
--- history rows are listed in the order of the trades.
+-- True if the list of history rows begins with the rows of the first trade, then has the rows of
+-- the second, and so on, and the rows of each trade are a valid history of it (`is_valid_history`).
+-- Rows after those of the last trade are not checked.
 abbrev pub all_histories_are_valid : List TradeRow → List HistoryRow → Bool
 all_histories_are_valid [] hs = true
 all_histories_are_valid (r ∷ rs) hs =
     is_valid_history r (take (prefix_len (λ h. h.trade == r.id) hs) hs) && all_histories_are_valid rs (drop (prefix_len (λ h. h.trade == r.id) hs) hs)
 
--- The stamps of the history rows with the status `Completed`.
+-- The stamps of those of the history rows with the status `Completed`, in the order of the rows.
 abbrev pub completion_stamps_of_history : List HistoryRow → List ℕ
 completion_stamps_of_history hs = map (λ h. h.stamp) (filter (λ h. is_same_trade_status h.status Completed) hs)
 
--- The stamps of the cash rows without a trade: deposits and withdrawals.
+-- The stamps of those of the rows of CASH_MOVE without a trade, which are deposits and withdrawals,
+-- in the order of the rows.
 abbrev pub movement_stamps_of_cash_rows : List MoveRow → List ℕ
 movement_stamps_of_cash_rows rows = map (λ r. r.stamp) (filter (λ r. is_none r.trade) rows)

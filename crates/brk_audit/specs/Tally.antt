@@ -6,7 +6,8 @@ use Rattle.std.specs.BTreeMap.{BTreeMap, get}
 use Rattle.brk_model.specs.Lists.{total_by}
 use Rattle.brk_audit.specs.declared.tally.Posting.{Posting}
 
--- The sum at the key `q` in the map `sums`, or 0 if the map does not contain the key.
+-- The sum at the key `q` in the map `sums`, or 0 if the map does not contain the key. The keys are
+-- compared by the order `cmp`.
 abbrev pub sum_at_key : {K : Type 0} → (K → K → Ordering) → BTreeMap K ℤ → K → ℤ
 sum_at_key cmp sums q = unwrap_or (get cmp sums q) (pos 0)
 

@@ -41,7 +41,7 @@ pub(crate) fn account_terms_by_id(
     Ok(terms)
 }
 
-/// Returns the broker of the account in the map, or 0 if the map does not contain the account.
+/// Returns the id of the account's broker in the map, or 0 if the map does not contain the account.
 pub(crate) fn account_broker_id(terms: &BTreeMap<u64, AccountTerms>, account: Id) -> u64
     ensures { result ≡ broker_in_terms terms.now account }
 {

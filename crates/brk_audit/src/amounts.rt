@@ -10,7 +10,8 @@ ghost use Rattle.brk_audit.specs.Settling.{settlement_amount_at_tax_status};
 use brk_changes::TradeRow;
 use brk_money::{Amount, Price, Side, TaxStatus};
 
-// Returns the part of the tax that is withheld from the settlement at the tax status, in cents.
+// Returns the part of the tax that is withheld from the settlement, in cents: the whole tax at the
+// tax status `Withheld`, otherwise 0.
 fn tax_withheld_from_settlement(tax: Amount, tax_status: TaxStatus) -> u64
     ensures value { result ≡ (if is_withholding_status tax_status then tax else 0) }
     ensures high { result ≤ greatest_amount }
@@ -42,7 +43,8 @@ fn value_of_shares(qty: u32, cents: u64) -> u64
     u64::from(qty) * cents
 }
 
-// Returns the value of a sale, or the negated value of a purchase, minus `taken_off`, all in cents.
+// Returns the value of a sale, or the negated value of a purchase, minus the deductions
+// `taken_off`, all in cents.
 fn proceeds_less_deductions(side: Side, value: u64, taken_off: u64) -> i64
     requires value { value ≤ greatest_qty * greatest_price }
     requires taken_off { taken_off ≤ 3 * greatest_amount }
@@ -55,8 +57,8 @@ fn proceeds_less_deductions(side: Side, value: u64, taken_off: u64) -> i64
     brought - taken_off as i64
 }
 
-/// Returns the settlement amount of a completed trade at its account's tax status, in cents;
-/// negative if the account pays.
+/// Returns the settlement amount of a completed trade at the tax status of its account, in cents:
+/// the signed value minus charge, commission and withheld tax. It is below 0 if the account pays.
 pub(crate) fn settlement_amount_of_row(trade: &TradeRow, tax_status: TaxStatus) -> i64
     ensures { result ≡ settlement_amount_at_tax_status tax_status (abstract_trade_row trade.now) }
 {

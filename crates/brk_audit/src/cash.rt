@@ -6,7 +6,8 @@ ghost use Rattle.brk_money.specs.declared.fault.Fault.TheVariants.{Memory};
 ghost use Rattle.brk_model.specs.Audit.{ConditionHolds};
 ghost use Rattle.brk_audit.specs.AccountTerms.{tax_status_in_terms};
 ghost use Rattle.brk_audit.specs.Conditions.{HasValidStatuses};
-ghost use Rattle.brk_audit.specs.Settling.{RowsCannotMatchTrades, RowsMatchTradesIffOthersDo, settlement_amount_at_tax_status, is_completed_cash_trade, is_numbered_by_stamp, cash_figures_of_trade, cash_figures_of_row, posted_figures_of_trade, posted_figures_of_row};
+ghost use Rattle.brk_audit.specs.Settling.{RowsCannotMatchTrades, RowsMatchTradesIffOthersDo, settlement_amount_at_tax_status, is_completed_cash_trade};
+ghost use Rattle.brk_audit.specs.Settling.{is_numbered_by_stamp, cash_figures_of_trade, cash_figures_of_row, posted_figures_of_trade, posted_figures_of_row};
 ghost use Rattle.brk_changes.specs.Rows.{abstract_cash_row, abstract_move_row, abstract_trade_row};
 ghost use Rattle.brk_changes.specs.Schemas.{abstract_schema};
 ghost use Rattle.brk_changes.specs.Sheets.{abstract_sheets};
@@ -20,8 +21,8 @@ use brk_money::{Cents, Fault, Id, Stamp, TaxStatus};
 use std::alloc::Global;
 use std::collections::BTreeMap;
 
-// Returns true if the row has the trade, the stamp and the settlement amount of the completed
-// trade, at the tax status of its account.
+// Returns true if the row of CASH_TRANSACTION has the id and the stamp of the completed trade, and
+// its settlement amount at the tax status of its account.
 fn cash_row_matches_trade(cash: &CashRow, trade: &TradeRow, tax_status: TaxStatus) -> bool
     ensures { IsTrue result
         ↔ ((cash.now.trade ≡ trade.now.id) × (cash.now.stamp ≡ trade.now.stamp)
@@ -39,16 +40,19 @@ fn is_completed_cash_trade_row(trade: &TradeRow) -> bool
     is_completed(trade.status) && trade.is_cash
 }
 
-// Returns the cash rows after the row of `trade`, or all rows if `trade` is not a completed cash
-// trade. Returns `None` if the first row is not that of `trade`.
+// Returns the rows of CASH_TRANSACTION after the row of `trade`, or all rows if `trade` is not a
+// completed cash trade. Returns `None` if `trade` is a completed cash trade and the first row is
+// not its row.
 fn cash_rows_after_trade<'a>(
     cash: &'a [CashRow],
     trade: &TradeRow,
     terms: &BTreeMap<u64, AccountTerms>,
 ) -> Option<&'a [CashRow]>
     ensures { MatchOption result
-        (RowsCannotMatchTrades cash_figures_of_row (cash_figures_of_trade (tax_status_in_terms terms.now)) is_completed_cash_trade (map abstract_cash_row cash.now) (abstract_trade_row trade.now))
-        (λ others. RowsMatchTradesIffOthersDo cash_figures_of_row (cash_figures_of_trade (tax_status_in_terms terms.now)) is_completed_cash_trade (map abstract_cash_row cash.now) (abstract_trade_row trade.now) (map abstract_cash_row others.now)) }
+        (RowsCannotMatchTrades cash_figures_of_row (cash_figures_of_trade (tax_status_in_terms terms.now)) is_completed_cash_trade
+        (map abstract_cash_row cash.now) (abstract_trade_row trade.now))
+        (λ others. RowsMatchTradesIffOthersDo cash_figures_of_row (cash_figures_of_trade (tax_status_in_terms terms.now)) is_completed_cash_trade
+        (map abstract_cash_row cash.now) (abstract_trade_row trade.now) (map abstract_cash_row others.now)) }
 {
     if !is_completed_cash_trade_row(trade) {
         return Some(cash);
@@ -63,8 +67,8 @@ fn cash_rows_after_trade<'a>(
     }
 }
 
-// Returns true if the rows are exactly those of the completed cash trades, in the order of the
-// trades.
+// Returns true if the rows of CASH_TRANSACTION are exactly the rows of the completed cash trades,
+// in the order of the trades.
 fn cash_rows_match_trades(
     cash: &[CashRow],
     trades: &[TradeRow],
@@ -84,7 +88,7 @@ fn cash_rows_match_trades(
     rest.is_empty()
 }
 
-// The account, the trade, the stamp and the amount of a trade's row of CASH_MOVE.
+// The account, the trade, the stamp and the amount of a row of CASH_MOVE that belongs to a trade.
 #[derive(Clone, Copy, Drop)]
 struct Posted {
     account: Id,
@@ -93,8 +97,8 @@ struct Posted {
     amount: Cents,
 }
 
-// Returns the account, the trade, the stamp and the amount of the row, or `None` if it belongs to
-// no trade.
+// Returns the account, the trade, the stamp and the amount of the row of CASH_MOVE, or `None` if it
+// belongs to no trade.
 fn posted_figures_of_move_row(row: &MoveRow) -> Option<Posted>
     ensures { option_map abstract_posted_figures result ≡ posted_figures_of_row (abstract_move_row row.now) }
 {
@@ -107,8 +111,8 @@ fn posted_figures_of_move_row(row: &MoveRow) -> Option<Posted>
     })
 }
 
-// Returns the account, the trade, the stamp and the amount of each row that belongs to a trade, in
-// order. Fails with `Memory` only.
+// Returns the account, the trade, the stamp and the amount of each row of CASH_MOVE that belongs to
+// a trade, in the order of the rows. Fails with `Memory` only.
 fn posted_figures_of_move_rows(alloc: Global, moves: &[MoveRow]) -> Result<Vec<Posted>, Fault>
     ensures all { IfOk result (λ all. map abstract_posted_figures all.items ≡ filter_map (λ r. posted_figures_of_row (abstract_move_row r)) moves.now) }
     ensures fault { IfErr result (λ fault. fault ≡ Memory) }
@@ -122,8 +126,8 @@ fn posted_figures_of_move_rows(alloc: Global, moves: &[MoveRow]) -> Result<Vec<P
     Ok(all)
 }
 
-// Returns true if the row has the account, the id, the stamp and the settlement amount of the
-// completed trade, at the tax status of its account.
+// Returns true if the figures of a row of CASH_MOVE are the account, the id, the stamp and the
+// settlement amount of the completed trade, at the tax status of its account.
 fn has_figures_of_trade(row: Posted, trade: &TradeRow, tax_status: TaxStatus) -> bool
     ensures { IsTrue result
         ↔ ((row.account ≡ trade.now.account) × (row.trade ≡ trade.now.id) × (row.stamp ≡ trade.now.stamp)
@@ -135,16 +139,19 @@ fn has_figures_of_trade(row: Posted, trade: &TradeRow, tax_status: TaxStatus) ->
         && row.amount.get() == settlement_amount_of_row(trade, tax_status)
 }
 
-// Returns the rows after the row of `trade`, or all rows if `trade` is not a completed cash trade.
-// Returns `None` if the first row is not that of `trade`.
+// Returns the figures after those of `trade`, or all of `rows` if `trade` is not a completed cash
+// trade. Returns `None` if `trade` is a completed cash trade and the first figures are not its
+// figures.
 fn posted_rows_after_trade<'a>(
     rows: &'a [Posted],
     trade: &TradeRow,
     terms: &BTreeMap<u64, AccountTerms>,
 ) -> Option<&'a [Posted]>
     ensures { MatchOption result
-        (RowsCannotMatchTrades (λ p. p) (posted_figures_of_trade (tax_status_in_terms terms.now)) is_completed_cash_trade (map abstract_posted_figures rows.now) (abstract_trade_row trade.now))
-        (λ others. RowsMatchTradesIffOthersDo (λ p. p) (posted_figures_of_trade (tax_status_in_terms terms.now)) is_completed_cash_trade (map abstract_posted_figures rows.now) (abstract_trade_row trade.now) (map abstract_posted_figures others.now)) }
+        (RowsCannotMatchTrades (λ p. p) (posted_figures_of_trade (tax_status_in_terms terms.now)) is_completed_cash_trade
+        (map abstract_posted_figures rows.now) (abstract_trade_row trade.now))
+        (λ others. RowsMatchTradesIffOthersDo (λ p. p) (posted_figures_of_trade (tax_status_in_terms terms.now)) is_completed_cash_trade
+        (map abstract_posted_figures rows.now) (abstract_trade_row trade.now) (map abstract_posted_figures others.now)) }
 {
     if !is_completed_cash_trade_row(trade) {
         return Some(rows);
@@ -159,8 +166,8 @@ fn posted_rows_after_trade<'a>(
     }
 }
 
-// Returns true if the rows are exactly those of the completed cash trades, in the order of the
-// trades.
+// Returns true if the figures of rows of CASH_MOVE are exactly the figures of the completed cash
+// trades, in the order of the trades.
 fn posted_rows_match_trades(
     rows: &[Posted],
     trades: &[TradeRow],
@@ -180,14 +187,16 @@ fn posted_rows_match_trades(
     rest.is_empty()
 }
 
-// Returns true if the row has the number `number` and a stamp of at least `stamp`.
+// Returns true if the row of CASH_MOVE has the number `number` and a stamp of at least `stamp`, in
+// milliseconds since 1970-01-01 UTC.
 fn has_number_and_no_earlier_stamp(row: &MoveRow, number: u64, stamp: u64) -> bool
     ensures { result ≡ (row.now.id == number) && nat_le stamp row.now.stamp }
 {
     row.id.get() == number && stamp <= stamp_in_millis(row.stamp)
 }
 
-// Returns true if the rows are numbered 1, 2, 3 and so on, and their stamps do not decrease.
+// Returns true if the rows of CASH_MOVE are numbered 1, 2, 3 and so on, and their stamps do not
+// decrease.
 fn move_rows_are_numbered_by_stamp(moves: &[MoveRow]) -> bool
     ensures { result ≡ is_numbered_by_stamp 1 0 (map abstract_move_row moves.now) }
 {
@@ -201,10 +210,10 @@ fn move_rows_are_numbered_by_stamp(moves: &[MoveRow]) -> bool
     true
 }
 
-/// Returns true if the rows satisfy the condition `Cash` of `schema`: the cash rows are exactly
-/// those of the completed cash trades. In schema 1 they are in CASH_TRANSACTION. In later schemas
-/// they are in CASH_MOVE, which also has the deposits and withdrawals and is numbered from 1 by
-/// stamp, and CASH_TRANSACTION is empty. Fails with `Memory` only.
+/// Returns true if the rows satisfy the condition `Cash` of `schema`: the cash rows of trades are
+/// exactly the rows of the completed cash trades. In schema 1 they are in CASH_TRANSACTION. In
+/// later schemas they are in CASH_MOVE, which also has the deposits and withdrawals and is numbered
+/// from 1 by stamp, and CASH_TRANSACTION is empty. Fails with `Memory` only.
 pub(crate) fn cash_condition_holds(
     alloc: Global,
     schema: Schema,

@@ -22,8 +22,8 @@ use brk_ref::BrokerRow;
 use std::alloc::Global;
 use std::collections::BTreeMap;
 
-// Returns the posting of the trade's commission at the broker of its account, or `None` if the
-// trade is not completed.
+// Returns the trade's commission, in cents, as a posting at the broker of its account, or `None` if
+// the trade is not completed. The map `terms` has the broker of its account.
 fn commission_posting_of_trade(
     terms: &BTreeMap<u64, AccountTerms>,
     trade: &TradeRow,
@@ -38,7 +38,8 @@ fn commission_posting_of_trade(
     Some(Posting { key, amount })
 }
 
-// Returns the postings of the commissions of all completed trades. Fails with `Memory` only.
+// Returns the commissions of all completed trades as postings at the brokers of their accounts.
+// Fails with `Memory` only.
 fn commission_postings_of_trades(
     alloc: Global,
     terms: &BTreeMap<u64, AccountTerms>,
@@ -54,7 +55,8 @@ fn commission_postings_of_trades(
     Ok(all)
 }
 
-// Returns true if the broker's commission total is the sum at the broker's id in `sums`.
+// Returns true if the commission total in the broker's row is the sum at the broker's id in `sums`,
+// in cents.
 fn has_commission_sum(sums: &BTreeMap<u64, i128>, row: &BrokerRow) -> bool
     ensures { IsTrue result ↔ (pos row.now.commissions ≡ sum_at_key nat_cmp sums.now row.now.broker.id) }
 {
@@ -62,7 +64,8 @@ fn has_commission_sum(sums: &BTreeMap<u64, i128>, row: &BrokerRow) -> bool
     i128::from(row.commissions) == sum
 }
 
-// Returns true if the commission total of each broker is the sum at the broker's id in `sums`.
+// Returns true if the commission total in each broker's row is the sum at the broker's id in
+// `sums`, in cents.
 fn all_brokers_have_commission_sums(sums: &BTreeMap<u64, i128>, rows: &[BrokerRow]) -> bool
     ensures { IsTrue result ↔ AllByRecursion (λ row. pos row.commissions ≡ sum_at_key nat_cmp sums.now row.broker.id) rows.now }
 {

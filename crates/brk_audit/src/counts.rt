@@ -22,8 +22,8 @@ use brk_ref::BrokerRow;
 use std::alloc::Global;
 use std::collections::BTreeMap;
 
-// Returns the posting of 1 at the broker of the trade's account, or `None` if the trade is not
-// completed.
+// Returns the amount 1 as a posting at the broker of the trade's account, or `None` if the trade is
+// not completed. The map `terms` has the broker of its account.
 fn count_posting_of_trade(
     terms: &BTreeMap<u64, AccountTerms>,
     trade: &TradeRow,
@@ -37,7 +37,8 @@ fn count_posting_of_trade(
     Some(Posting { key, amount: 1 })
 }
 
-// Returns the postings of 1 for all completed trades. Fails with `Memory` only.
+// Returns, for each completed trade, the amount 1 as a posting at the broker of its account. Fails
+// with `Memory` only.
 fn count_postings_of_trades(
     alloc: Global,
     terms: &BTreeMap<u64, AccountTerms>,
@@ -53,7 +54,7 @@ fn count_postings_of_trades(
     Ok(all)
 }
 
-// Returns true if the broker's trade count is the sum at the broker's id in `sums`.
+// Returns true if the trade count in the broker's row is the sum at the broker's id in `sums`.
 fn has_trade_count(sums: &BTreeMap<u64, i128>, row: &BrokerRow) -> bool
     ensures { IsTrue result ↔ (row.now.trades ≡ sum_at_key nat_cmp sums.now row.now.broker.id) }
 {
@@ -61,7 +62,7 @@ fn has_trade_count(sums: &BTreeMap<u64, i128>, row: &BrokerRow) -> bool
     i128::from(row.trades) == count
 }
 
-// Returns true if the trade count of each broker is the sum at the broker's id in `sums`.
+// Returns true if the trade count in each broker's row is the sum at the broker's id in `sums`.
 fn all_brokers_have_trade_counts(sums: &BTreeMap<u64, i128>, rows: &[BrokerRow]) -> bool
     ensures { IsTrue result ↔ AllByRecursion (λ row. row.trades ≡ sum_at_key nat_cmp sums.now row.broker.id) rows.now }
 {

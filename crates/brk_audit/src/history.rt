@@ -23,8 +23,8 @@ use brk_money::Fault;
 use std::alloc::Global;
 use std::cmp::Ordering;
 
-// Appends to `rows` the lot changes of the trades `run`, which are completed trades of one
-// position, executed in order. Fails with `Memory` only.
+// Appends to `rows` the lot changes of the completed trades `run`, which all have one account and
+// symbol and are sorted by stamp. Fails with `Memory` only.
 fn append_lot_changes_of_trades(
     alloc: Global,
     rows: &mut Vec<DealTouch>,
@@ -41,7 +41,8 @@ fn append_lot_changes_of_trades(
     Ok(())
 }
 
-// Returns the lot changes of the completed trades, position by position. Fails with `Memory` only.
+// Returns the lot changes of the completed trades `done`, position by position. The trades are
+// sorted by account, symbol and stamp. Fails with `Memory` only.
 fn lot_changes_of_trades(alloc: Global, done: &[&TradeRow]) -> Result<Vec<DealTouch>, Fault>
     requires order { IsSortedBy (λ one other. is_before_by_position (abstract_trade_row one.now) (abstract_trade_row other.now)) done.now }
     requires apart { IsDistinct has_same_id_or_stamp (map (λ row. abstract_trade_row row.now) done.now) }
@@ -60,7 +61,7 @@ fn lot_changes_of_trades(alloc: Global, done: &[&TradeRow]) -> Result<Vec<DealTo
     Ok(rows)
 }
 
-// Compares two changes by lot, then by trade.
+// Returns the order of two lot changes by lot, then by trade.
 fn compare_lot_changes(one: &DealTouch, other: &DealTouch) -> Ordering
     ensures { is_lt result ≡ is_row_key_less holding_history_key (abstract_deal_touch one.now) (abstract_deal_touch other.now) }
 {
@@ -69,7 +70,7 @@ fn compare_lot_changes(one: &DealTouch, other: &DealTouch) -> Ordering
     lots.then(trades)
 }
 
-// Sorts the changes by lot, then by trade.
+// Sorts the lot changes by lot, then by trade, ascending.
 fn sort_lot_changes(rows: &mut Vec<DealTouch>)
     ensures permutation { IsPermutation rows.old.items rows.new.items }
     ensures order { IsSortedBy (λ one other. is_row_key_less holding_history_key (abstract_deal_touch one) (abstract_deal_touch other)) rows.new.items }
@@ -77,7 +78,8 @@ fn sort_lot_changes(rows: &mut Vec<DealTouch>)
     rows.sort_unstable_by(|one, other| compare_lot_changes(one, other));
 }
 
-// Returns true if the row of HOLDING_HISTORY equals the lot change.
+// Returns true if the lot change has the lot, the trade and both quantities of the row of
+// HOLDING_HISTORY.
 fn lot_change_equals_row(touch: &DealTouch, row: &LotChange) -> bool
     ensures { IsTrue result ↔ (abstract_deal_touch touch.now ≡ abstract_lot_change_row row.now) }
 {
@@ -87,7 +89,8 @@ fn lot_change_equals_row(touch: &DealTouch, row: &LotChange) -> bool
         && touch.touch.after == row.after
 }
 
-// Returns true if the rows of HOLDING_HISTORY equal the lot changes, in order.
+// Returns true if the lot changes equal the rows of HOLDING_HISTORY, one by one, in the order of
+// both lists.
 fn lot_changes_equal_rows(touches: &[DealTouch], rows: &[LotChange]) -> bool
     ensures { IsTrue result ↔ (map abstract_deal_touch touches.now ≡ map abstract_lot_change_row rows.now) }
 {

@@ -1,5 +1,5 @@
-//! The audit of a desk's rows: each row is well-formed, and the derived tables equal those that
-//! follow from the others.
+//! The audit of a desk's rows: each row is well-formed, and the derived tables equal the tables
+//! that are computed from the base tables.
 #![tactic(auto)]
 
 pub mod account_terms;

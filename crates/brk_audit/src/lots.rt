@@ -19,7 +19,7 @@ use brk_lots::Lot;
 use brk_money::Fault;
 use std::alloc::Global;
 
-// Appends to `held` the HOLDING rows of the lots, with the account and the symbol of the trade.
+// Appends to `held` the rows of HOLDING of the lots, with the account and the symbol of the trade.
 // Fails with `Memory` only.
 fn append_holding_rows(
     held: &mut Vec<HoldingRow>,
@@ -43,8 +43,8 @@ fn append_holding_rows(
     Ok(())
 }
 
-// Returns the HOLDING rows of the lots that the completed trades leave, position by position. Fails
-// with `Memory` only.
+// Returns the rows of HOLDING of the lots that remain after the completed trades `done`, position
+// by position. The trades are sorted by account, symbol and stamp. Fails with `Memory` only.
 fn lots_left_by_trades(alloc: Global, done: &[&TradeRow]) -> Result<Vec<HoldingRow>, Fault>
     requires order { IsSortedBy (λ one other. is_before_by_position (abstract_trade_row one.now) (abstract_trade_row other.now)) done.now }
     requires apart { IsDistinct has_same_id_or_stamp (map (λ row. abstract_trade_row row.now) done.now) }
@@ -64,7 +64,7 @@ fn lots_left_by_trades(alloc: Global, done: &[&TradeRow]) -> Result<Vec<HoldingR
     Ok(held)
 }
 
-// Returns true if the two rows are equal.
+// Returns true if the two rows of HOLDING are equal in all columns.
 fn are_holding_rows_equal(one: &HoldingRow, other: &HoldingRow) -> bool
     ensures { IsTrue result ↔ (abstract_holding_row one.now ≡ abstract_holding_row other.now) }
 {
@@ -76,7 +76,7 @@ fn are_holding_rows_equal(one: &HoldingRow, other: &HoldingRow) -> bool
         && one.qty == other.qty
 }
 
-// Returns true if the two lists of rows are equal.
+// Returns true if the two lists of rows of HOLDING are equal.
 fn are_holding_lists_equal(rows: &[HoldingRow], others: &[HoldingRow]) -> bool
     ensures { IsTrue result ↔ (map abstract_holding_row rows.now ≡ map abstract_holding_row others.now) }
 {
@@ -92,7 +92,7 @@ fn are_holding_lists_equal(rows: &[HoldingRow], others: &[HoldingRow]) -> bool
 }
 
 /// Returns true if the rows satisfy the condition `Lots`: the rows of HOLDING are exactly the lots
-/// that the completed trades leave. Fails with `Memory` only.
+/// that remain after the completed trades. Fails with `Memory` only.
 pub(crate) fn lot_condition_holds(alloc: Global, sheets: &Sheets) -> Result<bool, Fault>
     requires form { HasWellFormedRows sheets.now }
     requires status { HasValidStatuses sheets.now }

@@ -16,7 +16,8 @@ use brk_money::{Fault, Status};
 use std::alloc::Global;
 use std::cmp::Ordering;
 
-// Returns the completed trades, in the order of their rows. Fails with `Memory` only.
+// Returns those of the trades whose status is `Completed`, in the order of the rows. Fails with
+// `Memory` only.
 fn collect_completed_trades(alloc: Global, trades: &[TradeRow]) -> Result<Vec<&TradeRow>, Fault>
     ensures done { IfOk result (λ done. map (λ row. abstract_trade_row row.now) done.items ≡ filter is_completed_row (map abstract_trade_row trades.now)) }
     ensures fault { IfErr result (λ fault. fault ≡ Memory) }
@@ -30,7 +31,7 @@ fn collect_completed_trades(alloc: Global, trades: &[TradeRow]) -> Result<Vec<&T
     Ok(done)
 }
 
-// Compares two trades by account, then by symbol, then by stamp.
+// Returns the order of two trades by account, then by symbol, then by stamp.
 fn compare_trades_by_position(one: &TradeRow, other: &TradeRow) -> Ordering
     ensures { is_lt result ≡ is_before_by_position (abstract_trade_row one.now) (abstract_trade_row other.now) }
 {
@@ -44,7 +45,7 @@ fn compare_trades_by_position(one: &TradeRow, other: &TradeRow) -> Ordering
     accounts.then(symbols.then(moments))
 }
 
-// Sorts the trades by account, then by symbol, then by stamp.
+// Sorts the trades by account, then by symbol, then by stamp, ascending.
 fn sort_trades_by_position(done: &mut Vec<&TradeRow>)
     ensures permutation { IsPermutation done.old.items done.new.items }
     ensures order { IsSortedBy (λ one other. is_before_by_position (abstract_trade_row one.now) (abstract_trade_row other.now)) done.new.items }
@@ -52,14 +53,16 @@ fn sort_trades_by_position(done: &mut Vec<&TradeRow>)
     done.sort_unstable_by(|one, other| compare_trades_by_position(one, other));
 }
 
-/// Returns the completed trades, sorted by account, then by symbol, then by stamp. Fails with
-/// `Memory` only.
+/// Returns the completed trades, sorted by account, then by symbol, then by stamp, ascending. Fails
+/// with `Memory` only.
 pub(crate) fn completed_trades_by_position(
     alloc: Global,
     trades: &[TradeRow],
 ) -> Result<Vec<&TradeRow>, Fault>
-    ensures done { IfOk result (λ done. IsPermutation (filter is_completed_row (map abstract_trade_row trades.now)) (map (λ row. abstract_trade_row row.now) done.items)) }
-    ensures order { IfOk result (λ done. IsSortedBy (λ one other. is_before_by_position (abstract_trade_row one.now) (abstract_trade_row other.now)) done.items) }
+    ensures done { IfOk result (λ done.
+        IsPermutation (filter is_completed_row (map abstract_trade_row trades.now)) (map (λ row. abstract_trade_row row.now) done.items)) }
+    ensures order { IfOk result (λ done.
+        IsSortedBy (λ one other. is_before_by_position (abstract_trade_row one.now) (abstract_trade_row other.now)) done.items) }
     ensures fault { IfErr result (λ fault. fault ≡ Memory) }
 {
     let mut done = collect_completed_trades(alloc, trades)?;
@@ -90,7 +93,8 @@ pub(crate) fn leading_trade_count_of_position(trade: &TradeRow, done: &[&TradeRo
     done.len()
 }
 
-/// Returns the deal of a completed trade.
+/// Returns the deal of a completed trade: its effect on its position, with the price at which it
+/// was completed.
 pub(crate) fn deal_of_completed_trade(row: &TradeRow) -> Deal
     requires { IsSome row.now.price }
     ensures { abstract_deal result ≡ deal_of_completed_row (abstract_trade_row row.now) }
@@ -105,7 +109,7 @@ pub(crate) fn deal_of_completed_trade(row: &TradeRow) -> Deal
     }
 }
 
-/// Returns the deals of completed trades. Fails with `Memory` only.
+/// Returns the deals of completed trades, in the order of the trades. Fails with `Memory` only.
 pub(crate) fn deals_of_completed_trades(
     alloc: Global,
     run: &[&TradeRow],
@@ -121,8 +125,8 @@ pub(crate) fn deals_of_completed_trades(
     Ok(deals)
 }
 
-/// Returns the position after the completed trades `run`, executed in order. Fails with `Memory`
-/// only.
+/// Returns the position after the completed trades `run`, executed in order from no lots. Fails
+/// with `Memory` only.
 pub(crate) fn position_after_trades(alloc: Global, run: &[&TradeRow]) -> Result<Position, Fault>
     requires priced { AllByRecursion (λ row. IsSome row.now.price) run.now }
     requires deals { AreAscendingDeals (map (λ row. deal_of_completed_row (abstract_trade_row row.now)) run.now) }

@@ -25,7 +25,7 @@ fn are_same_trade_type(kind: TradeType, other: TradeType) -> bool
     kind == other
 }
 
-// Returns true if the request has the symbol, the quantity and the bid of the trade.
+// Returns true if the request has the symbol, the quantity and the bid price of the trade.
 fn has_order_terms_of_trade(request: &RequestRow, trade: &TradeRow) -> bool
     ensures { IsTrue result ↔ ((request.now.symbol ≡ trade.now.symbol) × (request.now.qty ≡ trade.now.qty) × (request.now.bid ≡ trade.now.bid)) }
 {
@@ -34,7 +34,7 @@ fn has_order_terms_of_trade(request: &RequestRow, trade: &TradeRow) -> bool
         && request.bid == trade.bid
 }
 
-// Returns true if the request is exactly the TRADE_REQUEST row of the pending trade, with the
+// Returns true if the request is exactly the row of TRADE_REQUEST of the pending trade, with the
 // broker `broker`.
 fn request_matches_trade(request: &RequestRow, trade: &TradeRow, broker: u64) -> bool
     ensures { IsTrue result ↔ (abstract_request_row request.now ≡ request_row_of_trade (λ account. broker) (abstract_trade_row trade.now)) }
@@ -53,15 +53,17 @@ fn is_pending(status: Status) -> bool
 }
 
 // Returns the requests after the request of `trade`, or all requests if `trade` is not pending.
-// Returns `None` if the first request is not that of `trade`.
+// Returns `None` if `trade` is pending and the first request is not its request.
 fn requests_after_trade<'a>(
     requests: &'a [RequestRow],
     trade: &TradeRow,
     terms: &BTreeMap<u64, AccountTerms>,
 ) -> Option<&'a [RequestRow]>
     ensures { MatchOption result
-        (RowsCannotMatchTrades (λ q. q) (request_row_of_trade (broker_in_terms terms.now)) is_pending_row (map abstract_request_row requests.now) (abstract_trade_row trade.now))
-        (λ others. RowsMatchTradesIffOthersDo (λ q. q) (request_row_of_trade (broker_in_terms terms.now)) is_pending_row (map abstract_request_row requests.now) (abstract_trade_row trade.now) (map abstract_request_row others.now)) }
+        (RowsCannotMatchTrades (λ q. q) (request_row_of_trade (broker_in_terms terms.now)) is_pending_row
+        (map abstract_request_row requests.now) (abstract_trade_row trade.now))
+        (λ others. RowsMatchTradesIffOthersDo (λ q. q) (request_row_of_trade (broker_in_terms terms.now)) is_pending_row
+        (map abstract_request_row requests.now) (abstract_trade_row trade.now) (map abstract_request_row others.now)) }
 {
     if !is_pending(trade.status) {
         return Some(requests);
@@ -76,7 +78,8 @@ fn requests_after_trade<'a>(
     }
 }
 
-// Returns true if the requests are exactly those of the pending trades, in the order of the trades.
+// Returns true if the requests are exactly the requests of the pending trades, in the order of the
+// trades.
 fn requests_match_trades(
     requests: &[RequestRow],
     trades: &[TradeRow],
@@ -96,8 +99,8 @@ fn requests_match_trades(
     rest.is_empty()
 }
 
-/// Returns true if the rows satisfy the condition `Requests`: the requests are exactly those of the
-/// pending trades. Fails with `Memory` only.
+/// Returns true if the rows satisfy the condition `Requests`: the rows of TRADE_REQUEST are exactly
+/// the requests of the pending trades. Fails with `Memory` only.
 pub(crate) fn request_condition_holds(alloc: Global, sheets: &Sheets) -> Result<bool, Fault>
     requires form { HasWellFormedRows sheets.now }
     requires status { HasValidStatuses sheets.now }

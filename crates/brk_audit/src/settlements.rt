@@ -7,7 +7,8 @@ ghost use Rattle.brk_model.specs.Derived.{due_day_of_completion_stamp};
 ghost use Rattle.brk_audit.specs.AccountTerms.{tax_status_in_terms};
 ghost use Rattle.brk_audit.specs.Completed.{is_completed_row};
 ghost use Rattle.brk_audit.specs.Conditions.{HasWellFormedRows, HasValidStatuses};
-ghost use Rattle.brk_audit.specs.Settling.{RowsCannotMatchTrades, RowsMatchTradesIffOthersDo, settlement_amount_at_tax_status, settlement_figures_of_row, settlement_figures_of_trade};
+ghost use Rattle.brk_audit.specs.Settling.{RowsCannotMatchTrades, RowsMatchTradesIffOthersDo, settlement_amount_at_tax_status};
+ghost use Rattle.brk_audit.specs.Settling.{settlement_figures_of_row, settlement_figures_of_trade};
 ghost use Rattle.brk_changes.specs.Rows.{abstract_settlement_row, abstract_trade_row};
 ghost use Rattle.brk_changes.specs.Sheets.{abstract_sheets};
 
@@ -29,7 +30,8 @@ fn settles_on_day(day: Day, rule: Option<Day>, stamp: Stamp) -> bool
 }
 
 // Returns true if the settlement has the id, the due day and the settlement amount of the completed
-// trade, by the settlement day `rule` and the tax status of its account.
+// trade, by the settlement day `rule` and the tax status of its account. The settlement text is not
+// compared.
 fn settlement_matches_trade(
     settlement: &SettlementRow,
     trade: &TradeRow,
@@ -45,7 +47,7 @@ fn settlement_matches_trade(
 }
 
 // Returns the settlements after the settlement of `trade`, or all settlements if `trade` is not
-// completed. Returns `None` if the first settlement is not that of `trade`.
+// completed. Returns `None` if `trade` is completed and the first settlement is not its settlement.
 fn settlements_after_trade<'a>(
     settlements: &'a [SettlementRow],
     trade: &TradeRow,
@@ -53,8 +55,10 @@ fn settlements_after_trade<'a>(
     terms: &BTreeMap<u64, AccountTerms>,
 ) -> Option<&'a [SettlementRow]>
     ensures { MatchOption result
-        (RowsCannotMatchTrades settlement_figures_of_row (settlement_figures_of_trade rule.now (tax_status_in_terms terms.now)) is_completed_row (map abstract_settlement_row settlements.now) (abstract_trade_row trade.now))
-        (λ others. RowsMatchTradesIffOthersDo settlement_figures_of_row (settlement_figures_of_trade rule.now (tax_status_in_terms terms.now)) is_completed_row (map abstract_settlement_row settlements.now) (abstract_trade_row trade.now) (map abstract_settlement_row others.now)) }
+        (RowsCannotMatchTrades settlement_figures_of_row (settlement_figures_of_trade rule.now (tax_status_in_terms terms.now)) is_completed_row
+        (map abstract_settlement_row settlements.now) (abstract_trade_row trade.now))
+        (λ others. RowsMatchTradesIffOthersDo settlement_figures_of_row (settlement_figures_of_trade rule.now (tax_status_in_terms terms.now)) is_completed_row
+        (map abstract_settlement_row settlements.now) (abstract_trade_row trade.now) (map abstract_settlement_row others.now)) }
 {
     if !is_completed(trade.status) {
         return Some(settlements);
@@ -74,8 +78,8 @@ fn settlements_after_trade<'a>(
     }
 }
 
-// Returns true if the settlements are exactly those of the completed trades, in the order of the
-// trades.
+// Returns true if the settlements are exactly the settlements of the completed trades, in the order
+// of the trades. Settlement texts are not compared.
 fn settlements_match_trades(
     settlements: &[SettlementRow],
     trades: &[TradeRow],
@@ -96,8 +100,8 @@ fn settlements_match_trades(
     rest.is_empty()
 }
 
-/// Returns true if the rows satisfy the condition `Settlement`: the settlements are exactly those
-/// of the completed trades. Fails with `Memory` only.
+/// Returns true if the rows satisfy the condition `Settlement`: SETTLEMENT has exactly one row for
+/// each completed trade, with its due day and its settlement amount. Fails with `Memory` only.
 pub(crate) fn settlement_condition_holds(alloc: Global, sheets: &Sheets) -> Result<bool, Fault>
     requires form { HasWellFormedRows sheets.now }
     requires status { HasValidStatuses sheets.now }

@@ -40,22 +40,23 @@ fn is_before(first: Stamp, second: Stamp) -> bool
     first.get() < second.get()
 }
 
-// Returns true if a trade can begin with the status: `Submitted` or `Pending`.
+// Returns true if the history of a trade can begin with the status: `Submitted` or `Pending`.
 fn is_first_status(status: Status) -> bool
     ensures { result ≡ spec.is_first_status status }
 {
     matches!(status, Status::Submitted | Status::Pending)
 }
 
-// Returns true if the trade's row has the status and the stamp of the history row.
+// Returns true if the trade's row has the status and the stamp of the row of TRADE_HISTORY.
 fn has_status_and_stamp_of_row(trade: &TradeRow, row: HistoryRow) -> bool
     ensures { result ≡ spec.has_status_and_stamp_of_row (abstract_trade_row trade.now) (abstract_history_row row) }
 {
     trade.status == row.status && trade.stamp == row.stamp
 }
 
-// Returns true if the history of the two rows, sorted by status code, is a valid status sequence by
-// their stamps, and the trade's row has the status and the stamp of its last row.
+// Returns true if the statuses of the rows `a` and `b`, which are sorted by status code, form a
+// valid status sequence in the order of their stamps, and the trade's row has the status and the
+// stamp of the later one.
 fn is_valid_two_row_history(trade: &TradeRow, a: HistoryRow, b: HistoryRow) -> bool
     ensures { result ≡ spec.is_valid_two_row_history (abstract_trade_row trade.now) (abstract_history_row a) (abstract_history_row b) }
 {
@@ -70,8 +71,9 @@ fn is_valid_two_row_history(trade: &TradeRow, a: HistoryRow, b: HistoryRow) -> b
     }
 }
 
-// Returns true if the history of the three rows, sorted by status code, is a valid status sequence
-// by their stamps, and the trade's row has the status and the stamp of its last row.
+// Returns true if the statuses of the rows `a`, `b` and `c`, which are sorted by status code, form
+// a valid status sequence in the order of their stamps, and the trade's row has the status and the
+// stamp of the last one.
 fn is_valid_three_row_history(trade: &TradeRow, a: HistoryRow, b: HistoryRow, c: HistoryRow) -> bool
     ensures { result
         ≡ spec.is_valid_three_row_history (abstract_trade_row trade.now) (abstract_history_row a) (abstract_history_row b) (abstract_history_row c) }
@@ -86,8 +88,9 @@ fn is_valid_three_row_history(trade: &TradeRow, a: HistoryRow, b: HistoryRow, c:
     }
 }
 
-// Returns true if the history rows of the trade, sorted by status code, are a valid status sequence
-// by their stamps, and the trade's row has the status and the stamp of the last one.
+// Returns true if the statuses of the history rows, which are sorted by status code, form a valid
+// status sequence in the order of their stamps, and the trade's row has the status and the stamp of
+// the last one. Returns false if there are no rows.
 fn is_valid_trade_history(trade: &TradeRow, rows: &[HistoryRow]) -> bool
     ensures { result ≡ spec.is_valid_history (abstract_trade_row trade.now) (map abstract_history_row rows.now) }
 {
@@ -99,7 +102,7 @@ fn is_valid_trade_history(trade: &TradeRow, rows: &[HistoryRow]) -> bool
     }
 }
 
-// Returns the number of rows at the beginning of `history` that belong to the trade.
+// Returns the number of rows at the beginning of `history` that belong to the trade with the id.
 fn leading_row_count_of_trade(history: &[HistoryRow], trade: Id) -> usize
     ensures { result ≡ prefix_len (λ h. h.trade == trade) history.now }
 {
@@ -111,8 +114,9 @@ fn leading_row_count_of_trade(history: &[HistoryRow], trade: Id) -> usize
     history.len()
 }
 
-// Returns true if the history rows of each trade are a valid status sequence. The history rows are
-// listed in the order of the trades.
+// Returns true if `history` begins with the rows of the first trade, then has the rows of the
+// second, and so on, and the rows of each trade are a valid history of it
+// (`is_valid_trade_history`). Rows after those of the last trade are not checked.
 fn all_histories_are_valid(trades: &[TradeRow], history: &[HistoryRow]) -> bool
     ensures { result ≡ spec.all_histories_are_valid (map abstract_trade_row trades.now) (map abstract_history_row history.now) }
 {
@@ -127,8 +131,8 @@ fn all_histories_are_valid(trades: &[TradeRow], history: &[HistoryRow]) -> bool
     true
 }
 
-// Inserts the stamp of the row into `seen` if the row is a completion. Returns false if the stamp
-// was in the set before, otherwise true. Fails with `Memory` only.
+// Inserts the stamp of the row into `seen` if the row is a completion. Returns false if it is one
+// and the set already contained the stamp, otherwise true. Fails with `Memory` only.
 fn insert_completion_stamp(seen: &mut BTreeSet<u64>, row: &HistoryRow) -> Result<bool, Fault>
     ensures new { IfOk result (λ new. new ≡ not (is_same_trade_status row.now.status Completed && contains nat_cmp seen.old row.now.stamp)) }
     ensures seen { OnOk result ((q : ℕ)
@@ -143,7 +147,7 @@ fn insert_completion_stamp(seen: &mut BTreeSet<u64>, row: &HistoryRow) -> Result
 }
 
 // Inserts the stamp of the row into `seen` if the row is a deposit or a withdrawal. Returns false
-// if the stamp was in the set before, otherwise true. Fails with `Memory` only.
+// if it is one and the set already contained the stamp, otherwise true. Fails with `Memory` only.
 fn insert_movement_stamp(seen: &mut BTreeSet<u64>, row: &MoveRow) -> Result<bool, Fault>
     ensures new { IfOk result (λ new. new ≡ not (is_none row.now.trade && contains nat_cmp seen.old row.now.stamp)) }
     ensures seen { OnOk result ((q : ℕ) → contains nat_cmp seen.new q ≡ contains nat_cmp seen.old q || (is_none row.now.trade && (row.now.stamp == q))) }
@@ -156,8 +160,8 @@ fn insert_movement_stamp(seen: &mut BTreeSet<u64>, row: &MoveRow) -> Result<bool
     Ok(new)
 }
 
-// Returns true if no two completions, deposits or withdrawals have the same stamp. Fails with
-// `Memory` only.
+// Returns true if no two of the completions in `history` and the deposits and withdrawals in
+// `moves` have the same stamp. Fails with `Memory` only.
 fn has_distinct_stamps(
     alloc: Global,
     history: &[HistoryRow],

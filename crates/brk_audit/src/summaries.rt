@@ -29,8 +29,8 @@ fn signed_shares(side: Side, qty: u32) -> i64
     }
 }
 
-// Returns the posting of the trade's signed quantity at its account and symbol, or `None` if the
-// trade is not completed.
+// Returns the trade's quantity, negated for a sale, as a posting at its account and symbol, or
+// `None` if the trade is not completed.
 fn share_posting_of_row(trade: &TradeRow) -> Option<Posting<(u64, &str)>>
     ensures { option_map posting_with_owned_symbol result ≡ share_posting_of_trade (abstract_trade_row trade.now) }
 {
@@ -42,7 +42,8 @@ fn share_posting_of_row(trade: &TradeRow) -> Option<Posting<(u64, &str)>>
     Some(Posting { key, amount })
 }
 
-// Returns the postings of the signed quantities of all completed trades. Fails with `Memory` only.
+// Returns the quantities of all completed trades, negated for sales, as postings at their accounts
+// and symbols. Fails with `Memory` only.
 fn share_postings_of_trades<'a>(
     alloc: Global,
     trades: &'a [TradeRow],
@@ -59,7 +60,7 @@ fn share_postings_of_trades<'a>(
     Ok(all)
 }
 
-// Returns the posting of the summary's quantity at its account and symbol.
+// Returns the quantity of the holding summary as a posting at its account and symbol.
 fn posting_of_summary(row: &SummaryRow) -> Posting<(u64, &str)>
     ensures { posting_with_owned_symbol result ≡ share_posting_of_summary (abstract_summary_row row.now) }
 {
@@ -68,7 +69,8 @@ fn posting_of_summary(row: &SummaryRow) -> Posting<(u64, &str)>
     Posting { key, amount }
 }
 
-// Returns the postings of the quantities of all summaries. Fails with `Memory` only.
+// Returns the quantities of all holding summaries as postings at their accounts and symbols. Fails
+// with `Memory` only.
 fn postings_of_summaries<'a>(
     alloc: Global,
     rows: &'a [SummaryRow],
@@ -83,7 +85,8 @@ fn postings_of_summaries<'a>(
     Ok(all)
 }
 
-// Returns true if the two maps have equal sums at the key of each posting.
+// Returns true if the maps `sums` and `told` have equal sums at the key of each posting. A key that
+// a map does not contain has the sum 0.
 fn sums_agree_at_postings<K: Ord + Copy>(
     sums: &BTreeMap<K, i128>,
     told: &BTreeMap<K, i128>,
@@ -106,7 +109,7 @@ fn is_nonzero(qty: i64) -> bool
     qty != 0
 }
 
-// Returns true if no summary has the quantity 0.
+// Returns true if no holding summary has the quantity 0.
 fn all_summaries_nonzero(rows: &[SummaryRow]) -> bool
     ensures { IsTrue result ↔ AllByRecursion (λ r. is_zero r.qty ≡ false) rows.now }
 {
@@ -118,15 +121,16 @@ fn all_summaries_nonzero(rows: &[SummaryRow]) -> bool
     true
 }
 
-/// Returns true if all three conditions are true.
+/// Returns true if all three arguments are true.
 pub(crate) fn all_three_true(one: bool, other: bool, last: bool) -> bool
     ensures { IsTrue result ↔ (IsTrue one × IsTrue other × IsTrue last) }
 {
     one && other && last
 }
 
-/// Returns true if the rows satisfy the condition `Summary`: the summaries of each position sum to
-/// the shares of its completed trades, and no summary has the quantity 0. Fails with `Memory` only.
+/// Returns true if the rows satisfy the condition `Summary`: for each account and symbol, the
+/// holding summaries sum to the quantities of the completed trades, purchases minus sales, and no
+/// summary has the quantity 0. Fails with `Memory` only.
 pub(crate) fn summary_condition_holds(alloc: Global, sheets: &Sheets) -> Result<bool, Fault>
     requires form { HasWellFormedRows sheets.now }
     requires status { HasValidStatuses sheets.now }

@@ -9,7 +9,7 @@ use brk_money::Fault;
 use std::alloc::Global;
 use std::collections::BTreeMap;
 
-/// An amount that is added to the sum at a key.
+/// An amount, and the key at which a tally adds it to a sum.
 #[derive(Drop)]
 pub(crate) struct Posting<K> {
     pub key: K,
@@ -25,8 +25,8 @@ fn sum_plus_amount(sum: i128, amount: i64) -> i128
     sum + i128::from(amount)
 }
 
-// Adds the amount of the posting to the sum at its key; a key that the map does not contain has the
-// sum 0. Fails with `Memory` only.
+// Adds the amount of the posting to the sum at its key in the map; a key that the map does not
+// contain has the sum 0. Fails with `Memory` only.
 fn add_posting<K: Ord + Copy>(
     tally: &mut BTreeMap<K, i128>,
     posting: &Posting<K>,
@@ -44,7 +44,8 @@ fn add_posting<K: Ord + Copy>(
     Ok(())
 }
 
-/// Returns a map from each key of the postings to the sum of its amounts. Fails with `Memory` only.
+/// Returns a map from each key of the postings to the sum of the amounts of the postings with this
+/// key. Fails with `Memory` only.
 pub(crate) fn tally<K: Ord + Copy>(
     alloc: Global,
     postings: &[Posting<K>],
@@ -59,7 +60,7 @@ pub(crate) fn tally<K: Ord + Copy>(
     Ok(tally)
 }
 
-/// Returns the sum at the key, or 0 if the map does not contain the key.
+/// Returns the sum at the key in the map, or 0 if the map does not contain the key.
 pub(crate) fn sum_or_zero_at_key<K: Ord + Copy>(tally: &BTreeMap<K, i128>, key: K) -> i128
     ensures { result ≡ sum_at_key K.cmp tally.now key }
 {

@@ -3,15 +3,25 @@ use Rattle.std.specs.Prelude.{Bool, true, ◌&&◌, filter, is_none, length, map
 use Rattle.std.specs.List.{list_all, range_with_len}
 use Rattle.brk_model.specs.Limits.{greatest_id}
 use Rattle.brk_model.specs.Schemas.{Schema}
-use Rattle.brk_model.specs.Keys.{kept_key, broker_key, customer_key, account_key, permission_key, security_key, last_trade_key, charge_key, band_key, tax_rate_key, customer_tax_key, trade_key, history_key, request_key, holding_key, summary_key, holding_history_key, settlement_key, cash_key, move_key}
-use Rattle.brk_model.specs.Form.{tables_are_sorted_by_unique_key, bands_are_disjoint, are_equal_number_lists, is_sorted_by_unique_key, is_well_formed_kept_row, is_well_formed_broker_row, is_well_formed_customer_row, is_well_formed_account_row, is_well_formed_permission_row, is_well_formed_security_row, is_well_formed_last_trade_row, is_well_formed_charge_row, is_well_formed_band_row, is_well_formed_tax_rate_row, is_well_formed_customer_tax_row, is_well_formed_trade_row, is_well_formed_history_row, is_well_formed_request_row, is_well_formed_holding_row, is_well_formed_summary_row, is_well_formed_holding_history_row, is_well_formed_settlement_row, lacks_rows_of_later_schemas, is_last_stamp_in_calendar, is_settlement_day_in_calendar}
-use Rattle.brk_ref.specs.Records.{abstract_kept_row, abstract_broker_row, abstract_customer, abstract_account_row, abstract_permission, abstract_security_row, abstract_last_trade_row, abstract_charge, abstract_band, abstract_tax_rate, abstract_customer_tax}
-use Rattle.brk_changes.specs.Rows.{abstract_trade_row, abstract_history_row, abstract_request_row, abstract_holding_row, abstract_summary_row, abstract_lot_change_row, abstract_settlement_row, abstract_cash_row, abstract_move_row}
+use Rattle.brk_model.specs.Keys.{kept_key, broker_key, customer_key, account_key, permission_key, security_key, last_trade_key}
+use Rattle.brk_model.specs.Keys.{charge_key, band_key, tax_rate_key, customer_tax_key, trade_key, history_key, request_key}
+use Rattle.brk_model.specs.Keys.{holding_key, summary_key, holding_history_key, settlement_key, cash_key, move_key}
+use Rattle.brk_model.specs.Form.{tables_are_sorted_by_unique_key, bands_are_disjoint, are_equal_number_lists, is_sorted_by_unique_key}
+use Rattle.brk_model.specs.Form.{is_well_formed_kept_row, is_well_formed_broker_row, is_well_formed_customer_row, is_well_formed_account_row}
+use Rattle.brk_model.specs.Form.{is_well_formed_permission_row, is_well_formed_security_row, is_well_formed_last_trade_row, is_well_formed_charge_row}
+use Rattle.brk_model.specs.Form.{is_well_formed_band_row, is_well_formed_tax_rate_row, is_well_formed_customer_tax_row, is_well_formed_trade_row}
+use Rattle.brk_model.specs.Form.{is_well_formed_history_row, is_well_formed_request_row, is_well_formed_holding_row, is_well_formed_summary_row}
+use Rattle.brk_model.specs.Form.{is_well_formed_holding_history_row, is_well_formed_settlement_row, lacks_rows_of_later_schemas, is_last_stamp_in_calendar}
+use Rattle.brk_model.specs.Form.{is_settlement_day_in_calendar}
+use Rattle.brk_ref.specs.Records.{abstract_kept_row, abstract_broker_row, abstract_customer, abstract_account_row, abstract_permission, abstract_security_row}
+use Rattle.brk_ref.specs.Records.{abstract_last_trade_row, abstract_charge, abstract_band, abstract_tax_rate, abstract_customer_tax}
+use Rattle.brk_changes.specs.Rows.{abstract_trade_row, abstract_history_row, abstract_request_row, abstract_holding_row, abstract_summary_row}
+use Rattle.brk_changes.specs.Rows.{abstract_lot_change_row, abstract_settlement_row, abstract_cash_row, abstract_move_row}
 use Rattle.brk_changes.specs.Sheets.{abstract_sheets}
 use Rattle.brk_changes.specs.declared.sheets.Sheets.{Sheets}
 
--- True if KEPT, LAST_TRADE and each table of reference data are sorted by key, and no key occurs
--- twice.
+-- True if KEPT, LAST_TRADE and each table of reference data of the typed rows `s` are sorted by
+-- key, ascending, and no key occurs twice in a table.
 abbrev pub reference_tables_are_sorted : Sheets → Bool
 reference_tables_are_sorted s =
     is_sorted_by_unique_key (λ r. kept_key (abstract_kept_row r)) s.kept.items
@@ -26,8 +36,8 @@ reference_tables_are_sorted s =
     && is_sorted_by_unique_key (λ r. tax_rate_key (abstract_tax_rate r)) s.tax_rates.items
     && is_sorted_by_unique_key (λ r. customer_tax_key (abstract_customer_tax r)) s.customer_taxes.items
 
--- True if each table of trades, lots, settlements and cash is sorted by key, and no key occurs
--- twice.
+-- True if each table of trades, lots, settlements and cash of the typed rows `s` is sorted by key,
+-- ascending, and no key occurs twice in a table.
 abbrev pub trading_tables_are_sorted : Sheets → Bool
 trading_tables_are_sorted s =
     is_sorted_by_unique_key (λ r. trade_key (abstract_trade_row r)) s.trades.items
@@ -40,7 +50,8 @@ trading_tables_are_sorted s =
     && is_sorted_by_unique_key (λ r. cash_key (abstract_cash_row r)) s.cash.items
     && is_sorted_by_unique_key (λ r. move_key (abstract_move_row r)) s.moves.items
 
--- True if the rows of KEPT, of LAST_TRADE and of reference data are well-formed.
+-- True if each of the typed rows `s` of KEPT, of LAST_TRADE and of reference data is well-formed
+-- and within the limits of the schema, and each record that it refers to exists.
 abbrev pub reference_rows_are_well_formed : Schema → Sheets → Bool
 reference_rows_are_well_formed schema s =
     list_all (λ r. is_well_formed_kept_row (abstract_kept_row r)) s.kept.items
@@ -55,7 +66,9 @@ reference_rows_are_well_formed schema s =
     && list_all (λ r. is_well_formed_tax_rate_row (abstract_tax_rate r)) s.tax_rates.items
     && list_all (λ r. is_well_formed_customer_tax_row (abstract_sheets s) (abstract_customer_tax r)) s.customer_taxes.items
 
--- True if the rows of trades, lots and settlements are well-formed; cash rows are not checked.
+-- True if each of the typed rows `s` of trades, requests, lots, summaries and settlements is
+-- well-formed and within the limits of the schema, and each record that it refers to exists. Cash
+-- rows are not checked.
 abbrev pub trading_rows_are_well_formed : Schema → Sheets → Bool
 trading_rows_are_well_formed schema s =
     list_all (λ r. is_well_formed_trade_row schema (abstract_sheets s) (abstract_trade_row r)) s.trades.items
@@ -66,8 +79,8 @@ trading_rows_are_well_formed schema s =
     && list_all (λ r. is_well_formed_holding_history_row (abstract_sheets s) (abstract_lot_change_row r)) s.holding_history.items
     && list_all (λ r. is_well_formed_settlement_row (abstract_sheets s) (abstract_settlement_row r)) s.settlements.items
 
--- True if the typed rows pass those checks of the condition `Form` that do not allocate: all but
--- those of tax ids, of the limits of customers, and of cash rows.
+-- True if the typed rows `s` pass those checks of the condition `Form` that do not allocate: all
+-- but the checks of tax ids, of the limits of customers, and of cash rows.
 abbrev pub passes_nonallocating_form_checks : Schema → Sheets → Bool
 passes_nonallocating_form_checks schema s =
     tables_are_sorted_by_unique_key (abstract_sheets s) && reference_rows_are_well_formed schema s && is_last_stamp_in_calendar s.last

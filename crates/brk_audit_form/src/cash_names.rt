@@ -19,7 +19,7 @@ use brk_money::{Cents, Fault, Id, Qty};
 use brk_ref::Symbol;
 use std::alloc::{AllocError, Global};
 
-// Returns the name of the security, or the empty text if it does not exist.
+// Returns the name of the security with the symbol, or the empty text if it does not exist.
 fn security_name<'a>(sheets: &'a Sheets, symbol: &Symbol) -> &'a str
     requires { HasSortedKeys sheets.now }
     ensures { result.now ≡ security_name_or_empty (abstract_sheets sheets.now) symbol.now }
@@ -30,15 +30,16 @@ fn security_name<'a>(sheets: &'a Sheets, symbol: &Symbol) -> &'a str
     }
 }
 
-// Appends a space, the quantity and `words` to `name`. Fails if an allocation is refused.
+// Appends a space, the quantity in decimal digits, and `words` to `name`. Fails if an allocation is
+// refused.
 fn append_quantity_words(name: &mut String, qty: Qty, words: &str) -> Result<(), AllocError>
     ensures { OnOk result (string_bytes name.new ≡ string_bytes name.old ++ (32 ∷ decimal qty ++ words.now)) }
 {
     write!(name, " {}{}", qty.get(), words)
 }
 
-// Returns the cash text of the trade: the name of its type, a space, its quantity, `words`, and
-// `security`, the name of its security. Fails with `Memory` only.
+// Returns the cash text of the trade: the name of its type, a space, its quantity in decimal
+// digits, `words`, and `security`, the name of its security. Fails with `Memory` only.
 fn format_cash_text_of_trade(
     alloc: Global,
     trade: &TradeRow,
@@ -54,7 +55,8 @@ fn format_cash_text_of_trade(
     Ok(name)
 }
 
-// Returns true if `name` is one of the two cash texts of the trade. Fails with `Memory` only.
+// Returns true if `name` is one of the two cash texts of the trade: the name of its type, its
+// quantity, ` shares of ` or ` Shares of `, and the name of its security. Fails with `Memory` only.
 fn is_cash_text_of_trade(
     alloc: Global,
     sheets: &Sheets,
@@ -74,8 +76,8 @@ fn is_cash_text_of_trade(
     Ok(name == second.as_str())
 }
 
-// Returns true if the trade with the id exists and `name` is one of its two cash texts. Fails with
-// `Memory` only.
+// Returns true if the trade with the id exists and `name` is one of its two cash texts, with
+// ` shares of ` or with ` Shares of `. Fails with `Memory` only.
 fn is_cash_text_of_trade_id(
     alloc: Global,
     sheets: &Sheets,
@@ -109,7 +111,7 @@ fn cash_row_is_well_formed(alloc: Global, sheets: &Sheets, row: &CashRow) -> Res
     )
 }
 
-// Returns true if the text is "Deposit" and the amount is above 0, or the text is "Withdrawal" and
+// Returns true if the text is `Deposit` and the amount is above 0, or the text is `Withdrawal` and
 // the amount is below 0.
 fn movement_name_matches_sign(name: &str, amount: Cents) -> bool
     ensures { result ≡ form.is_movement_name_and_amount name.now amount }
@@ -117,13 +119,15 @@ fn movement_name_matches_sign(name: &str, amount: Cents) -> bool
     (name == "Deposit" && 0 < amount.get()) || (name == "Withdrawal" && amount.get() < 0)
 }
 
-// Returns true if the text of the row is one of the two cash texts of its trade. Without a trade,
-// the text must be "Deposit" with an amount above 0, or "Withdrawal" with an amount below 0. Fails
+// Returns true if the row of CASH_MOVE has a trade, the trade exists, and the text of the row is
+// one of the two cash texts of that trade. If the row has no trade, returns true if its text is
+// `Deposit` and its amount is above 0, or its text is `Withdrawal` and its amount is below 0. Fails
 // with `Memory` only.
 fn has_valid_cash_text(alloc: Global, sheets: &Sheets, row: &MoveRow) -> Result<bool, Fault>
     requires { HasSortedKeys sheets.now }
     ensures value { IfOk result (λ holds. holds
-        ≡ option_map_or (form.has_cash_row_name_of_trade (abstract_sheets sheets.now) (abstract_move_row row.now)) row.now.trade (form.is_movement_name_and_amount (string_bytes row.now.name) row.now.amount)) }
+        ≡ option_map_or (form.has_cash_row_name_of_trade (abstract_sheets sheets.now) (abstract_move_row row.now)) row.now.trade
+        (form.is_movement_name_and_amount (string_bytes row.now.name) row.now.amount)) }
     ensures fault { IfErr result (λ fault. fault ≡ Memory) }
 {
     match row.trade {
@@ -133,8 +137,8 @@ fn has_valid_cash_text(alloc: Global, sheets: &Sheets, row: &MoveRow) -> Result<
 }
 
 // Returns true if the row of CASH_MOVE is well-formed: its number and its amount are within their
-// limits, its account exists, its text is valid (`has_valid_cash_text`), and its stamp is at most
-// the last stamp. Fails with `Memory` only.
+// limits, its account exists, its text fits its trade or its amount (`has_valid_cash_text`), and
+// its stamp is at most the last stamp. Fails with `Memory` only.
 fn move_row_is_well_formed(alloc: Global, sheets: &Sheets, row: &MoveRow) -> Result<bool, Fault>
     requires { HasSortedKeys sheets.now }
     ensures value { IfOk result (λ holds. holds ≡ form.is_well_formed_move_row (abstract_sheets sheets.now) (abstract_move_row row.now)) }

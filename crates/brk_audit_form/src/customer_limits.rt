@@ -17,8 +17,8 @@ use std::collections::BTreeMap;
 // The greatest number of accounts of a customer.
 const MOST_ACCOUNTS: u128 = 10;
 
-// Adds `more` to the sum of the customer; a customer that the map does not contain has the sum 0.
-// Fails with `Memory` only.
+// Adds `more` to the sum of the customer in the map; a customer that the map does not contain has
+// the sum 0. Fails with `Memory` only.
 fn add_to_customer_sum(sums: &mut BTreeMap<u64, u128>, customer: Id, more: u32) -> Result<(), Fault>
     requires room { sum_at_customer_id sums.old customer + 2 ^ 32 < 2 ^ 128 }
     ensures more { OnOk result ((q : ℕ) → sum_at_customer_id sums.new q ≡ sum_at_customer_id sums.old q + cond (customer == q) more 0) }
@@ -30,7 +30,8 @@ fn add_to_customer_sum(sums: &mut BTreeMap<u64, u128>, customer: Id, more: u32) 
     Ok(())
 }
 
-// Returns a map from each customer to the number of its accounts. Fails with `Memory` only.
+// Returns a map from the id of each customer with an account to the number of its accounts. Fails
+// with `Memory` only.
 fn count_accounts_by_customer(
     alloc: Global,
     accounts: &[AccountRow],
@@ -45,7 +46,8 @@ fn count_accounts_by_customer(
     Ok(counts)
 }
 
-// Returns the rate of the tax rate, or 0 if it does not exist.
+// Returns the rate of the tax rate with the id `tax`, in hundred-thousandths, or 0 if it does not
+// exist.
 fn rate_of_tax_or_zero(sheets: &Sheets, tax: Id) -> u32
     requires { HasSortedKeys sheets.now }
     ensures rate { result ≡ rate_of_tax_rate_or_zero (abstract_sheets sheets.now) tax }
@@ -57,8 +59,9 @@ fn rate_of_tax_or_zero(sheets: &Sheets, tax: Id) -> u32
     }
 }
 
-// Returns a map from each customer to the sum of the tax rates that the customer pays. A tax rate
-// that does not exist counts as 0. Fails with `Memory` only.
+// Returns a map from the id of each customer who pays a tax to the sum of the tax rates that the
+// customer pays, in hundred-thousandths. A tax rate that does not exist counts as 0. Fails with
+// `Memory` only.
 fn sum_tax_rates_by_customer(alloc: Global, sheets: &Sheets) -> Result<BTreeMap<u64, u128>, Fault>
     requires { HasSortedKeys sheets.now }
     ensures sums { IfOk result (λ sums. (q : ℕ) → sum_at_customer_id sums q ≡ tax_rate_sum_of_payer (abstract_sheets sheets.now) q) }
@@ -72,8 +75,8 @@ fn sum_tax_rates_by_customer(alloc: Global, sheets: &Sheets) -> Result<BTreeMap<
     Ok(sums)
 }
 
-// Returns true if the customer has at most 10 accounts by `counts`, and at most the greatest tax
-// rate by `sums`.
+// Returns true if the customer has at most 10 accounts by the map `counts`, and tax rates that sum
+// to at most the greatest tax rate by the map `sums`.
 fn customer_is_within_limits(
     counts: &BTreeMap<u64, u128>,
     sums: &BTreeMap<u64, u128>,
@@ -89,8 +92,8 @@ fn customer_is_within_limits(
     count <= MOST_ACCOUNTS && sum <= u128::from(TaxRate::GREATEST)
 }
 
-// Returns true if each customer has at most 10 accounts by `counts`, and at most the greatest tax
-// rate by `sums`.
+// Returns true if each customer has at most 10 accounts by the map `counts`, and tax rates that sum
+// to at most the greatest tax rate by the map `sums`.
 fn all_customers_within_limits(
     counts: &BTreeMap<u64, u128>,
     sums: &BTreeMap<u64, u128>,
@@ -103,8 +106,8 @@ fn all_customers_within_limits(
     customers.iter().all(|customer| customer_is_within_limits(counts, sums, customer))
 }
 
-/// Returns true if each customer has at most 10 accounts, and pays at most the greatest tax rate in
-/// total. Fails with `Memory` only.
+/// Returns true if each customer has at most 10 accounts, and tax rates that sum to at most the
+/// greatest tax rate. Fails with `Memory` only.
 pub(crate) fn customers_are_within_limits(alloc: Global, sheets: &Sheets) -> Result<bool, Fault>
     requires { HasSortedKeys sheets.now }
     ensures value { IfOk result (λ holds. holds

@@ -20,7 +20,8 @@ use brk_changes::{Schema, Sheets};
 use brk_money::{Day, Fault, Stamp};
 use std::alloc::Global;
 
-// Returns true if there is no last stamp, or if it is within the calendar.
+// Returns true if there is no last stamp, or if it is at most the greatest stamp, 9999-12-31
+// 23:59:59.999 UTC.
 fn is_valid_last_stamp(last: Option<Stamp>) -> bool
     ensures { result ≡ is_last_stamp_in_calendar last }
 {
@@ -30,7 +31,7 @@ fn is_valid_last_stamp(last: Option<Stamp>) -> bool
     }
 }
 
-// Returns true if no settlement day is set, or if it is within the calendar.
+// Returns true if no settlement day is set, or if it is at most the greatest day, 9999-12-31.
 fn is_valid_settlement_day(rule: Option<Day>) -> bool
     ensures { result ≡ is_settlement_day_in_calendar rule }
 {
@@ -41,7 +42,7 @@ fn is_valid_settlement_day(rule: Option<Day>) -> bool
 }
 
 // Returns true if the rows have no part that the schema lacks: no rows of CASH_MOVE in a schema
-// without this table, and no settlement day in a schema without one.
+// without this table, and no settlement day in a schema without SETTLE_RULE.
 fn has_no_rows_of_later_schemas(schema: Schema, sheets: &Sheets) -> bool
     ensures { result ≡ lacks_rows_of_later_schemas (abstract_schema schema) (abstract_sheets sheets.now) }
 {
@@ -49,9 +50,9 @@ fn has_no_rows_of_later_schemas(schema: Schema, sheets: &Sheets) -> bool
         && (schema.has_settle_rule_table() || sheets.rule.is_none())
 }
 
-// Returns true if the rows pass the checks of `Form` that do not allocate: of the keys, of the
-// columns except those of cash rows, of bands, of the numbers of trades and movements, of the last
-// stamp, of the settlement day, and of the tables that the schema does not have.
+// Returns true if the rows pass those checks of the condition `Form` that do not allocate: of keys,
+// of the columns except those of cash rows, of bands, of the numbers of trades and movements, of
+// the last stamp, of the settlement day, and of the tables that the schema lacks.
 fn passes_checks_without_allocation(schema: Schema, sheets: &Sheets) -> bool
     ensures { result ≡ passes_nonallocating_form_checks (abstract_schema schema) sheets.now }
 {
@@ -71,8 +72,11 @@ fn passes_checks_without_allocation(schema: Schema, sheets: &Sheets) -> bool
 }
 
 /// Returns true if the rows satisfy the condition `Form` of `schema`: each row is well-formed and
-/// within the limits of the schema, each record that a row refers to exists, each table is sorted
-/// by key, and no key occurs twice.
+/// within the limits of the schema, each record that a row refers to exists, and each table is
+/// sorted by key without a repeated key. Also, bands are disjoint, trades are numbered from 1, tax
+/// ids and the trades of cash rows are unique, customers and movements are within their limits, the
+/// last stamp and the settlement day are within the calendar, and tables that the schema lacks are
+/// empty.
 ///
 /// Fails with `Memory` only.
 pub fn form_condition_holds(alloc: Global, schema: Schema, sheets: &Sheets) -> Result<bool, Fault>

@@ -9,30 +9,30 @@ use brk_money::Id;
 use brk_ref::{Form, Text};
 use std::cmp::Ordering;
 
-/// A row with a sort key.
+/// A row of a table with a sort key.
 pub(crate) trait Keyed {
     ghost key: { Self → List KeyPart };
 
-    /// Compares the key of the row with that of another.
+    /// Returns the order of the key of the row and the key of another row.
     fn compare_keys(&self, other: &Self) -> Ordering
         ensures { result ≡ key_cmp (key self.now) (key other.now) };
 }
 
-/// Compares two ids by size.
+/// Returns the order of two ids by their numbers.
 pub(crate) fn compare_ids(one: Id, other: Id) -> Ordering
     ensures { result ≡ nat_cmp one other }
 {
     one.get().cmp(&other.get())
 }
 
-/// Compares two texts by their bytes.
+/// Returns the order of two texts by their bytes.
 pub(crate) fn compare_texts<F: Form>(one: &Text<F>, other: &Text<F>) -> Ordering
     ensures { result ≡ slice_cmp nat_cmp one.now other.now }
 {
     one.as_str().cmp(other.as_str())
 }
 
-/// Returns true if the rows are sorted by key, and no key occurs twice.
+/// Returns true if the rows are sorted by key, ascending, and no key occurs twice.
 pub(crate) fn has_sorted_unique_keys<R: Keyed>(rows: &[R]) -> bool
     ensures { result ≡ form.is_sorted_by_unique_key R.key rows.now }
 {

@@ -16,14 +16,14 @@ pub(crate) fn is_id_within_limits(id: Id) -> bool
     1 <= id.get() && id.get() <= Id::GREATEST
 }
 
-/// Returns true if the number of a cash row is from 1 to the greatest number of a cash row.
+/// Returns true if the number of a cash row (CM_ID) is from 1 to the greatest number of a cash row.
 pub(crate) fn is_move_id_within_limits(id: MoveId) -> bool
     ensures { result ≡ form.is_cash_row_number id }
 {
     1 <= id.get() && id.get() <= MoveId::GREATEST
 }
 
-/// Returns true if the quantity is from 1 to the greatest quantity of the schema.
+/// Returns true if the quantity, in shares, is from 1 to the greatest quantity of the schema.
 pub(crate) fn is_quantity_within_limits(schema: Schema, qty: Qty) -> bool
     ensures { result ≡ form.is_quantity_in_schema (abstract_schema schema) qty }
 {
@@ -66,7 +66,8 @@ pub(crate) fn is_charge_within_limit(charge: ChargeAmount) -> bool
     charge.get() <= ChargeAmount::GREATEST
 }
 
-/// Returns true if the stamp is at most the last stamp. Returns false if there is no last stamp.
+/// Returns true if the stamp is at most the last stamp of the tables, and false if they have no
+/// last stamp.
 pub(crate) fn stamp_is_at_most_last_stamp(sheets: &Sheets, stamp: Stamp) -> bool
     ensures { result ≡ form.is_at_most_last_stamp (abstract_sheets sheets.now) stamp }
 {
@@ -76,7 +77,7 @@ pub(crate) fn stamp_is_at_most_last_stamp(sheets: &Sheets, stamp: Stamp) -> bool
     stamp.get() <= last.get()
 }
 
-/// Returns true if the text has the format `F`.
+/// Returns true if the text is well-formed by the format `F`.
 pub(crate) fn is_well_formed_text<F: Form>(text: &Text<F>) -> bool
     ensures { result ≡ F.form text.now }
 {

@@ -18,8 +18,8 @@ pub(crate) fn are_trades_numbered_from_one(trades: &[TradeRow]) -> bool
     true
 }
 
-/// Returns true if at most `Id::GREATEST` rows of CASH_MOVE have no trade. These are the deposits
-/// and the withdrawals.
+/// Returns true if at most `Id::GREATEST` rows of CASH_MOVE have no trade. These rows are the
+/// deposits and the withdrawals.
 pub(crate) fn is_movement_count_within_limit(moves: &[MoveRow]) -> bool
     ensures { result ≡ nat_le (length (filter (λ r. is_none r.trade) moves.now)) greatest_id }
 {

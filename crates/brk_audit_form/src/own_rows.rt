@@ -12,8 +12,8 @@ use brk_money::{Fault, Id};
 use std::alloc::Global;
 use std::collections::BTreeSet;
 
-// Inserts the trade of a cash row into `seen`, if the row has one. Returns false if the trade was
-// in the set before, otherwise true. Fails with `Memory` only.
+// Inserts the trade of a cash row into `seen`, if the row has one. Returns false if the set already
+// contained the trade, otherwise true. Fails with `Memory` only.
 fn insert_cash_row_trade(seen: &mut BTreeSet<u64>, trade: Option<Id>) -> Result<bool, Fault>
     ensures new { IfOk result (λ new. new ≡ not (option_map_or (λ id. contains nat_cmp seen.old id) trade false)) }
     ensures seen { OnOk result ((q : ℕ) → contains nat_cmp seen.new q ≡ contains nat_cmp seen.old q || option_map_or (λ id. id == q) trade false) }
@@ -26,7 +26,8 @@ fn insert_cash_row_trade(seen: &mut BTreeSet<u64>, trade: Option<Id>) -> Result<
     Ok(new)
 }
 
-/// Returns true if no trade has two rows of CASH_MOVE. Fails with `Memory` only.
+/// Returns true if no two rows of CASH_MOVE have the same trade; rows without a trade are ignored.
+/// Fails with `Memory` only.
 pub(crate) fn cash_rows_have_distinct_trades(
     alloc: Global,
     moves: &[MoveRow],

@@ -20,7 +20,8 @@ use brk_ref::{
 impl Formed for Kept {
     ghost form = { λ schema tables row. form.is_well_formed_kept_row (of.abstract_kept_row row) };
 
-    // Returns true if the batch name and the row number of the key are well-formed.
+    // Returns true if the batch name and the row number of the key are well-formed. The texts are
+    // not checked.
     fn is_row_well_formed(&self, _schema: Schema, _sheets: &Sheets) -> bool {
         is_well_formed_text(&self.key.batch)
             && 1 <= self.key.row.get()
@@ -31,8 +32,8 @@ impl Formed for Kept {
 impl Formed for BrokerRow {
     ghost form = { λ schema tables row. form.is_well_formed_broker_row (of.abstract_broker_row row) };
 
-    // Returns true if the id and the name are well-formed, and the commission total is within the
-    // limit.
+    // Returns true if the id and the name are well-formed, and the commission total is at most the
+    // greatest amount. The trade count is not checked.
     fn is_row_well_formed(&self, _schema: Schema, _sheets: &Sheets) -> bool {
         is_id_within_limits(self.broker.id)
             && is_well_formed_text(&self.broker.name)
@@ -56,8 +57,8 @@ impl Formed for Customer {
 impl Formed for AccountRow {
     ghost form = { λ schema tables row. form.is_well_formed_account_row tables (of.abstract_account_row row) };
 
-    // Returns true if the id, the name and both amounts are well-formed, and the customer and the
-    // broker exist.
+    // Returns true if the id, the name, the opening balance and the balance are well-formed, and
+    // the customer and the broker exist.
     fn is_row_well_formed(&self, _schema: Schema, sheets: &Sheets) -> bool {
         is_id_within_limits(self.account.id)
             && is_well_formed_text(&self.account.name)
@@ -85,7 +86,8 @@ impl Formed for Permission {
 impl Formed for Security {
     ghost form = { λ schema tables row. form.is_well_formed_security_row tables (of.abstract_security_row row) };
 
-    // Returns true if the four texts are well-formed, and the symbol has a row of LAST_TRADE.
+    // Returns true if the symbol, the name, the exchange and the sector are well-formed, and the
+    // symbol has a row of LAST_TRADE.
     fn is_row_well_formed(&self, _schema: Schema, sheets: &Sheets) -> bool {
         is_well_formed_text(&self.symbol)
             && is_well_formed_text(&self.name)
@@ -111,7 +113,7 @@ impl Formed for LastTrade {
 impl Formed for Charge {
     ghost form = { λ schema tables row. form.is_well_formed_charge_row (of.abstract_charge row) };
 
-    // Returns true if the tier and the amount are within their limits.
+    // Returns true if the tier is from 1 to 3 and the amount is at most the greatest charge.
     fn is_row_well_formed(&self, _schema: Schema, _sheets: &Sheets) -> bool {
         is_tier_within_limits(self.tier) && is_charge_within_limit(self.amount)
     }

@@ -11,7 +11,7 @@ use std::cmp::Ordering;
 impl Keyed for Kept {
     ghost key = { λ row. keys.kept_key (of.abstract_kept_row row) };
 
-    // Compares the rows by batch name, then by row number.
+    // Returns the order of two rows by batch name, then by row number.
     fn compare_keys(&self, other: &Kept) -> Ordering {
         compare_texts(&self.key.batch, &other.key.batch).then(
             self.key.row.get().cmp(&other.key.row.get()),
@@ -22,7 +22,7 @@ impl Keyed for Kept {
 impl Keyed for BrokerRow {
     ghost key = { λ row. keys.broker_key (of.abstract_broker_row row) };
 
-    // Compares the rows by id.
+    // Returns the order of two rows by id.
     fn compare_keys(&self, other: &BrokerRow) -> Ordering {
         compare_ids(self.broker.id, other.broker.id)
     }
@@ -31,7 +31,7 @@ impl Keyed for BrokerRow {
 impl Keyed for Customer {
     ghost key = { λ row. keys.customer_key (of.abstract_customer row) };
 
-    // Compares the rows by id.
+    // Returns the order of two rows by id.
     fn compare_keys(&self, other: &Customer) -> Ordering {
         compare_ids(self.id, other.id)
     }
@@ -40,7 +40,7 @@ impl Keyed for Customer {
 impl Keyed for AccountRow {
     ghost key = { λ row. keys.account_key (of.abstract_account_row row) };
 
-    // Compares the rows by id.
+    // Returns the order of two rows by id.
     fn compare_keys(&self, other: &AccountRow) -> Ordering {
         compare_ids(self.account.id, other.account.id)
     }
@@ -49,7 +49,7 @@ impl Keyed for AccountRow {
 impl Keyed for Permission {
     ghost key = { λ row. keys.permission_key (of.abstract_permission row) };
 
-    // Compares the rows by account, then by tax id.
+    // Returns the order of two rows by account, then by tax id.
     fn compare_keys(&self, other: &Permission) -> Ordering {
         compare_ids(self.account, other.account).then(compare_texts(&self.tax_id, &other.tax_id))
     }
@@ -58,7 +58,7 @@ impl Keyed for Permission {
 impl Keyed for Security {
     ghost key = { λ row. keys.security_key (of.abstract_security_row row) };
 
-    // Compares the rows by symbol.
+    // Returns the order of two rows by symbol.
     fn compare_keys(&self, other: &Security) -> Ordering {
         compare_texts(&self.symbol, &other.symbol)
     }
@@ -67,7 +67,7 @@ impl Keyed for Security {
 impl Keyed for LastTrade {
     ghost key = { λ row. keys.last_trade_key (of.abstract_last_trade_row row) };
 
-    // Compares the rows by symbol.
+    // Returns the order of two rows by symbol.
     fn compare_keys(&self, other: &LastTrade) -> Ordering {
         compare_texts(&self.symbol, &other.symbol)
     }
@@ -76,7 +76,7 @@ impl Keyed for LastTrade {
 impl Keyed for Charge {
     ghost key = { λ row. keys.charge_key (of.abstract_charge row) };
 
-    // Compares the rows by trade type, then by tier.
+    // Returns the order of two rows by the code of the trade type, then by tier.
     fn compare_keys(&self, other: &Charge) -> Ordering {
         self.kind
             .code()
@@ -88,7 +88,8 @@ impl Keyed for Charge {
 impl Keyed for Band {
     ghost key = { λ row. keys.band_key (of.abstract_band row) };
 
-    // Compares the rows by tier, then by trade type, then by exchange, then by lower bound.
+    // Returns the order of two rows by tier, by the code of the trade type, by exchange, and by
+    // lower bound, in this sequence.
     fn compare_keys(&self, other: &Band) -> Ordering {
         let bound = self.from_qty.get().cmp(&other.from_qty.get());
         let exchange = compare_texts(&self.exchange, &other.exchange).then(bound);
@@ -100,7 +101,7 @@ impl Keyed for Band {
 impl Keyed for Tax {
     ghost key = { λ row. keys.tax_rate_key (of.abstract_tax_rate row) };
 
-    // Compares the rows by id.
+    // Returns the order of two rows by id.
     fn compare_keys(&self, other: &Tax) -> Ordering {
         compare_ids(self.id, other.id)
     }
@@ -109,7 +110,7 @@ impl Keyed for Tax {
 impl Keyed for CustomerTax {
     ghost key = { λ row. keys.customer_tax_key (of.abstract_customer_tax row) };
 
-    // Compares the rows by customer, then by tax rate.
+    // Returns the order of two rows by customer, then by tax rate.
     fn compare_keys(&self, other: &CustomerTax) -> Ordering {
         compare_ids(self.customer, other.customer).then(compare_ids(self.tax, other.tax))
     }

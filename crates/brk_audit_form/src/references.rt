@@ -15,7 +15,7 @@ use brk_changes::{Sheets, TradeRow};
 use brk_money::{Id, Status};
 use brk_ref::{Security, Symbol, Tax};
 
-/// Returns true if a broker with the id exists.
+/// Returns true if the rows contain a broker with the id.
 pub(crate) fn has_broker(sheets: &Sheets, id: Id) -> bool
     requires { HasSortedKeys sheets.now }
     ensures { result ≡ form.has_broker (abstract_sheets sheets.now) id }
@@ -27,7 +27,7 @@ pub(crate) fn has_broker(sheets: &Sheets, id: Id) -> bool
         .is_ok()
 }
 
-/// Returns true if a customer with the id exists.
+/// Returns true if the rows contain a customer with the id.
 pub(crate) fn has_customer(sheets: &Sheets, id: Id) -> bool
     requires { HasSortedKeys sheets.now }
     ensures { result ≡ form.has_customer (abstract_sheets sheets.now) id }
@@ -39,7 +39,7 @@ pub(crate) fn has_customer(sheets: &Sheets, id: Id) -> bool
         .is_ok()
 }
 
-/// Returns true if a account with the id exists.
+/// Returns true if the rows contain an account with the id.
 pub(crate) fn has_account(sheets: &Sheets, id: Id) -> bool
     requires { HasSortedKeys sheets.now }
     ensures { result ≡ form.has_account (abstract_sheets sheets.now) id }
@@ -51,7 +51,7 @@ pub(crate) fn has_account(sheets: &Sheets, id: Id) -> bool
         .is_ok()
 }
 
-/// Returns true if a trade with the id exists.
+/// Returns true if the rows contain a trade with the id.
 pub(crate) fn has_trade(sheets: &Sheets, id: Id) -> bool
     requires { HasSortedKeys sheets.now }
     ensures { result ≡ form.has_trade (abstract_sheets sheets.now) id }
@@ -63,7 +63,7 @@ pub(crate) fn has_trade(sheets: &Sheets, id: Id) -> bool
         .is_ok()
 }
 
-/// Returns true if a tax rate with the id exists.
+/// Returns true if the rows contain a tax rate with the id.
 pub(crate) fn has_tax_rate(sheets: &Sheets, id: Id) -> bool
     requires { HasSortedKeys sheets.now }
     ensures { result ≡ list_any (λ r. r.id == id) (abstract_sheets sheets.now).tax_rates }
@@ -75,7 +75,7 @@ pub(crate) fn has_tax_rate(sheets: &Sheets, id: Id) -> bool
         .is_ok()
 }
 
-/// Returns true if a security with the symbol exists.
+/// Returns true if the rows contain a security with the symbol.
 pub(crate) fn has_security(sheets: &Sheets, symbol: &Symbol) -> bool
     requires { HasSortedKeys sheets.now }
     ensures { result ≡ form.has_security (abstract_sheets sheets.now) symbol.now }
@@ -86,7 +86,7 @@ pub(crate) fn has_security(sheets: &Sheets, symbol: &Symbol) -> bool
         .is_ok()
 }
 
-/// Returns true if the symbol has a row of LAST_TRADE.
+/// Returns true if the rows contain a row of LAST_TRADE with the symbol.
 pub(crate) fn has_last_trade(sheets: &Sheets, symbol: &Symbol) -> bool
     requires { HasSortedKeys sheets.now }
     ensures { result ≡ list_any (λ l. bytes_eq l.symbol symbol.now) (abstract_sheets sheets.now).last_trades }
@@ -97,7 +97,7 @@ pub(crate) fn has_last_trade(sheets: &Sheets, symbol: &Symbol) -> bool
         .is_ok()
 }
 
-/// Returns true if the trade has a completion in its history.
+/// Returns true if the trade with the id has a row of TRADE_HISTORY with the status `Completed`.
 pub(crate) fn has_completion(sheets: &Sheets, id: Id) -> bool
     requires { HasSortedKeys sheets.now }
     ensures { result ≡ list_any (λ h. is_same_trade_status h.status Completed) (joins.history_rows_with_trade_id (abstract_sheets sheets.now) id) }

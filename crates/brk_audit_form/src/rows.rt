@@ -8,7 +8,7 @@ ghost use Rattle.brk_audit_form.specs.Conditions.{HasSortedKeys};
 
 use brk_changes::{Schema, Sheets};
 
-/// A row of a table whose columns can be checked.
+/// A row of a table whose columns the condition `Form` checks.
 pub(crate) trait Formed {
     ghost form: { schemas.Schema → Tables → Self → Bool };
 

@@ -3,14 +3,15 @@ ghost use Rattle.brk_model.specs.Form as form;
 ghost use Rattle.brk_changes.specs.Schemas.{abstract_schema};
 ghost use Rattle.brk_changes.specs.Sheets.{abstract_sheets};
 ghost use Rattle.brk_audit_form.specs.Conditions.{HasSortedKeys};
-ghost use Rattle.brk_audit_form.specs.Groups.{reference_rows_are_well_formed, reference_tables_are_sorted, trading_rows_are_well_formed, trading_tables_are_sorted};
+ghost use Rattle.brk_audit_form.specs.Groups.{reference_rows_are_well_formed, reference_tables_are_sorted};
+ghost use Rattle.brk_audit_form.specs.Groups.{trading_rows_are_well_formed, trading_tables_are_sorted};
 
 use crate::keys::has_sorted_unique_keys;
 use crate::rows::all_rows_well_formed;
 use brk_changes::{Schema, Sheets};
 
-// Returns true if KEPT, LAST_TRADE and each table of reference data are sorted by key, and no key
-// occurs twice.
+// Returns true if KEPT, LAST_TRADE and each table of reference data are sorted by key, ascending,
+// and no key occurs twice in a table.
 fn has_sorted_reference_tables(sheets: &Sheets) -> bool
     ensures { result ≡ reference_tables_are_sorted sheets.now }
 {
@@ -27,8 +28,8 @@ fn has_sorted_reference_tables(sheets: &Sheets) -> bool
         && has_sorted_unique_keys(&sheets.customer_taxes)
 }
 
-// Returns true if each table of trades, lots, settlements and cash is sorted by key, and no key
-// occurs twice.
+// Returns true if each table of trades, lots, settlements and cash is sorted by key, ascending, and
+// no key occurs twice in a table.
 fn has_sorted_trading_tables(sheets: &Sheets) -> bool
     ensures { result ≡ trading_tables_are_sorted sheets.now }
 {
@@ -43,14 +44,15 @@ fn has_sorted_trading_tables(sheets: &Sheets) -> bool
         && has_sorted_unique_keys(&sheets.moves)
 }
 
-/// Returns true if each table is sorted by key, and no key occurs twice.
+/// Returns true if each table is sorted by key, ascending, and no key occurs twice in a table.
 pub(crate) fn all_tables_have_sorted_keys(sheets: &Sheets) -> bool
     ensures { result ≡ form.tables_are_sorted_by_unique_key (abstract_sheets sheets.now) }
 {
     has_sorted_reference_tables(sheets) && has_sorted_trading_tables(sheets)
 }
 
-/// Returns true if the rows of KEPT, of LAST_TRADE and of reference data are well-formed.
+/// Returns true if each row of KEPT, of LAST_TRADE and of reference data is well-formed and within
+/// the limits of the schema, and each record that it refers to exists.
 pub(crate) fn has_well_formed_reference_rows(schema: Schema, sheets: &Sheets) -> bool
     requires { HasSortedKeys sheets.now }
     ensures { result ≡ reference_rows_are_well_formed (abstract_schema schema) sheets.now }
@@ -68,7 +70,8 @@ pub(crate) fn has_well_formed_reference_rows(schema: Schema, sheets: &Sheets) ->
         && all_rows_well_formed(schema, sheets, &sheets.customer_taxes)
 }
 
-/// Returns true if the rows of trades, lots and settlements are well-formed. Rows of
+/// Returns true if each row of trades, requests, lots, summaries and settlements is well-formed and
+/// within the limits of the schema, and each record that it refers to exists. Rows of
 /// CASH_TRANSACTION and CASH_MOVE are not checked.
 pub(crate) fn has_well_formed_trading_rows(schema: Schema, sheets: &Sheets) -> bool
     requires { HasSortedKeys sheets.now }

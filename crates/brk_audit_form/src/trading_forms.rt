@@ -18,8 +18,8 @@ use brk_changes::{
 };
 use brk_money::{Day, Stamp, Status};
 
-// Returns true if the trade has a completion in its history and a well-formed price, or neither a
-// completion nor a price.
+// Returns true if the trade of the row has a completion in TRADE_HISTORY and a price from 1 cent to
+// the greatest price, or neither a completion nor a price.
 fn row_has_price_exactly_if_completed(sheets: &Sheets, row: &TradeRow) -> bool
     requires { HasSortedKeys sheets.now }
     ensures { result ≡ form.price_matches_completion (abstract_sheets sheets.now) (of.abstract_trade_row row.now) }
@@ -30,16 +30,16 @@ fn row_has_price_exactly_if_completed(sheets: &Sheets, row: &TradeRow) -> bool
     }
 }
 
-// Returns true if a completion at `stamp` has a due day within the calendar, by the settlement day
-// `rule`. Returns true for any other status.
+// Returns true if the due day of a completion at `stamp`, by the settlement day `rule`, is at most
+// the greatest day. Returns true for any status but `Completed`.
 fn is_due_day_within_calendar(rule: Option<Day>, status: Status, stamp: Stamp) -> bool
     ensures { result ≡ form.is_due_within_calendar rule status stamp }
 {
     status != Status::Completed || due_day_after_completion(rule, stamp).is_some()
 }
 
-// Returns true if the settlement text is one of the two texts of a cash trade (`is_cash`), or one
-// of the two of a margin trade if `is_cash` is false.
+// Returns true if the settlement text is one of the two texts of a cash trade (if `is_cash` is
+// true) or of a margin trade (if `is_cash` is false).
 fn is_settlement_text_of_trade_kind(is_cash: bool, word: CashType) -> bool
     ensures { result ≡ form.is_cash_type_of_trade is_cash (of.cash_type_text word) }
 {
@@ -53,7 +53,8 @@ impl Formed for TradeRow {
     ghost form = { λ schema tables row. form.is_well_formed_trade_row schema tables (of.abstract_trade_row row) };
 
     // Returns true if the numbers are within their limits, the stamp is at most the last stamp, the
-    // account and the security exist, and the row has a price if and only if it has a completion.
+    // account and the security exist, and the row has a price if and only if its trade has a
+    // completion.
     fn is_row_well_formed(&self, schema: Schema, sheets: &Sheets) -> bool {
         is_id_within_limits(self.id)
             && is_quantity_within_limits(schema, self.qty)
@@ -132,8 +133,8 @@ impl Formed for LotChange {
 impl Formed for SettlementRow {
     ghost form = { λ schema tables row. form.is_well_formed_settlement_row tables (of.abstract_settlement_row row) };
 
-    // Returns true if the trade exists, the text is one of the two for a cash trade or for a margin
-    // trade, whichever it is, and the due day and the amount are within their limits.
+    // Returns true if the trade exists, the settlement text is one of the two for its kind (cash or
+    // margin), and the due day and the amount are within their limits.
     fn is_row_well_formed(&self, _schema: Schema, sheets: &Sheets) -> bool {
         let Some(trade) = find_trade(sheets, self.trade) else {
             return false;

@@ -3,7 +3,8 @@
 use Rattle.std.specs.Prelude.{◌≡◌, ◌&&◌, true, false, List, [], ◌∷◌, map}
 use Rattle.std.specs.List.{AllByRecursion}
 use Rattle.brk_model.specs.Records.{Account, Broker, Security, Trade}
-use Rattle.brk_model.specs.Keys.{KeyPart, number, word, rows_sorted_by_key, band_key, charge_key, customer_key, customer_tax_key, kept_key, permission_key, tax_rate_key}
+use Rattle.brk_model.specs.Keys.{KeyPart, number, word, rows_sorted_by_key, band_key, charge_key, customer_key}
+use Rattle.brk_model.specs.Keys.{customer_tax_key, kept_key, permission_key, tax_rate_key}
 use Rattle.brk_model.specs.Base.{Base, is_completed}
 use Rattle.brk_model.specs.Ways.{is_strictly_ascending, is_valid_status_sequence}
 
@@ -15,29 +16,31 @@ HasAscendingStatusStamps t = is_strictly_ascending (map (λ m. m.stamp) t.marks)
 abbrev pub HasValidStatusSequence : Trade → Type 0
 HasValidStatusSequence t = is_valid_status_sequence (map (λ m. m.status) t.marks) ≡ true
 
--- The trade has no settlement text if it is not completed, and no cash text if it is not a
--- completed cash trade.
+-- The trade has an empty settlement text if it is not completed, and an empty cash text if it is
+-- not a completed cash trade.
 pub record HasNoStrayTexts (t : Trade) : Type 0 where
   pub settled : is_completed t ≡ false → t.cash_type ≡ []
   pub moved : is_completed t && t.is_cash ≡ false → t.cash_name ≡ []
 
--- Each trade has a valid status sequence in ascending order of stamps and no stray texts, and the
--- movements are in ascending order of stamps.
+-- For each trade of the base, the statuses of its status changes form a valid status sequence and
+-- their stamps are strictly ascending. A trade has a settlement text only if it is completed, and a
+-- cash text only if it is a completed cash trade. The stamps of the movements are strictly
+-- ascending.
 pub record HasValidHistories (base : Base) : Type 0 where
   pub stamps : AllByRecursion HasAscendingStatusStamps base.trades
   pub ways : AllByRecursion HasValidStatusSequence base.trades
   pub words : AllByRecursion HasNoStrayTexts base.trades
   pub movements : is_strictly_ascending (map (λ m. m.stamp) base.movements) ≡ true
 
--- The sort key of a broker: its id.
+-- The sort key of the broker `b`: its id.
 abbrev pub broker_id_key : Broker → List KeyPart
 broker_id_key b = number b.id ∷ []
 
--- The sort key of an account: its id.
+-- The sort key of the account `a`: its id.
 abbrev pub account_id_key : Account → List KeyPart
 account_id_key a = number a.id ∷ []
 
--- The sort key of a security: its symbol.
+-- The sort key of the security `s`: its symbol.
 abbrev pub security_symbol_key : Security → List KeyPart
 security_symbol_key s = word s.symbol ∷ []
 

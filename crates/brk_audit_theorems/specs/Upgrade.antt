@@ -7,7 +7,7 @@ use Rattle.brk_model.specs.Adopted.{base_of_tables}
 use Rattle.brk_model.specs.Upgraded.{tables_after_upgrade}
 use Rattle.brk_audit_theorems.specs.Passing.{PassesAudit}
 
--- The greatest quantity and the greatest summary of the schema are no greater than those of the
+-- The greatest quantity and the greatest summary of the schema, in shares, are at most those of the
 -- third schema.
 pub record HasLimitsWithinThirdSchema (schema : Schema) : Type 0 where
   pub qty : schema.greatest_qty ≤ third_schema.greatest_qty

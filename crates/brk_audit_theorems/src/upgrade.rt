@@ -10,17 +10,18 @@ ghost use Rattle.brk_model.specs.Sheets.{sheets};
 ghost use Rattle.brk_audit_theorems.specs.Upgrade.{UpgradedRowsMatchTheirBase, HasLimitsWithinThirdSchema};
 ghost use Rattle.brk_audit_theorems.specs.Passing.{PassesAudit};
 
-/// Proves that rows that pass the audit of a schema, whose limits are no greater than those of the
-/// third, are upgraded to the tables of the base that they describe. The upgraded rows pass the
-/// audit of the third schema. The first and the second schema have such limits.
+/// Proves that the upgrade of rows that pass the audit of a schema, whose limits are at most those
+/// of the third schema, equals the tables of the base that the rows describe. The upgraded rows
+/// pass the audit of the third schema. The first and the second schema have such limits.
 pub fn upgraded_rows_are_tables_of_their_base()
     ensures first { (rows : Tables) → PassesAudit first_schema rows → UpgradedRowsMatchTheirBase rows }
     ensures second { (rows : Tables) → PassesAudit second_schema rows → UpgradedRowsMatchTheirBase rows }
     ensures narrower { (schema : Schema) (rows : Tables) → HasLimitsWithinThirdSchema schema → PassesAudit schema rows → UpgradedRowsMatchTheirBase rows }
 {}
 
-/// Proves that the upgrade from a schema whose audit the rows pass equals the function
-/// `tables_after_upgrade` of the rows, and is the tables of the base that the rows describe.
+/// Proves that, for rows that pass the audit of a schema, the upgrade from that schema equals the
+/// upgrade with all cash rows in CASH_MOVE, sorted by stamp and numbered from 1, and equals the
+/// tables of the base that the rows describe.
 pub fn upgrade_yields_tables_of_the_base()
     ensures same { (schema : Schema) (rows : Tables) → PassesAudit schema rows → tables_upgraded_from_schema schema rows ≡ tables_after_upgrade rows }
     ensures tables { (schema : Schema) (rows : Tables) → PassesAudit schema rows → tables_upgraded_from_schema schema rows ≡ sheets (base_of_tables rows) }

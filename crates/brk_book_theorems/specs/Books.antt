@@ -7,7 +7,8 @@ use Rattle.brk_money.specs.Kinds.{is_same_trade_status}
 use Rattle.brk_money.specs.declared.status.Status.TheVariants.{Completed, Pending, Submitted}
 use Rattle.brk_model.specs.Limits.{greatest_amount}
 use Rattle.brk_model.specs.Records.{Account, Band, Broker, Customer, StatusChange, Movement, Permission, Security, Trade}
-use Rattle.brk_model.specs.Base.{Base, completed_trades, account_with_id_in_list, has_status, last_status_stamp_of_trade, broker_with_id_in_list, customer_with_id_in_list, security_with_symbol_in_list}
+use Rattle.brk_model.specs.Base.{Base, completed_trades, account_with_id_in_list, has_status, last_status_stamp_of_trade}
+use Rattle.brk_model.specs.Base.{broker_with_id_in_list, customer_with_id_in_list, security_with_symbol_in_list}
 use Rattle.brk_model.specs.Names.{TradesAreNumberedFrom}
 use Rattle.brk_model.specs.Tests.{bands_overlap}
 
@@ -16,7 +17,7 @@ abbrev pub HasDistinctAccountIds : List Account → Type 0
 HasDistinctAccountIds [] = ⊤
 HasDistinctAccountIds (a ∷ rest) = AllByRecursion (λ b. (b.id == a.id) ≡ false) rest × HasDistinctAccountIds rest
 
--- No two permissions of the list have the same account and the same tax id.
+-- No two permissions of the list have both the same account and the same tax id.
 abbrev pub HasDistinctPermissions : List Permission → Type 0
 HasDistinctPermissions [] = ⊤
 HasDistinctPermissions (p ∷ ps) = AllByRecursion (λ q. ((q.account == p.account) && bytes_eq q.tax_id p.tax_id) ≡ false) ps × HasDistinctPermissions ps
@@ -26,7 +27,7 @@ abbrev pub HasDistinctSymbols : List Security → Type 0
 HasDistinctSymbols [] = ⊤
 HasDistinctSymbols (s ∷ ss) = AllByRecursion (λ u. bytes_eq u.symbol s.symbol ≡ false) ss × HasDistinctSymbols ss
 
--- The volume of the security is at most the greatest amount.
+-- The volume of the security, in shares, is at most the greatest amount.
 abbrev pub HasVolumeWithinLimit : Security → Type 0
 HasVolumeWithinLimit s = s.volume ≤ greatest_amount
 
@@ -50,19 +51,19 @@ IsNotCompletion m = is_same_trade_status m.status Completed ≡ false
 abbrev pub HasNoCompletionIfSubmitted : Trade → Type 0
 HasNoCompletionIfSubmitted t = has_status Submitted t ≡ true → AllByRecursion IsNotCompletion t.marks
 
--- The stamp of the trade's last status change is at most the last stamp `last`. False if `last` is
--- `None`.
+-- The stamp of the last status change of the trade `t` is at most the last stamp `last`. False if
+-- `last` is `None`.
 abbrev pub TradeStampIsAtMostLast : Option ℕ → Trade → Type 0
 TradeStampIsAtMostLast None t = ⊥
 TradeStampIsAtMostLast (Some last) t = last_status_stamp_of_trade t ≤ last
 
--- No two trades of the list have the same stamp of their last status change.
+-- No two trades of the list have the same stamp in their last status changes.
 abbrev pub HasDistinctLastStatusStamps : List Trade → Type 0
 HasDistinctLastStatusStamps [] = ⊤
 HasDistinctLastStatusStamps (t ∷ ts) =
     AllByRecursion (λ u. (last_status_stamp_of_trade u == last_status_stamp_of_trade t) ≡ false) ts × HasDistinctLastStatusStamps ts
 
--- The account of the movement is one of `accounts`.
+-- The account of the movement `m` is one of `accounts`.
 abbrev pub MovementAccountExists : List Account → Movement → Type 0
 MovementAccountExists accounts m = is_some (account_with_id_in_list accounts m.account) ≡ true
 
@@ -71,7 +72,7 @@ abbrev pub MovementStampIsAtMostLast : Option ℕ → Movement → Type 0
 MovementStampIsAtMostLast None m = ⊥
 MovementStampIsAtMostLast (Some last) m = m.stamp ≤ last
 
--- The stamp of the trade's last status change is not `stamp`.
+-- The stamp of the last status change of the trade `t` is not `stamp`.
 abbrev pub HasLastStatusAtOtherStamp : ℕ → Trade → Type 0
 HasLastStatusAtOtherStamp stamp t = (last_status_stamp_of_trade t == stamp) ≡ false
 
@@ -82,9 +83,9 @@ HasDistinctMovementStamps done [] = ⊤
 HasDistinctMovementStamps done (m ∷ ms) =
     AllByRecursion (HasLastStatusAtOtherStamp m.stamp) done × AllByRecursion (λ n. (n.stamp == m.stamp) ≡ false) ms × HasDistinctMovementStamps done ms
 
--- The part of the books invariant that concerns movements. The accounts of `all_movements` exist.
--- Their stamps are at most the last stamp `last`, and differ from one another and from the stamps
--- of the last status changes of the trades `done`.
+-- The part of the books invariant that concerns movements. The account of each of `all_movements`
+-- is one of `all_accounts`. The stamps of the movements are at most the last stamp `last`, and
+-- differ from one another and from the stamps of the last status changes of the trades `done`.
 pub record MovementBooksInvariant (all_accounts : List Account) (last : Option ℕ) (done : List Trade) (all_movements : List Movement) : Type 0 where
   -- The account of each movement exists.
   pub holders : AllByRecursion (MovementAccountExists all_accounts) all_movements
@@ -97,29 +98,30 @@ pub record MovementBooksInvariant (all_accounts : List Account) (last : Option �
 abbrev pub HasOrderedBounds : Band → Type 0
 HasOrderedBounds b = nat_le b.from_qty b.to_qty ≡ true
 
--- No two bands of the list that have the same tier, type and exchange share a quantity.
+-- No two bands of the list that have the same tier, trade type and exchange share a quantity.
 abbrev pub HasDisjointBands : List Band → Type 0
 HasDisjointBands [] = ⊤
 HasDisjointBands (b ∷ bs) = AllByRecursion (λ c. bands_overlap b c ≡ false) bs × HasDisjointBands bs
 
--- The broker of the account is one of `brokers`.
+-- The broker of the account `a` is one of `brokers`.
 abbrev pub AccountBrokerExists : List Broker → Account → Type 0
 AccountBrokerExists brokers a = is_some (broker_with_id_in_list brokers a.broker) ≡ true
 
--- The customer of the account is one of `customers`.
+-- The customer of the account `a` is one of `customers`.
 abbrev pub AccountCustomerExists : List Customer → Account → Type 0
 AccountCustomerExists customers a = is_some (customer_with_id_in_list customers a.customer) ≡ true
 
--- The account of the trade is one of `accounts`.
+-- The account of the trade `t` is one of `accounts`.
 abbrev pub TradeAccountExists : List Account → Trade → Type 0
 TradeAccountExists accounts t = is_some (account_with_id_in_list accounts t.account) ≡ true
 
--- The symbol of the trade is that of one of `securities`.
+-- One of `securities` has the symbol of the trade `t`.
 abbrev pub TradeSecurityExists : List Security → Trade → Type 0
 TradeSecurityExists securities t = is_some (security_with_symbol_in_list securities t.symbol) ≡ true
 
--- The part of the books invariant that concerns accounts and permissions: brokers and customers of
--- accounts exist, and ids of accounts and permissions of an account are unique.
+-- The part of the books invariant that concerns accounts and permissions: the broker and the
+-- customer of each account exist, no two accounts have the same id, and no two permissions have
+-- both the same account and the same tax id.
 pub record AccountBooksInvariant (all_brokers : List Broker) (all_customers : List Customer) (all_accounts : List Account)
     (all_permissions : List Permission) : Type 0 where
   -- The broker and the customer of each account exist.
@@ -130,8 +132,9 @@ pub record AccountBooksInvariant (all_brokers : List Broker) (all_customers : Li
   -- An account has at most one permission for a tax id, so this one alone decides on its executor.
   pub permissions : HasDistinctPermissions all_permissions
 
--- The part of the books invariant that concerns securities and bands: symbols are unique, volumes
--- are within the limit, and bands are disjoint.
+-- The part of the books invariant that concerns securities and bands: no two securities have the
+-- same symbol, volumes are within the limit, the lower bound of each band is at most its upper
+-- bound, and no two bands of one tier, trade type and exchange share a quantity.
 pub record SecurityBooksInvariant (all_securities : List Security) (all_bands : List Band) : Type 0 where
   -- No two securities have one symbol, so a tick changes one last trade.
   pub symbols : HasDistinctSymbols all_securities
@@ -142,9 +145,9 @@ pub record SecurityBooksInvariant (all_securities : List Security) (all_bands : 
   -- A quantity is in at most one band of a tier, a type and an exchange.
   pub apart : HasDisjointBands all_bands
 
--- The part of the books invariant that concerns trades. Their accounts and securities exist, and
--- their numbers are 1, 2, 3 and so on. A pending trade has one status change, and a submitted trade
--- has no completion.
+-- The part of the books invariant that concerns trades: their accounts and securities exist, their
+-- ids are 1, 2, 3 and so on, in order, a pending trade has exactly one status change, and a
+-- submitted trade has no completion.
 pub record TradeBooksInvariant (all_accounts : List Account) (all_securities : List Security) (all_trades : List Trade) : Type 0 where
   -- The account and the security of each trade exist.
   pub accounts : AllByRecursion (TradeAccountExists all_accounts) all_trades
@@ -156,8 +159,9 @@ pub record TradeBooksInvariant (all_accounts : List Account) (all_securities : L
   -- A submitted trade was never completed, so its completion is new in its history.
   pub completions : AllByRecursion HasNoCompletionIfSubmitted all_trades
 
--- The part of the books invariant that concerns stamps: the completed trades `done` have distinct
--- stamps, none after the last stamp `last`, and `last` is within the range of stamps.
+-- The part of the books invariant that concerns stamps. The stamps of the last status changes of
+-- the completed trades `done` are distinct and at most the last stamp `last`, and `last` is at most
+-- the greatest stamp.
 pub record CompletionBooksInvariant (last : Option ℕ) (done : List Trade) : Type 0 where
   -- No trade was completed after the last stamp, so the next completion is the last of its
   -- position.
@@ -167,8 +171,11 @@ pub record CompletionBooksInvariant (last : Option ℕ) (done : List Trade) : Ty
   -- The last stamp, if there is one, is within the range of stamps.
   pub clock : IfSome last (λ last. last ≤ greatest_stamp)
 
--- The books invariant of the base. Each part concerns only the lists of the base that it names, so
--- a command that does not change these lists preserves the part.
+-- The base satisfies the books invariant: the records that accounts, trades and movements refer to
+-- exist; account ids, permissions, symbols, and the stamps of completions and movements are unique;
+-- bands are disjoint; trades are numbered from 1, and their histories agree with their statuses; no
+-- completion and no movement has a stamp after the last stamp. Each part concerns only the lists of
+-- the base that it names, so a command that does not change these lists preserves the part.
 pub record BooksInvariant (base : Base) : Type 0 where
   pub parties : AccountBooksInvariant base.brokers base.customers base.accounts base.permissions
   pub open parties use *

@@ -17,27 +17,27 @@ use Rattle.brk_book_theorems.specs.TradeReads.{lots_of_position}
 abbrev pub last_price_of_symbol : Tables → Text → Option ℕ
 last_price_of_symbol t symbol = option_map (λ r. r.price) (find (λ r. bytes_eq r.symbol symbol) t.last_trades)
 
--- The charge for the trade type and the customer tier, in cents, or `None` if there is no such
--- charge.
+-- The charge for the trade type `kind` and the customer tier `tier`, in cents, or `None` if there
+-- is no such charge.
 abbrev pub charge_of_type_and_tier : Tables → TradeType → ℕ → Option ℕ
 charge_of_type_and_tier t kind tier = option_map (λ r. r.amount) (find (λ r. is_same_trade_type r.kind kind && (r.tier == tier)) t.charges)
 
--- The number of the last row of TRADE, or `None` if there are no trades.
+-- The id in the last row of TRADE, or `None` if there are no trades.
 abbrev pub trade_id_in_last_row : Tables → Option ℕ
 trade_id_in_last_row t = option_map (λ r. r.id) (slice_get (reverse t.trades) 0)
 
--- `holds` is true of the customer of the account. Vacuous if the account or its customer does not
--- exist.
+-- The customer of the account `account` in the tables satisfies `holds`. Vacuous if the account or
+-- its customer does not exist.
 abbrev pub CustomerOfAccountSatisfies : Tables → ℕ → (Customer → Type 0) → Type 0
 CustomerOfAccountSatisfies t account holds = IfSome (account_row_with_id t account) (λ a. IfSome (find (λ r. r.id == a.customer) t.customers) holds)
 
 -- ---- lots
 
--- The lot of a typed row of HOLDING: the row without its account and symbol.
+-- The lot of the typed row `r` of HOLDING: the row without its account and symbol.
 abbrev pub lot_of_typed_row : HoldingRow → Lot
 lot_of_typed_row r = record { trade = r.trade; price = r.price; qty = r.qty; stamp = r.stamp }
 
--- `given` holds of the lots of the account in the symbol, listed from the oldest on, or from the
--- newest on if `lifo` is true.
+-- The lots of the account in the symbol, the newest first if `lifo` is true and otherwise the
+-- oldest first, satisfy `given`.
 abbrev pub PositionLotsSatisfy : Tables → ℕ → Text → Bool → (List Lot → Type 0) → Type 0
 PositionLotsSatisfy t account symbol lifo given = given (list_in_closing_order lifo (lots_of_position t account symbol))

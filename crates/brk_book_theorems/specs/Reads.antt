@@ -13,19 +13,20 @@ use Rattle.brk_model.specs.Tests.{bands_overlap}
 abbrev pub contains_tax_id : Tables → Text → Bool
 contains_tax_id t tax_id = is_some (find (λ r. bytes_eq r.tax_id tax_id) t.customers)
 
--- The number of accounts of the customer.
+-- The number of accounts of the customer with the id `customer`.
 abbrev pub account_count_of_customer : Tables → ℕ → ℕ
 account_count_of_customer t customer = length (filter (λ r. r.customer == customer) t.accounts)
 
--- True if the account has a permission with the tax id `tax_id`.
+-- True if the tables contain a permission of the account `account` for the tax id `tax_id`.
 abbrev pub contains_permission : Tables → ℕ → Text → Bool
 contains_permission t account tax_id = is_some (find (λ r. (r.account == account) && bytes_eq r.tax_id tax_id) t.permissions)
 
--- True if the tables contain a charge for the trade type and the customer tier.
+-- True if the tables contain a charge for the trade type `kind` and the customer tier `tier`.
 abbrev pub contains_charge : Tables → TradeType → ℕ → Bool
 contains_charge t kind tier = is_some (find (λ r. is_same_trade_type r.kind kind && (r.tier == tier)) t.charges)
 
--- The bands of the customer tier, the trade type and the exchange, in the order of the table.
+-- The commission bands of the customer tier `tier`, the trade type `kind` and the exchange
+-- `exchange`, in the order of the table.
 abbrev pub bands_of_tier_type_and_exchange : Tables → ℕ → TradeType → Text → List Band
 bands_of_tier_type_and_exchange t tier kind exchange = filter (λ r. (r.tier == tier) && is_same_trade_type r.kind kind && bytes_eq r.exchange exchange) t.bands
 
@@ -42,15 +43,16 @@ tax_rate_with_id t id = tax_rate_with_id_in_list t.tax_rates id
 abbrev pub contains_tax_rate : Tables → ℕ → Bool
 contains_tax_rate t id = is_some (tax_rate_with_id t id)
 
--- The rate of the tax rate with the id `tax`, or `None` if there is none.
+-- The rate of the tax rate with the id `tax`, in hundred-thousandths, or `None` if there is no such
+-- tax rate.
 abbrev pub rate_of_tax_rate_with_id : Tables → ℕ → Option ℕ
 rate_of_tax_rate_with_id t tax = option_map (λ r. r.rate) (tax_rate_with_id t tax)
 
--- True if CUSTOMER_TAXRATE has a row with the customer and the tax rate `tax`.
+-- True if CUSTOMER_TAXRATE has a row with the customer `customer` and the tax rate `tax`.
 abbrev pub contains_customer_tax : Tables → ℕ → ℕ → Bool
 contains_customer_tax t customer tax = is_some (find (λ r. (r.customer == customer) && (r.tax == tax)) t.customer_taxes)
 
--- The sum of the rates of the taxes that the customer pays. A tax rate that does not exist counts
--- 0.
+-- The sum of the rates of the taxes that the customer pays, in hundred-thousandths. A tax rate that
+-- does not exist counts as 0.
 abbrev pub customer_tax_rate_sum : Tables → ℕ → ℕ
 customer_tax_rate_sum t customer = sum_by (λ r. unwrap_or (rate_of_tax_rate_with_id t r.tax) 0) (filter (λ r. r.customer == customer) t.customer_taxes)

@@ -5,29 +5,35 @@ use Rattle.brk_model.specs.Lists.{is_zero}
 use Rattle.brk_model.specs.Shares.{Deal, Lot, Touch, lots_of_shares, opened_shares, touches_of_existing_lots}
 use Rattle.brk_model.specs.Records.{Trade}
 use Rattle.brk_model.specs.Base.{Base, broker_id_of_account, completed_trades}
-use Rattle.brk_model.specs.Derived.{balance_of_account, commission_total_of_broker, posting_of_trade, postings, postings_of_base, shares_of_position, holding_summary_quantity, trade_count_of_broker}
+use Rattle.brk_model.specs.Derived.{balance_of_account, commission_total_of_broker, posting_of_trade, postings, postings_of_base}
+use Rattle.brk_model.specs.Derived.{shares_of_position, holding_summary_quantity, trade_count_of_broker}
 use Rattle.brk_model.specs.Results.{completed_trade, deal_of_result, base_after_result}
-use Rattle.brk_model.specs.Tables.{HoldingHistoryRow, HoldingRow, MoveRow, SettlementRow, SummaryRow, Tables, TradeRow, cash_move_row, settlement_row, trade_row}
+use Rattle.brk_model.specs.Tables.{HoldingHistoryRow, HoldingRow, MoveRow, SettlementRow, SummaryRow}
+use Rattle.brk_model.specs.Tables.{Tables, TradeRow, cash_move_row, settlement_row, trade_row}
 use Rattle.brk_lots.specs.Lots.{list_in_closing_order}
-use Rattle.brk_changes.specs.Changes.{tables_with_balance, tables_with_broker_totals, tables_with_cash_row, tables_with_trade_completed, tables_with_history_row, tables_with_lot, tables_with_lot_change, tables_with_lot_quantity, tables_with_settlement, tables_with_summary, tables_with_summary_quantity, tables_without_lot, tables_without_summary}
+use Rattle.brk_changes.specs.Changes.{tables_with_balance, tables_with_broker_totals, tables_with_cash_row, tables_with_trade_completed}
+use Rattle.brk_changes.specs.Changes.{tables_with_history_row, tables_with_lot, tables_with_lot_change, tables_with_lot_quantity, tables_with_settlement}
+use Rattle.brk_changes.specs.Changes.{tables_with_summary, tables_with_summary_quantity, tables_without_lot, tables_without_summary}
 use Rattle.brk_book_theorems.specs.Trading.{history_row_of_status}
 
--- The rows and the figures that determine the effect of a result on the tables.
+-- The rows and the figures that determine how a result changes the tables. Amounts are in cents,
+-- and quantities are in shares, below 0 if sold short.
 pub record ResultRows : Type 0 where
-  -- The row of the trade, once it is completed.
+  -- The row of the trade after its completion.
   pub trade : TradeRow
-  -- The lots that it closes from, in order, and the lot that it opens, if it opens one.
+  -- The lots that the trade closes or reduces, in order, and the lot that it opens, if it opens
+  -- one.
   pub touched : List Touch
   pub opened : List Lot
-  -- The summary of its position before and after it.
+  -- The quantity of the position's summary before the result and after it.
   pub before : ℤ
   pub after : ℤ
-  -- The settlement, and the cash row that a cash trade posts.
+  -- The settlement of the trade, and the cash row that the result adds if it is a cash trade.
   pub settlement : SettlementRow
   pub cash : MoveRow
-  -- The balance of the account after it.
+  -- The balance of the account after the result.
   pub balance : ℤ
-  -- The broker of the account, with the broker totals after it.
+  -- The broker of the account, and its trade count and commission total after the result.
   pub broker : ℕ
   pub trades : ℤ
   pub commissions : ℕ
@@ -42,7 +48,7 @@ tables_with_trade_completed_and_history r t =
 
 -- ---- its lots
 
--- The row of HOLDING_HISTORY of a lot that the trade `trade` closes or reduces.
+-- The row of HOLDING_HISTORY that records that the trade `trade` changes a lot as `touch` says.
 abbrev pub history_row_of_touch : ℕ → Touch → HoldingHistoryRow
 history_row_of_touch trade touch = record { lot = touch.lot; trade = trade; before = touch.before; after = touch.after }
 
@@ -51,7 +57,7 @@ history_row_of_touch trade touch = record { lot = touch.lot; trade = trade; befo
 abbrev pub tables_with_lot_reduced : Touch → Tables → Tables
 tables_with_lot_reduced touch t = if is_zero touch.after then tables_without_lot touch.lot t else tables_with_lot_quantity touch.lot touch.after t
 
--- The tables with each lot of `touched` reduced or deleted, in order, and a row of HOLDING_HISTORY
+-- The tables with each lot of `touched`, in order, reduced or deleted, and a row of HOLDING_HISTORY
 -- by the trade `trade` added for it.
 abbrev pub tables_with_lots_touched : ℕ → List Touch → Tables → Tables
 tables_with_lots_touched trade touched t =
@@ -61,27 +67,29 @@ tables_with_lots_touched trade touched t =
 abbrev pub holding_row_of_lot : TradeRow → Lot → HoldingRow
 holding_row_of_lot r lot = record { trade = lot.trade; account = r.account; symbol = r.symbol; stamp = lot.stamp; price = lot.price; qty = lot.qty }
 
--- The row of HOLDING_HISTORY of a lot that is opened: from 0 to its quantity, by its own trade.
+-- The row of HOLDING_HISTORY that records the opening of the lot `lot`: from 0 to its quantity, by
+-- the trade that opened it.
 abbrev pub opening_history_row : Lot → HoldingHistoryRow
 opening_history_row lot = record { lot = lot.trade; trade = lot.trade; before = pos 0; after = lot.qty }
 
--- The tables with the lots `opened` added in order, each with its row of HOLDING_HISTORY. A trade
--- opens at most one lot.
+-- The tables with the lots `opened` added in order, each with the account and the symbol of the
+-- trade `r` and with its row of HOLDING_HISTORY. A trade opens at most one lot.
 abbrev pub tables_with_lots_opened : TradeRow → List Lot → Tables → Tables
 tables_with_lots_opened r opened t = fold (λ t lot. tables_with_lot_change (opening_history_row lot) (tables_with_lot (holding_row_of_lot r lot) t)) t opened
 
 -- ---- its summary, which has no row if it is 0
 
--- The tables with a summary changed from the quantity `before` to the quantity `after`. Its row is
--- deleted if `after` is 0, added if only `before` is 0, and set to `row` otherwise.
+-- The tables with a holding summary changed from the quantity `before` to the quantity `after`. Its
+-- row is deleted if `after` is 0, added as `row` if only `before` is 0, and otherwise set to `row`.
 abbrev pub tables_with_summary_changed : (before after : ℤ) → SummaryRow → Tables → Tables
 tables_with_summary_changed before after row t =
-    if is_zero after then tables_without_summary row.account row.symbol t else if is_zero before then tables_with_summary row t else tables_with_summary_quantity row t
+    if is_zero after then tables_without_summary row.account row.symbol t
+    else if is_zero before then tables_with_summary row t else tables_with_summary_quantity row t
 
 -- ---- its cash
 
 -- If `is_cash` is true, the tables with the cash row `cash` added and the balance of `account` set
--- to `balance`; otherwise the tables unchanged.
+-- to `balance`, in cents; otherwise the tables unchanged.
 abbrev pub tables_with_cash_row_if_cash_trade : (is_cash : Bool) → MoveRow → (account : ℕ) → (balance : ℤ) → Tables → Tables
 tables_with_cash_row_if_cash_trade is_cash cash account balance t = if is_cash then tables_with_balance account balance (tables_with_cash_row cash t) else t
 
@@ -99,7 +107,7 @@ tables_after_result c t =
     (tables_with_lots_opened c.trade c.opened (tables_with_lots_touched c.trade.id c.touched (tables_with_trade_completed_and_history c.trade t))))))
 
 -- The rows and figures of a result, computed from the base before the result, the completed trades
--- `after` it, the deal `d` of the trade, and the completed trade `t`.
+-- `after` the result, the deal `d` of the trade, and the completed trade `t`.
 abbrev pub result_rows_of_deal : Base → (after : List Trade) → Deal → Trade → ResultRows
 result_rows_of_deal base after d t = record {
   trade = trade_row t;
@@ -115,7 +123,8 @@ result_rows_of_deal base after d t = record {
   commissions = commission_total_of_broker base.accounts after (broker_id_of_account base t.account);
 }
 
--- The rows and figures of the result of the trade `t` at the stamp `stamp` and the price `price`.
+-- The rows and figures of the result of the trade `t` at the stamp `stamp` and the price `price`,
+-- in cents, from the base before it.
 abbrev pub result_rows_of_trade : Base → ℕ → ℕ → Trade → ResultRows
 result_rows_of_trade base stamp price t =
     result_rows_of_deal base (completed_trades (base_after_result base stamp price t)) (deal_of_result stamp price t) (completed_trade base stamp price t)

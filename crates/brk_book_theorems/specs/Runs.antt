@@ -14,46 +14,47 @@ use Rattle.brk_model.specs.Tests.{stamp_of_next_command}
 use Rattle.brk_book_theorems.specs.Books.{BooksInvariant}
 use Rattle.brk_book_theorems.specs.Sums.{TableSumsMatchTheirRows}
 
--- The trade with the number `id` exists in the base, is completed, and has the tax `tax`, in cents.
+-- The trade with the id `id` exists in the base, is completed, and has the tax `tax`, in cents.
 pub record CompletedTradeHasTax (id tax : ℕ) (base : Base) : Type 0 where
   pub trade : Trade
   pub found : trade_with_id base id ≡ Some trade
   pub completed : is_completed trade ≡ true
   pub taxed : trade.tax ≡ tax
 
--- The row of the trade with the number `id` exists in the tables and has the tax `tax`, in cents.
+-- The row of the trade with the id `id` exists in the tables and has the tax `tax`, in cents.
 pub record TradeRowHasTax (t : Tables) (id tax : ℕ) : Type 0 where
   pub row : TradeRow
   pub found : trade_row_with_id t id ≡ Some row
   pub taxed : row.tax ≡ tax
 
--- The tax of the trade `t` if it is completed at the clock reading `now` and the price `price`. It
--- is the tax on exactly the shares that the trade then closes, at the rates of the base.
+-- The tax, in cents, of the trade `t` if it is completed at the clock reading `now` and the price
+-- `price`, in cents. It is the tax on the gain of exactly the shares that the trade then closes, at
+-- the rates of the base.
 abbrev pub tax_at_completion : Base → ℕ → ℕ → Trade → ℕ
 tax_at_completion base now price t =
     tax_on_deal base t.account (deal_of_result (stamp_of_next_command base now) price t)
     (shares_of_position (completed_trades base) t.account t.symbol)
 
--- If the call is an accepted result, the row of its trade in the tables `later` has the tax of its
--- completion from `base` at the clock reading `now`. Vacuous for other calls and for other
--- outcomes.
+-- If the call is an accepted result at the clock reading `now`, its trade exists in `base`, and the
+-- row of this trade in the tables `later` has the tax of its completion from `base`. Vacuous for
+-- other calls and for other outcomes.
 abbrev pub RecordsTaxOfResult : Tables → Base → ℕ → Call → Outcome → Type 0
 RecordsTaxOfResult later base now (Do (CompleteTrade id price) key) (Did (Done reply)) =
     (t : Trade) × (trade_with_id base id ≡ Some t) × TradeRowHasTax later id (tax_at_completion base now price t)
 RecordsTaxOfResult later base now call outcome = ⊤
 
--- Each outcome is one that its call can have in the base that the calls before it lead to, from
--- `base` on. For each accepted result, the row of its trade in the tables `later` has the tax of
--- its completion. Vacuous for other calls and outcomes, and after the end of the shorter list.
+-- Each outcome is one that its call can have in the base that the calls before it reach from
+-- `base`. For each accepted result, the row of its trade in the tables `later` has the tax of its
+-- completion. Calls and outcomes after the end of the shorter list are not checked.
 abbrev pub RecordsTaxesOfResults : Tables → Base → List (ℕ × Call) → List Outcome → Type 0
 RecordsTaxesOfResults later base (call ∷ calls) (outcome ∷ outcomes) =
     RecordsTaxOfResult later base call.0 call.1 outcome
     × ((mid : Base) × IsOutcomeOfCall base call.0 call.1 outcome mid × RecordsTaxesOfResults later mid calls outcomes)
 RecordsTaxesOfResults later base calls outcomes = ⊤
 
--- The calls can have these outcomes and lead from `base` to `after`, which satisfies the books
--- invariant. The sums in its tables match their rows, and the trade of each accepted result has the
--- tax of its completion.
+-- The calls can have these outcomes and lead from `base` to `after`. The base `after` satisfies the
+-- books invariant, the sums in its tables match their rows, and the row of the trade of each
+-- accepted result has the tax of its completion.
 pub record IsRunWithSumsAndTaxes (base : Base) (calls : List (ℕ × Call)) (outcomes : List Outcome) (after : Base) : Type 0 where
   pub run : Run base calls outcomes after
   pub order : BooksInvariant after

@@ -11,7 +11,7 @@ use Rattle.brk_model.specs.Step.{base_after_accepted_command, security_of_listin
 use Rattle.brk_changes.specs.Changes.{tables_with_last_stamp, tables_with_last_trade, tables_with_security}
 use Rattle.brk_book_theorems.specs.Books.{BooksInvariant}
 
--- The base after the command if it is accepted from `base` at the clock reading `now`.
+-- The base after the command, as if it is accepted from `base` at the clock reading `now`.
 abbrev pub base_after_command : Base → ℕ → Command → Base
 base_after_command base now command = base_after_accepted_command base (stamp_of_next_command base now) command
 
@@ -29,8 +29,8 @@ HasTableEffect base now command change =
     BooksInvariant base → refusal_of_command base now command ≡ None
     → sheets (base_after_command base now command) ≡ tables_with_last_stamp (stamp_of_next_command base now) (change (sheets base))
 
--- The tables with the security of the listing `l` and its row of LAST_TRADE at the stamp `stamp`
--- added.
+-- The tables with the row of SECURITY of the listing `l` added, and its row of LAST_TRADE with the
+-- stamp `stamp`.
 abbrev pub tables_with_listing : ℕ → Listing → Tables → Tables
 tables_with_listing stamp l t =
     tables_with_last_trade (last_trade_row (security_of_listing stamp l)) (tables_with_security (security_row (security_of_listing stamp l)) t)
@@ -39,9 +39,9 @@ tables_with_listing stamp l t =
 abbrev pub stored_reply_row : Key → Command → Reply → Kept
 stored_reply_row key command reply = record { key = key; row_text = row_text command; line = line_text reply }
 
--- The command is accepted with the reply `reply`. The tables after it are the tables before it with
--- `change` applied and `stamp` as the last stamp, and the base after it satisfies the books
--- invariant.
+-- At the clock reading `now`, the base accepts the command with the reply `reply`. The tables after
+-- it are the tables before it with `change` applied and `stamp` set as the last stamp, and the base
+-- after it satisfies the books invariant.
 pub record IsAcceptedWithEffect (base : Base) (now : ℕ) (command : Command) (stamp : ℕ) (reply : Reply) (change : Tables → Tables) : Type 0 where
   pub steps : step base now command ≡ Ok (reply, base_after_command base now command)
   pub rows : sheets (base_after_command base now command) ≡ tables_with_last_stamp stamp (change (sheets base))

@@ -12,42 +12,46 @@ use Rattle.brk_model.specs.Tables.{AccountRow, BrokerRow, HoldingRow, SummaryRow
 use Rattle.brk_book_theorems.specs.Lives.{AllLotChangesFormChains}
 use Rattle.brk_book_theorems.specs.TradeReads.{lots_of_position, summary_row_of_position}
 
--- True if the trade `r` is completed and the broker of its account is `broker`.
+-- True if the trade `r` is completed and the broker of its account is `broker`. An account that
+-- does not exist counts as one of broker 0.
 abbrev pub is_completed_trade_of_broker : Tables → ℕ → TradeRow → Bool
 is_completed_trade_of_broker t broker r =
     is_same_trade_status r.status Completed && (option_map_or (λ a. a.broker) (account_row_with_id t r.account) 0 == broker)
 
--- The completed trades of the broker's accounts, in the order of the table.
+-- The completed trades of the accounts of the broker with the id `broker`, in the order of the
+-- table.
 abbrev pub completed_trade_rows_of_broker : Tables → ℕ → List TradeRow
 completed_trade_rows_of_broker t broker = filter (is_completed_trade_of_broker t broker) t.trades
 
--- True if the row of HOLDING belongs to the account and the symbol.
+-- True if the row `h` of HOLDING belongs to the account and the symbol.
 abbrev pub is_lot_of_position : ℕ → Text → HoldingRow → Bool
 is_lot_of_position account symbol h = (h.account == account) && bytes_eq h.symbol symbol
 
--- The sum of the quantities of the lots of the account in the symbol.
+-- The sum of the quantities of the lots of the account in the symbol, in shares, below 0 if they
+-- were sold short.
 abbrev pub lot_row_quantity_sum_of_position : Tables → ℕ → Text → ℤ
 lot_row_quantity_sum_of_position t account symbol = total_by (λ h. h.qty) (filter (is_lot_of_position account symbol) t.holdings)
 
 -- ---- all rows of a kind
 
--- The trade count and the commission total of the broker's row equal the number of completed trades
--- of the broker's accounts and the sum of their commissions.
+-- The trade count and the commission total of the broker's row `b` equal the number of completed
+-- trades of the broker's accounts and the sum of their commissions, in cents.
 pub record BrokerTotalsMatch (t : Tables) (b : BrokerRow) : Type 0 where
   pub trades : b.trades ≡ pos (length (completed_trade_rows_of_broker t b.id))
   pub commissions : b.commissions ≡ sum_by (λ r. r.commission) (completed_trade_rows_of_broker t b.id)
 
--- The balance of the account's row equals its opening balance plus the amounts of its cash rows.
+-- The balance of the account's row `a` equals its opening balance plus the amounts of its cash
+-- rows.
 abbrev pub BalanceMatchesCashRows : Tables → AccountRow → Type 0
 BalanceMatchesCashRows t a = a.balance ≡ a.opening +ℤ total_by (λ c. c.amount) (move_rows_of_account t a.id)
 
--- The quantity of the summary equals the sum of the quantities of the lots of its account in its
--- symbol, and is not 0.
+-- The quantity of the summary `s` equals the sum of the quantities of the lots of its account in
+-- its symbol, and is not 0.
 pub record SummaryMatchesLots (t : Tables) (s : SummaryRow) : Type 0 where
   pub sum : s.qty ≡ lot_row_quantity_sum_of_position t s.account s.symbol
   pub some : s.qty ≢ pos 0
 
--- The account of the lot has a summary in the symbol of the lot.
+-- The account of the lot `h` has a holding summary in the symbol of the lot.
 abbrev pub LotHasSummary : Tables → HoldingRow → Type 0
 LotHasSummary t h = is_some (summary_row_of_position t h.account h.symbol) ≡ true
 
@@ -60,7 +64,8 @@ pub record TableSumsMatchTheirRows (t : Tables) : Type 0 where
   pub summaries : AllByRecursion (SummaryMatchesLots t) t.summaries
   -- Each lot has a summary.
   pub summed : AllByRecursion (LotHasSummary t) t.holdings
-  -- The lots of an account in a symbol form a position: none is 0, and all have one side.
+  -- The lots of an account in a symbol form a position: no lot has 0 shares, all are bought or all
+  -- are sold short, and no two have the same trade or stamp.
   pub positions : (account : ℕ) (symbol : Text) → IsPosition (lots_of_position t account symbol)
   -- The changes of each lot form a chain: from 0 to the quantity that its own trade opened, then
   -- strictly nearer to 0, and at last to the remaining quantity.

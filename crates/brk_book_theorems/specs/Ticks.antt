@@ -6,7 +6,7 @@ use Rattle.brk_model.specs.Tables.{Tables}
 use Rattle.brk_model.specs.Commands.{Tick}
 use Rattle.brk_book_theorems.specs.TradeReads.{volume_of_symbol}
 
--- The sum of the quantities of the ticks of the symbol.
+-- The sum of the quantities of the ticks of the symbol, in shares.
 abbrev pub tick_quantity_sum_of_symbol : Text → List Tick → ℕ
 tick_quantity_sum_of_symbol symbol ticks = sum_by (λ tick. tick.qty) (filter (λ tick. bytes_eq tick.symbol symbol) ticks)
 
@@ -14,7 +14,7 @@ tick_quantity_sum_of_symbol symbol ticks = sum_by (λ tick. tick.qty) (filter (�
 abbrev pub is_tick_of_unknown_symbol : Tables → Tick → Bool
 is_tick_of_unknown_symbol t tick = is_none (find (λ r. bytes_eq r.symbol tick.symbol) t.last_trades)
 
--- True if the volume of the tick's symbol plus the quantities of all `ticks` of this symbol exceeds
--- the greatest amount.
+-- True if the volume of the tick's symbol plus the quantities of all `ticks` of this symbol, in
+-- shares, exceeds the greatest amount.
 abbrev pub exceeds_symbol_volume_limit : Tables → List Tick → Tick → Bool
 exceeds_symbol_volume_limit t ticks tick = nat_lt greatest_amount (volume_of_symbol t tick.symbol + tick_quantity_sum_of_symbol tick.symbol ticks)

@@ -1,5 +1,6 @@
 -- Lookups in tables before an order, a cancel or a feed.
-use Rattle.std.specs.Prelude.{ℕ, ◌==◌, ◌&&◌, nat_le, List, filter, find, map, reverse, slice_get, Option, Some, None, option_map, option_to_list, unwrap_or, if◌then◌else◌, ℤ, pos, bytes_eq, [], ◌∷◌, replicate}
+use Rattle.std.specs.Prelude.{ℕ, ◌==◌, ◌&&◌, nat_le, List, filter, find, map, reverse, slice_get, Option, Some, None, option_map}
+use Rattle.std.specs.Prelude.{option_to_list, unwrap_or, if◌then◌else◌, ℤ, pos, bytes_eq, [], ◌∷◌, replicate}
 use Rattle.std.specs.Int.RustNames.{unsigned_abs}
 use Rattle.std.specs.Option.{option_map_or}
 use Rattle.brk_money.specs.Spelling.{Text}
@@ -13,11 +14,11 @@ use Rattle.brk_lots.specs.declared.lot.Lot.{Lot}
 use Rattle.brk_model.specs.Tables.{Tables, HoldingRow, LastTradeRow, RequestRow, SummaryRow}
 use Rattle.brk_book_theorems.specs.Reads.{bands_of_tier_type_and_exchange}
 
--- The number of the last row of TRADE, or 0 if there are no trades.
+-- The id in the last row of TRADE, or 0 if there are no trades.
 abbrev pub trade_id_in_last_row_or_zero : Tables → ℕ
 trade_id_in_last_row_or_zero t = unwrap_or (option_map (λ r. r.id) (slice_get (reverse t.trades) 0)) 0
 
--- The number of the last row of CASH_MOVE, or 0 if there are no cash rows.
+-- The number in the last row of CASH_MOVE, or 0 if there are no cash rows.
 abbrev pub last_cash_row_number_or_zero : Tables → ℕ
 last_cash_row_number_or_zero t = unwrap_or (option_map (λ r. r.id) (slice_get (reverse t.moves) 0)) 0
 
@@ -25,17 +26,17 @@ last_cash_row_number_or_zero t = unwrap_or (option_map (λ r. r.id) (slice_get (
 abbrev pub permissions_of_account : Tables → ℕ → List Permission
 permissions_of_account t account = filter (λ r. r.account == account) t.permissions
 
--- The permission of the account with the tax id `tax_id`, as a list of one element, or the empty
+-- The permission of the account for the tax id `tax_id`, as a list of one element, or the empty
 -- list if there is none.
 abbrev pub permission_list_for_tax_id : Tables → ℕ → Text → List Permission
 permission_list_for_tax_id t account tax_id = option_to_list (find (λ r. (r.account == account) && bytes_eq r.tax_id tax_id) t.permissions)
 
--- The band of the tier, the type and the exchange that contains the quantity `qty`, or `None` if
--- there is none.
+-- The commission band of the customer tier `tier`, the trade type `kind` and the exchange
+-- `exchange` that contains the quantity `qty`, or `None` if there is none.
 abbrev pub band_of_quantity : Tables → ℕ → TradeType → Text → ℕ → Option Band
 band_of_quantity t tier kind exchange qty = find (λ r. nat_le r.from_qty qty && nat_le qty r.to_qty) (bands_of_tier_type_and_exchange t tier kind exchange)
 
--- The volume of the symbol in LAST_TRADE, or 0 if the symbol has no row there.
+-- The volume of the symbol in LAST_TRADE, in shares, or 0 if the symbol has no row there.
 abbrev pub volume_of_symbol : Tables → Text → ℕ
 volume_of_symbol t symbol = option_map_or (λ r. r.volume) (find (λ r. bytes_eq r.symbol symbol) t.last_trades) 0
 
@@ -43,20 +44,22 @@ volume_of_symbol t symbol = option_map_or (λ r. r.volume) (find (λ r. bytes_eq
 abbrev pub last_trade_row_of_symbol : Tables → Text → Option LastTradeRow
 last_trade_row_of_symbol t symbol = find (λ r. bytes_eq r.symbol symbol) t.last_trades
 
--- The pending requests of the symbol, in the order of the table.
+-- The rows of TRADE_REQUEST of the symbol, in the order of the table.
 abbrev pub requests_of_symbol : Tables → Text → List RequestRow
 requests_of_symbol t symbol = filter (λ r. bytes_eq r.symbol symbol) t.requests
 
--- The rows of HOLDING of the account in the symbol, the oldest first.
+-- The rows of HOLDING of the account in the symbol, sorted by stamp, then by trade, so that the
+-- oldest is first.
 abbrev pub holding_rows_of_position : Tables → ℕ → Text → List HoldingRow
 holding_rows_of_position t account symbol =
     rows_sorted_by_key (λ r. number r.stamp ∷ number r.trade ∷ []) (filter (λ r. (r.account == account) && bytes_eq r.symbol symbol) t.holdings)
 
--- The shares of the lot: as many equal shares as the absolute value of its quantity.
+-- The single shares of the row `r` of HOLDING: as many equal shares as the absolute value of its
+-- quantity.
 abbrev pub shares_of_lot_row : HoldingRow → List Share
 shares_of_lot_row r = replicate (unsigned_abs r.qty) (record { side = side_of_qty r.qty; trade = r.trade; price = r.price; stamp = r.stamp })
 
--- The lot of a row of HOLDING: the row without its account and symbol.
+-- The lot of the row `r` of HOLDING: the row without its account and symbol.
 abbrev pub lot_of_row : HoldingRow → Lot
 lot_of_row r = record { trade = r.trade; price = r.price; qty = r.qty; stamp = r.stamp }
 
@@ -68,7 +71,7 @@ lots_of_position t account symbol = map lot_of_row (holding_rows_of_position t a
 abbrev pub summary_row_of_position : Tables → ℕ → Text → Option SummaryRow
 summary_row_of_position t account symbol = find (λ r. (r.account == account) && bytes_eq r.symbol symbol) t.summaries
 
--- The quantity of the summary, or 0 if it is `None`.
+-- The quantity of the holding summary `row`, in shares, or 0 if it is `None`.
 abbrev pub summary_quantity_or_zero : Option SummaryRow → ℤ
 summary_quantity_or_zero row = option_map_or (λ r. r.qty) row (pos 0)
 

@@ -2,7 +2,9 @@
 
 ghost use Rattle.std.specs.Prelude.{ℕ, List, Option};
 ghost use Rattle.brk_model.specs.Base.{Base, empty_base};
-ghost use Rattle.brk_model.specs.Commands.{AddAccount, AddBand, AddBroker, AddCharge, AddCustomer, AddCustomerTax, AddPermission, AddSecurity, AddTaxRate, CancelTrade, Command, CompleteTrade, FeedTicks, Listing, Order, PlaceOrder, Reply, Tick, DepositCash, SetOneDay, WithdrawCash};
+ghost use Rattle.brk_model.specs.Commands.{AddAccount, AddBand, AddBroker, AddCharge, AddCustomer, AddCustomerTax, AddPermission};
+ghost use Rattle.brk_model.specs.Commands.{AddSecurity, AddTaxRate, CancelTrade, Command, CompleteTrade, FeedTicks, Listing};
+ghost use Rattle.brk_model.specs.Commands.{Order, PlaceOrder, Reply, Tick, DepositCash, SetOneDay, WithdrawCash};
 ghost use Rattle.brk_model.specs.Keyed.{base_with_stored_reply};
 ghost use Rattle.brk_model.specs.Records.{Account, Band, Broker, Charge, Customer, CustomerTax, Key, Permission, TaxRate};
 ghost use Rattle.brk_book_theorems.specs.Books.{BooksInvariant};
@@ -47,16 +49,16 @@ pub fn results_preserve_books_invariant()
     ensures { (base : Base) (now id price : ℕ) → PreservesBooksInvariant base now (CompleteTrade id price) }
 {}
 
-/// Proves that an accepted deposit, an accepted withdrawal and an accepted settlement day preserve
-/// the books invariant.
+/// Proves that an accepted deposit, an accepted withdrawal and an accepted command that sets the
+/// settlement day preserve the books invariant.
 pub fn movements_and_settlement_day_preserve_books_invariant()
     ensures deposit { (base : Base) (now account amount : ℕ) → PreservesBooksInvariant base now (DepositCash account amount) }
     ensures withdrawal { (base : Base) (now account amount : ℕ) → PreservesBooksInvariant base now (WithdrawCash account amount) }
     ensures one_day { (base : Base) (now day : ℕ) → PreservesBooksInvariant base now (SetOneDay day) }
 {}
 
-/// Proves that storing a command and its reply, under a key or under none, preserves the books
-/// invariant.
+/// Proves that storing a command and its reply under a key preserves the books invariant. Without a
+/// key nothing is stored.
 pub fn stored_replies_preserve_books_invariant()
     ensures { (base : Base) (key : Option Key) (command : Command) (reply : Reply) → BooksInvariant base
         → BooksInvariant (base_with_stored_reply key command reply base) }

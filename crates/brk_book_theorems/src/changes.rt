@@ -5,7 +5,9 @@ ghost use Rattle.std.specs.List.{AllByRecursion};
 ghost use Rattle.brk_money.specs.Kinds.{is_market_type};
 ghost use Rattle.brk_money.specs.OrderTypes.{trade_type_of_order};
 ghost use Rattle.brk_model.specs.Base.{Base, broker_id_of_account, completed_trades, empty_base, trade_with_id};
-ghost use Rattle.brk_model.specs.Commands.{AddAccount, AddBand, AddBroker, AddCharge, AddCustomer, AddCustomerTax, AddPermission, AddSecurity, AddTaxRate, CancelTrade, Command, CompleteTrade, DepositCash, FeedTicks, Listing, Order, PlaceOrder, Reply, SetOneDay, Tick, WithdrawCash};
+ghost use Rattle.brk_model.specs.Commands.{AddAccount, AddBand, AddBroker, AddCharge, AddCustomer, AddCustomerTax, AddPermission};
+ghost use Rattle.brk_model.specs.Commands.{AddSecurity, AddTaxRate, CancelTrade, Command, CompleteTrade, DepositCash, FeedTicks};
+ghost use Rattle.brk_model.specs.Commands.{Listing, Order, PlaceOrder, Reply, SetOneDay, Tick, WithdrawCash};
 ghost use Rattle.brk_model.specs.Derived.{due_day};
 ghost use Rattle.brk_model.specs.Feed.{triggered_trade_ids};
 ghost use Rattle.brk_model.specs.Keyed.{base_with_stored_reply, stored_row_with_key};
@@ -15,7 +17,9 @@ ghost use Rattle.brk_model.specs.Records.{Account, Band, Broker, Charge, Custome
 ghost use Rattle.brk_model.specs.Sheets.{sheets};
 ghost use Rattle.brk_model.specs.Tables.{tables_without_rows, trade_row};
 ghost use Rattle.brk_model.specs.Tests.{stamp_of_next_command, refusal_of_command};
-ghost use Rattle.brk_changes.specs.Changes.{tables_with_account, tables_with_band, tables_with_broker, tables_with_charge, tables_with_customer, tables_with_customer_tax, tables_with_stored_reply, tables_with_permission, tables_with_settlement_day, tables_with_tax_rate};
+ghost use Rattle.brk_changes.specs.Changes.{tables_with_account, tables_with_band, tables_with_broker, tables_with_charge};
+ghost use Rattle.brk_changes.specs.Changes.{tables_with_customer, tables_with_customer_tax, tables_with_stored_reply, tables_with_permission};
+ghost use Rattle.brk_changes.specs.Changes.{tables_with_settlement_day, tables_with_tax_rate};
 ghost use Rattle.brk_book_theorems.specs.Books.{BooksInvariant};
 ghost use Rattle.brk_book_theorems.specs.Steps.{HasTableEffect, stored_reply_row, tables_with_listing};
 ghost use Rattle.brk_book_theorems.specs.Movements.{tables_after_movement};
@@ -27,8 +31,9 @@ pub fn empty_base_has_no_rows()
     ensures { sheets empty_base ≡ tables_without_rows }
 {}
 
-/// Proves that an accepted command of reference data adds one row, a security two, and sets the
-/// last stamp. No other row changes, if the base satisfies the books invariant.
+/// Proves that an accepted command that adds a record of reference data adds one row and sets the
+/// last stamp. A security adds two rows: one of SECURITY and one of LAST_TRADE. No other row
+/// changes, if the base satisfies the books invariant.
 pub fn reference_records_add_only_their_rows()
     ensures broker { (base : Base) (now : ℕ) (b : Broker) → HasTableEffect base now (AddBroker b) (tables_with_broker b) }
     ensures customer { (base : Base) (now : ℕ) (c : Customer) → HasTableEffect base now (AddCustomer c) (tables_with_customer c) }
@@ -47,7 +52,9 @@ pub fn reference_records_add_only_their_rows()
 /// other row changes, if the base satisfies the books invariant.
 pub fn orders_change_only_their_rows()
     ensures { (base : Base) (now : ℕ) (o : Order)
-        → HasTableEffect base now (PlaceOrder o) (tables_after_order (trade_row (trade_of_order base (stamp_of_next_command base now) o)) (not (is_market_type (trade_type_of_order o.order_type))) (broker_id_of_account base o.account)) }
+        → HasTableEffect base now (PlaceOrder o)
+        (tables_after_order (trade_row (trade_of_order base (stamp_of_next_command base now) o))
+        (not (is_market_type (trade_type_of_order o.order_type))) (broker_id_of_account base o.account)) }
 {}
 
 /// Proves that an accepted cancel sets its trade's status, adds a row of TRADE_HISTORY, deletes the
@@ -57,9 +64,10 @@ pub fn cancels_change_only_their_rows()
     ensures { (base : Base) (now id : ℕ) → HasTableEffect base now (CancelTrade id) (tables_after_cancel (stamp_of_next_command base now) id) }
 {}
 
-/// Proves that an accepted feed, tick by tick, sets the last trade of the symbol and submits the
-/// trades whose requests the price triggers, and sets the last stamp. No other row changes, if the
-/// base satisfies the books invariant. The submitted trades are the triggered trades of the model.
+/// Proves that an accepted feed, tick by tick, updates the row of LAST_TRADE of the tick's symbol
+/// and submits the trades whose requests the tick's price triggers, and then sets the last stamp.
+/// No other row changes, if the base satisfies the books invariant. The submitted trades are the
+/// triggered trades of the model.
 pub fn feeds_change_only_their_rows()
     ensures rows { (base : Base) (now : ℕ) (ticks : List Tick)
         → HasTableEffect base now (FeedTicks ticks) (tables_after_feed (stamp_of_next_command base now) ticks) }
@@ -67,11 +75,11 @@ pub fn feeds_change_only_their_rows()
         → triggered_trade_ids (stamp_of_next_command base now) base ticks ≡ trade_ids_triggered_by_feed (stamp_of_next_command base now) ticks (sheets base) }
 {}
 
-/// Proves that an accepted result completes its trade and adds the completion to its history. It
-/// changes the lots that the trade closes and adds the lot that it opens, with their history. It
-/// sets the summary, adds the settlement, adds the cash row of a cash trade and sets its balance,
-/// adds to the broker totals, and sets the last stamp. No other row changes, if the base satisfies
-/// the books invariant.
+/// Proves that an accepted result completes its trade and adds the completion to TRADE_HISTORY. It
+/// reduces or deletes the lots that the trade closes and adds the lot that the trade opens, each
+/// with a row of HOLDING_HISTORY. It adds, sets or deletes the summary, adds the settlement, adds
+/// the cash row of a cash trade and sets the balance of its account, sets the broker totals, and
+/// sets the last stamp. No other row changes, if the base satisfies the books invariant.
 pub fn results_change_only_their_rows()
     ensures { (base : Base) (now id price : ℕ) (t : Trade) → trade_with_id base id ≡ Some t
         → HasTableEffect base now (CompleteTrade id price) (tables_after_result (result_rows_of_trade base (stamp_of_next_command base now) price t)) }
@@ -82,14 +90,16 @@ pub fn results_change_only_their_rows()
 /// books invariant.
 pub fn movements_change_only_their_rows()
     ensures deposit { (base : Base) (now account amount : ℕ)
-        → HasTableEffect base now (DepositCash account amount) (tables_after_movement base (deposit_movement (stamp_of_next_command base now) account amount)) }
+        → HasTableEffect base now (DepositCash account amount)
+        (tables_after_movement base (deposit_movement (stamp_of_next_command base now) account amount)) }
     ensures withdrawal { (base : Base) (now account amount : ℕ)
-        → HasTableEffect base now (WithdrawCash account amount) (tables_after_movement base (withdrawal_movement (stamp_of_next_command base now) account amount)) }
+        → HasTableEffect base now (WithdrawCash account amount)
+        (tables_after_movement base (withdrawal_movement (stamp_of_next_command base now) account amount)) }
 {}
 
-/// Proves that an accepted settlement day sets only its own value and the last stamp, if the base
-/// satisfies the books invariant. The due days of the trades that were completed before do not
-/// change.
+/// Proves that an accepted command that sets the settlement day changes only that day and the last
+/// stamp, if the base satisfies the books invariant. It does not change the due day of a trade that
+/// is already completed.
 pub fn settlement_day_changes_only_its_row()
     ensures row { (base : Base) (now day : ℕ) → HasTableEffect base now (SetOneDay day) (tables_with_settlement_day day) }
     ensures due_days { (base : Base) (now day : ℕ) → BooksInvariant base → refusal_of_command base now (SetOneDay day) ≡ None

@@ -1,6 +1,7 @@
 //! Theorems: lookups in the tables of a base return the values that the model finds in the base.
 
-ghost use Rattle.std.specs.Prelude.{◌&&◌, ◌+ℤ◌, ◌≡◌, ◌==◌, ℕ, List, Some, bytes_eq, false, filter, find, flat_map, is_none, is_some, length, map, option_map, pos, sum_by, true};
+ghost use Rattle.std.specs.Prelude.{◌&&◌, ◌+ℤ◌, ◌≡◌, ◌==◌, ℕ, List, Some, bytes_eq, false, filter, find, flat_map};
+ghost use Rattle.std.specs.Prelude.{is_none, is_some, length, map, option_map, pos, sum_by, true};
 ghost use Rattle.std.specs.List.{list_any};
 ghost use Rattle.brk_money.specs.Kinds.{is_same_trade_type};
 ghost use Rattle.brk_money.specs.Spelling.{Text};
@@ -8,7 +9,8 @@ ghost use Rattle.brk_money.specs.declared.trade_type.TradeType.{TradeType};
 ghost use Rattle.brk_lots.specs.Lots.{shares_of_lots};
 ghost use Rattle.brk_lots.specs.Position.{AreOpenedBeforeStamp, AreOpenedByOtherTrades, IsPosition};
 ghost use Rattle.brk_model.specs.Base as base_spec;
-ghost use Rattle.brk_model.specs.Base.{Base, account_with_id, commission_band_for_quantity, broker_with_id, charge_for_type_and_tier, completed_trades, customer_with_id, is_completed, security_with_symbol, tax_rate_record_with_id, trade_with_id};
+ghost use Rattle.brk_model.specs.Base.{Base, account_with_id, commission_band_for_quantity, broker_with_id, charge_for_type_and_tier, completed_trades};
+ghost use Rattle.brk_model.specs.Base.{customer_with_id, is_completed, security_with_symbol, tax_rate_record_with_id, trade_with_id};
 ghost use Rattle.brk_model.specs.Commands.{Tick};
 ghost use Rattle.brk_model.specs.Derived.{postings_of_base, shares_of_position, holding_summary_quantity};
 ghost use Rattle.brk_model.specs.Feed.{is_triggered_by_tick};
@@ -27,11 +29,14 @@ ghost use Rattle.brk_ref.specs.declared.tax.Tax.{Tax};
 ghost use Rattle.brk_book_theorems.specs.Books.{BooksInvariant};
 ghost use Rattle.brk_book_theorems.specs.Reads.{account_count_of_customer, overlaps_some_band, contains_tax_id, customer_tax_rate_sum, tax_rate_with_id};
 ghost use Rattle.brk_book_theorems.specs.Sums.{completed_trade_rows_of_broker};
-ghost use Rattle.brk_book_theorems.specs.TradeReads.{band_of_quantity, last_cash_row_number_or_zero, trade_id_in_last_row_or_zero, shares_of_lot_row, holding_rows_of_position, permission_list_for_tax_id, permissions_of_account, lots_of_position, summary_row_if_nonzero, summary_quantity_or_zero, summary_row_of_position};
+ghost use Rattle.brk_book_theorems.specs.TradeReads.{band_of_quantity, last_cash_row_number_or_zero, trade_id_in_last_row_or_zero, shares_of_lot_row};
+ghost use Rattle.brk_book_theorems.specs.TradeReads.{holding_rows_of_position, permission_list_for_tax_id, permissions_of_account, lots_of_position};
+ghost use Rattle.brk_book_theorems.specs.TradeReads.{summary_row_if_nonzero, summary_quantity_or_zero, summary_row_of_position};
 ghost use Rattle.brk_book_theorems.specs.Trading.{trade_ids_triggered_by_tick};
 
-/// Proves that the row with an id, of a broker, a customer, an account or a tax rate, is the row of
-/// the base's record with this id, and that neither exists without the other.
+/// Proves that the row of a broker, a customer, an account or a tax rate with an id is the row of
+/// the base's record with this id, and that there is no such row if and only if the base has no
+/// such record.
 pub fn rows_by_id_match_records()
     ensures broker { (base : Base) (id : ℕ)
         → find (λ r. r.id == id) (sheets base).brokers ≡ option_map (broker_row base.accounts (completed_trades base)) (broker_with_id base id) }
@@ -41,9 +46,10 @@ pub fn rows_by_id_match_records()
     ensures tax_rate { (base : Base) (id : ℕ) → find (λ r. r.id == id) (sheets base).tax_rates ≡ tax_rate_record_with_id base id }
 {}
 
-/// Proves that the row with a key is the row of the base's record with this key, and that neither
-/// exists without the other. The keys are an account with a tax id, a symbol, a type with a tier,
-/// and a customer with a tax.
+/// Proves that the row with a key is the row of the base's record with this key, and that there is
+/// no such row if and only if the base has no such record. The key is the account and the tax id of
+/// a permission, the symbol of a security or a last trade, the trade type and the tier of a charge,
+/// and the customer and the tax rate of a customer's tax.
 pub fn rows_by_key_match_records()
     ensures permission { (base : Base) (account : ℕ) (tax_id : Text)
         → find (λ r. (r.account == account) && bytes_eq r.tax_id tax_id) (sheets base).permissions
@@ -59,32 +65,35 @@ pub fn rows_by_key_match_records()
         ≡ find (λ x. (x.customer == customer) && (x.tax == tax)) base.customer_taxes }
 {}
 
-/// Proves that a band shares a quantity with a band of the base that has its tier, type and
-/// exchange if and only if it shares one with such a row.
+/// Proves that a band overlaps a band of the tables if and only if it overlaps a band of the base.
+/// Two bands overlap if they have the same tier, trade type and exchange and share a quantity.
 pub fn band_overlaps_match_the_base()
     ensures { (base : Base) (b : Band) → overlaps_some_band (sheets base) b ≡ list_any (bands_overlap b) base.bands }
 {}
 
-/// Proves that if a list has the tax rate of each tax that a customer pays in the tables, the rates
-/// of the list sum to the customer's rates in the tables.
+/// Proves that the rates of a list of tax rates sum to the sum of a customer's tax rates in the
+/// tables, if the list has the tax rate of each tax that the customer pays, in the order of
+/// CUSTOMER_TAXRATE.
 pub fn tax_rates_sum_to_customer_rates()
     ensures { (t : Tables) (customer : ℕ) (taxes : List Tax)
         → map (λ tax. Some (abstract_tax_rate tax)) taxes ≡ map (λ r. tax_rate_with_id t r.tax) (filter (λ r. r.customer == customer) t.customer_taxes)
         → sum_by (λ tax. tax.rate) taxes ≡ customer_tax_rate_sum t customer }
 {}
 
-/// Proves that the sum of a customer's rates in the tables equals the sum of the customer's rates
-/// in the base.
+/// Proves that the sum of a customer's tax rates in the tables equals the sum of the customer's tax
+/// rates in the base.
 pub fn customer_tax_rates_match_the_base()
     ensures { (base : Base) (customer : ℕ) → customer_tax_rate_sum (sheets base) customer ≡ base_spec.tax_rate_sum_of_customer base customer }
 {}
 
-/// Proves that the tables contain a tax id if and only if a customer of the base has it.
+/// Proves that the tables contain a customer with a tax id if and only if a customer of the base
+/// has this tax id.
 pub fn tax_ids_match_the_base()
     ensures { (base : Base) (tax_id : Text) → contains_tax_id (sheets base) tax_id ≡ list_any (λ c. bytes_eq c.tax_id tax_id) base.customers }
 {}
 
-/// Proves that a customer has as many account rows as accounts in the base.
+/// Proves that the tables have as many account rows of a customer as the base has accounts of this
+/// customer.
 pub fn account_counts_match_the_base()
     ensures { (base : Base) (customer : ℕ) → account_count_of_customer (sheets base) customer ≡ length (filter (λ a. a.customer == customer) base.accounts) }
 {}
@@ -94,34 +103,36 @@ pub fn last_stamp_matches_the_base()
     ensures { (base : Base) → (sheets base).last ≡ base.last }
 {}
 
-/// Proves that the row of KEPT with a key is the row that the base stores under the key, and that
-/// neither exists without the other.
+/// Proves that the row of KEPT with a key is the row that the base stores under this key, and that
+/// there is no such row if and only if the base stores none.
 pub fn stored_replies_match_the_base()
     ensures { (base : Base) (key : Key)
         → find (λ k. bytes_eq k.key.batch key.batch && (k.key.row == key.row)) (sheets base).kept ≡ stored_row_with_key base key }
 {}
 
-/// Proves that the row of TRADE with a number is the row of the base's trade with this number, and
-/// that neither exists without the other.
+/// Proves that the row of TRADE with an id is the row of the base's trade with this id, and that
+/// there is no such row if and only if the base has no such trade.
 pub fn trade_rows_match_trades()
     ensures { (base : Base) (id : ℕ) → trade_row_with_id (sheets base) id ≡ option_map trade_row (trade_with_id base id) }
 {}
 
-/// Proves that the number of the last row of TRADE, or 0 without trades, equals the number of
-/// trades of a base that satisfies the books invariant.
+/// Proves that the id in the last row of TRADE, or 0 if there are no trades, equals the number of
+/// trades of the base, if the base satisfies the books invariant.
 pub fn trade_id_in_last_row_is_trade_count()
     ensures { (base : Base) → BooksInvariant base → trade_id_in_last_row_or_zero (sheets base) ≡ length base.trades }
 {}
 
-/// Proves that the number of the last cash row, or 0 without cash rows, equals the number of
-/// postings, and that the cash rows without a trade are as many as the movements.
+/// Proves that the number in the last row of CASH_MOVE, or 0 if there are no cash rows, equals the
+/// number of postings of the base, and that as many cash rows have no trade as the base has
+/// movements.
 pub fn cash_row_counts_match_the_base()
     ensures rows { (base : Base) → last_cash_row_number_or_zero (sheets base) ≡ length (postings_of_base base) }
     ensures movements { (base : Base) → length (filter (λ r. is_none r.trade) (sheets base).moves) ≡ length base.movements }
 {}
 
-/// Proves that the requests that a tick triggers belong to the trades that the tick triggers in the
-/// base, in ascending order of their numbers, if the base satisfies the books invariant.
+/// Proves that the requests that a tick triggers belong to exactly the trades that the tick
+/// triggers in the base, in ascending order of their ids, if the base satisfies the books
+/// invariant.
 pub fn triggered_requests_match_trades()
     ensures trades { (base : Base) (tick : Tick) → BooksInvariant base
         → trade_ids_triggered_by_tick tick (sheets base) ≡ map (λ t. t.id) (filter (is_triggered_by_tick tick) base.trades) }
@@ -133,8 +144,9 @@ pub fn requests_belong_to_distinct_trades()
     ensures { (base : Base) → BooksInvariant base → all_distinct (map (λ r. r.trade) (sheets base).requests) ≡ true }
 {}
 
-/// Proves that an account's permission for the executor's tax id alone decides whether the executor
-/// is permitted, if the base satisfies the books invariant.
+/// Proves that an executor is permitted by the one permission of an account for the executor's tax
+/// id in the tables if and only if by all permissions of the account in the base, if the base
+/// satisfies the books invariant. An executor is also permitted if it is the customer `c`.
 pub fn one_permission_decides_on_executor()
     ensures { (base : Base) (account : ℕ) (c : Customer) (e : Executor) → BooksInvariant base
         → is_customer_or_has_permission c (permission_list_for_tax_id (sheets base) account e.tax_id) e
@@ -142,37 +154,40 @@ pub fn one_permission_decides_on_executor()
 {}
 
 /// Proves that an executor is permitted by the permissions of an account in the tables if and only
-/// if by its permissions in the base.
+/// if by the permissions of the account in the base. An executor is also permitted if it is the
+/// customer `c`.
 pub fn account_permissions_match_the_base()
     ensures { (base : Base) (account : ℕ) (c : Customer) (e : Executor)
         → is_customer_or_has_permission c (permissions_of_account (sheets base) account) e
         ≡ is_customer_or_has_permission c (filter (λ p. p.account == account) base.permissions) e }
 {}
 
-/// Proves that the band of a quantity in the tables, by tier, type and exchange, equals the band in
-/// the base, if the base satisfies the books invariant.
+/// Proves that the commission band for a quantity in the tables, by tier, trade type and exchange,
+/// equals the band that the base has for them, if the base satisfies the books invariant. Both are
+/// `None` if no band contains the quantity.
 pub fn commission_bands_match_the_base()
     ensures { (base : Base) (tier : ℕ) (kind : TradeType) (exchange : Text) (qty : ℕ) → BooksInvariant base
         → band_of_quantity (sheets base) tier kind exchange qty ≡ commission_band_for_quantity base tier kind exchange qty }
 {}
 
 /// Proves that the assets of an account in the base equal the balance of its row plus the market
-/// value of its summaries at last prices, if the base satisfies the books invariant.
+/// value of its holding summaries at last prices, in cents, if the base satisfies the books
+/// invariant.
 pub fn assets_equal_balance_plus_holdings()
     ensures { (base : Base) (id : ℕ) (r : AccountRow) → BooksInvariant base → account_row_with_id (sheets base) id ≡ Some r
         → r.balance +ℤ market_value_of_account_row (sheets base) r ≡ assets_of_account base id }
 {}
 
-/// Proves that the shares of the lots of an account in a symbol, the oldest first, equal the shares
-/// that the account holds in the base, if the base satisfies the books invariant.
+/// Proves that the single shares of the lots of an account in a symbol, the oldest lot first, equal
+/// the shares that the account holds in the base, if the base satisfies the books invariant.
 pub fn lot_shares_match_the_base()
     ensures { (base : Base) (account : ℕ) (symbol : Text) → BooksInvariant base
         → flat_map shares_of_lot_row (holding_rows_of_position (sheets base) account symbol) ≡ shares_of_position (completed_trades base) account symbol }
 {}
 
-/// Proves that the lots of an account in a symbol, the oldest first, form a position whose shares
-/// are those of the base, if the base satisfies the books invariant. Each lot was opened before the
-/// next stamp, and none by a trade that is not completed.
+/// Proves that the lots of an account in a symbol, the oldest first, form a position with the
+/// shares that the account holds in the base, if the base satisfies the books invariant. Each lot
+/// was opened before the stamp of the next command, and no trade that is not completed opened one.
 pub fn lots_form_a_position()
     ensures position { (base : Base) (account : ℕ) (symbol : Text) → BooksInvariant base → IsPosition (lots_of_position (sheets base) account symbol) }
     ensures shares { (base : Base) (account : ℕ) (symbol : Text) → BooksInvariant base
@@ -183,8 +198,9 @@ pub fn lots_form_a_position()
         → AreOpenedByOtherTrades id (lots_of_position (sheets base) account symbol) }
 {}
 
-/// Proves that the summary row of an existing account in an existing symbol has the quantity of the
-/// base, and that there is no row if that is 0, if the base satisfies the books invariant.
+/// Proves that the holding summary of an existing account in an existing symbol has the quantity
+/// that the base computes, and that there is no row if that quantity is 0, if the base satisfies
+/// the books invariant.
 pub fn summary_rows_match_the_base()
     ensures row { (base : Base) (account : ℕ) (symbol : Text) → BooksInvariant base → is_some (account_with_id base account) ≡ true
         → is_some (security_with_symbol base symbol) ≡ true
@@ -195,8 +211,8 @@ pub fn summary_rows_match_the_base()
         → summary_quantity_or_zero (summary_row_of_position (sheets base) account symbol) ≡ holding_summary_quantity (completed_trades base) account symbol }
 {}
 
-/// Proves that the balance of an account's row equals its opening balance plus its cash rows, if
-/// the base satisfies the books invariant.
+/// Proves that the balance in an account's row equals its opening balance plus the amounts of its
+/// cash rows, if the base satisfies the books invariant.
 pub fn balances_equal_cash_row_sums()
     ensures { (base : Base) (id : ℕ) (r : AccountRow) → BooksInvariant base → account_row_with_id (sheets base) id ≡ Some r
         → r.balance ≡ r.opening +ℤ total_by (λ r. r.amount) (move_rows_of_account (sheets base) id) }

@@ -22,8 +22,8 @@ ghost use Rattle.brk_book_theorems.specs.Runs.{TradeRowHasTax, CompletedTradeHas
 ghost use Rattle.brk_book_theorems.specs.Sums.{TableSumsMatchTheirRows};
 ghost use Rattle.brk_book_theorems.specs.TradeReads.{lots_of_position};
 
-/// Proves that every accepted command and every run of calls preserves the books invariant. A base
-/// that a run reaches from the empty base satisfies it.
+/// Proves that every accepted command and every run of calls preserves the books invariant, and
+/// that every base that a run reaches from the empty base satisfies it.
 pub fn runs_preserve_books_invariant()
     ensures command { (base : Base) (now : ℕ) (command : Command) → PreservesBooksInvariant base now command }
     ensures run { (base : Base) (calls : List (ℕ × Call)) (outcomes : List Outcome) (after : Base)
@@ -32,10 +32,10 @@ pub fn runs_preserve_books_invariant()
         → Run empty_base calls outcomes after → BooksInvariant after }
 {}
 
-/// Proves that after any run from a base that satisfies the books invariant, the lots of an account
-/// in a symbol, the oldest first, form a position. The shares of the lots are the shares that the
-/// completed trades leave, replayed in the order of their completion. The lots are the lots of
-/// these shares, and the changes of each lot form a chain.
+/// Proves that, after any run from a base that satisfies the books invariant, the lots of an
+/// account in a symbol, the oldest first, form a position and have exactly the shares that remain
+/// if the completed trades are replayed in the order of their completion. The lots equal the lots
+/// that the model forms from these shares, and the changes of each lot form a lot history.
 pub fn lots_match_replayed_shares()
     ensures position { (base after : Base) (calls : List (ℕ × Call)) (outcomes : List Outcome) (account : ℕ) (symbol : Text)
         → BooksInvariant base → Run base calls outcomes after → IsPosition (lots_of_position (sheets after) account symbol) }
@@ -51,9 +51,10 @@ pub fn lots_match_replayed_shares()
         (lot_quantity (replay (deals_of_position (completed_trades after) account symbol)) lot) }
 {}
 
-/// Proves that after any run from a base that satisfies the books invariant, the quantities of the
-/// lots of an account in a symbol total purchases - sales. Their cost basis is purchases - sales +
-/// realised gains.
+/// Proves that, after any run from a base that satisfies the books invariant, the quantities of the
+/// lots of an account in a symbol sum to the quantities bought minus the quantities sold. The cost
+/// basis of these lots is the value of the purchases minus the value of the sales plus the realised
+/// gains.
 pub fn lot_sums_match_deals()
     ensures quantities { (base after : Base) (calls : List (ℕ × Call)) (outcomes : List Outcome) (account : ℕ) (symbol : Text)
         → BooksInvariant base → Run base calls outcomes after
@@ -65,17 +66,18 @@ pub fn lot_sums_match_deals()
         +ℤ purchases_minus_sales (deals_of_position (completed_trades after) account symbol) }
 {}
 
-/// Proves that the sums in the tables of a base that satisfies the books invariant match their
-/// rows, and also those after any run from such a base.
+/// Proves that the broker totals, balances and summaries in the tables of a base match the rows
+/// that they count (`TableSumsMatchTheirRows`), if the base satisfies the books invariant, and also
+/// after any run from such a base.
 pub fn table_sums_match_their_rows()
     ensures base { (base : Base) → BooksInvariant base → TableSumsMatchTheirRows (sheets base) }
     ensures run { (base after : Base) (calls : List (ℕ × Call)) (outcomes : List Outcome)
         → BooksInvariant base → Run base calls outcomes after → TableSumsMatchTheirRows (sheets after) }
 {}
 
-/// Proves that an accepted result, with or without a key, is taxed on exactly the shares that it
-/// closes, at the rates of the base before it, if that base satisfies the books invariant. Any run
-/// preserves this tax, and the row of the trade has it.
+/// Proves that an accepted result, with or without a key, records the tax on exactly the shares
+/// that it closes, at the rates of the base before it, if that base satisfies the books invariant.
+/// Any run preserves this tax, and the row of the trade in TRADE has it.
 pub fn results_are_taxed_on_closed_shares()
     ensures taxed { (base : Base) (now id price : ℕ) (t : Trade)
         → BooksInvariant base → trade_with_id base id ≡ Some t → refusal_of_command base now (CompleteTrade id price) ≡ None
@@ -90,9 +92,9 @@ pub fn results_are_taxed_on_closed_shares()
         → BooksInvariant base → Run base calls outcomes after → RecordsTaxesOfResults (sheets after) base calls outcomes }
 {}
 
-/// Proves that a run from the empty base, or from a base that satisfies the books invariant, leads
-/// to a base that satisfies it. The sums in its tables match their rows, and each accepted result
-/// was taxed on exactly the shares that it closed.
+/// Proves that a run from the empty base, or from a base that satisfies the books invariant,
+/// reaches a base that satisfies it. The sums in the tables of that base match their rows, and each
+/// accepted result of the run was taxed on exactly the shares that it closed.
 pub fn runs_preserve_sums_and_taxes()
     ensures run { (base after : Base) (calls : List (ℕ × Call)) (outcomes : List Outcome)
         → BooksInvariant base → Run base calls outcomes after → IsRunWithSumsAndTaxes base calls outcomes after }

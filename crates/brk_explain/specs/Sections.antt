@@ -5,7 +5,8 @@ use Rattle.brk_money.specs.Spelling.{Text}
 use Rattle.brk_model.specs.Statement.{text_of_lines, holding_rows_of_account}
 use Rattle.brk_model.specs.Tables.{Tables}
 use Rattle.brk_ref.specs.Records.{abstract_account_row, abstract_broker_row}
-use Rattle.brk_explain_model.specs.AccountLines.{holding_and_total_lines, account_header_lines, balance_header_lines, open_lot_line, account_cash_rows_by_stamp, cash_posting_lines}
+use Rattle.brk_explain_model.specs.AccountLines.{holding_and_total_lines, account_header_lines, balance_header_lines}
+use Rattle.brk_explain_model.specs.AccountLines.{open_lot_line, account_cash_rows_by_stamp, cash_posting_lines}
 use Rattle.brk_explain_model.specs.BrokerLines.{broker_total_lines, broker_header_lines, trade_commission_lines, completed_trades_of_broker}
 use Rattle.brk_explain_rows.specs.Stories.{abstract_priced_holding}
 use Rattle.brk_explain_rows.specs.declared.account_story.AccountStory.{AccountStory}
@@ -13,38 +14,41 @@ use Rattle.brk_explain_rows.specs.declared.broker_story.BrokerStory.{BrokerStory
 use Rattle.brk_report_lines.specs.Written.{FailsWithinFirstLines}
 use Rattle.brk_report_lines.specs.declared.fault.LinesFault.{LinesFault}
 
--- `Ok`: the writer got exactly `lines`, and the count is `n`. `Err`: writing failed at `lines` as
--- `FailsWithinFirstLines` specifies.
+-- The result of writing `lines`, the first lines of a longer text, is as specified. `Ok`: the
+-- writer got exactly `lines`, and the returned count is `n`. `Err`: the writer got whole lines from
+-- the first on, perhaps none, and after `Write` also a part of the next one
+-- (`FailsWithinFirstLines`).
 abbrev pub WritesCountedLines : List Text → ℕ → Option Text → Option Text → Result ℕ LinesFault → Type 0
 WritesCountedLines lines n old new (Ok count) = Appends old new (text_of_lines lines) × (count ≡ n)
 WritesCountedLines lines n old new (Err e) = FailsWithinFirstLines lines old new e
 
--- The lines of the cash rows of `account`, each with the balance after it, from the balance
--- `opening`.
+-- The lines of the cash rows of `account`, sorted by stamp, each with the balance after it, which
+-- starts from the balance `opening`, in cents.
 abbrev pub account_cash_lines : Tables → ℕ → ℤ → List Text
 account_cash_lines t account opening = cash_posting_lines opening (account_cash_rows_by_stamp t account)
 
--- The lines of the lots of `account`.
+-- The lines of the lots of `account` in the tables `t`.
 abbrev pub account_lot_lines : Tables → ℕ → List Text
 account_lot_lines t account = map open_lot_line (holding_rows_of_account t account)
 
--- All lines of the explanation of `account`, whose row and holdings are those of `story`; its cash
--- rows and lots are those of the tables `t`.
+-- All lines of the explanation of `account`, from its row and its holdings in `story` and from its
+-- cash rows and lots in the tables `t`.
 abbrev pub all_account_lines : Tables → ℕ → AccountStory → List Text
 all_account_lines t account story =
     account_header_lines (abstract_account_row story.account)
     ++ (account_cash_lines t account story.account.account.opening
     ++ (balance_header_lines (abstract_account_row story.account)
     ++ (account_lot_lines t account
-    ++ holding_and_total_lines (abstract_account_row story.account) (map abstract_priced_holding story.held.items) (length (account_cash_rows_by_stamp t account)) (length (holding_rows_of_account t account)))))
+    ++ holding_and_total_lines (abstract_account_row story.account) (map abstract_priced_holding story.held.items)
+    (length (account_cash_rows_by_stamp t account)) (length (holding_rows_of_account t account)))))
 
 -- The lines of the completed trades of the accounts of `broker`, each with the running total of the
 -- commissions.
 abbrev pub broker_trade_lines : Tables → ℕ → List Text
 broker_trade_lines t broker = trade_commission_lines (completed_trades_of_broker t broker)
 
--- All lines of the explanation of `broker`, whose row and number of accounts are those of `story`;
--- its completed trades are those of the tables `t`.
+-- All lines of the explanation of `broker`, from its row and its number of accounts in `story` and
+-- from the completed trades of its accounts in the tables `t`.
 abbrev pub all_broker_lines : Tables → ℕ → BrokerStory → List Text
 all_broker_lines t broker story =
     broker_header_lines (abstract_broker_row story.broker)

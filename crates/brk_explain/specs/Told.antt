@@ -25,7 +25,8 @@ WritesLinesOrRefuses told old new (Err (Desk fault)) =
 WritesLinesOrRefuses told old new (Err Write) = (lines : List Text) × (told ≡ Ok lines) × WritesLinesAndPartOfNext lines old new
 
 -- The postcondition of writing the lines that `told` gives for the tables of a desk, or of
--- returning its refusal. The desk is unchanged.
+-- returning the refusal that it gives. The output is as specified (`WritesLinesOrRefuses`), the
+-- desk is unchanged, and nothing is written at a refusal.
 pub record WriteLinesPost {S : Type 0} (g : Ghosts S) (old new : Held S) (told : Tables → Result (List Text) Refusal) (before after : Option Text)
     (result : Result (Unit {0}) ReportFault) : Type 0 where
   -- The output is as specified for the rows that the store holds, whatever they are.

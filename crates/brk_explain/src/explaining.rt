@@ -22,8 +22,10 @@ use sqlite::Alter;
 use std::alloc::Global;
 use std::io::Write;
 
-// Writes the explanation of a trade. Fails with `Refused` (`NoTrade`) if it does not exist, or as
-// `write_explanation` does. If the database is still open, it is unchanged.
+// Writes the explanation of the trade with the id. Fails with `Refused` (`NoTrade`) if the trade
+// does not exist, before it writes anything; with `Desk` if a read fails, memory runs out or an
+// amount does not fit; and with `Write` if the writer fails. If the database is still open, it is
+// unchanged.
 fn write_trade_explanation<W: Write, S: Alter>(
     alloc: Global,
     desk: &mut Desk<S>,
@@ -44,8 +46,9 @@ fn write_trade_explanation<W: Write, S: Alter>(
     }
 }
 
-// Writes all lines of the explanation of an account. Fails with `Desk` or `Write`. The open
-// database is unchanged.
+// Writes all lines of the explanation of an account, from its row and holdings in `story` and from
+// its cash rows and lots, which it reads. Fails with `Desk` if a read fails, memory runs out or an
+// amount does not fit, and with `Write` if the writer fails. The open database is unchanged.
 fn write_account_lines<W: Write, S: Alter>(
     alloc: Global,
     desk: &mut Desk<S>,
@@ -54,7 +57,8 @@ fn write_account_lines<W: Write, S: Alter>(
     writer: &mut W,
 ) -> Result<(), LinesFault>
     ensures keeps { PreservesDesk S.Store desk.old desk.new }
-    ensures written { HoldsForStoredTables S.Store desk.old desk.new (λ t. WritesLines (all_account_lines t account story.now) (W.contents writer.old) (W.contents writer.new) result) }
+    ensures written { HoldsForStoredTables S.Store desk.old desk.new
+        (λ t. WritesLines (all_account_lines t account story.now) (W.contents writer.old) (W.contents writer.new) result) }
 {
     let row = &story.account;
     write_lines(writer, account_header_text(alloc, row))?;
@@ -67,8 +71,10 @@ fn write_account_lines<W: Write, S: Alter>(
     )
 }
 
-// Writes the explanation of an account. Fails with `Refused` (`NoAccount`) if it does not exist, or
-// as `write_explanation` does. If the database is still open, it is unchanged.
+// Writes the explanation of the account with the id. Fails with `Refused` (`NoAccount`) if the
+// account does not exist, before it writes anything; with `Desk` if a read fails, memory runs out
+// or an amount does not fit; and with `Write` if the writer fails. If the database is still open,
+// it is unchanged.
 fn write_account_explanation<W: Write, S: Alter>(
     alloc: Global,
     desk: &mut Desk<S>,
@@ -90,8 +96,9 @@ fn write_account_explanation<W: Write, S: Alter>(
 }
 
 // Writes the explanation of the holding of an account in a security. Fails with `Refused`
-// (`NoAccount` or `NoSecurity`) if the account or the security does not exist, or as
-// `write_explanation` does. If the database is still open, it is unchanged.
+// (`NoAccount`) if the account does not exist, or (`NoSecurity`) if only the security does not
+// exist, before it writes anything; with `Desk` if a read fails, memory runs out or an amount does
+// not fit; and with `Write` if the writer fails. If the database is still open, it is unchanged.
 fn write_holding_explanation<W: Write, S: Alter>(
     alloc: Global,
     desk: &mut Desk<S>,
@@ -99,7 +106,8 @@ fn write_holding_explanation<W: Write, S: Alter>(
     symbol: &Symbol,
     writer: &mut W,
 ) -> Result<(), ReportFault>
-    ensures told { WriteLinesPost S.Store desk.old desk.new (λ t. explanation t (HoldingOf account symbol.now)) (W.contents writer.old) (W.contents writer.new) result }
+    ensures told { WriteLinesPost S.Store desk.old desk.new (λ t. explanation t (HoldingOf account symbol.now))
+        (W.contents writer.old) (W.contents writer.new) result }
 {
     let story = match desk.holding_explanation_rows(alloc, account, symbol) {
         Ok(Ok(story)) => story,
@@ -113,8 +121,10 @@ fn write_holding_explanation<W: Write, S: Alter>(
     }
 }
 
-// Writes all lines of the explanation of a broker. Fails with `Desk` or `Write`. The open database
-// is unchanged.
+// Writes all lines of the explanation of a broker, from its row and number of accounts in `story`
+// and from the completed trades of its accounts, which it reads. Fails with `Desk` if a read fails,
+// memory runs out or a sum does not fit, and with `Write` if the writer fails. The open database is
+// unchanged.
 fn write_broker_lines<W: Write, S: Alter>(
     alloc: Global,
     desk: &mut Desk<S>,
@@ -123,7 +133,8 @@ fn write_broker_lines<W: Write, S: Alter>(
     writer: &mut W,
 ) -> Result<(), LinesFault>
     ensures keeps { PreservesDesk S.Store desk.old desk.new }
-    ensures written { HoldsForStoredTables S.Store desk.old desk.new (λ t. WritesLines (all_broker_lines t broker story.now) (W.contents writer.old) (W.contents writer.new) result) }
+    ensures written { HoldsForStoredTables S.Store desk.old desk.new
+        (λ t. WritesLines (all_broker_lines t broker story.now) (W.contents writer.old) (W.contents writer.new) result) }
 {
     let row = &story.broker;
     write_lines(writer, broker_header_text(alloc, row))?;
@@ -134,8 +145,10 @@ fn write_broker_lines<W: Write, S: Alter>(
     )
 }
 
-// Writes the explanation of a broker. Fails with `Refused` (`NoBroker`) if it does not exist, or as
-// `write_explanation` does. If the database is still open, it is unchanged.
+// Writes the explanation of the broker with the id. Fails with `Refused` (`NoBroker`) if the broker
+// does not exist, before it writes anything; with `Desk` if a read fails, memory runs out or an
+// amount does not fit; and with `Write` if the writer fails. If the database is still open, it is
+// unchanged.
 fn write_broker_explanation<W: Write, S: Alter>(
     alloc: Global,
     desk: &mut Desk<S>,
@@ -159,10 +172,10 @@ fn write_broker_explanation<W: Write, S: Alter>(
 /// Writes the explanation of a trade, of an account, of a holding or of a broker of the desk. The
 /// open database is unchanged, whatever the result.
 ///
-/// Fails with `Refused` 5 if the trade does not exist, with `Refused` 1 if the account does not,
-/// also if the holding of an account is explained, then with `Refused` 4 if the security does not,
-/// and with `Refused` 3 if the broker does not; nothing is then written. After `Desk` only whole
-/// lines are written, from the first on and never the last one. After `Write` whole lines are
+/// Fails with `Refused` and nothing written if a record does not exist: with refusal 5 (`NoTrade`)
+/// for the trade, 1 (`NoAccount`) for the account, also of a holding, 4 (`NoSecurity`) for the
+/// security of a holding whose account exists, and 3 (`NoBroker`) for the broker. After `Desk` only
+/// whole lines are written, from the first on and never the last one. After `Write` whole lines are
 /// written, from the first on, and a part of the next one.
 ///
 /// A crash exposes only states that a crash before the call could expose.
@@ -172,7 +185,8 @@ pub fn write_explanation<W: Write, S: Alter>(
     what: &ExplainRequest,
     writer: &mut W,
 ) -> Result<(), ReportFault>
-    ensures explained { WriteLinesPost S.Store desk.old desk.new (λ t. explanation t (abstract_explain_request what.now)) (W.contents writer.old) (W.contents writer.new) result }
+    ensures explained { WriteLinesPost S.Store desk.old desk.new (λ t. explanation t (abstract_explain_request what.now))
+        (W.contents writer.old) (W.contents writer.new) result }
 {
     match what {
         ExplainRequest::Trade(trade) => write_trade_explanation(alloc, desk, *trade, writer),

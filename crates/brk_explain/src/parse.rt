@@ -22,7 +22,8 @@ pub enum ExplainRequest {
     Broker(Id),
 }
 
-// Parses the only word as an id. Refuses another number of words or a malformed id with `BadText`.
+// Returns the id that is the only one of `words`. Refuses another number of words or a malformed id
+// with `BadText`.
 fn parse_single_id(words: &[&[u8]]) -> Result<Id, Refusal>
     ensures { ParsesAs (λ id. id) result (model.read_single_id (texts_of_fields words.now)) }
 {
@@ -35,7 +36,8 @@ fn parse_single_id(words: &[&[u8]]) -> Result<Id, Refusal>
     }
 }
 
-// Parses the words after `trade`: the id of a trade. Refuses any others with `BadText`.
+// Returns the request for a trade from the words after `trade`: the id of the trade. Refuses any
+// other words with `BadText`.
 fn parse_trade_request(words: &[&[u8]]) -> Result<ExplainRequest, Refusal>
     ensures { ParsesAs abstract_explain_request result (read_and_wrap model.TradeOf model.read_single_id (texts_of_fields words.now)) }
 {
@@ -45,7 +47,8 @@ fn parse_trade_request(words: &[&[u8]]) -> Result<ExplainRequest, Refusal>
     }
 }
 
-// Parses the words after `account`: the id of an account. Refuses any others with `BadText`.
+// Returns the request for an account from the words after `account`: the id of the account. Refuses
+// any other words with `BadText`.
 fn parse_account_request(words: &[&[u8]]) -> Result<ExplainRequest, Refusal>
     ensures { ParsesAs abstract_explain_request result (read_and_wrap model.AccountOf model.read_single_id (texts_of_fields words.now)) }
 {
@@ -55,7 +58,8 @@ fn parse_account_request(words: &[&[u8]]) -> Result<ExplainRequest, Refusal>
     }
 }
 
-// Parses the words after `broker`: the id of a broker. Refuses any others with `BadText`.
+// Returns the request for a broker from the words after `broker`: the id of the broker. Refuses any
+// other words with `BadText`.
 fn parse_broker_request(words: &[&[u8]]) -> Result<ExplainRequest, Refusal>
     ensures { ParsesAs abstract_explain_request result (read_and_wrap model.BrokerOf model.read_single_id (texts_of_fields words.now)) }
 {
@@ -65,8 +69,8 @@ fn parse_broker_request(words: &[&[u8]]) -> Result<ExplainRequest, Refusal>
     }
 }
 
-// Parses the words after `holding`: the id of an account and a symbol. Refuses any others
-// with `BadText`. Fails with `Memory` only.
+// Returns the request for a holding from the words after `holding`: the id of the account and the
+// symbol. Refuses any other words with `BadText`. Fails with `Memory` only.
 fn parse_holding_request(alloc: Global, words: &[&[u8]]) -> Planned<ExplainRequest>
     ensures read { IfOk result (λ read. ParsesAs abstract_explain_request read (model.read_holding_request (texts_of_fields words.now))) }
     ensures fault { OnErr result (result ≡ Err Memory) }
@@ -83,8 +87,9 @@ fn parse_holding_request(alloc: Global, words: &[&[u8]]) -> Planned<ExplainReque
     Ok(Ok(ExplainRequest::Holding { account, symbol }))
 }
 
-// Parses the words after `form`, or refuses an unknown form with `BadText`. Fails with `Memory`
-// only.
+// Returns the request with the first word `form` (`trade`, `account`, `holding` or `broker`) and
+// the other words `words`. Refuses another first word, and malformed or missing words, with
+// `BadText`. Fails with `Memory` only.
 #[tactic(auto, unfolding(brk_explain_model::specs::Explain::read_explain_request))]
 fn parse_request_form(alloc: Global, form: &[u8], words: &[&[u8]]) -> Planned<ExplainRequest>
     ensures read { IfOk result (λ read. ParsesAs abstract_explain_request read (model.read_explain_request (form.now ∷ texts_of_fields words.now))) }
@@ -105,9 +110,9 @@ fn parse_request_form(alloc: Global, form: &[u8], words: &[&[u8]]) -> Planned<Ex
     Ok(Err(Refusal::BadText))
 }
 
-/// Parses the words of a command line: `trade ID`, `account ID`, `holding ACCOUNT SYMBOL` or
-/// `broker ID`. Refuses an unknown form, a wrong number of words, a malformed id or a malformed
-/// symbol with `BadText`. Fails with `Memory` only.
+/// Returns the request for an explanation from the words of a command line: `trade ID`,
+/// `account ID`, `holding ACCOUNT SYMBOL` or `broker ID`. Refuses another first word, a wrong
+/// number of words, a malformed id or a malformed symbol with `BadText`. Fails with `Memory` only.
 #[tactic(auto, unfolding(brk_explain_model::specs::Explain::read_explain_request))]
 pub fn parse_explain_request(alloc: Global, words: &[&[u8]]) -> Planned<ExplainRequest>
     ensures read { IfOk result (λ read. ParsesAs abstract_explain_request read (model.read_explain_request (texts_of_fields words.now))) }

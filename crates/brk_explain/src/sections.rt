@@ -17,7 +17,8 @@ use sqlite::Alter;
 use std::alloc::Global;
 use std::io::Write;
 
-// Returns the fault with which writing lines fails if its walk failed.
+// Returns the fault with which writing lines fails if its walk failed: the walk's own fault as
+// `Desk`, or the fault with which the visitor stopped the walk.
 fn fault_from_walk_error(stop: WalkError<LinesFault>) -> LinesFault
     ensures { result ≡ fault_of_walk_error stop }
 {
@@ -27,8 +28,9 @@ fn fault_from_walk_error(stop: WalkError<LinesFault>) -> LinesFault
     }
 }
 
-/// Writes a line for each cash row of an account, with the balance after it, from the balance
-/// `opening`. Returns the number of cash rows. Fails with `Desk` or `Write`.
+/// Writes a line for each cash row of an account, sorted by stamp, with the balance after it, which
+/// starts from the balance `opening`. Returns the number of cash rows. Fails with `Desk` if a read
+/// fails, memory runs out or a sum does not fit, and with `Write` if the writer fails.
 pub(crate) fn write_cash_posting_lines<W: Write, S: Alter>(
     alloc: Global,
     desk: &mut Desk<S>,
@@ -37,7 +39,9 @@ pub(crate) fn write_cash_posting_lines<W: Write, S: Alter>(
     writer: &mut W,
 ) -> Result<u64, LinesFault>
     ensures keeps { PreservesDesk S.Store desk.old desk.new }
-    ensures written { HoldsForStoredTables S.Store desk.old desk.new (λ t. WritesCountedLines (account_cash_lines t account opening) (length (account_cash_rows_by_stamp t account)) (W.contents writer.old) (W.contents writer.new) result) }
+    ensures written { HoldsForStoredTables S.Store desk.old desk.new
+        (λ t. WritesCountedLines (account_cash_lines t account opening) (length (account_cash_rows_by_stamp t account))
+        (W.contents writer.old) (W.contents writer.new) result) }
 {
     let mut rows = CashPostingWriter {
         alloc,
@@ -52,8 +56,8 @@ pub(crate) fn write_cash_posting_lines<W: Write, S: Alter>(
     }
 }
 
-/// Writes a line for each lot of an account, and returns the number of lots. Fails with `Desk` or
-/// `Write`.
+/// Writes a line for each lot of an account, and returns the number of lots. Fails with `Desk` if a
+/// read fails or memory runs out, and with `Write` if the writer fails.
 pub(crate) fn write_open_lot_lines<W: Write, S: Alter>(
     alloc: Global,
     desk: &mut Desk<S>,
@@ -61,7 +65,9 @@ pub(crate) fn write_open_lot_lines<W: Write, S: Alter>(
     writer: &mut W,
 ) -> Result<u64, LinesFault>
     ensures keeps { PreservesDesk S.Store desk.old desk.new }
-    ensures written { HoldsForStoredTables S.Store desk.old desk.new (λ t. WritesCountedLines (account_lot_lines t account) (length (holding_rows_of_account t account)) (W.contents writer.old) (W.contents writer.new) result) }
+    ensures written { HoldsForStoredTables S.Store desk.old desk.new
+        (λ t. WritesCountedLines (account_lot_lines t account) (length (holding_rows_of_account t account))
+        (W.contents writer.old) (W.contents writer.new) result) }
 {
     let mut rows = OpenLotWriter {
         alloc,
@@ -74,8 +80,10 @@ pub(crate) fn write_open_lot_lines<W: Write, S: Alter>(
     }
 }
 
-/// Writes a line for each completed trade of a broker's accounts, with the running total of the
-/// commissions. Returns the number of trades. Fails with `Desk` or `Write`.
+/// Writes a line for each completed trade of a broker's accounts, sorted by the stamp of
+/// completion, with the running total of the commissions. Returns the number of trades. Fails with
+/// `Desk` if a read fails, memory runs out or a sum does not fit, and with `Write` if the writer
+/// fails.
 pub(crate) fn write_trade_commission_lines<W: Write, S: Alter>(
     alloc: Global,
     desk: &mut Desk<S>,
@@ -83,7 +91,9 @@ pub(crate) fn write_trade_commission_lines<W: Write, S: Alter>(
     writer: &mut W,
 ) -> Result<u64, LinesFault>
     ensures keeps { PreservesDesk S.Store desk.old desk.new }
-    ensures written { HoldsForStoredTables S.Store desk.old desk.new (λ t. WritesCountedLines (broker_trade_lines t broker) (length (completed_trades_of_broker t broker)) (W.contents writer.old) (W.contents writer.new) result) }
+    ensures written { HoldsForStoredTables S.Store desk.old desk.new
+        (λ t. WritesCountedLines (broker_trade_lines t broker) (length (completed_trades_of_broker t broker))
+        (W.contents writer.old) (W.contents writer.new) result) }
 {
     let mut rows = TradeCommissionWriter {
         alloc,

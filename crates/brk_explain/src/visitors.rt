@@ -13,7 +13,7 @@ use brk_report_lines::{LinesFault, write_line};
 use std::alloc::Global;
 use std::io::Write;
 
-// Returns `total` plus `amount`. Fails with `Desk(Store)` if the sum does not fit.
+// Returns `total` plus `amount`, in cents. Fails with `Desk(Store)` if the sum does not fit.
 fn total_plus_amount(total: Wide, amount: Cents) -> Result<Wide, LinesFault>
     ensures sum { IfOk result (λ sum. sum ≡ total +ℤ amount) }
     ensures fault { OnErr result (result ≡ Err (Desk fault.Store)) }
@@ -24,7 +24,7 @@ fn total_plus_amount(total: Wide, amount: Cents) -> Result<Wide, LinesFault>
     }
 }
 
-// Returns `total` plus a commission. Fails with `Desk(Store)` if the sum does not fit.
+// Returns `total` plus `commission`, in cents. Fails with `Desk(Store)` if the sum does not fit.
 fn total_plus_commission(total: Wide, commission: Amount) -> Result<Wide, LinesFault>
     ensures sum { IfOk result (λ sum. sum ≡ total +ℤ pos commission) }
     ensures fault { OnErr result (result ≡ Err (Desk fault.Store)) }
@@ -35,7 +35,7 @@ fn total_plus_commission(total: Wide, commission: Amount) -> Result<Wide, LinesF
     }
 }
 
-/// A visitor that writes a row for each cash row, with the balance after it, and counts the rows.
+/// A visitor that writes a line for each cash row, with the balance after it, and counts the rows.
 #[derive(Drop)]
 pub struct CashPostingWriter<'a, W> {
     pub alloc: Global,
@@ -80,7 +80,7 @@ impl<W: Write> Visitor<MoveRow, LinesFault> for CashPostingWriter<'_, W> {
     ghost transitive = { λ _ _ _ a b. b ∙ a };
 }
 
-/// A visitor that writes a row for each lot, and counts the lots.
+/// A visitor that writes a line for each lot, and counts the lots.
 #[derive(Drop)]
 pub struct OpenLotWriter<'a, W> {
     pub alloc: Global,
@@ -121,7 +121,7 @@ impl<W: Write> Visitor<HoldingRow, LinesFault> for OpenLotWriter<'_, W> {
     ghost transitive = { λ _ _ _ a b. b ∙ a };
 }
 
-/// A visitor that writes a row for each trade, with the running total of the commissions, and
+/// A visitor that writes a line for each trade, with the running total of the commissions, and
 /// counts the trades.
 #[derive(Drop)]
 pub struct TradeCommissionWriter<'a, W> {

@@ -11,7 +11,8 @@ use brk_report_lines::{append_left_aligned, append_right_aligned};
 use itoa::Buffer;
 use std::alloc::Global;
 
-/// Appends a label, left-aligned in 15 places, a space and a text.
+/// Appends to `out` a label, left-aligned in 15 places, a space, and a text. Fails with `Memory`
+/// only.
 #[tactic(auto, unfolding(brk_explain_model::specs::Texts::labeled_text))]
 pub fn put_labeled_text(out: &mut Vec<u8>, label: &str, text: &[u8]) -> Result<(), Fault>
     ensures ok { OnOk result (out.new.items ≡ out.old.items ++ texts.labeled_text label.now text.now) }
@@ -23,7 +24,8 @@ pub fn put_labeled_text(out: &mut Vec<u8>, label: &str, text: &[u8]) -> Result<(
     Ok(())
 }
 
-/// Appends a label, left-aligned in 15 places, a space and a value, right-aligned in 22 places.
+/// Appends to `out` a label, left-aligned in 15 places, a space, and a text `value`, right-aligned
+/// in 22 places. Fails with `Memory` only.
 #[tactic(auto, unfolding(brk_explain_model::specs::Texts::labeled_value))]
 pub fn put_labeled_value(out: &mut Vec<u8>, label: &str, value: &[u8]) -> Result<(), Fault>
     ensures ok { OnOk result (out.new.items ≡ out.old.items ++ texts.labeled_value label.now value.now) }
@@ -34,7 +36,8 @@ pub fn put_labeled_value(out: &mut Vec<u8>, label: &str, value: &[u8]) -> Result
     append_right_aligned(out, 22, value)
 }
 
-/// Appends a label and a number, right-aligned in 22 places.
+/// Appends to `out` a label, left-aligned in 15 places, a space, and a number in decimal digits,
+/// right-aligned in 22 places. Fails with `Memory` only.
 #[tactic(auto, unfolding(brk_explain_model::specs::Texts::labeled_number))]
 pub fn put_labeled_number(out: &mut Vec<u8>, label: &str, n: u64) -> Result<(), Fault>
     ensures ok { OnOk result (out.new.items ≡ out.old.items ++ texts.labeled_number label.now n) }
@@ -44,7 +47,8 @@ pub fn put_labeled_number(out: &mut Vec<u8>, label: &str, n: u64) -> Result<(), 
     put_labeled_value(out, label, buffer.format(n).as_bytes())
 }
 
-/// Appends a label and an amount, right-aligned in 22 places.
+/// Appends to `out` a label, left-aligned in 15 places, a space, and an amount with two decimal
+/// places, right-aligned in 22 places. Fails with `Memory` only.
 #[tactic(auto, unfolding(brk_explain_model::specs::Texts::labeled_amount))]
 pub fn put_labeled_amount(
     alloc: Global,
@@ -60,7 +64,8 @@ pub fn put_labeled_amount(
     put_labeled_value(out, label, cents.as_slice())
 }
 
-/// Appends the line of a label and a text, with its line feed.
+/// Appends to `out` the line of a label, left-aligned in 15 places, and a text, with its line feed.
+/// Fails with `Memory` only.
 pub fn put_labeled_text_line(out: &mut Vec<u8>, label: &str, text: &[u8]) -> Result<(), Fault>
     ensures ok { OnOk result (out.new.items ≡ out.old.items ++ line_with_line_feed (texts.labeled_text label.now text.now)) }
     ensures fault { OnErr result (result ≡ Err Memory) }
@@ -70,7 +75,8 @@ pub fn put_labeled_text_line(out: &mut Vec<u8>, label: &str, text: &[u8]) -> Res
     Ok(())
 }
 
-/// Appends the line of a label and a value, with its line feed.
+/// Appends to `out` the line of a label, left-aligned in 15 places, and a text `value`,
+/// right-aligned in 22 places, with its line feed. Fails with `Memory` only.
 pub fn put_labeled_value_line(out: &mut Vec<u8>, label: &str, value: &[u8]) -> Result<(), Fault>
     ensures ok { OnOk result (out.new.items ≡ out.old.items ++ line_with_line_feed (texts.labeled_value label.now value.now)) }
     ensures fault { OnErr result (result ≡ Err Memory) }
@@ -80,7 +86,8 @@ pub fn put_labeled_value_line(out: &mut Vec<u8>, label: &str, value: &[u8]) -> R
     Ok(())
 }
 
-/// Appends the line of a label and a number, with its line feed.
+/// Appends to `out` the line of a label, left-aligned in 15 places, and a number, right-aligned in
+/// 22 places, with its line feed. Fails with `Memory` only.
 pub fn put_labeled_number_line(out: &mut Vec<u8>, label: &str, n: u64) -> Result<(), Fault>
     ensures ok { OnOk result (out.new.items ≡ out.old.items ++ line_with_line_feed (texts.labeled_number label.now n)) }
     ensures fault { OnErr result (result ≡ Err Memory) }
@@ -90,7 +97,8 @@ pub fn put_labeled_number_line(out: &mut Vec<u8>, label: &str, n: u64) -> Result
     Ok(())
 }
 
-/// Appends the line of a label and a number that may be below 0, with its line feed.
+/// Appends to `out` the line of a label, left-aligned in 15 places, and a number that may be below
+/// 0, right-aligned in 22 places, with its line feed. Fails with `Memory` only.
 pub fn put_labeled_integer_line(out: &mut Vec<u8>, label: &str, n: i64) -> Result<(), Fault>
     ensures ok { OnOk result (out.new.items ≡ out.old.items ++ line_with_line_feed (texts.labeled_value label.now (signed_decimal n))) }
     ensures fault { OnErr result (result ≡ Err Memory) }
@@ -99,7 +107,8 @@ pub fn put_labeled_integer_line(out: &mut Vec<u8>, label: &str, n: i64) -> Resul
     put_labeled_value_line(out, label, buffer.format(n).as_bytes())
 }
 
-/// Appends the line of a label and an amount, with its line feed.
+/// Appends to `out` the line of a label, left-aligned in 15 places, and an amount with two decimal
+/// places, right-aligned in 22 places, with its line feed. Fails with `Memory` only.
 pub fn put_labeled_amount_line(
     alloc: Global,
     out: &mut Vec<u8>,
@@ -114,7 +123,7 @@ pub fn put_labeled_amount_line(
     Ok(())
 }
 
-/// Appends a text and a line feed.
+/// Appends to `out` a text and a line feed. Fails with `Memory` only.
 pub fn put_text_line(out: &mut Vec<u8>, text: &[u8]) -> Result<(), Fault>
     ensures ok { OnOk result (out.new.items ≡ out.old.items ++ line_with_line_feed text.now) }
     ensures fault { OnErr result (result ≡ Err Memory) }
@@ -124,7 +133,7 @@ pub fn put_text_line(out: &mut Vec<u8>, text: &[u8]) -> Result<(), Fault>
     Ok(())
 }
 
-/// Appends a number in decimal digits.
+/// Appends to `out` a number in decimal digits. Fails with `Memory` only.
 pub fn put_number(out: &mut Vec<u8>, n: u64) -> Result<(), Fault>
     ensures ok { OnOk result (out.new.items ≡ out.old.items ++ decimal n) }
     ensures fault { OnErr result (result ≡ Err Memory) }

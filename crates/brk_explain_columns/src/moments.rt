@@ -8,7 +8,7 @@ ghost use Rattle.brk_money.specs.declared.fault.Fault.TheVariants.{Memory};
 use brk_money::{Fault, Stamp, day_of, write_day};
 use std::alloc::Global;
 
-// Appends a number below 100 in two decimal digits.
+// Appends to `out` a number below 100 in two decimal digits. Fails with `Memory` only.
 #[tactic(auto, using(crate::proofs::Padded::two))]
 fn put_two_digits(out: &mut Vec<u8>, n: u8) -> Result<(), Fault>
     requires { n < 100 }
@@ -20,7 +20,7 @@ fn put_two_digits(out: &mut Vec<u8>, n: u8) -> Result<(), Fault>
     Ok(())
 }
 
-// Appends a number below 1000 in three decimal digits.
+// Appends to `out` a number below 1000 in three decimal digits. Fails with `Memory` only.
 #[tactic(auto, using(crate::proofs::Padded::three))]
 fn put_three_digits(out: &mut Vec<u8>, n: u16) -> Result<(), Fault>
     requires { n < 1000 }
@@ -36,7 +36,8 @@ fn put_three_digits(out: &mut Vec<u8>, n: u16) -> Result<(), Fault>
     Ok(())
 }
 
-// Appends the time of day of a number of milliseconds after midnight, below 86,400,000.
+// Appends to `out` the time of day, such as `09:05:00.021`, of a number of milliseconds after
+// midnight, below 86,400,000. Fails with `Memory` only.
 #[tactic(auto, unfolding(brk_explain_model::specs::Texts::time_of_day_text))]
 fn put_time_of_day(out: &mut Vec<u8>, millis: u32) -> Result<(), Fault>
     requires { millis < 86400000 }
@@ -52,7 +53,8 @@ fn put_time_of_day(out: &mut Vec<u8>, millis: u32) -> Result<(), Fault>
     put_three_digits(out, (millis % 1000) as u16)
 }
 
-/// Returns the timestamp of a stamp in UTC, such as `2024-03-01 09:05:00.021`.
+/// Returns the text of a stamp as date and time in UTC, such as `2024-03-01 09:05:00.021`. Fails
+/// with `Memory` only.
 #[tactic(auto, unfolding(brk_explain_model::specs::Texts::timestamp_text))]
 pub fn format_timestamp(alloc: Global, stamp: Stamp) -> Result<Vec<u8>, Fault>
     ensures ok { IfOk result (λ text. text.items ≡ timestamp_text stamp) }

@@ -9,8 +9,9 @@ use brk_report_lines::{append_left_aligned, append_right_aligned};
 use itoa::Buffer;
 use std::alloc::Global;
 
-/// Appends the first columns of a row about a trade or a lot: a word, the text of a timestamp, an
-/// id, a number of shares and a price.
+/// Appends to `out` the first columns of a row about a trade or a lot: a word in 6 places, the text
+/// of a timestamp, and, right-aligned, an id in 13, a number of shares in 11 and a price in 10
+/// places. Fails with `Memory` only.
 #[tactic(auto, unfolding(brk_explain_model::specs::Texts::leading_row_columns))]
 pub fn put_leading_row_columns(
     alloc: Global,
@@ -39,7 +40,8 @@ pub fn put_leading_row_columns(
     append_right_aligned(out, 10, cents.as_slice())
 }
 
-/// Appends a space, and an amount, right-aligned in 16 places.
+/// Appends to `out` a space, and an amount with two decimal places, right-aligned in 16 places.
+/// Fails with `Memory` only.
 #[tactic(auto, unfolding(brk_explain_model::specs::Texts::value_column))]
 pub fn put_value_column(alloc: Global, out: &mut Vec<u8>, amount: Wide) -> Result<(), Fault>
     ensures ok { OnOk result (out.new.items ≡ out.old.items ++ value_column amount) }
@@ -51,7 +53,8 @@ pub fn put_value_column(alloc: Global, out: &mut Vec<u8>, amount: Wide) -> Resul
     append_right_aligned(out, 16, cents.as_slice())
 }
 
-/// Appends a space, and an amount, right-aligned in 22 places.
+/// Appends to `out` a space, and an amount with two decimal places, right-aligned in 22 places.
+/// Fails with `Memory` only.
 #[tactic(auto, unfolding(brk_explain_model::specs::Texts::amount_column))]
 pub fn put_amount_column(alloc: Global, out: &mut Vec<u8>, amount: Wide) -> Result<(), Fault>
     ensures ok { OnOk result (out.new.items ≡ out.old.items ++ amount_column amount) }
@@ -63,7 +66,8 @@ pub fn put_amount_column(alloc: Global, out: &mut Vec<u8>, amount: Wide) -> Resu
     append_right_aligned(out, 22, cents.as_slice())
 }
 
-/// Appends a space, and a number of shares, right-aligned in 11 places.
+/// Appends to `out` a space, and a number of shares, right-aligned in 11 places. Fails with
+/// `Memory` only.
 #[tactic(auto, unfolding(brk_explain_model::specs::Texts::shares_column))]
 pub fn put_shares_column(out: &mut Vec<u8>, shares: i64) -> Result<(), Fault>
     ensures ok { OnOk result (out.new.items ≡ out.old.items ++ shares_column shares) }

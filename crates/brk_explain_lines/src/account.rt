@@ -22,8 +22,9 @@ use brk_report_lines::{append_left_aligned, append_right_aligned, lot_line};
 use itoa::Buffer;
 use std::alloc::Global;
 
-/// Returns the first lines of the explanation of an account: the title, the facts of the account,
-/// and the column headings of the cash rows. Fails with `Memory` only.
+/// Returns the first lines of the explanation of an account: the title, the name, the customer, the
+/// broker, the tax status, the opening balance, and the column headings of the cash rows. Fails
+/// with `Memory` only.
 #[tactic(auto, unfolding(brk_explain_model::specs::AccountLines::account_header_lines))]
 pub fn account_header_text(alloc: Global, row: &AccountRow) -> Result<Vec<u8>, Fault>
     ensures text { IfOk result (λ text. text.items ≡ text_of_lines (lines.account_header_lines (abstract_account_row row.now))) }
@@ -49,8 +50,8 @@ pub fn account_header_text(alloc: Global, row: &AccountRow) -> Result<Vec<u8>, F
     Ok(text)
 }
 
-// Appends the id of a trade, or a hyphen if there is none, right-aligned in 13 places. Fails with
-// `Memory` only.
+// Appends to `out` the id of a trade, or a hyphen if it is `None`, right-aligned in 13 places.
+// Fails with `Memory` only.
 fn put_trade_id_or_hyphen(out: &mut Vec<u8>, trade: Option<Id>) -> Result<(), Fault>
     ensures ok { OnOk result (out.new.items ≡ out.old.items ++ right_aligned_text 13 (lines.trade_id_or_hyphen trade)) }
     ensures fault { OnErr result (result ≡ Err Memory) }
@@ -62,7 +63,8 @@ fn put_trade_id_or_hyphen(out: &mut Vec<u8>, trade: Option<Id>) -> Result<(), Fa
     }
 }
 
-/// Returns the line of a cash row with the balance after it. Fails with `Memory` only.
+/// Returns the line of a cash row: its stamp, its number, its trade, its amount, the balance after
+/// it, and its text, with a line feed. Fails with `Memory` only.
 #[tactic(auto, unfolding(brk_explain_model::specs::AccountLines::cash_posting_line))]
 pub fn cash_posting_text(alloc: Global, row: &MoveRow, balance: Wide) -> Result<Vec<u8>, Fault>
     ensures line { IfOk result (λ line. line.items ≡ line_with_line_feed (lines.cash_posting_line (abstract_move_row row.now) balance)) }
@@ -86,8 +88,8 @@ pub fn cash_posting_text(alloc: Global, row: &MoveRow, balance: Wide) -> Result<
     Ok(line)
 }
 
-/// Returns the line of the balance of an account, and the column headings of its lots and holdings.
-/// Fails with `Memory` only.
+/// Returns the line of the balance of an account and the line of the column headings of its lots
+/// and holdings. Fails with `Memory` only.
 #[tactic(auto, unfolding(brk_explain_model::specs::AccountLines::balance_header_lines))]
 pub fn balance_header_text(alloc: Global, row: &AccountRow) -> Result<Vec<u8>, Fault>
     ensures text { IfOk result (λ text. text.items ≡ text_of_lines (lines.balance_header_lines (abstract_account_row row.now))) }
@@ -102,7 +104,8 @@ pub fn balance_header_text(alloc: Global, row: &AccountRow) -> Result<Vec<u8>, F
     Ok(text)
 }
 
-/// Returns the line of a lot of an account. Fails with `Memory` only.
+/// Returns the line of a lot of an account: the word `Lot`, its symbol, the trade that opened it,
+/// its quantity and its price, with a line feed. Fails with `Memory` only.
 #[tactic(auto, unfolding(brk_explain_model::specs::AccountLines::open_lot_line))]
 pub fn open_lot_text(alloc: Global, row: &HoldingRow) -> Result<Vec<u8>, Fault>
     ensures line { IfOk result (λ line. line.items ≡ line_with_line_feed (lines.open_lot_line (abstract_holding_row row.now))) }
@@ -116,7 +119,8 @@ pub fn open_lot_text(alloc: Global, row: &HoldingRow) -> Result<Vec<u8>, Fault>
     Ok(line)
 }
 
-// Returns the market value of a holding, in cents. Fails with `Store` if it does not fit.
+// Returns the market value of a holding, in cents: its quantity times the last price, below 0 if it
+// was sold short. Fails with `Store` if it does not fit.
 fn market_value_of_holding(held: &PricedHolding) -> Result<Wide, Fault>
     ensures worth { IfOk result (λ worth. worth ≡ lines.market_value_of_holding (abstract_priced_holding held.now)) }
     ensures fault { IfErr result IsCallFault }
@@ -127,8 +131,8 @@ fn market_value_of_holding(held: &PricedHolding) -> Result<Wide, Fault>
     }
 }
 
-/// Returns the sum of the market values of holdings, in cents. Fails with `Store` if it does not
-/// fit.
+// Returns the sum of the market values of the holdings, in cents. Fails with `Store` if it does not
+// fit.
 fn market_value_of_holdings(all: &[PricedHolding]) -> Result<Wide, Fault>
     ensures total { IfOk result (λ total. total ≡ lines.market_value_of_holdings (map abstract_priced_holding all.now)) }
     ensures fault { IfErr result IsCallFault }
@@ -141,8 +145,8 @@ fn market_value_of_holdings(all: &[PricedHolding]) -> Result<Wide, Fault>
     Ok(total)
 }
 
-// Appends the first columns of the line of a holding: the word `Held`, its symbol, and an empty
-// column. Fails with `Memory` only.
+// Appends to `out` the first columns of the line of a holding: the word `Held`, its symbol, and an
+// empty column of 13 places. Fails with `Memory` only.
 #[tactic(auto, unfolding(brk_explain_model::specs::AccountLines::holding_line_start))]
 fn put_holding_line_start(out: &mut Vec<u8>, symbol: &[u8]) -> Result<(), Fault>
     ensures ok { OnOk result (out.new.items ≡ out.old.items ++ lines.holding_line_start symbol.now) }
@@ -156,7 +160,8 @@ fn put_holding_line_start(out: &mut Vec<u8>, symbol: &[u8]) -> Result<(), Fault>
     Ok(())
 }
 
-// Appends the columns of a quantity and of a price, each after a space. Fails with `Memory` only.
+// Appends to `out` a quantity, right-aligned in 11 places, and a price, right-aligned in 10 places,
+// each after a space. Fails with `Memory` only.
 #[tactic(auto, unfolding(brk_explain_model::specs::AccountLines::quantity_and_price_columns))]
 fn put_quantity_and_price(
     alloc: Global,
@@ -177,7 +182,8 @@ fn put_quantity_and_price(
     Ok(())
 }
 
-// Appends the line of a holding. Fails with `Memory` or `Store`.
+// Appends to `out` the line of a holding: its symbol, its quantity, its last price and its market
+// value. Fails with `Memory` or `Store`; with `Store` if the market value does not fit.
 #[tactic(auto, unfolding(brk_explain_model::specs::AccountLines::holding_line))]
 fn put_holding_line(alloc: Global, out: &mut Vec<u8>, held: &PricedHolding) -> Result<(), Fault>
     ensures ok { OnOk result (out.new.items ≡ out.old.items ++ line_with_line_feed (lines.holding_line (abstract_priced_holding held.now))) }
@@ -191,7 +197,8 @@ fn put_holding_line(alloc: Global, out: &mut Vec<u8>, held: &PricedHolding) -> R
     Ok(())
 }
 
-// Appends a line for each holding. Fails with `Memory` or `Store`.
+// Appends to `out` a line for each holding, with its symbol, quantity, last price and market value.
+// Fails with `Memory` or `Store`; with `Store` if a market value does not fit.
 fn put_holding_lines(alloc: Global, out: &mut Vec<u8>, all: &[PricedHolding]) -> Result<(), Fault>
     ensures ok { OnOk result (out.new.items ≡ out.old.items ++ text_of_lines (map lines.holding_line (map abstract_priced_holding all.now))) }
     ensures fault { IfErr result IsCallFault }
@@ -202,8 +209,8 @@ fn put_holding_lines(alloc: Global, out: &mut Vec<u8>, all: &[PricedHolding]) ->
     Ok(())
 }
 
-// Appends the last line of the explanation of an account, with the numbers of its cash rows, lots
-// and symbols. Fails with `Memory` only.
+// Appends to `out` the last line of the explanation of an account, with the numbers of its cash
+// rows, its lots and the symbols that it holds. Fails with `Memory` only.
 fn put_account_counts_line(
     out: &mut Vec<u8>,
     cash: u64,
@@ -223,8 +230,9 @@ fn put_account_counts_line(
     Ok(())
 }
 
-// Appends the lines of the market value of the holdings, of the assets, and of the counts. Fails
-// with `Memory` or `Store`.
+// Appends to `out` the lines of the market value of the holdings, of the assets, and of the numbers
+// of cash rows, lots and symbols. The assets are the balance plus that value, in cents. Fails with
+// `Memory` or `Store`; with `Store` if the assets do not fit.
 #[tactic(auto, unfolding(brk_explain_model::specs::AccountLines::account_total_lines))]
 fn put_account_total_lines(
     alloc: Global,
@@ -245,8 +253,9 @@ fn put_account_total_lines(
     Ok(())
 }
 
-/// Returns the lines of the holdings of an account, of its assets, and of the counts. Fails with
-/// `Memory` or `Store`.
+/// Returns the last lines of the explanation of an account: one for each holding, the market value
+/// of the holdings, the assets, and the numbers of cash rows (`cash`), lots and symbols. Fails with
+/// `Memory` or `Store`; with `Store` if an amount does not fit.
 pub fn holding_and_total_text(
     alloc: Global,
     row: &AccountRow,

@@ -18,8 +18,8 @@ use brk_explain_rows::{OrderStory, ResultStory};
 use brk_money::{Fault, Wide};
 use std::alloc::Global;
 
-// Appends the line of the cash row of a trade, or of `none` if it has none. Fails
-// with `Memory` only.
+// Appends to `out` the line of the cash row of a trade, with its number and its text, or with
+// `none` if the trade has no cash row. Fails with `Memory` only.
 #[tactic(auto, unfolding(brk_explain_model::specs::TradeLines::trade_cash_row_line))]
 fn put_cash_row_line(out: &mut Vec<u8>, row: &Option<MoveRow>) -> Result<(), Fault>
     ensures ok { OnOk result (out.new.items ≡ out.old.items ++ line_with_line_feed (lines.trade_cash_row_line (option_map abstract_move_row row.now))) }
@@ -35,8 +35,9 @@ fn put_cash_row_line(out: &mut Vec<u8>, row: &Option<MoveRow>) -> Result<(), Fau
     Ok(())
 }
 
-/// Appends the lines of the cash row and of the balance before and after a completed trade. Fails
-/// with `Memory` or `Store`.
+/// Appends to `out` the lines of the cash row of a completed trade, of the opening balance, of the
+/// sum of the earlier cash rows, and of the balance before and after the trade, with the cash that
+/// it moved. Fails with `Memory` or `Store`; with `Store` if a balance does not fit.
 #[tactic(auto, unfolding(brk_explain_model::specs::TradeLines::trade_balance_lines))]
 pub(crate) fn put_balance_lines(
     alloc: Global,
@@ -61,8 +62,9 @@ pub(crate) fn put_balance_lines(
     Ok(())
 }
 
-// Appends the last line of the explanation of a completed trade, with the numbers of status
-// changes, closed lots and earlier cash rows. Fails with `Memory` only.
+// Appends to `out` the last line of the explanation of a completed trade, with the numbers of
+// status changes (`statuses`), closed lots (`lots`) and earlier cash rows (`cash`). Fails with
+// `Memory` only.
 fn put_trade_counts_line(
     out: &mut Vec<u8>,
     statuses: usize,
@@ -82,8 +84,9 @@ fn put_trade_counts_line(
     Ok(())
 }
 
-/// Appends the last line of the explanation of a completed trade, with its counts. Fails with
-/// `Memory` only.
+/// Appends to `out` the last line of the explanation of the completed trade `order` with the
+/// results `story`: the numbers of its status changes, of the lots that it closed, and of the
+/// earlier cash rows. Fails with `Memory` only.
 #[tactic(auto, unfolding(brk_explain_model::specs::TradeLines::trade_counts_lines))]
 pub(crate) fn put_trade_counts_lines(
     out: &mut Vec<u8>,

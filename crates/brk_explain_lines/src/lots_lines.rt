@@ -23,7 +23,8 @@ use brk_explain_rows::{Closing, OrderStory, ResultStory};
 use brk_money::{Fault, Price, Side, Wide};
 use std::alloc::Global;
 
-// Appends the line of the price, and the column headings of the lots. Fails with `Memory` only.
+// Appends to `out` the line of the price of a completed trade, and the line of the column headings
+// of its lots. Fails with `Memory` only.
 #[tactic(auto, unfolding(brk_explain_model::specs::TradeLines::price_and_lot_header_lines))]
 fn put_price_and_lot_header_lines(
     alloc: Global,
@@ -40,7 +41,9 @@ fn put_price_and_lot_header_lines(
     )
 }
 
-// Appends the line of a closing by a trade on a side at a price. Fails with `Memory` or `Store`.
+// Appends to `out` the line of a closing by a trade on `side` at `price`: the lot's opening, the
+// closed shares, their buy value and sell value, and the lot's quantity after it. Fails with
+// `Memory` or `Store`; with `Store` if a value does not fit.
 #[tactic(auto, unfolding(brk_explain_model::specs::TradeLines::closed_lot_line))]
 fn put_closed_lot_line(
     alloc: Global,
@@ -72,7 +75,8 @@ fn put_closed_lot_line(
     Ok(())
 }
 
-// Appends a line for each closing by a trade on a side at a price. Fails with `Memory` or `Store`.
+// Appends to `out` a line for each closing by a trade on `side` at `price`. Fails with `Memory` or
+// `Store`; with `Store` if a value does not fit.
 fn put_closed_lot_lines(
     alloc: Global,
     out: &mut Vec<u8>,
@@ -89,7 +93,8 @@ fn put_closed_lot_lines(
     Ok(())
 }
 
-// Appends the line of the lot that a trade opened at a price. Fails with `Memory` only.
+// Appends to `out` the line of the lot that `trade` opened at `price`: its stamp, its id, its
+// quantity and the price. Fails with `Memory` only.
 #[tactic(auto, unfolding(brk_explain_model::specs::TradeLines::opened_lot_line))]
 fn put_opened_lot_line(
     alloc: Global,
@@ -116,8 +121,8 @@ fn put_opened_lot_line(
     Ok(())
 }
 
-// Appends the line of the lot that a trade opened at a price, or nothing if it opened none. Fails
-// with `Memory` only.
+// Appends to `out` the line of the lot that `trade` opened at `price`, or nothing if `lot` is
+// `None`. Fails with `Memory` only.
 #[tactic(auto, unfolding(brk_explain_model::specs::TradeLines::opened_lot_lines))]
 fn put_opened_lot_lines(
     alloc: Global,
@@ -136,7 +141,7 @@ fn put_opened_lot_lines(
     }
 }
 
-// Returns the number of shares of the lot that a trade opened; 0 if it opened none.
+// Returns the number of shares of the lot that the trade opened; 0 if it opened none.
 fn count_of_opened_shares(story: &ResultStory) -> u64
     ensures { result ≡ nat_abs (trades.opened_quantity (abstract_result_story story.now)) }
 {
@@ -146,8 +151,8 @@ fn count_of_opened_shares(story: &ResultStory) -> u64
     }
 }
 
-// Appends the lines of the number of closed shares and of the number of opened shares. Fails with
-// `Memory` or `Store`.
+// Appends to `out` the lines of the number of shares that a trade closed and of the number that it
+// opened. Fails with `Memory` or `Store`; with `Store` if a number does not fit.
 #[tactic(auto, unfolding(brk_explain_model::specs::TradeLines::share_count_lines))]
 fn put_share_count_lines(out: &mut Vec<u8>, story: &ResultStory) -> Result<(), Fault>
     ensures ok { OnOk result (out.new.items ≡ out.old.items ++ text_of_lines (lines.share_count_lines (abstract_result_story story.now))) }
@@ -158,8 +163,8 @@ fn put_share_count_lines(out: &mut Vec<u8>, story: &ResultStory) -> Result<(), F
     put_labeled_number_line(out, "Shares opened", count_of_opened_shares(story))
 }
 
-// Appends the lines of the buy value, the sell value and the realised gain of the closed shares.
-// Fails with `Memory` or `Store`.
+// Appends to `out` the lines of the buy value, the sell value and the realised gain of the shares
+// that a trade closed. Fails with `Memory` or `Store`; with `Store` if an amount does not fit.
 #[tactic(auto, unfolding(brk_explain_model::specs::TradeLines::realised_gain_lines))]
 fn put_realised_gain_lines(
     alloc: Global,
@@ -180,8 +185,9 @@ fn put_realised_gain_lines(
     put_labeled_amount_line(alloc, out, "Realised gain", gain)
 }
 
-/// Appends the lines of the price, of the lots that a trade closed and opened, of the numbers of
-/// shares, and of the realised gain. Fails with `Memory` or `Store`.
+/// Appends to `out` the lines of the price of a completed trade, of the lots that it closed and
+/// opened, of the numbers of shares, and of the realised gain. Fails with `Memory` or `Store`; with
+/// `Store` if a number does not fit.
 #[tactic(auto, unfolding(brk_explain_model::specs::TradeLines::lot_and_gain_lines, brk_explain_model::specs::TradeLines::closed_lot_lines))]
 pub(crate) fn put_lot_and_gain_lines(
     alloc: Global,

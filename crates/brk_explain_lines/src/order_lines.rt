@@ -19,7 +19,8 @@ use brk_money::{Fault, Wide};
 use brk_report_lines::append_left_aligned;
 use std::alloc::Global;
 
-// Appends the line of a status change: its timestamp, and the code and the name of the status.
+// Appends to `out` the line of a status change: its timestamp, and the code and the name of the
+// status. Fails with `Memory` only.
 #[tactic(auto, unfolding(brk_explain_model::specs::TradeLines::status_change_line))]
 fn put_status_line(alloc: Global, out: &mut Vec<u8>, row: &HistoryRow) -> Result<(), Fault>
     ensures ok { OnOk result (out.new.items ≡ out.old.items ++ line_with_line_feed (lines.status_change_line (abstract_history_row row.now))) }
@@ -37,7 +38,8 @@ fn put_status_line(alloc: Global, out: &mut Vec<u8>, row: &HistoryRow) -> Result
     Ok(())
 }
 
-// Appends a line for each status change.
+// Appends to `out` a line for each status change, with its timestamp and its status. Fails with
+// `Memory` only.
 fn put_status_lines(alloc: Global, out: &mut Vec<u8>, rows: &[HistoryRow]) -> Result<(), Fault>
     ensures ok { OnOk result (out.new.items ≡ out.old.items ++ text_of_lines (map lines.status_change_line (map abstract_history_row rows.now))) }
     ensures fault { OnErr result (result ≡ Err Memory) }
@@ -48,7 +50,8 @@ fn put_status_lines(alloc: Global, out: &mut Vec<u8>, rows: &[HistoryRow]) -> Re
     Ok(())
 }
 
-// Appends the title of the explanation of a trade, with its id.
+// Appends to `out` the title line of the explanation of a trade, with the trade's id. Fails with
+// `Memory` only.
 fn put_trade_title_line(out: &mut Vec<u8>, order: &OrderStory) -> Result<(), Fault>
     ensures ok { OnOk result (out.new.items ≡ out.old.items ++ line_with_line_feed (lines.trade_title_line (abstract_order_story order.now))) }
     ensures fault { OnErr result (result ≡ Err Memory) }
@@ -60,7 +63,8 @@ fn put_trade_title_line(out: &mut Vec<u8>, order: &OrderStory) -> Result<(), Fau
     Ok(())
 }
 
-// Appends the line of the account of a trade: its id and its name.
+// Appends to `out` the line of the account of a trade: its id and its name. Fails with `Memory`
+// only.
 fn put_account_line(out: &mut Vec<u8>, order: &OrderStory) -> Result<(), Fault>
     ensures ok { OnOk result (out.new.items ≡ out.old.items ++ line_with_line_feed (lines.trade_account_line (abstract_order_story order.now))) }
     ensures fault { OnErr result (result ≡ Err Memory) }
@@ -72,8 +76,8 @@ fn put_account_line(out: &mut Vec<u8>, order: &OrderStory) -> Result<(), Fault>
     Ok(())
 }
 
-// Appends the title, and the lines of the account, the customer, the broker and the executor of a
-// trade.
+// Appends to `out` the title of the explanation of a trade, and the lines of its account, customer,
+// broker and executor. Fails with `Memory` only.
 #[tactic(auto, unfolding(brk_explain_model::specs::TradeLines::title_and_party_lines))]
 fn put_title_and_party_lines(out: &mut Vec<u8>, order: &OrderStory) -> Result<(), Fault>
     ensures ok { OnOk result (out.new.items ≡ out.old.items ++ text_of_lines (lines.title_and_party_lines (abstract_order_story order.now))) }
@@ -88,7 +92,8 @@ fn put_title_and_party_lines(out: &mut Vec<u8>, order: &OrderStory) -> Result<()
     Ok(())
 }
 
-// Appends the line of the type of a trade: its code and its name.
+// Appends to `out` the line of the type of a trade: its code and its name. Fails with `Memory`
+// only.
 fn put_trade_type_line(out: &mut Vec<u8>, order: &OrderStory) -> Result<(), Fault>
     ensures ok { OnOk result (out.new.items ≡ out.old.items ++ line_with_line_feed (lines.trade_type_line (abstract_order_story order.now))) }
     ensures fault { OnErr result (result ≡ Err Memory) }
@@ -100,7 +105,8 @@ fn put_trade_type_line(out: &mut Vec<u8>, order: &OrderStory) -> Result<(), Faul
     Ok(())
 }
 
-// Appends the line of the security of a trade: its symbol and its name.
+// Appends to `out` the line of the security of a trade: its symbol and its name. Fails with
+// `Memory` only.
 fn put_security_line(alloc: Global, out: &mut Vec<u8>, order: &OrderStory) -> Result<(), Fault>
     ensures ok { OnOk result (out.new.items ≡ out.old.items ++ line_with_line_feed (lines.trade_security_line (abstract_order_story order.now))) }
     ensures fault { OnErr result (result ≡ Err Memory) }
@@ -114,15 +120,15 @@ fn put_security_line(alloc: Global, out: &mut Vec<u8>, order: &OrderStory) -> Re
     Ok(())
 }
 
-// Returns `cash` for a cash trade and `margin` for a margin trade.
+// Returns the text `cash` for a cash trade and the text `margin` for a margin trade.
 fn settlement_word(is_cash: bool) -> &'static str
     ensures { result.now ≡ cash_or_margin_word is_cash }
 {
     if is_cash { "cash" } else { "margin" }
 }
 
-// Returns the words for the order in which a trade closes lots: last in first out if `is_lifo`,
-// otherwise first in first out.
+// Returns the text `last in first out` if `is_lifo` is true, otherwise the text
+// `first in first out`.
 fn closing_order_words(is_lifo: bool) -> &'static str
     ensures { result.now ≡ lines.closing_order_words is_lifo }
 {
@@ -133,7 +139,9 @@ fn closing_order_words(is_lifo: bool) -> &'static str
     }
 }
 
-// Appends the lines of the terms of an order.
+// Appends to `out` the lines of the terms of an order: its type, security, quantity and price,
+// whether it settles in cash or on margin, and the order in which it closes lots. Fails with
+// `Memory` only.
 #[tactic(auto, unfolding(brk_explain_model::specs::TradeLines::order_terms_lines))]
 fn put_order_terms_lines(alloc: Global, out: &mut Vec<u8>, order: &OrderStory) -> Result<(), Fault>
     ensures ok { OnOk result (out.new.items ≡ out.old.items ++ text_of_lines (lines.order_terms_lines (abstract_order_story order.now))) }
@@ -149,7 +157,8 @@ fn put_order_terms_lines(alloc: Global, out: &mut Vec<u8>, order: &OrderStory) -
     Ok(())
 }
 
-/// Appends the title, the parties, the terms of the order, and the status changes of a trade.
+/// Appends to `out` the title, the parties, the terms of the order, and the status changes of a
+/// trade. Fails with `Memory` only.
 #[tactic(auto, unfolding(brk_explain_model::specs::TradeLines::order_and_status_lines))]
 pub(crate) fn put_order_lines(
     alloc: Global,

@@ -17,8 +17,9 @@ use brk_explain_rows::{OrderStory, ResultStory};
 use brk_money::{Day, Fault, Wide, day_of, write_day};
 use std::alloc::Global;
 
-/// Appends the lines of the signed value of a trade, of its negated charge, commission and withheld
-/// tax, of its settlement amount, and of its cash type.
+/// Appends to `out` the lines of the signed value of a completed trade, of its negated charge,
+/// commission and withheld tax, of its settlement amount, and of its cash type. Fails with `Memory`
+/// only.
 #[tactic(auto, unfolding(brk_explain_model::specs::TradeLines::trade_settlement_lines))]
 pub(crate) fn put_settlement_lines(
     alloc: Global,
@@ -48,7 +49,7 @@ pub(crate) fn put_settlement_lines(
     Ok(())
 }
 
-// Returns the text of a day, YYYY-MM-DD.
+// Returns the text of a day in the format YYYY-MM-DD. Fails with `Memory` only.
 fn format_day(alloc: Global, day: Day) -> Result<Vec<u8>, Fault>
     ensures ok { IfOk result (λ text. text.items ≡ day_text day) }
     ensures fault { OnErr result (result ≡ Err Memory) }
@@ -58,7 +59,8 @@ fn format_day(alloc: Global, day: Day) -> Result<Vec<u8>, Fault>
     Ok(text)
 }
 
-// Returns the text of a day, YYYY-MM-DD, or `none` if there is no day.
+// Returns the text of a day in the format YYYY-MM-DD, or the text `none` if there is no day. Fails
+// with `Memory` only.
 fn format_day_or_none(alloc: Global, rule: Option<Day>) -> Result<Vec<u8>, Fault>
     ensures ok { IfOk result (λ text. text.items ≡ option_map_or day_text rule (codes "none")) }
     ensures fault { OnErr result (result ≡ Err Memory) }
@@ -69,8 +71,9 @@ fn format_day_or_none(alloc: Global, rule: Option<Day>) -> Result<Vec<u8>, Fault
     }
 }
 
-/// Appends the lines of the day of completion, of the settlement day or `none`, of
-/// the number of days to settle, and of the due day.
+/// Appends to `out` the lines of the day of completion of a trade, of the settlement day or `none`,
+/// of the number of days from completion to settlement, and of the due day. Fails with `Memory`
+/// only.
 #[tactic(auto, unfolding(brk_explain_model::specs::TradeLines::due_day_lines))]
 pub(crate) fn put_due_day_lines(
     alloc: Global,

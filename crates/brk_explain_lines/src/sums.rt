@@ -21,7 +21,8 @@ pub(crate) fn shares_of_closing(closing: &Closing) -> u64
     (i128::from(closing.before) - i128::from(closing.after)).unsigned_abs() as u64
 }
 
-/// Returns the buy value of a closing by a trade on a side at a price, in cents.
+/// Returns the buy value of a closing by a trade on `side` at `price`, in cents: the closed shares
+/// times `price` for a purchase, and times the lot's price for a sale.
 pub(crate) fn buy_value_of_closing(side: Side, price: Price, closing: &Closing) -> u128
     ensures { result ≡ trades.buy_value_of_closing side price (abstract_closing closing.now) }
 {
@@ -31,7 +32,8 @@ pub(crate) fn buy_value_of_closing(side: Side, price: Price, closing: &Closing) 
     }
 }
 
-/// Returns the sell value of a closing by a trade on a side at a price, in cents.
+/// Returns the sell value of a closing by a trade on `side` at `price`, in cents: the closed shares
+/// times `price` for a sale, and times the lot's price for a purchase.
 pub(crate) fn sell_value_of_closing(side: Side, price: Price, closing: &Closing) -> u128
     ensures { result ≡ trades.sell_value_of_closing side price (abstract_closing closing.now) }
 {
@@ -41,7 +43,7 @@ pub(crate) fn sell_value_of_closing(side: Side, price: Price, closing: &Closing)
     }
 }
 
-/// Returns an amount of `cents` cents. Fails with `Store` if it does not fit.
+/// Returns the signed amount of `cents` cents. Fails with `Store` if it does not fit.
 pub(crate) fn wide_amount_of_cents(cents: u128) -> Result<Wide, Fault>
     ensures amount { IfOk result (λ amount. amount ≡ pos cents) }
     ensures fault { IfErr result IsCallFault }
@@ -52,7 +54,8 @@ pub(crate) fn wide_amount_of_cents(cents: u128) -> Result<Wide, Fault>
     }
 }
 
-/// Returns the number of shares that all closings closed. Fails with `Store` if it does not fit.
+/// Returns the number of shares that all the closings closed. Fails with `Store` if it does not
+/// fit.
 pub(crate) fn total_closed_shares(closings: &[Closing]) -> Result<u64, Fault>
     ensures total { IfOk result (λ total. total ≡ trades.total_closed_shares (map abstract_closing closings.now)) }
     ensures fault { IfErr result IsCallFault }
@@ -67,8 +70,8 @@ pub(crate) fn total_closed_shares(closings: &[Closing]) -> Result<u64, Fault>
     Ok(total)
 }
 
-/// Returns the sum of the buy values of closings by a trade on a side at a price. Fails with
-/// `Store` if it does not fit.
+/// Returns the sum of the buy values of closings by a trade on `side` at `price`, in cents. Fails
+/// with `Store` if it does not fit.
 pub(crate) fn buy_value_of_closings(
     side: Side,
     price: Price,
@@ -87,8 +90,8 @@ pub(crate) fn buy_value_of_closings(
     wide_amount_of_cents(total)
 }
 
-/// Returns the sum of the sell values of closings by a trade on a side at a price. Fails with
-/// `Store` if it does not fit.
+/// Returns the sum of the sell values of closings by a trade on `side` at `price`, in cents. Fails
+/// with `Store` if it does not fit.
 pub(crate) fn sell_value_of_closings(
     side: Side,
     price: Price,
@@ -107,8 +110,8 @@ pub(crate) fn sell_value_of_closings(
     wide_amount_of_cents(total)
 }
 
-/// Returns the realised gain of closings by a trade on a side at a price: the sum of their sell
-/// values minus the sum of their buy values. Fails with `Store` if a value does not fit.
+/// Returns the realised gain of closings by a trade on `side` at `price`, in cents: the sum of
+/// their sell values minus the sum of their buy values. Fails with `Store` if a value does not fit.
 pub(crate) fn realised_gain_of_closings(
     side: Side,
     price: Price,
@@ -122,7 +125,8 @@ pub(crate) fn realised_gain_of_closings(
     subtract_amounts(sold, bought)
 }
 
-/// Returns the sum of tax rates. Fails with `Store` if it exceeds the greatest tax rate.
+/// Returns the sum of the tax rates, in hundred-thousandths. Fails with `Store` if it exceeds the
+/// greatest tax rate.
 pub(crate) fn sum_of_tax_rates(rates: &[Tax]) -> Result<TaxRate, Fault>
     ensures total { IfOk result (λ total. total ≡ trades.sum_of_tax_rates (map abstract_tax_rate rates.now)) }
     ensures fault { IfErr result IsCallFault }
@@ -133,8 +137,8 @@ pub(crate) fn sum_of_tax_rates(rates: &[Tax]) -> Result<TaxRate, Fault>
     }
 }
 
-// Returns the amount as cents within the limits of a balance. Fails with `Store` if it is beyond
-// them.
+// Returns the amount, in cents, as a value of the narrower type `Cents`. Fails with `Store` if its
+// absolute value exceeds the greatest amount.
 fn cents_within_limits(amount: Wide) -> Result<Cents, Fault>
     ensures cents { IfOk result (λ cents. cents ≡ amount) }
     ensures fault { IfErr result IsCallFault }
@@ -148,7 +152,8 @@ fn cents_within_limits(amount: Wide) -> Result<Cents, Fault>
     }
 }
 
-// Returns true if gains are taxable at this tax status.
+// Returns true if gains are taxable at the tax status: at `Withheld` and `Reported`, but not at
+// `Untaxed`.
 fn is_taxable_status(status: TaxStatus) -> bool
     ensures { result ≡ base.is_taxable_status status }
 {
@@ -158,8 +163,9 @@ fn is_taxable_status(status: TaxStatus) -> bool
     }
 }
 
-// Returns the tax on a gain at a sum of rates; 0 if gains are not taxable at the tax status. Fails
-// with `Store` if the gain is beyond the limits of a balance.
+// Returns the tax on a gain, both in cents, at the sum of tax rates `rates`; 0 if gains are not
+// taxable at the tax status. Fails with `Store` if they are taxable and the absolute value of the
+// gain exceeds the greatest amount.
 fn tax_on_gain(status: TaxStatus, gain: Wide, rates: TaxRate) -> Result<Wide, Fault>
     ensures tax { IfOk result (λ tax. tax ≡ pos (if base.is_taxable_status status then amounts.tax gain rates else 0)) }
     ensures fault { IfErr result IsCallFault }
@@ -171,8 +177,8 @@ fn tax_on_gain(status: TaxStatus, gain: Wide, rates: TaxRate) -> Result<Wide, Fa
     Ok(Wide::from(tax(gain, rates)))
 }
 
-/// Returns the tax on the realised gain of a trade at its customer's current tax rates; 0 if the
-/// account is not taxable. Fails with `Store` if a value does not fit.
+/// Returns the tax, in cents, on the realised gain of a trade at its customer's current tax rates;
+/// 0 if the account is not taxable. Fails with `Store` if a value does not fit.
 pub(crate) fn tax_at_current_rates(order: &OrderStory, story: &ResultStory) -> Result<Wide, Fault>
     ensures tax { IfOk result (λ tax. tax ≡ pos (trades.tax_at_current_rates (abstract_order_story order.now) (abstract_result_story story.now))) }
     ensures fault { IfErr result IsCallFault }
@@ -182,8 +188,8 @@ pub(crate) fn tax_at_current_rates(order: &OrderStory, story: &ResultStory) -> R
     tax_on_gain(order.account.account.tax_status, gain, rates)
 }
 
-/// Returns the commission of a trade at the rate of its current band, or `None` if there is no
-/// band.
+/// Returns the commission of a trade at the rate of its current band, in cents, or `None` if there
+/// is no band.
 pub(crate) fn commission_in_current_band(order: &OrderStory, story: &ResultStory) -> Option<Amount>
     ensures { result ≡ trades.commission_in_current_band (abstract_order_story order.now) (abstract_result_story story.now) }
 {
@@ -218,8 +224,8 @@ pub(crate) fn negated_commission(order: &OrderStory) -> Wide
     Wide::new(-i128::from(order.trade.commission.get()))
 }
 
-/// Returns the recorded tax of a trade, in cents, negated, if the tax status of its account is that
-/// of withheld tax, and otherwise 0.
+/// Returns the recorded tax of a trade, in cents, negated, if the tax status of its account is
+/// `Withheld`; otherwise 0.
 pub(crate) fn negated_withheld_tax(order: &OrderStory) -> Wide
     ensures { result ≡ neg_ℤ (pos (trades.withheld_tax_of_trade (abstract_order_story order.now))) }
 {
@@ -229,7 +235,7 @@ pub(crate) fn negated_withheld_tax(order: &OrderStory) -> Wide
     }
 }
 
-/// Returns the amount of the cash row of a trade; 0 if it has none.
+/// Returns the amount of the cash row of a trade, in cents; 0 if it has none.
 pub(crate) fn balance_change_of_trade(story: &ResultStory) -> Wide
     ensures { result ≡ trades.balance_change_of_trade (abstract_result_story story.now) }
 {

@@ -21,8 +21,8 @@ use brk_report_lines::{append_left_aligned, append_right_aligned};
 use itoa::Buffer;
 use std::alloc::Global;
 
-// Appends the line of a tax rate: its id, the rate in hundred-thousandths, and its name. Fails with
-// `Memory` only.
+// Appends to `out` the line of a tax rate: its id, the rate in hundred-thousandths, and its name.
+// Fails with `Memory` only.
 #[tactic(auto, unfolding(brk_explain_model::specs::TradeLines::tax_rate_line))]
 fn put_tax_rate_line(out: &mut Vec<u8>, rate: &Tax) -> Result<(), Fault>
     ensures ok { OnOk result (out.new.items ≡ out.old.items ++ line_with_line_feed (lines.tax_rate_line (abstract_tax_rate rate.now))) }
@@ -41,7 +41,8 @@ fn put_tax_rate_line(out: &mut Vec<u8>, rate: &Tax) -> Result<(), Fault>
     Ok(())
 }
 
-// Appends a line for each tax rate. Fails with `Memory` only.
+// Appends to `out` a line for each tax rate, with its id, its rate in hundred-thousandths, and its
+// name. Fails with `Memory` only.
 fn put_tax_rate_lines(out: &mut Vec<u8>, rates: &[Tax]) -> Result<(), Fault>
     ensures ok { OnOk result (out.new.items ≡ out.old.items ++ text_of_lines (map lines.tax_rate_line (map abstract_tax_rate rates.now))) }
     ensures fault { OnErr result (result ≡ Err Memory) }
@@ -52,7 +53,7 @@ fn put_tax_rate_lines(out: &mut Vec<u8>, rates: &[Tax]) -> Result<(), Fault>
     Ok(())
 }
 
-// Appends the line of the number of the account's tax status. Fails with `Memory` only.
+// Appends to `out` the line of the number of the account's tax status. Fails with `Memory` only.
 #[tactic(auto, unfolding(brk_explain_model::specs::TradeLines::account_tax_status_lines))]
 fn put_tax_status_lines(out: &mut Vec<u8>, order: &OrderStory) -> Result<(), Fault>
     ensures ok { OnOk result (out.new.items ≡ out.old.items ++ text_of_lines (lines.account_tax_status_lines (abstract_order_story order.now))) }
@@ -62,8 +63,9 @@ fn put_tax_status_lines(out: &mut Vec<u8>, order: &OrderStory) -> Result<(), Fau
     put_labeled_number_line(out, "Tax status", u64::from(status.number()))
 }
 
-// Appends the lines of the sum of the customer's current tax rates, of the tax on the realised gain
-// at this sum, and of the tax that the trade records. Fails with `Memory` or `Store`.
+// Appends to `out` the lines of the sum of the customer's current tax rates, of the tax on the
+// trade's realised gain at this sum, and of the tax that the trade records. Fails with `Memory` or
+// `Store`; with `Store` if a sum does not fit.
 #[tactic(auto, unfolding(brk_explain_model::specs::TradeLines::current_and_recorded_tax_lines))]
 fn put_current_and_recorded_tax_lines(
     alloc: Global,
@@ -84,8 +86,9 @@ fn put_current_and_recorded_tax_lines(
     Ok(())
 }
 
-/// Appends the lines of the tax status, of each current tax rate, and of the current and the
-/// recorded tax. Fails with `Memory` or `Store`.
+/// Appends to `out` the lines of the tax status of a trade's account, of each current tax rate of
+/// its customer, and of the current and the recorded tax. Fails with `Memory` or `Store`; with
+/// `Store` if a sum does not fit.
 #[tactic(auto, unfolding(brk_explain_model::specs::TradeLines::trade_tax_lines))]
 pub(crate) fn put_tax_lines(
     alloc: Global,
@@ -102,7 +105,8 @@ pub(crate) fn put_tax_lines(
     put_current_and_recorded_tax_lines(alloc, out, order, story)
 }
 
-// Appends the bounds of the quantity of a commission band. Fails with `Memory` only.
+// Appends to `out` the text after the rate of a commission band: ` of 10000 for `, its lower bound,
+// ` to ` and its upper bound. Fails with `Memory` only.
 #[tactic(auto, unfolding(brk_explain_model::specs::TradeLines::band_bounds_text))]
 fn put_band_bounds(out: &mut Vec<u8>, band: &Band) -> Result<(), Fault>
     ensures ok { OnOk result (out.new.items ≡ out.old.items ++ lines.band_bounds_text (abstract_band band.now)) }
@@ -115,7 +119,7 @@ fn put_band_bounds(out: &mut Vec<u8>, band: &Band) -> Result<(), Fault>
     Ok(())
 }
 
-// Appends the tier and the exchange of a commission band. Fails with `Memory` only.
+// Appends to `out` the tier and the exchange of a commission band. Fails with `Memory` only.
 #[tactic(auto, unfolding(brk_explain_model::specs::TradeLines::band_tier_and_exchange_text))]
 fn put_band_tier_and_exchange(out: &mut Vec<u8>, band: &Band) -> Result<(), Fault>
     ensures ok { OnOk result (out.new.items ≡ out.old.items ++ lines.band_tier_and_exchange_text (abstract_band band.now)) }
@@ -128,8 +132,8 @@ fn put_band_tier_and_exchange(out: &mut Vec<u8>, band: &Band) -> Result<(), Faul
     Ok(())
 }
 
-// Appends the line of the current commission band, or of `none` if there is none.
-// Fails with `Memory` only.
+// Appends to `out` the line of the current commission band: its rate in ten-thousandths, its
+// bounds, its tier and its exchange, or `none` if there is no band. Fails with `Memory` only.
 #[tactic(auto, unfolding(brk_explain_model::specs::TradeLines::commission_band_line))]
 fn put_commission_band_line(out: &mut Vec<u8>, band: &Option<Band>) -> Result<(), Fault>
     ensures ok { OnOk result (out.new.items ≡ out.old.items ++ line_with_line_feed (lines.commission_band_line (option_map abstract_band band.now))) }
@@ -145,8 +149,8 @@ fn put_commission_band_line(out: &mut Vec<u8>, band: &Option<Band>) -> Result<()
     Ok(())
 }
 
-// Appends the line of the commission at the rate of the current band, or of `none` if
-// there is no band. Fails with `Memory` only.
+// Appends to `out` the line of the commission at the rate of the current band, or of `none` if
+// `commission` is `None`. Fails with `Memory` only.
 #[tactic(auto, unfolding(brk_explain_model::specs::TradeLines::current_commission_line))]
 fn put_current_commission_line(
     alloc: Global,
@@ -162,8 +166,8 @@ fn put_current_commission_line(
     }
 }
 
-/// Appends the line of the current commission band, and the line of the commission at its rate.
-/// Fails with `Memory` only.
+/// Appends to `out` the line of the current commission band of a completed trade, and the line of
+/// the commission at its rate. Fails with `Memory` only.
 #[tactic(auto, unfolding(brk_explain_model::specs::TradeLines::band_and_commission_lines))]
 pub(crate) fn put_band_and_commission_lines(
     alloc: Global,

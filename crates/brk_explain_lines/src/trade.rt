@@ -16,7 +16,9 @@ use brk_explain_rows::{OrderStory, ResultStory, TradeStory};
 use brk_money::Fault;
 use std::alloc::Global;
 
-// Appends the lines after the status changes of a completed trade. Fails with `Memory` or `Store`.
+// Appends to `out` those lines of a completed trade that follow its status changes: lots and gain,
+// tax, commission, settlement, due day, balance and counts. Fails with `Memory` or `Store`; with
+// `Store` if an amount does not fit.
 #[tactic(auto, unfolding(brk_explain_model::specs::TradeLines::completed_trade_lines))]
 fn put_completed_trade_lines(
     alloc: Global,
@@ -37,8 +39,9 @@ fn put_completed_trade_lines(
     put_trade_counts_lines(out, order, story)
 }
 
-// Appends the lines after the status changes of a trade, completed or not. Fails with `Memory` or
-// `Store`.
+// Appends to `out` those lines of a trade that follow its status changes: the lines of a completed
+// trade if `story` has its results, otherwise the lines of a trade that is not completed. Fails
+// with `Memory` or `Store`; with `Store` if an amount does not fit.
 #[tactic(auto, unfolding(brk_explain_model::specs::TradeLines::lines_after_statuses))]
 fn put_lines_after_statuses(
     alloc: Global,
@@ -56,7 +59,8 @@ fn put_lines_after_statuses(
     }
 }
 
-/// Returns all lines of the explanation of a trade as one text. Fails with `Memory` or `Store`.
+/// Returns all lines of the explanation of a trade as one text. Fails with `Memory` or `Store`;
+/// with `Store` if an amount does not fit.
 #[tactic(auto, unfolding(brk_explain_model::specs::TradeLines::trade_explanation_lines))]
 pub fn trade_explanation_text(alloc: Global, story: &TradeStory) -> Result<Vec<u8>, Fault>
     ensures text { IfOk result (λ text. text.items ≡ text_of_lines (lines.trade_explanation_lines (abstract_trade_story story.now))) }

@@ -39,7 +39,7 @@ fn commission_remark(status: Status) -> &'static str
     }
 }
 
-// Returns the text of `words` followed by the price.
+// Returns the text `words` followed by the price with two decimal places. Fails with `Memory` only.
 fn format_words_and_price(alloc: Global, words: &str, price: Price) -> Result<Vec<u8>, Fault>
     ensures ok { IfOk result (λ text. text.items ≡ words.now ++ nonnegative_cents_text price) }
     ensures fault { OnErr result (result ≡ Err Memory) }
@@ -49,8 +49,9 @@ fn format_words_and_price(alloc: Global, words: &str, price: Price) -> Result<Ve
     Ok(text)
 }
 
-// Returns the event that a pending trade of a type with a bid price waits for: a tick or, for a
-// market type, a cancel.
+// Returns the text of the event for which a pending trade of the type waits: a tick at or below
+// `price`, or at or above it for a limit sell; a cancel for a market type. Fails with `Memory`
+// only.
 fn trigger_condition_text(alloc: Global, kind: TradeType, price: Price) -> Result<Vec<u8>, Fault>
     ensures ok { IfOk result (λ text. text.items ≡ lines.trigger_condition_text kind price) }
     ensures fault { OnErr result (result ≡ Err Memory) }
@@ -66,8 +67,9 @@ fn trigger_condition_text(alloc: Global, kind: TradeType, price: Price) -> Resul
     }
 }
 
-// Returns the event that a trade waits for, by its status: its trigger if it is pending, a result
-// if it is submitted, and otherwise nothing.
+// Returns the text of the event for which a trade waits, by its status: the event that triggers it
+// if it is pending, `a result` if it is submitted, and otherwise `nothing`. Fails with `Memory`
+// only.
 fn awaited_event_text(
     alloc: Global,
     status: Status,
@@ -86,7 +88,7 @@ fn awaited_event_text(
     }
 }
 
-// Appends the line of a label, an amount, and words after it.
+// Appends to `out` the line of a label, an amount and the text `words`. Fails with `Memory` only.
 fn put_amount_line_with_words(
     alloc: Global,
     out: &mut Vec<u8>,
@@ -104,7 +106,7 @@ fn put_amount_line_with_words(
     Ok(())
 }
 
-// Appends the line of the number of status changes.
+// Appends to `out` the line of the number of status changes. Fails with `Memory` only.
 fn put_status_count_line(out: &mut Vec<u8>, count: usize) -> Result<(), Fault>
     ensures ok { OnOk result (out.new.items ≡ out.old.items ++ line_with_line_feed (codes "Statuses " ++ decimal count)) }
     ensures fault { OnErr result (result ≡ Err Memory) }
@@ -115,7 +117,9 @@ fn put_status_count_line(out: &mut Vec<u8>, count: usize) -> Result<(), Fault>
     Ok(())
 }
 
-/// Appends the lines after the status changes of a trade that is not completed.
+/// Appends to `out` those lines of a trade that is not completed that follow its status changes:
+/// charge and commission with remarks, the event for which it waits, no shares and no cash moved,
+/// and the number of its statuses. Fails with `Memory` only.
 #[tactic(auto, unfolding(brk_explain_model::specs::TradeLines::uncompleted_trade_lines))]
 pub(crate) fn put_uncompleted_trade_lines(
     alloc: Global,

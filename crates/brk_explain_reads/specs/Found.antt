@@ -2,7 +2,8 @@
 use Rattle.std.specs.Prelude.{◌≡◌, ℕ, ◌==◌, List, filter, find, length, map, nat_lt, Some, option_map}
 use Rattle.brk_changes.specs.Rows.{abstract_history_row, abstract_lot_change_row, abstract_move_row, abstract_settlement_row, abstract_trade_row}
 use Rattle.brk_changes.specs.declared.trade_row.TradeRow as trade
-use Rattle.brk_explain_model.specs.Trades.{band_for_customer_and_security, recorded_closing, closings_of_trade, is_closing_by, opened_lot_row, tax_rates_of_customer, result_details_of_trade, settlement_of_trade_or_zeros, sorted_statuses_of_trade}
+use Rattle.brk_explain_model.specs.Trades.{band_for_customer_and_security, recorded_closing, closings_of_trade, is_closing_by, opened_lot_row}
+use Rattle.brk_explain_model.specs.Trades.{tax_rates_of_customer, result_details_of_trade, settlement_of_trade_or_zeros, sorted_statuses_of_trade}
 use Rattle.brk_explain_rows.specs.Stories.{abstract_closing, abstract_result_story}
 use Rattle.brk_explain_rows.specs.declared.story.OrderStory.{OrderStory}
 use Rattle.brk_explain_rows.specs.declared.story.ResultStory.{ResultStory}
@@ -20,21 +21,22 @@ use Rattle.brk_explain_reads.specs.declared.terms.TaxRatesAndBand.{TaxRatesAndBa
 abbrev pub cash_rows_before_stamp : Tables → ℕ → ℕ → List MoveRow
 cash_rows_before_stamp t account until = filter (λ r. nat_lt r.stamp until) (cash_move_rows_of_account t account)
 
--- `sum` has the number and the total of the cash rows of `account` in the tables `t` with stamps
--- before `until`.
+-- `sum` has the number of the cash rows of `account` in the tables `t` with stamps before `until`,
+-- and the sum of their amounts, in cents.
 abbrev pub IsCashSumBeforeStamp : Tables → ℕ → ℕ → CashSum → Type 0
 IsCashSumBeforeStamp t account until sum =
     (sum.rows ≡ length (cash_rows_before_stamp t account until)) × (sum.total ≡ cash_row_total (cash_rows_before_stamp t account until))
 
--- `lots` has the closings by `trade`, in the order of the table HOLDING_HISTORY, and the lot that
--- the trade opened, if any, as the tables `t` record them.
+-- `lots` has the closings by the trade with the id `trade`, in the order of the table
+-- HOLDING_HISTORY, and the change of the lot that the trade opened, if any, as the tables `t`
+-- record them.
 abbrev pub AreTradeLotsByKey : Tables → ℕ → TradeLots → Type 0
 AreTradeLotsByKey t trade lots =
     (map abstract_closing lots.closings.items ≡ map (recorded_closing t) (filter (is_closing_by trade) t.holding_history))
     × (option_map abstract_lot_change_row lots.own_lot ≡ opened_lot_row t trade)
 
--- `lots` has the closings by the trade `u`, in the order of closing, and the lot that the trade
--- opened, if any, as the tables `t` record them.
+-- `lots` has the closings by the trade `u`, in the order of closing, and the change of the lot that
+-- the trade opened, if any, as the tables `t` record them.
 abbrev pub AreTradeLotsInClosingOrder : Tables → TradeRow → TradeLots → Type 0
 AreTradeLotsInClosingOrder t u lots =
     (map abstract_closing lots.closings.items ≡ closings_of_trade t u) × (option_map abstract_lot_change_row lots.own_lot ≡ opened_lot_row t u.id)
@@ -53,16 +55,19 @@ abbrev pub AreTaxRatesAndBand : Tables → OrderStory → TaxRatesAndBand → Ty
 AreTaxRatesAndBand t order terms =
     (map abstract_tax_rate terms.rates.items ≡ tax_rates_of_customer t order.account.account.customer)
     × (option_map abstract_band terms.band
-    ≡ band_for_customer_and_security t (abstract_trade_row order.trade) (find (λ c. c.id == order.account.account.customer) t.customers) (Some (abstract_security_row order.security)))
+    ≡ band_for_customer_and_security t (abstract_trade_row order.trade)
+    (find (λ c. c.id == order.account.account.customer) t.customers) (Some (abstract_security_row order.security)))
 
--- `settled` has the SETTLEMENT row of `trade` (a row of zeros if there is none), its cash row, if
--- any, and the settlement day of the tables `t`, if any.
+-- `settled` has the row of SETTLEMENT of `trade` (a row of zeros if there is none), the trade's
+-- cash row, if any, and the settlement day of the tables `t`, if any.
 abbrev pub IsSettlementOfTrade : Tables → ℕ → SettlementAndCash → Type 0
 IsSettlementOfTrade t trade settled =
     (abstract_settlement_row settled.settlement ≡ settlement_of_trade_or_zeros t trade)
     × (option_map abstract_move_row settled.cash ≡ find (is_cash_row_of_trade trade) t.moves) × (settled.rule ≡ t.rule)
 
--- `story` has the results of the order's trade in the tables `t`. Vacuous if `order` is not the
--- order of its trade in these tables (`IsOrderOfTrade`).
+-- `story` has the results of the order's trade in the tables `t`: its price, closings, own lot,
+-- settlement, cash row, earlier cash rows, current tax rates and band, and the settlement day.
+-- Vacuous if `order` does not have the rows and status changes of its trade in these tables
+-- (`IsOrderOfTrade`).
 abbrev pub IsResultOfOrder : OrderStory → ResultStory → Tables → Type 0
 IsResultOfOrder order story t = IsOrderOfTrade order.trade order t → abstract_result_story story ≡ result_details_of_trade t (abstract_trade_row order.trade)

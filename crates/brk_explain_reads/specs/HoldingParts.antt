@@ -5,7 +5,8 @@ use Rattle.brk_changes.specs.Rows.{abstract_trade_row}
 use Rattle.brk_changes.specs.Rows as rows
 use Rattle.brk_model.specs.Joins.{last_price_in_tables, trade_row_with_id}
 use Rattle.brk_model.specs.Tables.{HoldingHistoryRow, Tables}
-use Rattle.brk_explain_model.specs.Holdings.{LotStory, completed_trades_in_symbol, recorded_lot_change, later_changes_of_lot, lot_with_later_changes, lots_opened_in_symbol, summary_quantity_in_symbol}
+use Rattle.brk_explain_model.specs.Holdings.{LotStory, completed_trades_in_symbol, recorded_lot_change, later_changes_of_lot}
+use Rattle.brk_explain_model.specs.Holdings.{lot_with_later_changes, lots_opened_in_symbol, summary_quantity_in_symbol}
 use Rattle.brk_explain_model.specs.Trades.{opened_lot_row}
 use Rattle.brk_explain_rows.specs.Stories.{abstract_priced_lot_change, abstract_lot_story}
 use Rattle.brk_explain_reads.specs.declared.holding_trades.TradesAndLots.{TradesAndLots}
@@ -28,12 +29,13 @@ AreLotChangesByCompletion t lot all =
     (option_map rows.abstract_lot_change_row all.opening ≡ opened_lot_row t lot)
     × (map abstract_priced_lot_change all.later_changes.items ≡ later_changes_of_lot t lot)
 
--- The optional value `lot`, or `None` if there is no row of an opening.
+-- The lot `lot` if there is a row that records an opening, otherwise `None`.
 abbrev pub lot_if_opened : Option HoldingHistoryRow → Option LotStory → Option LotStory
 lot_if_opened None lot = None
 lot_if_opened (Some row) lot = lot
 
--- The lot that `trade` opened, with its later changes, or `None` if it opened none.
+-- The lot that the trade with the id `trade` opened, with its later changes, or `None` if it opened
+-- none or does not exist.
 abbrev pub lot_opened_by_trade : Tables → ℕ → Option LotStory
 lot_opened_by_trade t trade = lot_if_opened (opened_lot_row t trade) (option_map (lot_with_later_changes t) (trade_row_with_id t trade))
 
@@ -43,13 +45,14 @@ IsTradeWithLot t trade one =
     (trade_row_with_id t trade ≡ Some (abstract_trade_row one.trade)) × (option_map abstract_lot_story one.lot ≡ lot_opened_by_trade t trade)
 
 -- `held` has the completed trades of `account` in the security `symbol`, and the lots that they
--- opened, as the tables `t` record them.
+-- opened with their later changes, both sorted by the stamp of completion, as the tables `t` record
+-- them.
 abbrev pub AreTradesAndLotsOfHolding : Tables → ℕ → Text → TradesAndLots → Type 0
 AreTradesAndLotsOfHolding t account symbol held =
     (map abstract_trade_row held.done.items ≡ completed_trades_in_symbol t account symbol)
     × (map abstract_lot_story held.lots.items ≡ lots_opened_in_symbol t account symbol)
 
--- `held` has the quantity of the holding summary of `account` in the security `symbol`, and the
--- last price of this security, as the tables `t` record them.
+-- `held` has the quantity of the holding summary of `account` in the security `symbol` (0 if there
+-- is none), and the last price of this security, as the tables `t` record them.
 abbrev pub AreQuantityAndPrice : Tables → ℕ → Text → QuantityAndPrice → Type 0
 AreQuantityAndPrice t account symbol held = (held.shares ≡ summary_quantity_in_symbol t account symbol) × (held.price ≡ last_price_in_tables t symbol)

@@ -14,8 +14,8 @@ use brk_store::Store;
 use sqlite::Alter;
 use std::alloc::Global;
 
-// Returns a holding summary with the last price of its symbol. Fails with `Memory` or `Store`; with
-// `Store` also if the symbol has no last price.
+// Returns a holding summary with the last price of its symbol, in cents. Fails with `Memory` or
+// `Store`; with `Store` also if the symbol has no last price.
 fn read_priced_holding<S: Alter>(
     store: &mut Store<S>,
     summary: SummaryRow,
@@ -32,8 +32,9 @@ fn read_priced_holding<S: Alter>(
     }
 }
 
-// Returns the holding summaries of an account with their last prices, sorted by symbol, ascending.
-// Fails with `Memory` or `Store`; with `Store` also if a symbol has no last price.
+// Returns the holding summaries of an account with the last prices of their symbols, sorted by
+// symbol, ascending. Fails with `Memory` or `Store`; with `Store` also if a symbol has no last
+// price.
 fn read_priced_holdings<S: Alter>(
     alloc: Global,
     store: &mut Store<S>,

@@ -63,12 +63,13 @@ impl<E, V: Visitor<TradeRow, E>> Visitor<TradeRow, E> for AccountFilter<'_, V> {
 
     ghost leads = { λ p q. (q.visitor.ghost_name ≡ p.visitor.ghost_name) × V.leads p.visitor.now q.visitor.now };
 
-    ghost takes = { λ p r q. (q.accounts.now ≡ p.accounts.now) × TakesOnlyIf (list_any (λ a. a == r.account) p.accounts.now) V.takes p.visitor.now r q.visitor.now };
+    ghost takes = { λ p r q. (q.accounts.now ≡ p.accounts.now)
+        × TakesOnlyIf (list_any (λ a. a == r.account) p.accounts.now) V.takes p.visitor.now r q.visitor.now };
 
     ghost stops = { λ p r e q. (list_any (λ a. a == r.account) p.accounts.now ≡ true) × V.stops p.visitor.now r e q.visitor.now };
 
-    /// Passes the trade to the other visitor, and fails as it does, if the account of the trade is
-    /// one of `accounts`. Otherwise does nothing.
+    /// Passes the trade to the other visitor, and returns its result, if the account of the trade
+    /// is one of `accounts`. Otherwise does nothing and returns `Ok`.
     fn visit(&mut self, item: &TradeRow) -> Result<(), E> {
         if has_account(self.accounts, item.account) {
             return self.visitor.visit(item);
@@ -96,7 +97,8 @@ pub fn visit_completed_trades<S: Alter, E, V: Visitor<TradeRow, E>>(
     requires ready { V.ready visitor.old }
     ensures ready { V.ready visitor.new }
     ensures leads { V.leads visitor.old visitor.new }
-    ensures walked { WalkPost S.Store store.old store.new abstract_trade_row (λ t. completed_trades_of_broker t broker) V.takes V.stops visitor.old visitor.new result }
+    ensures walked { WalkPost S.Store store.old store.new abstract_trade_row (λ t. completed_trades_of_broker t broker)
+        V.takes V.stops visitor.old visitor.new result }
 {
     let _least = broker.get();
     let accounts = match store.accounts_of_broker(alloc, broker) {

@@ -18,8 +18,8 @@ pub struct CashSum {
     pub total: Wide,
 }
 
-// Returns the sum with one more cash row of this amount. Fails with `Store` if the number or the
-// total does not fit.
+// Returns the sum with one cash row more, of this amount in cents. Fails with `Store` if the number
+// or the total does not fit.
 fn sum_with_cash_row(sum: &CashSum, amount: Cents) -> Result<CashSum, Fault>
     ensures sum { IfOk result (λ more. (more.rows ≡ sum.now.rows + 1) × (more.total ≡ sum.now.total +ℤ amount)) }
     ensures fault { OnErr result (result ≡ Err fault.Store) }
@@ -36,7 +36,7 @@ fn sum_with_cash_row(sum: &CashSum, amount: Cents) -> Result<CashSum, Fault>
     })
 }
 
-/// A visitor that counts the cash rows before a stamp, and adds up their amounts.
+/// A visitor that counts the cash rows with stamps before `until`, and adds up their amounts.
 #[derive(Drop)]
 pub struct EarlierCashSum {
     pub until: Stamp,
@@ -70,7 +70,7 @@ impl Visitor<MoveRow, Fault> for EarlierCashSum {
     ghost transitive = { λ _ _ _ _ _. tt };
 }
 
-// Returns the fault `Memory` or `Store` for a walk that failed.
+// Returns the fault of a walk that failed: `Memory` if the walk failed with it, otherwise `Store`.
 fn fault_of_failed_walk(stop: WalkError<Fault>) -> Fault
     ensures { IsCallFault result }
 {
@@ -80,8 +80,8 @@ fn fault_of_failed_walk(stop: WalkError<Fault>) -> Fault
     }
 }
 
-// Returns the number and the total of the cash rows of an account with stamps before `until`. Fails
-// with `Memory` or `Store`.
+// Returns the number of the cash rows of an account with stamps before `until`, and the sum of
+// their amounts, in cents. Fails with `Memory` or `Store`.
 pub(crate) fn read_cash_sum_before<S: Alter>(
     store: &mut Store<S>,
     account: Id,

@@ -34,7 +34,8 @@ pub struct TradesAndLots {
     pub lots: Vec<LotStory>,
 }
 
-// Returns the lot that `trade` opened with the change `opening`, and its later changes.
+// Returns the lot that `trade` opened, from the change that records its opening and its later
+// changes.
 fn lot_story_of_opening(
     trade: TradeRow,
     opening: &LotChange,
@@ -49,9 +50,9 @@ fn lot_story_of_opening(
     }
 }
 
-// Returns the lot that a trade opened, with its later changes, or `None` if it opened none. Fails
-// with `Memory` or `Store`; with `Store` also if the trade or a trade that changed the lot does not
-// exist, or if the latter has no price.
+// Returns the lot that the trade with the id opened, with its later changes, or `None` if the trade
+// opened none. Fails with `Memory` or `Store`; with `Store` also if the trade or a trade that
+// changed the lot does not exist, or if the latter has no price.
 fn read_lot_of_trade<S: Alter>(
     alloc: Global,
     store: &mut Store<S>,
@@ -72,8 +73,9 @@ fn read_lot_of_trade<S: Alter>(
     Ok(Some(lot_story_of_opening(row, &first, later_changes)))
 }
 
-// Returns a trade and the lot that it opened. Fails with `Memory` or `Store`; with `Store` also if
-// the trade or a trade that changed the lot does not exist, or if the latter has no price.
+// Returns the trade with the id and the lot that it opened, if any. Fails with `Memory` or `Store`;
+// with `Store` also if the trade or a trade that changed the lot does not exist, or if the latter
+// has no price.
 fn read_trade_and_lot<S: Alter>(
     alloc: Global,
     store: &mut Store<S>,
@@ -87,7 +89,7 @@ fn read_trade_and_lot<S: Alter>(
     Ok(TradeAndLot { trade: row, lot })
 }
 
-// Appends a lot, if there is one. Fails with `Memory` only.
+// Appends `lot` to `lots`, or nothing if it is `None`. Fails with `Memory` only.
 fn push_lot_if_any(lots: &mut Vec<LotStory>, lot: Option<LotStory>) -> Result<(), Fault>
     ensures added { OnOk result (map abstract_lot_story lots.new.items
         ≡ map abstract_lot_story lots.old.items ++ option_to_list (option_map abstract_lot_story lot)) }
@@ -99,9 +101,9 @@ fn push_lot_if_any(lots: &mut Vec<LotStory>, lot: Option<LotStory>) -> Result<()
     Ok(())
 }
 
-/// Returns the completed trades of an account in a security, the oldest first, and the lots that
-/// they opened. Fails with `Memory` or `Store`; with `Store` also if a trade that changed a lot
-/// does not exist or has no price.
+/// Returns the completed trades of an account in a security, and the lots that they opened with
+/// their later changes, both the oldest first. Fails with `Memory` or `Store`; with `Store` also if
+/// a trade that changed a lot does not exist or has no price.
 pub(crate) fn read_trades_and_lots_of_holding<S: Alter>(
     alloc: Global,
     store: &mut Store<S>,

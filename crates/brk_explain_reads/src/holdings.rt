@@ -18,14 +18,15 @@ use brk_store::Store;
 use sqlite::Alter;
 use std::alloc::Global;
 
-/// The number of shares that an account holds, and the last price of their security.
+/// The number of shares that an account holds, below 0 if they were sold short, and the last price
+/// of their security.
 #[derive(Clone, Copy)]
 pub struct QuantityAndPrice {
     pub shares: i64,
     pub price: Price,
 }
 
-// Returns the quantity of a holding summary, or 0 if there is none.
+// Returns the quantity of a holding summary, in shares, or 0 if it is `None`.
 fn quantity_of_summary_or_zero(summary: Option<SummaryRow>) -> i64
     ensures { result ≡ option_map_or (λ r. r.qty) (option_map abstract_summary_row summary) (pos 0) }
 {
@@ -35,15 +36,15 @@ fn quantity_of_summary_or_zero(summary: Option<SummaryRow>) -> i64
     }
 }
 
-// Returns a number of shares and the last price of their security.
+// Returns the pair of a number of shares and the last price of their security.
 fn quantity_and_price(shares: i64, price: Price) -> QuantityAndPrice
     ensures { result ≡ record { shares = shares; price = price } }
 {
     QuantityAndPrice { shares, price }
 }
 
-// Returns the last price of a security. Fails with `Memory` or `Store`; with `Store` also if it has
-// none.
+// Returns the last price of the security with the symbol. Fails with `Memory` or `Store`; with
+// `Store` also if it has none.
 fn read_last_price<S: Alter>(store: &mut Store<S>, symbol: &Symbol) -> Result<Price, Fault>
     ensures read { ReadPost S.Store store.old store.new result (λ price t. price ≡ last_price_in_tables t symbol.now) }
     ensures fault { IfErr result IsCallFault }
@@ -54,8 +55,9 @@ fn read_last_price<S: Alter>(store: &mut Store<S>, symbol: &Symbol) -> Result<Pr
     }
 }
 
-// Returns the quantity that an account holds of a security, and the last price. Fails with `Memory`
-// or `Store`; with `Store` also if the security has no last price.
+// Returns the quantity that an account holds of a security, 0 if it has no holding summary, and the
+// last price of the security. Fails with `Memory` or `Store`; with `Store` also if the security has
+// no last price.
 fn read_quantity_and_price<S: Alter>(
     store: &mut Store<S>,
     account: Id,
@@ -69,8 +71,8 @@ fn read_quantity_and_price<S: Alter>(
     Ok(quantity_and_price(quantity_of_summary_or_zero(summary), price))
 }
 
-// Returns the facts of a holding from its account, its security, its trades and lots (`held`), and
-// its quantity and last price (`now`).
+// Returns the facts of a holding, put together from its account, its security, its trades and lots
+// (`held`), and its quantity and last price (`now`).
 fn holding_story_of_parts(
     account: AccountRow,
     security: Security,
@@ -89,9 +91,10 @@ fn holding_story_of_parts(
     }
 }
 
-/// Returns the facts that the explanation of the holding of an account in a security reads. Refuses
+/// Returns the facts that the explanation of the holding of an account in a security reads: both
+/// rows, the completed trades, the lots that they opened, the quantity and the last price. Refuses
 /// with `NoAccount` if the account does not exist, and with `NoSecurity` if only the security does
-/// not.
+/// not exist.
 ///
 /// Fails with `Memory` or `Store` only; with `Store` also if the security has no last price, or if
 /// a row does not exist that another row names. If the database is still open, it is unchanged,

@@ -13,7 +13,8 @@ use brk_ref::{AccountRow, Customer, Security, Symbol, Tax};
 use brk_store::Store;
 use sqlite::Alter;
 
-// Returns the trade with an id. Fails with `Memory` or `Store`; with `Store` also if there is none.
+// Returns the row of the trade with the id. Fails with `Memory` or `Store`; with `Store` also if
+// there is none.
 pub(crate) fn read_existing_trade<S: Alter>(store: &mut Store<S>, id: Id) -> Result<TradeRow, Fault>
     ensures read { ReadPost S.Store store.old store.new result (λ trade t. trade_row_with_id t id ≡ Some (abstract_trade_row trade)) }
     ensures fault { IfErr result IsCallFault }
@@ -24,7 +25,7 @@ pub(crate) fn read_existing_trade<S: Alter>(store: &mut Store<S>, id: Id) -> Res
     }
 }
 
-// Returns the row of the account with an id. Fails with `Memory` or `Store`; with `Store` also if
+// Returns the row of the account with the id. Fails with `Memory` or `Store`; with `Store` also if
 // there is none.
 pub(crate) fn read_existing_account<S: Alter>(
     store: &mut Store<S>,
@@ -39,7 +40,7 @@ pub(crate) fn read_existing_account<S: Alter>(
     }
 }
 
-// Returns the customer with an id. Fails with `Memory` or `Store`; with `Store` also if there is
+// Returns the customer with the id. Fails with `Memory` or `Store`; with `Store` also if there is
 // none.
 pub(crate) fn read_existing_customer<S: Alter>(
     store: &mut Store<S>,
@@ -54,8 +55,8 @@ pub(crate) fn read_existing_customer<S: Alter>(
     }
 }
 
-// Returns the security with a symbol. Fails with `Memory` or `Store`; with `Store` also if there is
-// none.
+// Returns the security with the symbol. Fails with `Memory` or `Store`; with `Store` also if there
+// is none.
 pub(crate) fn read_existing_security<S: Alter>(
     store: &mut Store<S>,
     symbol: &Symbol,
@@ -69,7 +70,8 @@ pub(crate) fn read_existing_security<S: Alter>(
     }
 }
 
-// Returns the tax with an id. Fails with `Memory` or `Store`; with `Store` also if there is none.
+// Returns the tax rate with the id. Fails with `Memory` or `Store`; with `Store` also if there is
+// none.
 pub(crate) fn read_existing_tax<S: Alter>(store: &mut Store<S>, id: Id) -> Result<Tax, Fault>
     ensures read { ReadPost S.Store store.old store.new result (λ tax t. find (λ r. r.id == id) t.tax_rates ≡ Some (abstract_tax_rate tax)) }
     ensures fault { IfErr result IsCallFault }
@@ -80,8 +82,8 @@ pub(crate) fn read_existing_tax<S: Alter>(store: &mut Store<S>, id: Id) -> Resul
     }
 }
 
-// Returns the settlement of a trade. Fails with `Memory` or `Store`; with `Store` also if there is
-// none.
+// Returns the settlement of the trade with the id. Fails with `Memory` or `Store`; with `Store`
+// also if there is none.
 pub(crate) fn read_existing_settlement<S: Alter>(
     store: &mut Store<S>,
     trade: Id,

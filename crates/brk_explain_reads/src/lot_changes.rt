@@ -19,7 +19,7 @@ use brk_store::Store;
 use sqlite::Alter;
 use std::alloc::Global;
 
-/// The changes of a lot.
+/// The changes of a lot: its opening, and the changes by later trades.
 #[derive(Drop)]
 pub struct OpeningAndLaterChanges {
     /// The change with which its trade opened it, or `None` if the trade opened no lot.
@@ -28,14 +28,15 @@ pub struct OpeningAndLaterChanges {
     pub later_changes: Vec<PricedLotChange>,
 }
 
-// Returns true if `change` is by the trade that opened `lot`.
+// Returns true if `change` is by the trade that opened `lot`. The lot has the id of this trade.
 fn is_change_by_opening_trade(change: &LotChange, lot: Id) -> bool
     ensures { result ≡ (change.now.trade == lot) }
 {
     change.trade == lot
 }
 
-// Returns the first of `changes` that is by the trade that opened `lot`, or `None` if none is.
+// Returns the first of `changes` that is by the trade that opened `lot`, or `None` if none is by
+// it.
 fn opening_change_of_lot(changes: &[LotChange], lot: Id) -> Option<LotChange>
     ensures { option_map abstract_lot_change_row result ≡ find (λ h. h.trade == lot) (map abstract_lot_change_row changes.now) }
 {
@@ -65,8 +66,8 @@ fn push_unless_by_opening_trade(
     Ok(())
 }
 
-// Returns those of `changes` that are by trades that did not open `lot`, in the same sequence.
-// Fails with `Memory` only.
+// Returns those of `changes` that are by other trades than the one that opened `lot`, in the same
+// sequence. Fails with `Memory` only.
 fn changes_by_later_trades(
     alloc: Global,
     changes: &[LotChange],
@@ -83,7 +84,8 @@ fn changes_by_later_trades(
     Ok(later)
 }
 
-// Returns the change of a lot by a trade that was completed at this stamp and price.
+// Returns the change of a lot, with the stamp and the price at which the trade that made it was
+// completed.
 fn priced_lot_change(change: &LotChange, stamp: Stamp, price: Price) -> PricedLotChange
     ensures { result ≡ record { trade = change.now.trade; stamp = stamp; price = price; before = change.now.before; after = change.now.after } }
 {
@@ -96,8 +98,8 @@ fn priced_lot_change(change: &LotChange, stamp: Stamp, price: Price) -> PricedLo
     }
 }
 
-// Returns a change of a lot with the stamp and the price of its trade. Fails with `Memory` or
-// `Store`; with `Store` also if the trade does not exist or has no price.
+// Returns a change of a lot, with the stamp and the price of the trade that made it. Fails with
+// `Memory` or `Store`; with `Store` also if that trade does not exist or has no price.
 fn read_priced_lot_change<S: Alter>(
     store: &mut Store<S>,
     change: &LotChange,
@@ -138,7 +140,8 @@ fn read_lot_changes_by_trade_id<S: Alter>(
     })
 }
 
-// Returns the changes sorted by the stamps of their trades, ascending. Fails with `Memory` only.
+// Returns the changes of a lot, sorted by the stamps of the trades that made them, ascending. Fails
+// with `Memory` only.
 fn sort_changes_by_stamp(
     alloc: Global,
     later_changes: Vec<PricedLotChange>,

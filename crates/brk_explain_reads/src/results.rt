@@ -15,8 +15,10 @@ use brk_store::Store;
 use sqlite::Alter;
 use std::alloc::Global;
 
-// Returns the results of a completed trade. Fails with `Memory` or `Store`; with `Store` also if it
-// has no price, or if a row that another row names does not exist.
+// Returns the results of the completed trade of `order`: its price, closings, own lot, settlement
+// and cash row, the cash rows before it, the current tax rates and band, and the settlement day.
+// Fails with `Memory` or `Store`; with `Store` also if it has no price, or if a row that another
+// row names does not exist.
 pub(crate) fn read_result_of_trade<S: Alter>(
     alloc: Global,
     store: &mut Store<S>,

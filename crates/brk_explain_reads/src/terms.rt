@@ -23,8 +23,8 @@ pub struct TaxRatesAndBand {
     pub band: Option<Band>,
 }
 
-// Returns the tax rates of a customer, sorted by id, ascending. Fails with `Memory` or `Store`;
-// with `Store` also if one of them does not exist.
+// Returns the tax rates that a customer pays, sorted by id, ascending. Fails with `Memory` or
+// `Store`; with `Store` also if one of them does not exist.
 fn read_tax_rates_of_customer<S: Alter>(
     alloc: Global,
     store: &mut Store<S>,
@@ -42,7 +42,7 @@ fn read_tax_rates_of_customer<S: Alter>(
     Ok(rates)
 }
 
-// Returns true if the bounds of the band contain the quantity.
+// Returns true if the quantity is from the lower to the upper bound of the band, both included.
 fn band_contains_quantity(band: &Band, qty: Qty) -> bool
     ensures { result ≡ nat_le band.now.from_qty qty && nat_le qty band.now.to_qty }
 {
@@ -73,8 +73,8 @@ fn first_band_with_quantity(bands: Vec<Band>, qty: Qty) -> Option<Band>
     found
 }
 
-// Returns the commission band of a trade for a tier, or `None` if there is none. Fails with
-// `Memory` or `Store`.
+// Returns the commission band of the quantity of the order's trade for its type, its exchange and
+// the customer tier `tier`, or `None` if there is none. Fails with `Memory` or `Store`.
 fn read_band_for_tier<S: Alter>(
     alloc: Global,
     store: &mut Store<S>,
@@ -89,8 +89,9 @@ fn read_band_for_tier<S: Alter>(
     Ok(first_band_with_quantity(bands, order.trade.qty))
 }
 
-// Returns the tax rates of the customer of a trade, and its commission band. Fails with `Memory` or
-// `Store`; with `Store` also if the customer or one of the rates does not exist.
+// Returns the tax rates of the customer of the order's trade and the trade's commission band, as
+// the tables have them now. Fails with `Memory` or `Store`; with `Store` also if the customer or
+// one of the rates does not exist.
 pub(crate) fn read_tax_rates_and_band<S: Alter>(
     alloc: Global,
     store: &mut Store<S>,

@@ -16,14 +16,16 @@ use brk_store::Store;
 use sqlite::Alter;
 use std::alloc::Global;
 
-// Returns true if the status of the trade is completed.
+// Returns true if the status of the trade is `Completed`.
 fn is_completed(trade: &TradeRow) -> bool
     ensures { result ≡ is_same_trade_status trade.now.status Completed }
 {
     trade.status == Status::Completed
 }
 
-/// Returns the facts that the explanation of a trade reads, or `None` if the trade does not exist.
+/// Returns the facts that the explanation of a trade reads: the trade with its account, security
+/// and status changes, and its results if it is completed. Returns `None` if the trade does not
+/// exist.
 ///
 /// Fails with `Memory` or `Store` only; with `Store` also if a row that another row names does not
 /// exist, or if a completed trade has no price or no settlement. If the database is still open, it

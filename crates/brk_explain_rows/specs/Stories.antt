@@ -1,6 +1,7 @@
 -- The abstract value of each typed row of an explanation.
 use Rattle.std.specs.Prelude.{◌≡◌, ◌⊎◌, ◌==◌, ℕ, find, length, map, option_map, Option, Some, None, Result, Ok, Err}
-use Rattle.brk_changes.specs.Rows.{abstract_history_row, abstract_lot_change_row, abstract_move_row, abstract_settlement_row, abstract_summary_row, abstract_trade_row}
+use Rattle.brk_changes.specs.Rows.{abstract_history_row, abstract_lot_change_row, abstract_move_row, abstract_settlement_row}
+use Rattle.brk_changes.specs.Rows.{abstract_summary_row, abstract_trade_row}
 use Rattle.brk_ref.specs.Records.{abstract_account_row, abstract_band, abstract_broker_row, abstract_security_row, abstract_tax_rate}
 use Rattle.brk_money.specs.Spelling.{Text}
 use Rattle.brk_money.specs.declared.refusal.Refusal.{Refusal}
@@ -26,7 +27,7 @@ use Rattle.brk_explain_rows.specs.declared.story.TradeStory as trade_story
 abbrev pub abstract_closing : closing.Closing → Closing
 abstract_closing c = record { lot = c.lot; stamp = c.stamp; price = c.price; before = c.before; after = c.after }
 
--- The model's trade as ordered with the values of the typed rows of `o`.
+-- The model's facts of a trade as ordered with the values of the typed rows of `o`.
 abbrev pub abstract_order_story : order_story.OrderStory → OrderStory
 abstract_order_story o = record {
   trade = abstract_trade_row o.trade;
@@ -39,7 +40,7 @@ abstract_order_story o = record {
   statuses = map abstract_history_row o.statuses.items;
 }
 
--- The model's results of a completed trade with the values of the typed rows of `r`.
+-- The model's results of a completed trade with the values of the typed results `r`.
 abbrev pub abstract_result_story : result_story.ResultStory → ResultStory
 abstract_result_story r = record {
   price = r.price;
@@ -54,12 +55,13 @@ abstract_result_story r = record {
   rule = r.rule;
 }
 
--- The model's facts of a trade with the values of the typed facts `s`.
+-- The model's facts of a trade (as ordered, and its results if it is completed) with the values of
+-- the typed facts `s`.
 abbrev pub abstract_trade_story : trade_story.TradeStory → TradeStory
 abstract_trade_story s = record { order = abstract_order_story s.order; result = option_map abstract_result_story s.result }
 
--- The facts `s` are those that the explanation of `trade` reads from the tables `t`. They are
--- `None` exactly if the trade does not exist.
+-- The facts `s` are exactly the facts that the explanation of the trade with the id `trade` reads
+-- from the tables `t`. They are `None` if and only if the trade does not exist.
 abbrev pub IsStoryOfTrade : ℕ → Option trade_story.TradeStory → Tables → Type 0
 IsStoryOfTrade trade None t = trade_row_with_id t trade ≡ None
 IsStoryOfTrade trade (Some s) t = (u : TradeRow) × (trade_row_with_id t trade ≡ Some u) × (abstract_trade_story s ≡ details_of_trade t u)
@@ -69,22 +71,23 @@ abbrev pub abstract_priced_holding : held.PricedHolding → PricedHolding
 abstract_priced_holding h = record { summary = abstract_summary_row h.summary; price = h.price }
 
 -- The facts `s` are the row of `account` in the tables `t` and its holding summaries with their
--- last prices. They are `None` exactly if the account does not exist.
+-- last prices. They are `None` if and only if the account does not exist.
 abbrev pub IsStoryOfAccount : ℕ → Option account_story.AccountStory → Tables → Type 0
 IsStoryOfAccount account None t = account_row_with_id t account ≡ None
 IsStoryOfAccount account (Some s) t =
     (account_row_with_id t account ≡ Some (abstract_account_row s.account)) × (map abstract_priced_holding s.held.items ≡ priced_holdings_of_account t account)
 
--- The model's later change of a lot with the values of the typed change `c`.
+-- The model's change of a lot by a later trade, with the values of the typed change `c`.
 abbrev pub abstract_priced_lot_change : priced_lot_change.PricedLotChange → LotChange
 abstract_priced_lot_change c = record { trade = c.trade; stamp = c.stamp; price = c.price; before = c.before; after = c.after }
 
--- The model's lot, with its later changes, with the values of the typed lot `l`.
+-- The model's lot and its later changes, with the values of the typed lot `l`.
 abbrev pub abstract_lot_story : lot_story.LotStory → LotStory
 abstract_lot_story l = record { trade = abstract_trade_row l.trade; opened = l.opened; changes = map abstract_priced_lot_change l.changes.items }
 
--- The facts `s` are those that the explanation of the holding of `account` in the security `symbol`
--- reads from the tables `t`. A refusal is `NoAccount` if the account does not exist, and
+-- The facts `s` are the facts that the explanation of the holding of `account` in the security
+-- `symbol` reads from the tables `t`: both rows, the completed trades, the lots that they opened,
+-- the quantity and the last price. A refusal is `NoAccount` if the account does not exist, and
 -- `NoSecurity` if the account exists and the security does not.
 abbrev pub IsStoryOfHolding : ℕ → Text → Result holding_story.HoldingStory Refusal → Tables → Type 0
 IsStoryOfHolding account symbol (Err refusal) t =
@@ -97,7 +100,7 @@ IsStoryOfHolding account symbol (Ok s) t =
     × (s.shares ≡ summary_quantity_in_symbol t account symbol) × (s.price ≡ last_price_in_tables t symbol)
 
 -- The facts `s` are the row of `broker` in the tables `t` and the number of its accounts. They are
--- `None` exactly if the broker does not exist.
+-- `None` if and only if the broker does not exist.
 abbrev pub IsStoryOfBroker : ℕ → Option broker_story.BrokerStory → Tables → Type 0
 IsStoryOfBroker broker None t = find (λ b. b.id == broker) t.brokers ≡ None
 IsStoryOfBroker broker (Some s) t =

@@ -16,4 +16,5 @@ quantity_after_changes opened changes = unwrap_or (last_or None (map (λ c. c.af
 -- All lines of the explanation of the holding whose typed facts are `s`.
 abbrev pub lines_of_holding_story : HoldingStory → List Text
 lines_of_holding_story s =
-    holding_story_lines (abstract_account_row s.account) (abstract_security_row s.security) (map abstract_trade_row s.done.items) (map abstract_lot_story s.lots.items) s.shares s.price
+    holding_story_lines (abstract_account_row s.account) (abstract_security_row s.security)
+    (map abstract_trade_row s.done.items) (map abstract_lot_story s.lots.items) s.shares s.price

@@ -20,7 +20,7 @@ use itoa::Buffer;
 use std::alloc::Global;
 
 /// Returns the first lines of the explanation of a broker: the title, its name, and the column
-/// headings of the trades.
+/// headings of the trades. Fails with `Memory` only.
 #[tactic(auto, unfolding(brk_explain_model::specs::BrokerLines::broker_header_lines))]
 pub fn broker_header_text(alloc: Global, row: &BrokerRow) -> Result<Vec<u8>, Fault>
     ensures text { IfOk result (λ text. text.items ≡ text_of_lines (lines.broker_header_lines (abstract_broker_row row.now))) }
@@ -37,8 +37,9 @@ pub fn broker_header_text(alloc: Global, row: &BrokerRow) -> Result<Vec<u8>, Fau
     Ok(text)
 }
 
-/// Returns the line of a completed trade with its commission and the running total of the
-/// commissions.
+/// Returns the line of a completed trade in the explanation of a broker: its stamp, its id, its
+/// account, its commission, and the running total of the commissions, with a line feed. Fails with
+/// `Memory` only.
 #[tactic(auto, unfolding(brk_explain_model::specs::BrokerLines::trade_commission_line))]
 pub fn trade_commission_text(alloc: Global, row: &TradeRow, total: Wide) -> Result<Vec<u8>, Fault>
     ensures line { IfOk result (λ line. line.items ≡ line_with_line_feed (lines.trade_commission_line (abstract_trade_row row.now) total)) }
@@ -61,7 +62,8 @@ pub fn trade_commission_text(alloc: Global, row: &TradeRow, total: Wide) -> Resu
     Ok(line)
 }
 
-// Appends the last line: the numbers of accounts and of trades.
+// Appends to `out` the last line of the explanation of a broker: the numbers of its accounts and of
+// their completed trades. Fails with `Memory` only.
 fn put_broker_counts_line(out: &mut Vec<u8>, accounts: usize, trades: u64) -> Result<(), Fault>
     ensures ok { OnOk result (out.new.items ≡ out.old.items ++ line_with_line_feed (lines.broker_counts_line accounts trades)) }
     ensures fault { OnErr result (result ≡ Err Memory) }
@@ -74,8 +76,9 @@ fn put_broker_counts_line(out: &mut Vec<u8>, accounts: usize, trades: u64) -> Re
     Ok(())
 }
 
-/// Returns the last lines of the explanation of a broker: the totals that its row records, and the
-/// numbers of its accounts and of its trades.
+/// Returns the last lines of the explanation of a broker: the commission total and the trade count
+/// in its row, and the numbers of its accounts and of their completed trades. Fails with `Memory`
+/// only.
 #[tactic(auto, unfolding(brk_explain_model::specs::BrokerLines::broker_total_lines))]
 pub fn broker_total_text(
     alloc: Global,

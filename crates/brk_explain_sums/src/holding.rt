@@ -18,7 +18,8 @@ use brk_money::{Fault, Id};
 use brk_ref::{AccountRow, Security};
 use std::alloc::Global;
 
-// Appends the title of the explanation of a holding. Fails with `Memory` only.
+// Appends to `out` the title line of the explanation of a holding, with the account and the symbol.
+// Fails with `Memory` only.
 fn put_holding_title_line(out: &mut Vec<u8>, account: Id, symbol: &[u8]) -> Result<(), Fault>
     ensures ok { OnOk result (out.new.items ≡ out.old.items ++ line_with_line_feed (lines.holding_title account symbol.now)) }
     ensures fault { OnErr result (result ≡ Err Memory) }
@@ -32,8 +33,8 @@ fn put_holding_title_line(out: &mut Vec<u8>, account: Id, symbol: &[u8]) -> Resu
     Ok(())
 }
 
-// Appends the title, the names of the account and of the security, and the column headings of the
-// trades. Fails with `Memory` only.
+// Appends to `out` the title of the explanation of a holding, the names of the account and of the
+// security, and the column headings of the trades. Fails with `Memory` only.
 #[tactic(auto, unfolding(brk_explain_model::specs::HoldingLines::holding_header_lines))]
 fn put_holding_header_lines(
     out: &mut Vec<u8>,
@@ -55,7 +56,8 @@ fn put_holding_header_lines(
     Ok(())
 }
 
-// Appends the column headings of the lots. Fails with `Memory` only.
+// Appends to `out` the line of the column headings of the lots of a holding. Fails with `Memory`
+// only.
 fn put_lot_columns_header(out: &mut Vec<u8>) -> Result<(), Fault>
     ensures ok { OnOk result (out.new.items ≡ out.old.items ++ line_with_line_feed lines.lot_columns_header) }
     ensures fault { OnErr result (result ≡ Err Memory) }
@@ -66,7 +68,8 @@ fn put_lot_columns_header(out: &mut Vec<u8>) -> Result<(), Fault>
     )
 }
 
-// Appends all lines of the explanation of a holding. Fails with `Memory` or `Store`.
+// Appends to `out` all lines of the explanation of a holding. Fails with `Memory` or `Store`; with
+// `Store` if an amount does not fit or a trade has no price.
 #[tactic(auto, unfolding(brk_explain_model::specs::HoldingLines::holding_story_lines))]
 fn put_holding_story_lines(
     alloc: Global,
@@ -86,7 +89,8 @@ fn put_holding_story_lines(
     Ok(())
 }
 
-/// Returns the text of the explanation of a holding. Fails with `Memory` or `Store`.
+/// Returns all lines of the explanation of a holding as one text. Fails with `Memory` or `Store`;
+/// with `Store` if an amount does not fit or a trade has no price.
 pub fn holding_explanation_text(alloc: Global, story: &HoldingStory) -> Result<Vec<u8>, Fault>
     ensures text { IfOk result (λ text. text.items ≡ text_of_lines (lines_of_holding_story story.now)) }
     ensures fault { IfErr result IsCallFault }

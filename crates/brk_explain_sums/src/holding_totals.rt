@@ -22,8 +22,8 @@ use brk_explain_rows::LotStory;
 use brk_money::{Fault, Price, Wide};
 use std::alloc::Global;
 
-// Appends the lines of the total purchases, the total sales, the realised gain and the cost basis.
-// Fails with `Memory` only.
+// Appends to `out` the lines of the total purchases, the total sales, the realised gain and the
+// cost basis of a holding. Fails with `Memory` only.
 #[tactic(auto, unfolding(brk_explain_model::specs::HoldingLines::purchase_sale_and_cost_lines))]
 fn put_purchase_sale_and_cost_lines(
     alloc: Global,
@@ -43,8 +43,9 @@ fn put_purchase_sale_and_cost_lines(
     Ok(())
 }
 
-// Appends the lines of the quantity, the last price, the market value and the unrealised gain.
-// Fails with `Memory` or `Store`.
+// Appends to `out` the lines of the quantity, the last price, the market value and the unrealised
+// gain of a holding, which is the market value minus its cost basis `cost`. Fails with `Memory` or
+// `Store`; with `Store` if an amount does not fit.
 #[tactic(auto, unfolding(brk_explain_model::specs::HoldingLines::holding_value_lines))]
 fn put_holding_value_lines(
     alloc: Global,
@@ -65,8 +66,9 @@ fn put_holding_value_lines(
     Ok(())
 }
 
-// Appends the last line: the numbers of trades, of lots, of lots that are not fully closed, and of
-// later changes. Fails with `Memory` only.
+// Appends to `out` the last line of the explanation of a holding: the numbers of its trades, of its
+// lots, of the lots that are not fully closed, and of the later changes of lots. Fails with
+// `Memory` only.
 fn put_holding_counts_line(
     out: &mut Vec<u8>,
     trades: usize,
@@ -89,8 +91,10 @@ fn put_holding_counts_line(
     Ok(())
 }
 
-/// Appends the last lines of the explanation of a holding: the totals, the market value of the
-/// quantity `shares`, and the counts. Fails with `Memory` or `Store`.
+/// Appends to `out` the last lines of the explanation of a holding: purchases, sales, realised
+/// gain, cost basis, the quantity `shares`, its market value at `price`, the unrealised gain, and
+/// the counts. Fails with `Memory` or `Store`; with `Store` if an amount does not fit or a trade
+/// has no price.
 #[tactic(auto, unfolding(brk_explain_model::specs::HoldingLines::holding_total_lines))]
 pub(crate) fn put_holding_total_lines(
     alloc: Global,

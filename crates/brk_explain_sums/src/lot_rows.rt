@@ -20,7 +20,9 @@ use brk_explain_rows::{LotStory, PricedLotChange};
 use brk_money::{Fault, Price};
 use std::alloc::Global;
 
-// Appends the line of the opening of a lot.
+// Appends to `out` the line of the opening of a lot: its stamp, its trade, its quantity, its price
+// and its cost. Fails with `Memory` or `Store`; with `Store` if an amount does not fit or the trade
+// that opened the lot has no price.
 #[tactic(auto, unfolding(brk_explain_model::specs::HoldingLines::lot_opening_line))]
 fn put_lot_opening_line(alloc: Global, out: &mut Vec<u8>, lot: &LotStory) -> Result<(), Fault>
     ensures ok { OnOk result (out.new.items ≡ out.old.items ++ line_with_line_feed (lines.lot_opening_line (abstract_lot_story lot.now))) }
@@ -37,7 +39,9 @@ fn put_lot_opening_line(alloc: Global, out: &mut Vec<u8>, lot: &LotStory) -> Res
     Ok(())
 }
 
-// Appends the line of a later change of a lot that was opened at `price`.
+// Appends to `out` the line of a later change of a lot that was opened at `price`: its stamp, its
+// trade, the change of the quantity, the price of the trade, the realised gain, and the quantity
+// after it. Fails with `Memory` or `Store`; with `Store` if the gain does not fit.
 #[tactic(auto, unfolding(brk_explain_model::specs::HoldingLines::lot_change_line))]
 fn put_lot_change_line(
     alloc: Global,
@@ -66,7 +70,8 @@ fn put_lot_change_line(
     Ok(())
 }
 
-// Appends a line for each later change of a lot that was opened at `price`.
+// Appends to `out` a line for each later change of a lot that was opened at `price`. Fails with
+// `Memory` or `Store`; with `Store` if a gain does not fit.
 fn put_lot_change_lines(
     alloc: Global,
     out: &mut Vec<u8>,
@@ -82,7 +87,9 @@ fn put_lot_change_lines(
     Ok(())
 }
 
-// Appends the line of the remaining shares of a lot.
+// Appends to `out` the line of the remaining shares of a lot: their number, the price of the lot,
+// and their cost. Fails with `Memory` or `Store`; with `Store` if an amount does not fit or the
+// trade that opened the lot has no price.
 #[tactic(auto, unfolding(brk_explain_model::specs::HoldingLines::lot_remainder_line))]
 fn put_lot_remainder_line(alloc: Global, out: &mut Vec<u8>, lot: &LotStory) -> Result<(), Fault>
     ensures ok { OnOk result (out.new.items ≡ out.old.items ++ line_with_line_feed (lines.lot_remainder_line (abstract_lot_story lot.now))) }
@@ -105,7 +112,9 @@ fn put_lot_remainder_line(alloc: Global, out: &mut Vec<u8>, lot: &LotStory) -> R
     Ok(())
 }
 
-// Appends the lines of a lot: its opening, each later change, and its remaining shares.
+// Appends to `out` the lines of a lot: its opening, each later change, and its remaining shares.
+// Fails with `Memory` or `Store`; with `Store` if an amount does not fit or the trade that opened
+// the lot has no price.
 #[tactic(auto, unfolding(brk_explain_model::specs::HoldingLines::lot_history_lines))]
 fn put_lot_history_lines(alloc: Global, out: &mut Vec<u8>, lot: &LotStory) -> Result<(), Fault>
     ensures ok { OnOk result (out.new.items ≡ out.old.items ++ text_of_lines (lines.lot_history_lines (abstract_lot_story lot.now))) }
@@ -117,7 +126,9 @@ fn put_lot_history_lines(alloc: Global, out: &mut Vec<u8>, lot: &LotStory) -> Re
     put_lot_remainder_line(alloc, out, lot)
 }
 
-/// Appends the lines of each lot: its opening, each later change, and its remaining shares.
+/// Appends to `out` the lines of each lot: its opening, each later change, and its remaining
+/// shares. Fails with `Memory` or `Store`; with `Store` if an amount does not fit or a trade that
+/// opened a lot has no price.
 pub(crate) fn put_all_lot_history_lines(
     alloc: Global,
     out: &mut Vec<u8>,

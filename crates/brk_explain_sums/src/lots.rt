@@ -13,31 +13,32 @@ use brk_explain_columns::{add_amounts, value_of_shares_at_price};
 use brk_explain_rows::{LotStory, PricedLotChange};
 use brk_money::{Fault, Price, Wide};
 
-/// Returns the quantity of a lot after a change minus the quantity before it: below 0 if shares of
-/// a long lot were closed.
+/// Returns the quantity of a lot after a change minus the quantity before it, in shares: below 0 if
+/// shares of a long lot were closed.
 pub(crate) fn quantity_increase_of_change(change: &PricedLotChange) -> i128
     ensures { result ≡ (abstract_priced_lot_change change.now).after -ℤ (abstract_priced_lot_change change.now).before }
 {
     i128::from(change.after) - i128::from(change.before)
 }
 
-// Returns the quantity of a lot before a change minus the quantity after it: below 0 if shares of a
-// short lot were closed.
+// Returns the quantity of a lot before a change minus the quantity after it, in shares: below 0 if
+// shares of a short lot were closed.
 fn quantity_decrease_of_change(change: &PricedLotChange) -> i128
     ensures { result ≡ (abstract_priced_lot_change change.now).before -ℤ (abstract_priced_lot_change change.now).after }
 {
     i128::from(change.before) - i128::from(change.after)
 }
 
-// Returns the price of a change minus the price at which the lot was opened, in cents.
+// Returns the price of the trade that made a change minus `price`, at which the lot was opened, in
+// cents.
 fn price_increase_of_change(price: Price, change: &PricedLotChange) -> i128
     ensures { result ≡ pos (abstract_priced_lot_change change.now).price -ℤ pos price }
 {
     i128::from(change.price.get()) - i128::from(price.get())
 }
 
-/// Returns the realised gain of a change of a lot that was opened at `price`. Fails with `Store` if
-/// it does not fit.
+/// Returns the realised gain, in cents, of a change of a lot that was opened at `price`. Fails with
+/// `Store` if it does not fit.
 pub(crate) fn realised_gain_of_change(price: Price, change: &PricedLotChange) -> Result<Wide, Fault>
     ensures gain { IfOk result (λ gain. gain ≡ holdings.realised_gain_of_change price (abstract_priced_lot_change change.now)) }
     ensures fault { IfErr result IsCallFault }
@@ -48,7 +49,7 @@ pub(crate) fn realised_gain_of_change(price: Price, change: &PricedLotChange) ->
     }
 }
 
-// Returns the quantity after the last change, or `opened` if there is none.
+// Returns the quantity of a lot after the last of its changes, or `opened` if there is none.
 fn quantity_after_changes(opened: i64, changes: &[PricedLotChange]) -> i64
     ensures { result ≡ quantity_after_changes opened (map abstract_priced_lot_change changes.now) }
 {
@@ -59,15 +60,17 @@ fn quantity_after_changes(opened: i64, changes: &[PricedLotChange]) -> i64
     left
 }
 
-/// Returns the remaining quantity of a lot.
+/// Returns the quantity of a lot after its last change, or the opened quantity if it has no change;
+/// below 0 if it was sold short.
 pub(crate) fn remaining_quantity_of_lot(lot: &LotStory) -> i64
     ensures { result ≡ holdings.remaining_quantity_of_lot (abstract_lot_story lot.now) }
 {
     quantity_after_changes(lot.opened, &lot.changes)
 }
 
-/// Returns the cost of the remaining shares of a lot: below 0 if it was sold short. Fails with
-/// `Store` if it does not fit, or if the trade has no price.
+/// Returns the remaining quantity of a lot times the price at which it was opened, in cents: below
+/// 0 if it was sold short. Fails with `Store` if it does not fit, or if the trade that opened the
+/// lot has no price.
 pub(crate) fn remaining_cost_of_lot(lot: &LotStory) -> Result<Wide, Fault>
     ensures cost { IfOk result (λ cost. cost ≡ holdings.remaining_cost_of_lot (abstract_lot_story lot.now)) }
     ensures fault { IfErr result IsCallFault }
@@ -76,8 +79,8 @@ pub(crate) fn remaining_cost_of_lot(lot: &LotStory) -> Result<Wide, Fault>
     value_of_shares_at_price(remaining_quantity_of_lot(lot), price)
 }
 
-// Returns the sum of the realised gains of changes of a lot that was opened at `price`. Fails with
-// `Store` if a value does not fit.
+// Returns the sum of the realised gains, in cents, of changes of a lot that was opened at `price`.
+// Fails with `Store` if a value does not fit.
 fn realised_gain_of_changes(price: Price, changes: &[PricedLotChange]) -> Result<Wide, Fault>
     ensures total { IfOk result (λ total. total ≡ total_by (holdings.realised_gain_of_change price) (map abstract_priced_lot_change changes.now)) }
     ensures fault { IfErr result IsCallFault }
@@ -90,8 +93,8 @@ fn realised_gain_of_changes(price: Price, changes: &[PricedLotChange]) -> Result
     Ok(total)
 }
 
-// Returns the sum of the realised gains of the changes of a lot. Fails with `Store` if a value does
-// not fit, or if the trade has no price.
+// Returns the sum of the realised gains of the changes of a lot, in cents. Fails with `Store` if a
+// value does not fit, or if the trade that opened the lot has no price.
 fn realised_gain_of_lot(lot: &LotStory) -> Result<Wide, Fault>
     ensures gain { IfOk result (λ gain. gain ≡ holdings.realised_gain_of_lot (abstract_lot_story lot.now)) }
     ensures fault { IfErr result IsCallFault }
@@ -100,8 +103,8 @@ fn realised_gain_of_lot(lot: &LotStory) -> Result<Wide, Fault>
     realised_gain_of_changes(price, &lot.changes)
 }
 
-/// Returns the sum of the realised gains of all lots. Fails with `Store` if a value does not fit,
-/// or if a trade has no price.
+/// Returns the sum of the realised gains of all lots, in cents. Fails with `Store` if a value does
+/// not fit, or if a trade that opened a lot has no price.
 pub(crate) fn realised_gain_of_lots(lots: &[LotStory]) -> Result<Wide, Fault>
     ensures total { IfOk result (λ total. total ≡ holdings.realised_gain_of_lots (map abstract_lot_story lots.now)) }
     ensures fault { IfErr result IsCallFault }
@@ -114,8 +117,8 @@ pub(crate) fn realised_gain_of_lots(lots: &[LotStory]) -> Result<Wide, Fault>
     Ok(total)
 }
 
-/// Returns the sum of the costs of the remaining shares of all lots. Fails with `Store` if a value
-/// does not fit, or if a trade has no price.
+/// Returns the sum of the costs of the remaining shares of all lots, in cents. Fails with `Store`
+/// if a value does not fit, or if a trade that opened a lot has no price.
 pub(crate) fn remaining_cost_of_lots(lots: &[LotStory]) -> Result<Wide, Fault>
     ensures total { IfOk result (λ total. total ≡ holdings.remaining_cost_of_lots (map abstract_lot_story lots.now)) }
     ensures fault { IfErr result IsCallFault }
@@ -146,7 +149,8 @@ fn add_counts(one: u64, other: u64) -> Result<u64, Fault>
     }
 }
 
-/// Returns the number of lots that are not fully closed. Fails with `Store` if it does not fit.
+/// Returns the number of those lots whose remaining quantity is not 0. Fails with `Store` if it
+/// does not fit.
 pub(crate) fn count_of_open_lots(lots: &[LotStory]) -> Result<u64, Fault>
     ensures count { IfOk result (λ count. count ≡ length (holdings.lots_not_fully_closed (map abstract_lot_story lots.now))) }
     ensures fault { IfErr result IsCallFault }
@@ -158,14 +162,14 @@ pub(crate) fn count_of_open_lots(lots: &[LotStory]) -> Result<u64, Fault>
     Ok(count)
 }
 
-// Returns the number of changes.
+// Returns the number of changes in the list.
 fn count_of_changes(changes: &[PricedLotChange]) -> u64
     ensures { result ≡ length (map abstract_priced_lot_change changes.now) }
 {
     changes.len() as u64
 }
 
-/// Returns the number of changes of all lots. Fails with `Store` if it does not fit.
+/// Returns the number of the later changes of all lots. Fails with `Store` if it does not fit.
 pub(crate) fn count_of_lot_changes(lots: &[LotStory]) -> Result<u64, Fault>
     ensures count { IfOk result (λ count. count ≡ holdings.count_of_lot_changes (map abstract_lot_story lots.now)) }
     ensures fault { IfErr result IsCallFault }

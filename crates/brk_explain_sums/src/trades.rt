@@ -23,7 +23,7 @@ pub(crate) fn completion_price_of_trade(row: &TradeRow) -> Result<Price, Fault>
     }
 }
 
-/// Returns the quantity of a trade: below 0 for a sale.
+/// Returns the quantity of a trade, in shares: below 0 for a sale.
 pub(crate) fn signed_qty(row: &TradeRow) -> i64
     ensures { result ≡ holdings.signed_qty (abstract_trade_row row.now) }
 {
@@ -44,8 +44,8 @@ pub(crate) fn signed_value(row: &TradeRow) -> Result<Wide, Fault>
     value_of_shares_at_price(signed_qty(row), price)
 }
 
-/// Returns the quantity `held` before a trade plus the signed quantity of the trade. Fails with
-/// `Store` if it does not fit.
+/// Returns the quantity `held` before a trade plus the quantity of the trade, which counts below 0
+/// for a sale. Fails with `Store` if it does not fit.
 pub(crate) fn quantity_held_after_trade(held: i64, row: &TradeRow) -> Result<i64, Fault>
     ensures held { IfOk result (λ after. after ≡ held +ℤ holdings.signed_qty (abstract_trade_row row.now)) }
     ensures fault { IfErr result IsCallFault }
@@ -56,7 +56,7 @@ pub(crate) fn quantity_held_after_trade(held: i64, row: &TradeRow) -> Result<i64
     }
 }
 
-// Returns true if `one` is below `other`.
+// Returns true if the amount `one` is below the amount `other`.
 fn is_below(one: Wide, other: Wide) -> bool
     ensures { result ≡ int_lt one other }
 {
@@ -79,8 +79,8 @@ fn negative_part(amount: Wide) -> Wide
     if is_below(amount, zero) { amount } else { zero }
 }
 
-/// Returns the sum of the values of the purchases. Fails with `Store` if a value does not fit, or
-/// if a trade has no price.
+/// Returns the sum of the values of the purchases among the completed trades, in cents. Fails with
+/// `Store` if a value does not fit, or if a trade has no price.
 pub(crate) fn total_purchase_value(done: &[TradeRow]) -> Result<Wide, Fault>
     ensures total { IfOk result (λ total. total ≡ holdings.total_purchase_value (map abstract_trade_row done.now)) }
     ensures fault { IfErr result IsCallFault }
@@ -93,8 +93,8 @@ pub(crate) fn total_purchase_value(done: &[TradeRow]) -> Result<Wide, Fault>
     Ok(total)
 }
 
-/// Returns the sum of the values of the sales: below 0, or 0 if there is none. Fails with `Store`
-/// if a value does not fit, or if a trade has no price.
+/// Returns the sum of the negated values of the sales among the completed trades, in cents: 0 if
+/// there is none. Fails with `Store` if a value does not fit, or if a trade has no price.
 pub(crate) fn total_sale_value(done: &[TradeRow]) -> Result<Wide, Fault>
     ensures total { IfOk result (λ total. total ≡ holdings.total_sale_value (map abstract_trade_row done.now)) }
     ensures fault { IfErr result IsCallFault }

@@ -15,55 +15,58 @@ use Rattle.brk_explain_model.specs.AccountLines.{priced_holdings_of_account, acc
 use Rattle.brk_explain_model.specs.Running.{running_totals}
 use Rattle.brk_explain_model.specs.Trades.{balance_after_trade, balance_before_trade, order_details_of_trade, result_details_of_trade}
 
--- The postings whose stamp is before `stamp`.
+-- Those of the postings `posted` whose stamp is before `stamp`.
 abbrev pub postings_before_stamp : ℕ → List Posting → List Posting
 postings_before_stamp stamp posted = filter (λ p. nat_lt p.stamp stamp) posted
 
--- The postings whose stamp is at most `stamp`.
+-- Those of the postings `posted` whose stamp is at most `stamp`.
 abbrev pub postings_up_to_stamp : ℕ → List Posting → List Posting
 postings_up_to_stamp stamp posted = filter (λ p. nat_le p.stamp stamp) posted
 
--- The balance of the account by the postings of the base whose stamp is at most `stamp`.
+-- The balance of the account, in cents, by the postings of the base whose stamp is at most `stamp`.
 abbrev pub balance_at_stamp : Base → ℕ → ℕ → ℤ
 balance_at_stamp base stamp account = balance_of_account base.accounts (postings_up_to_stamp stamp (postings_of_base base)) account
 
--- The last number of the list, or `from` if the list is empty.
+-- The last number of the list `zs`, or `from` if the list is empty.
 abbrev pub last_number_or_default : ℤ → List ℤ → ℤ
 last_number_or_default from zs = unwrap_or (last_or None zs) from
 
--- The amount that the explanation of the trade `t` prints as "Balance before", computed from the
--- tables.
+-- The amount, in cents, that the explanation of the trade `t` prints as "Balance before", computed
+-- from the tables.
 abbrev pub printed_balance_before : Tables → Trade → ℤ
 printed_balance_before tables t = balance_before_trade (order_details_of_trade tables (trade_row t)) (result_details_of_trade tables (trade_row t))
 
--- The amount that the explanation of the trade `t` prints as "Balance after", computed from the
--- tables.
+-- The amount, in cents, that the explanation of the trade `t` prints as "Balance after", computed
+-- from the tables.
 abbrev pub printed_balance_after : Tables → Trade → ℤ
 printed_balance_after tables t = balance_after_trade (order_details_of_trade tables (trade_row t)) (result_details_of_trade tables (trade_row t))
 
--- The last running balance that the explanation of the account prints, or the opening balance if it
--- has no cash rows.
+-- The last running balance, in cents, that the explanation of the account `a` prints, or the
+-- opening balance if the account has no cash rows.
 abbrev pub last_printed_balance : Tables → AccountRow → ℤ
 last_printed_balance tables a = last_number_or_default a.opening (running_totals (λ row. row.amount) a.opening (account_cash_rows_by_stamp tables a.id))
 
--- The printed balance before the trade is its account's balance by the postings before its
--- completion. The printed balance after it also counts the postings at the stamp of its completion.
+-- The printed balance before the trade `t` is its account's balance by the postings before the
+-- stamp of its completion. The printed balance after the trade also counts the postings at this
+-- stamp.
 pub record PrintedBalancesMatchBase (base : Base) (t : Trade) : Type 0 where
   pub before : printed_balance_before (sheets base) t
       ≡ balance_of_account base.accounts (postings_before_stamp (last_status_stamp_of_trade t) (postings_of_base base)) t.account
   pub after : printed_balance_after (sheets base) t ≡ balance_at_stamp base (last_status_stamp_of_trade t) t.account
 
--- After the result of the trade `id` from `base` and any run that follows it, the printed balance
--- after the trade is the balance of its account in the base right after that result.
+-- After the result of the trade `id` from `base` at the clock reading `now` and the price `price`,
+-- and after any run that follows it, the printed balance after the trade is the balance of its
+-- account in the base right after that result.
 abbrev pub PreservesPrintedBalanceAfter : Base → ℕ → ℕ → ℕ → Type 0
 PreservesPrintedBalanceAfter base now id price =
     (calls : List (ℕ × Call)) (outcomes : List Outcome) (later : Base) (u : Trade)
     → Run (base_after_command base now (CompleteTrade id price)) calls outcomes later → trade_with_id later id ≡ Some u
     → printed_balance_after (sheets later) u
-    ≡ balance_of_account (base_after_command base now (CompleteTrade id price)).accounts (postings_of_base (base_after_command base now (CompleteTrade id price))) u.account
+    ≡ balance_of_account (base_after_command base now (CompleteTrade id price)).accounts
+    (postings_of_base (base_after_command base now (CompleteTrade id price))) u.account
 
--- The explanation of the account lists all its cash rows, its last printed balance is its balance,
--- and that balance plus the market values of its holdings is its assets.
+-- The explanation of the account `a` lists all its cash rows, its last printed balance is its
+-- balance, and that balance plus the market values of its holdings is its assets.
 pub record PrintedAccountMatchesBase (base : Base) (a : AccountRow) : Type 0 where
   pub posted : account_cash_rows_by_stamp (sheets base) a.id ≡ cash_move_rows_of_account (sheets base) a.id
   pub last : last_printed_balance (sheets base) a ≡ a.balance

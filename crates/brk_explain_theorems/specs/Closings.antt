@@ -7,25 +7,28 @@ use Rattle.brk_model.specs.Derived.{deal_of_trade}
 use Rattle.brk_model.specs.Shares.{buy_value, closed_share_count_of_deal, realised_gain, sell_value, signed_by_side}
 use Rattle.brk_model.specs.Sheets.{sheets}
 use Rattle.brk_model.specs.Tables.{trade_row}
-use Rattle.brk_explain_model.specs.Trades.{Closing, ResultStory, buy_value_of_closings, realised_gain_of_closings, opened_quantity, result_details_of_trade, sell_value_of_closings, total_closed_shares}
+use Rattle.brk_explain_model.specs.Trades.{Closing, ResultStory, buy_value_of_closings, realised_gain_of_closings, opened_quantity}
+use Rattle.brk_explain_model.specs.Trades.{result_details_of_trade, sell_value_of_closings, total_closed_shares}
 use Rattle.brk_explain_theorems.specs.Before.{shares_before_trade}
 
--- All elements of the list but the last one satisfy `P`.
+-- All elements of the list but the last one satisfy `P`. Vacuous for a list of at most one element.
 abbrev pub HoldsForAllButLast : {X : Type 0} → (X → Type 0) → List X → Type 0
 HoldsForAllButLast P [] = ⊤
 HoldsForAllButLast P (x ∷ []) = ⊤
 HoldsForAllButLast P (x ∷ y ∷ xs) = P x × HoldsForAllButLast P (y ∷ xs)
 
--- The closing closes its lot completely: the quantity after it is 0.
+-- The closing `c` closes its lot completely: the lot's quantity after it is 0.
 abbrev pub ClosesWholeLot : Closing → Type 0
 ClosesWholeLot c = c.after ≡ pos 0
 
--- The figures of the trade's result that its explanation reads from the tables of the base.
+-- The facts about the result of the trade `t` that its explanation reads from the tables of the
+-- base.
 abbrev pub result_story_of_trade : Base → Trade → ResultStory
 result_story_of_trade base t = result_details_of_trade (sheets base) (trade_row t)
 
--- The printed closings of the trade match its deal. The buy value, the sell value, the gain and the
--- number of the closed shares are those of the deal on the shares before the trade, and all lots
+-- The printed closings of the trade `t` match its deal on the shares before the trade: they have
+-- its buy value, sell value, gain and number of closed shares, and the printed own lot has the
+-- shares that it opens. Closed and opened shares sum to the trade's quantity, and all closed lots
 -- but the last are closed completely.
 pub record PrintedClosingsMatchDeal (base : Base) (t : Trade) : Type 0 where
   -- BUY and SELL are the buy value and the sell value of the deal, so Realised gain is its gain.

@@ -7,17 +7,19 @@ use Rattle.brk_model.specs.Derived.{settlement_amount, deal_of_trade, due_day}
 use Rattle.brk_model.specs.Orders.{commission_by_band, tax_on_deal}
 use Rattle.brk_model.specs.Sheets.{sheets}
 use Rattle.brk_model.specs.Tables.{trade_row}
-use Rattle.brk_explain_model.specs.Trades.{OrderStory, balance_change_of_trade, commission_in_current_band, days_to_settle, order_details_of_trade, tax_at_current_rates, signed_trade_value, withheld_tax_of_trade}
+use Rattle.brk_explain_model.specs.Trades.{OrderStory, balance_change_of_trade, commission_in_current_band, days_to_settle, order_details_of_trade}
+use Rattle.brk_explain_model.specs.Trades.{tax_at_current_rates, signed_trade_value, withheld_tax_of_trade}
 use Rattle.brk_explain_theorems.specs.Before.{shares_before_trade}
 use Rattle.brk_explain_theorems.specs.Closings.{result_story_of_trade}
 
--- The figures of the trade's order that its explanation reads from the tables of the base.
+-- The facts about the order of the trade `t` that its explanation reads from the tables of the
+-- base.
 abbrev pub order_story_of_trade : Base → Trade → OrderStory
 order_story_of_trade base t = order_details_of_trade (sheets base) (trade_row t)
 
--- The printed settlement of the trade is the sum of the printed lines above it, and equals its
+-- The printed settlement of the trade `t` is the sum of the printed lines above it, and equals its
 -- settlement amount. The due day, the cash moved, and the tax and the commission at current rates
--- equal the model's.
+-- equal the values that the model computes from the base.
 pub record PrintedSettlementMatchesBase (base : Base) (t : Trade) : Type 0 where
   -- Settlement is Value plus Charge, Commission and Tax withheld, which are printed below 0.
   pub sum : (result_story_of_trade base t).settlement.amount

@@ -10,17 +10,19 @@ use Rattle.brk_model.specs.Shares.{signed_by_side}
 use Rattle.brk_model.specs.Sheets.{sheets}
 use Rattle.brk_model.specs.Tables.{Tables}
 use Rattle.brk_lots.specs.Books.{realised_gain_sum, lot_cost_basis}
-use Rattle.brk_explain_model.specs.Holdings.{remaining_cost_of_lots, completed_trades_in_symbol, realised_gain_in_symbol, remaining_quantity_of_lot, lots_opened_in_symbol, total_purchase_value, total_sale_value, signed_qty}
+use Rattle.brk_explain_model.specs.Holdings.{remaining_cost_of_lots, completed_trades_in_symbol, realised_gain_in_symbol, remaining_quantity_of_lot}
+use Rattle.brk_explain_model.specs.Holdings.{lots_opened_in_symbol, total_purchase_value, total_sale_value, signed_qty}
 use Rattle.brk_explain_model.specs.Running.{running_totals}
 use Rattle.brk_book_theorems.specs.TradeReads.{lots_of_position}
 use Rattle.brk_explain_theorems.specs.Balances.{last_number_or_default}
 
--- The sum of the quantity changes (after - before) in the rows of HOLDING_HISTORY of the trade.
+-- The sum of the quantity changes (after - before), in shares, in the rows of HOLDING_HISTORY of
+-- changes by the trade with the id `trade`.
 abbrev pub lot_change_sum_of_trade : Tables → ℕ → ℤ
 lot_change_sum_of_trade tables trade = total_by (λ row. row.after -ℤ row.before) (filter (λ row. row.trade == trade) tables.holding_history)
 
--- The printed totals of a holding match the deals of its position: the gains, the cost basis, and
--- the number of shares.
+-- The totals that the explanation of a holding prints match the deals of its position: the realised
+-- gain, the cost basis, and the number of shares.
 pub record PrintedHoldingMatchesDeals (base : Base) (account : ℕ) (symbol : Text) : Type 0 where
   -- The gains, added up by lot, are the gains of the deals, added up by trade.
   pub gained : realised_gain_in_symbol (sheets base) account symbol ≡ realised_gain_sum (deals_of_position (completed_trades base) account symbol) []
@@ -37,6 +39,7 @@ pub record PrintedHoldingMatchesDeals (base : Base) (account : ℕ) (symbol : Te
   pub left : total_by remaining_quantity_of_lot (lots_opened_in_symbol (sheets base) account symbol)
       ≡ holding_summary_quantity (completed_trades base) account symbol
 
--- The changes that the trade made to lots sum to its quantity, negative for a sale.
+-- The changes that the trade `t` made to the quantities of lots sum to its quantity, negative for a
+-- sale.
 abbrev pub LotChangesSumToQuantity : Base → Trade → Type 0
 LotChangesSumToQuantity base t = lot_change_sum_of_trade (sheets base) t.id ≡ signed_by_side (side_of_trade_type t.kind) t.qty

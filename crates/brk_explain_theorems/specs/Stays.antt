@@ -10,7 +10,9 @@ use Rattle.brk_explain_theorems.specs.Closings.{result_story_of_trade}
 use Rattle.brk_explain_theorems.specs.Equations.{order_story_of_trade}
 
 -- The explanation of the trade `u` of the base `later` prints the figures that the explanation of
--- the trade `t` of `base` prints. The executor's name may differ.
+-- the trade `t` of `base` prints: the columns of TRADE except the executor's name, the customer,
+-- the broker and the tax status, the status changes, the closings and the own lot, the settlement
+-- amount and the due day, the numbers of cash rows, and the balances.
 pub record PrintsSameFigures (base later : Base) (t u : Trade) : Type 0 where
   -- All columns of the row of TRADE but the executor's name.
   pub row : record (trade_row u) { executor = [] } ≡ record (trade_row t) { executor = [] }

@@ -1,4 +1,4 @@
--- The figures in the reply to a result, and those that the explanation of its trade prints.
+-- The figures in the reply to a result that the explanation of its trade also prints.
 use Rattle.std.specs.Prelude.{◌≡◌}
 use Rattle.brk_money.specs.Kinds.{side_of_trade_type}
 use Rattle.brk_model.specs.Records.{Trade}
@@ -11,7 +11,8 @@ use Rattle.brk_explain_theorems.specs.Closings.{result_story_of_trade}
 use Rattle.brk_explain_theorems.specs.Equations.{order_story_of_trade}
 
 -- The explanation of the trade `t`, computed from the tables of the base, prints the figures of the
--- completion `c`: commission, tax, settlement amount, due day, buy value, sell value and balance.
+-- completion `c` that the reply to the result has: commission, tax, settlement amount, due day, buy
+-- value, sell value and balance.
 pub record PrintsReplyFigures (base : Base) (t : Trade) (c : Completion) : Type 0 where
   pub commission : (order_story_of_trade base t).trade.commission ≡ c.commission
   pub tax : (order_story_of_trade base t).trade.tax ≡ c.tax

@@ -13,9 +13,10 @@ ghost use Rattle.brk_explain_theorems.specs.Balances.{PrintedAccountMatchesBase,
 
 /// Proves that the explanation of an account lists all its cash rows, that its last printed balance
 /// is the account's balance, and that this plus the market values of its holdings is its assets.
-/// The printed balances before and after a completed trade are those by the postings up to its
-/// completion. After an accepted result and any run, the printed balance after its trade is the
-/// balance right after the result. The base satisfies the books invariant.
+/// The printed balances before and after a completed trade are the balances by the postings before
+/// and up to its completion. After an accepted result and any run that follows it, the printed
+/// balance after its trade is the balance right after the result. The base satisfies the books
+/// invariant.
 pub fn printed_balances_match_the_base()
     ensures account { (base : Base) (id : ℕ) (r : AccountRow) → BooksInvariant base → account_row_with_id (sheets base) id ≡ Some r
         → PrintedAccountMatchesBase base r }

@@ -10,10 +10,11 @@ ghost use Rattle.brk_explain_model.specs.Holdings.{summary_quantity_in_symbol};
 ghost use Rattle.brk_book_theorems.specs.Books.{BooksInvariant};
 ghost use Rattle.brk_explain_theorems.specs.Gains.{PrintedHoldingMatchesDeals, LotChangesSumToQuantity};
 
-/// Proves that the printed gains of a holding equal the gains of its deals, that the printed costs
-/// of its open lots equal its cost basis, and that this is realised gain + purchases + sales, where
-/// sales count below 0. The printed numbers of shares equal the quantity of the holding. The lot
-/// changes of a completed trade sum to its quantity. The base satisfies the books invariant.
+/// Proves that the realised gain that the explanation of a holding prints equals the sum of the
+/// gains of its deals, that the printed cost basis equals the cost basis of its lots, and that this
+/// is realised gain + purchases + sales, where sales count below 0. The printed numbers of shares
+/// equal the quantity of the holding. The lot changes of a completed trade sum to its quantity,
+/// below 0 for a sale. The base satisfies the books invariant.
 pub fn printed_gains_match_the_deals()
     ensures holding { (base : Base) (account : ℕ) (symbol : Text) → BooksInvariant base → PrintedHoldingMatchesDeals base account symbol }
     ensures trade { (base : Base) (t : Trade) → BooksInvariant base → trade_with_id base t.id ≡ Some t → is_completed t ≡ true

@@ -1,5 +1,4 @@
-//! Theorems: the figures of the reply to a result, and those that the explanation of its trade
-//! prints.
+//! Theorems: the explanation of a trade prints the figures of the reply to its result.
 
 ghost use Rattle.std.specs.Prelude.{◌≡◌, ℕ, Ok, Option, Some};
 ghost use Rattle.brk_model.specs.Base.{Base, trade_with_id};

@@ -7,25 +7,33 @@ use Rattle.std.specs.List.{AllByRecursion}
 use Rattle.brk_model.specs.Limits.{greatest_amount, greatest_commission_rate, is_in_range}
 use Rattle.brk_model.specs.Schemas.{third_schema}
 use Rattle.brk_model.specs.Records.{Band, Key}
-use Rattle.brk_model.specs.Commands.{Command, Listing, Order, Tick, AddBroker, AddCustomer, AddAccount, AddPermission, AddSecurity, AddCharge, AddBand, AddTaxRate, AddCustomerTax, PlaceOrder, FeedTicks, CancelTrade, CompleteTrade, ChangeExecutors, ChangeCashTypes, ChangeCashNames, DepositCash, WithdrawCash, SetOneDay}
-use Rattle.brk_model.specs.Form.{has_well_formed_tier_exchange_and_bounds, is_well_formed_charge_row, is_well_formed_customer_row, is_price, is_quantity_in_schema, is_well_formed_key, are_well_formed_listing_texts, is_well_formed_tax_rate_row, has_well_formed_permission_texts}
+use Rattle.brk_model.specs.Commands.{Command, Listing, Order, Tick, AddBroker, AddCustomer, AddAccount, AddPermission, AddSecurity, AddCharge}
+use Rattle.brk_model.specs.Commands.{AddBand, AddTaxRate, AddCustomerTax, PlaceOrder, FeedTicks, CancelTrade, CompleteTrade, ChangeExecutors}
+use Rattle.brk_model.specs.Commands.{ChangeCashTypes, ChangeCashNames, DepositCash, WithdrawCash, SetOneDay}
+use Rattle.brk_model.specs.Form.{has_well_formed_tier_exchange_and_bounds, is_well_formed_charge_row, is_well_formed_customer_row, is_price}
+use Rattle.brk_model.specs.Form.{is_quantity_in_schema, is_well_formed_key, are_well_formed_listing_texts, is_well_formed_tax_rate_row}
+use Rattle.brk_model.specs.Form.{has_well_formed_permission_texts}
 use Rattle.brk_invariant_theorems.specs.Sound.{is_well_formed_account, is_well_formed_broker}
 
--- True if the symbol, name, exchange, sector and price of the listing are well-formed.
+-- True if the symbol, name, exchange and sector of the listing are well-formed and its price is
+-- from 1 cent to the greatest price.
 abbrev pub is_well_formed_listing : Listing → Bool
 is_well_formed_listing l = are_well_formed_listing_texts l.symbol l.name l.exchange l.sector && is_price l.price
 
--- True if the tier, the exchange, both bounds and the rate of the band are well-formed. The order
--- of the bounds is not checked here.
+-- True if the tier, the exchange and both bounds of the band are well-formed and its rate is at
+-- most the greatest commission rate. Whether the lower bound is at most the upper bound is not
+-- checked.
 abbrev pub is_well_formed_band : Band → Bool
 is_well_formed_band b = has_well_formed_tier_exchange_and_bounds third_schema b && nat_le b.rate greatest_commission_rate
 
--- The order's quantity is well-formed, and also its price if it has one.
+-- The order's quantity is from 1 to the greatest quantity, and its price, if it has one, is from 1
+-- cent to the greatest price.
 pub record OrderMeetsAuditFormats (o : Order) : Type 0 where
   pub qty : is_quantity_in_schema third_schema o.qty ≡ true
   pub price : IfSome (price_of_order o.order_type) (λ p. is_price p ≡ true)
 
--- The price of the tick is well-formed. Its symbol and its quantity are not checked here.
+-- The price of the tick is from 1 cent to the greatest price. Its symbol and its quantity are not
+-- checked.
 abbrev pub TickMeetsAuditFormats : Tick → Type 0
 TickMeetsAuditFormats tick = is_price tick.price ≡ true
 
@@ -33,8 +41,9 @@ TickMeetsAuditFormats tick = is_price tick.price ≡ true
 abbrev pub is_movement_amount : ℕ → Bool
 is_movement_amount n = is_in_range 1 greatest_amount n
 
--- The fields of the command whose formats an audit needs are well-formed. Ids that must exist, and
--- the numbers of ids and ticks, are not checked here.
+-- The fields of the command whose formats and limits an audit checks are well-formed. Whether ids
+-- exist, and how many ids or ticks the command has, is not checked. Vacuous for a customer's tax, a
+-- cancel and a text update.
 abbrev pub MeetsAuditFormats : Command → Type 0
 MeetsAuditFormats (AddBroker b) = is_well_formed_broker b ≡ true
 MeetsAuditFormats (AddCustomer c) = is_well_formed_customer_row c ≡ true

@@ -4,8 +4,8 @@ use Rattle.brk_model.specs.Formed.{IsWellFormedCommand}
 use Rattle.brk_model.specs.Run.{Call, Do, Ask}
 use Rattle.brk_invariant_theorems.specs.InForm.{MeetsAuditFormats, IsWellFormedKey}
 
--- The command of the call satisfies `MeetsAuditFormats`, and its key, if it has one, is
--- well-formed. Vacuous for a query.
+-- The fields of the call's command meet the formats that an audit checks (`MeetsAuditFormats`), and
+-- the key of the call, if it has one, is well-formed. Vacuous for a query.
 abbrev pub CallMeetsAuditFormats : ℕ × Call → Type 0
 CallMeetsAuditFormats (now, Do command key) = MeetsAuditFormats command × IfSome key IsWellFormedKey
 CallMeetsAuditFormats (now, Ask query) = ⊤

@@ -4,22 +4,27 @@ use Rattle.std.specs.Prelude.{◌≡◌, ◌≤◌, ⊤, ℕ, ◌==◌, ◌&&◌
 use Rattle.std.specs.List.{AllByRecursion}
 use Rattle.brk_money.specs.Spelling.{Text, is_within_amount_limit}
 use Rattle.brk_model.specs.Limits.{greatest_amount, greatest_id, greatest_summary, greatest_tax_rate, most_accounts_per_customer}
-use Rattle.brk_model.specs.Records.{Account, Band, Broker, Charge, Customer, CustomerTax, Kept, StatusChange, Movement, Permission, Security, SettleRule, TaxRate, Trade}
-use Rattle.brk_model.specs.Base.{Base, completed_trades, account_with_id_in_list, is_completed, customer_with_id_in_list, security_name_in_list, tax_rate_sum_in_lists, tax_rate_with_id_in_list}
+use Rattle.brk_model.specs.Records.{Account, Band, Broker, Charge, Customer, CustomerTax, Kept, StatusChange}
+use Rattle.brk_model.specs.Records.{Movement, Permission, Security, SettleRule, TaxRate, Trade}
+use Rattle.brk_model.specs.Base.{Base, completed_trades, account_with_id_in_list, is_completed, customer_with_id_in_list}
+use Rattle.brk_model.specs.Base.{security_name_in_list, tax_rate_sum_in_lists, tax_rate_with_id_in_list}
 use Rattle.brk_model.specs.Derived.{settlement_amount, balance_of_account, commission_total_of_broker, postings, holding_summary_quantity}
 use Rattle.brk_model.specs.Results.{cash_row_name_from_parts}
 use Rattle.brk_model.specs.Schemas.{third_schema}
-use Rattle.brk_model.specs.Form.{is_well_formed_band_row, is_well_formed_charge_row, is_well_formed_customer_row, is_cash_type_of_trade, is_due_within_calendar, is_movement_name_and_amount, is_up_to_last_stamp, is_price, has_price_exactly_if, is_well_formed_kept_row, are_well_formed_listing_texts, is_well_formed_tax_rate_row, are_well_formed_account_fields, are_well_formed_id_and_name, has_well_formed_permission_texts, are_trade_numbers_in_range, is_settlement_day_in_calendar}
+use Rattle.brk_model.specs.Form.{is_well_formed_band_row, is_well_formed_charge_row, is_well_formed_customer_row, is_cash_type_of_trade}
+use Rattle.brk_model.specs.Form.{is_due_within_calendar, is_movement_name_and_amount, is_up_to_last_stamp, is_price, has_price_exactly_if}
+use Rattle.brk_model.specs.Form.{is_well_formed_kept_row, are_well_formed_listing_texts, is_well_formed_tax_rate_row, are_well_formed_account_fields}
+use Rattle.brk_model.specs.Form.{are_well_formed_id_and_name, has_well_formed_permission_texts, are_trade_numbers_in_range, is_settlement_day_in_calendar}
 use Rattle.brk_model.specs.Ways.{is_strictly_ascending}
 use Rattle.brk_model.specs.Keys.{KeyPart, word, charge_key, customer_key, customer_tax_key, kept_key, tax_rate_key}
 use Rattle.brk_audit_theorems.specs.Told.{HasValidStatusSequence, HasNoStrayTexts, HasAscendingStatusStamps, broker_id_key}
 
--- No two records of the list have the same key by the function `key`.
+-- No two records of the list have the same key, where `key` returns the key of a record.
 abbrev pub HasDistinctKeys : {Row : Type 0} → (Row → List KeyPart) → List Row → Type 0
 HasDistinctKeys key [] = ⊤
 HasDistinctKeys key (x ∷ xs) = AllByRecursion (λ y. key y ≡ key x → ⊥) xs × HasDistinctKeys key xs
 
--- The tax id of a customer, as a key.
+-- The tax id of the customer `c`, as a key.
 abbrev pub customer_tax_id_key : Customer → List KeyPart
 customer_tax_id_key c = word c.tax_id ∷ []
 
@@ -33,11 +38,13 @@ is_well_formed_broker b = are_well_formed_id_and_name b.id b.name
 abbrev pub is_well_formed_account : Account → Bool
 is_well_formed_account a = are_well_formed_account_fields a.id a.name a.opening
 
--- True if the symbol, name, exchange, sector and last price of the security are well-formed.
+-- True if the symbol, name, exchange and sector of the security are well-formed and its last price
+-- is from 1 cent to the greatest price.
 abbrev pub is_well_formed_security : Security → Bool
 is_well_formed_security s = are_well_formed_listing_texts s.symbol s.name s.exchange s.sector && is_price s.last_price
 
--- True if the trade's number, quantity, bid, charge, commission and tax are within their limits.
+-- True if the trade's id, quantity, bid, charge, commission and tax are within the limits of the
+-- third schema.
 abbrev pub has_trade_numbers_in_range : Trade → Bool
 has_trade_numbers_in_range t = are_trade_numbers_in_range third_schema t.id t.qty t.bid t.charge t.commission t.tax
 
@@ -52,23 +59,27 @@ StatusStampIsAtMostLast last m = is_up_to_last_stamp last m.stamp ≡ true
 abbrev pub HasDueDayInCalendar : SettleRule → StatusChange → Type 0
 HasDueDayInCalendar rule m = is_due_within_calendar rule m.status m.stamp ≡ true
 
--- True if the trade is completed and has a well-formed price, or is not completed and has no price.
+-- True if the trade is completed and has a price from 1 cent to the greatest price, or is not
+-- completed and has no price.
 abbrev pub has_price_exactly_if_completed : Trade → Bool
 has_price_exactly_if_completed t = has_price_exactly_if (is_completed t) t.price
 
--- True if the trade's cash text is one of the two texts for its type, its quantity and the security
--- name `name`.
+-- True if the trade's cash text is the name of its type, its quantity, ` shares of ` or
+-- ` Shares of `, and the security name `name`.
 abbrev pub has_cash_text_with_security_name : Trade → Text → Bool
 has_cash_text_with_security_name t name =
     bytes_eq t.cash_name (cash_row_name_from_parts (codes " shares of ") t.kind t.qty name)
     || bytes_eq t.cash_name (cash_row_name_from_parts (codes " Shares of ") t.kind t.qty name)
 
--- True if the trade's cash text is one of the two texts for its type, its quantity and the name of
--- its security.
+-- True if the trade's cash text is the name of its type, its quantity, ` shares of ` or
+-- ` Shares of `, and the name of its security.
 abbrev pub has_cash_text_of_security : List Security → Trade → Bool
 has_cash_text_of_security securities t = has_cash_text_with_security_name t (security_name_in_list securities t.symbol)
 
--- The trade satisfies the conditions of the audit invariant that depend on the trade alone.
+-- The trade satisfies those conditions of the audit invariant that depend on the trade alone: its
+-- numbers are within their limits, its statuses are a valid status sequence with ascending stamps,
+-- it has a price if and only if it is completed, and its settlement text and cash text agree with
+-- its status.
 pub record TradeOnlyAuditInvariant (t : Trade) : Type 0 where
   pub fields : has_trade_numbers_in_range t ≡ true
   -- Its statuses are a valid status sequence, with stamps in ascending order.
@@ -80,8 +91,10 @@ pub record TradeOnlyAuditInvariant (t : Trade) : Type 0 where
   pub words : HasNoStrayTexts t
   pub cash_type : is_completed t ≡ true → is_cash_type_of_trade t.is_cash t.cash_type ≡ true
 
--- The trade satisfies the conditions of the audit invariant on a trade, given the last stamp, the
--- settlement day, the accounts and the securities.
+-- The trade satisfies the conditions of the audit invariant on a trade: the conditions that depend
+-- on the trade alone, no stamp after the last stamp `last`, a due day within the calendar by the
+-- settlement day `rule`, a cash text with the name of its security, and a settlement amount within
+-- the limit.
 pub record TradeAuditInvariant (last : Option ℕ) (rule : SettleRule) (accounts : List Account) (securities : List Security) (t : Trade) : Type 0 where
   pub alone : TradeOnlyAuditInvariant t
   pub open alone use *
@@ -94,19 +107,22 @@ pub record TradeAuditInvariant (last : Option ℕ) (rule : SettleRule) (accounts
   -- Its settlement amount is within the limit.
   pub amount : is_completed t ≡ true → is_within_amount_limit (settlement_amount accounts t) ≡ true
 
--- The trade satisfies the conditions of the audit invariant on a trade, given the last stamp, the
--- settlement day, the accounts and the securities of the base.
+-- The trade satisfies the conditions of the audit invariant on a trade (`TradeAuditInvariant`),
+-- with the last stamp, the settlement day, the accounts and the securities of the base.
 abbrev pub BaseTradeAuditInvariant : Base → Trade → Type 0
 BaseTradeAuditInvariant base t = TradeAuditInvariant base.last base.rule base.accounts base.securities t
 
 -- ---- movements, and the settlement day
 
 -- True if the text of the movement is `Deposit` and its amount is above 0, or the text is
--- `Withdrawal` and the amount is below 0, and the amount is within the limit.
+-- `Withdrawal` and the amount is below 0, and the absolute value of the amount, in cents, is within
+-- the limit.
 abbrev pub is_well_formed_movement : Movement → Bool
 is_well_formed_movement m = is_movement_name_and_amount m.name m.amount && is_within_amount_limit m.amount
 
--- The part of the audit invariant that concerns the movements and the settlement day `rule`.
+-- The part of the audit invariant that concerns the movements and the settlement day `rule`: the
+-- texts and amounts of the movements are well-formed, their stamps are ascending, their number is
+-- at most the greatest id, and the settlement day is within the calendar.
 pub record MovementAuditInvariant (movements : List Movement) (rule : SettleRule) : Type 0 where
   pub fields : AllByRecursion (λ m. is_well_formed_movement m ≡ true) movements
   -- The movements are in ascending order of their stamps, and their number is within the limit of
@@ -118,28 +134,29 @@ pub record MovementAuditInvariant (movements : List Movement) (rule : SettleRule
 
 -- ---- references
 
--- The account of the permission is one of `accounts`.
+-- The account of the permission `p` is one of `accounts`.
 abbrev pub PermissionAccountIsListed : List Account → Permission → Type 0
 PermissionAccountIsListed accounts p = is_some (account_with_id_in_list accounts p.account) ≡ true
 
--- The customer of the customer's tax is one of `customers`.
+-- The customer of the customer's tax `x` is one of `customers`.
 abbrev pub TaxCustomerIsListed : List Customer → CustomerTax → Type 0
 TaxCustomerIsListed customers x = is_some (customer_with_id_in_list customers x.customer) ≡ true
 
--- The tax rate of the customer's tax is one of `tax_rates`.
+-- The tax rate of the customer's tax `x` is one of `tax_rates`.
 abbrev pub TaxRateIsListed : List TaxRate → CustomerTax → Type 0
 TaxRateIsListed tax_rates x = is_some (tax_rate_with_id_in_list tax_rates x.tax) ≡ true
 
 -- ---- the parts of the invariant: well-formed fields, and unique keys
 
--- The part of the audit invariant that concerns stored replies: they are well-formed, and no two
--- have the same key.
+-- The part of the audit invariant that concerns stored replies: their keys are well-formed, and no
+-- two have the same key.
 pub record StoredReplyAuditInvariant (all_kept : List Kept) : Type 0 where
   pub kept : AllByRecursion (λ k. is_well_formed_kept_row k ≡ true) all_kept
   pub kept_keys : HasDistinctKeys kept_key all_kept
 
--- The part of the audit invariant that concerns brokers, customers, accounts and permissions:
--- well-formed fields, unique keys, existing accounts, and the limit of accounts for each customer.
+-- The part of the audit invariant that concerns brokers, customers, accounts and permissions: their
+-- fields are well-formed, ids of brokers and ids and tax ids of customers are unique, the account
+-- of each permission exists, and each customer has at most 10 accounts.
 pub record PartyAuditInvariant (all_brokers : List Broker) (all_customers : List Customer) (all_accounts : List Account)
     (all_permissions : List Permission) : Type 0 where
   pub brokers : AllByRecursion (λ b. is_well_formed_broker b ≡ true) all_brokers
@@ -155,8 +172,9 @@ pub record PartyAuditInvariant (all_brokers : List Broker) (all_customers : List
   pub owned : (customer : ℕ) → length (filter (λ a. a.customer == customer) all_accounts) ≤ most_accounts_per_customer
 
 -- The part of the audit invariant that concerns charges, bands, tax rates and customers' taxes:
--- well-formed fields, unique keys, existing customers and tax rates, and the limit of rates for
--- each customer.
+-- their fields are well-formed, the keys of charges, tax rates and customers' taxes are unique, the
+-- customer and the tax rate of each customer's tax exist, and the rates of each customer sum to at
+-- most the greatest tax rate.
 pub record RateAuditInvariant (all_customers : List Customer) (all_charges : List Charge) (all_bands : List Band) (all_tax_rates : List TaxRate)
     (all_taxes : List CustomerTax) : Type 0 where
   pub charges : AllByRecursion (λ c. is_well_formed_charge_row c ≡ true) all_charges
@@ -171,22 +189,25 @@ pub record RateAuditInvariant (all_customers : List Customer) (all_charges : Lis
   -- The rates of a customer sum to at most the greatest tax rate.
   pub rates : (customer : ℕ) → tax_rate_sum_in_lists all_tax_rates all_taxes customer ≤ greatest_tax_rate
 
--- The part of the audit invariant that concerns securities: well-formed fields, and no last trade
--- after the last stamp.
+-- The part of the audit invariant that concerns securities: their fields are well-formed, and no
+-- last trade has a stamp after the last stamp `last`.
 pub record SecurityAuditInvariant (last : Option ℕ) (all_securities : List Security) : Type 0 where
   pub securities : AllByRecursion (λ s. is_well_formed_security s ≡ true) all_securities
   pub moments : AllByRecursion (λ s. is_up_to_last_stamp last s.moment ≡ true) all_securities
 
--- The part of the audit invariant that concerns sums: summaries, balances and commission totals of
--- the completed trades and the movements are within their limits.
+-- The part of the audit invariant that concerns sums over the completed trades `done` and the
+-- movements: the summaries of all accounts, the balances of all accounts and the commission totals
+-- of all brokers are within their limits.
 pub record SumAuditInvariant (accounts : List Account) (done : List Trade) (movements : List Movement) : Type 0 where
   pub summaries : (account : ℕ) → (symbol : Text) → nat_abs (holding_summary_quantity done account symbol) ≤ greatest_summary
   pub balances : (account : ℕ) → nat_abs (balance_of_account accounts (postings accounts done movements) account) ≤ greatest_amount
   pub commissions : (broker : ℕ) → commission_total_of_broker accounts done broker ≤ greatest_amount
 
--- The audit invariant of the base. If the base also satisfies the books invariant, its tables pass
--- an audit. Each part concerns only the lists of the base that it names, so a command that does not
--- change these lists preserves the part.
+-- The base satisfies the audit invariant: its fields are well-formed, its keys are unique, the
+-- records that its records refer to exist, and its numbers and sums are within their limits. If the
+-- base also satisfies the books invariant, its tables pass an audit. Each part concerns only the
+-- lists of the base that it names, so a command that does not change these lists preserves the
+-- part.
 pub record AuditInvariant (base : Base) : Type 0 where
   pub keyed : StoredReplyAuditInvariant base.kept
   pub open keyed use *

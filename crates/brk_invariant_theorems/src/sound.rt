@@ -29,8 +29,8 @@ ghost use Rattle.brk_invariant_theorems.specs.Runs.{CallMeetsAuditFormats, IsWel
 ghost use Rattle.brk_invariant_theorems.specs.Sound.{AuditInvariant};
 
 /// Proves that a base that satisfies the books invariant satisfies the audit invariant if and only
-/// if it has valid histories and its tables satisfy the condition `Form`. The tables of a base with
-/// both invariants pass the audit of the third schema.
+/// if it has valid histories and its tables satisfy the condition `Form` of the third schema. The
+/// tables of a base that satisfies both invariants pass the audit of the third schema.
 pub fn audit_invariant_makes_tables_pass_audit()
     ensures form { (base : Base) → BooksInvariant base → AuditInvariant base → IsTrue (satisfies_form_condition third_schema (sheets base)) }
     ensures histories { (base : Base) → AuditInvariant base → HasValidHistories base }
@@ -50,9 +50,10 @@ pub fn empty_base_satisfies_audit_invariant()
     ensures { AuditInvariant empty_base }
 {}
 
-/// Proves that every accepted command that satisfies `MeetsAuditFormats` preserves the audit
-/// invariant, if the base satisfies the books invariant. Every call of such a command, with a
-/// well-formed key or without a key, preserves it too.
+/// Proves that every accepted command whose fields meet the formats of the audit
+/// (`MeetsAuditFormats`) preserves the audit invariant, if the base satisfies the books invariant.
+/// A call of such a command, with a well-formed key or without a key, preserves it too, whatever
+/// the answer.
 pub fn commands_preserve_audit_invariant()
     ensures step { (base : Base) (now : ℕ) (command : Command) (reply : Reply) (after : Base)
         → AuditInvariant base → BooksInvariant base → MeetsAuditFormats command → step base now command ≡ Ok (reply, after) → AuditInvariant after }
@@ -61,10 +62,11 @@ pub fn commands_preserve_audit_invariant()
         → AuditInvariant (keyed_step base now command key).1 }
 {}
 
-/// Proves that a run of calls that satisfy `CallMeetsAuditFormats` preserves the audit invariant,
-/// if the base satisfies both invariants. The tables after such a run from the empty base, or from
-/// the base of rows that pass an audit, pass an audit. The tables after a run from the empty base
-/// whose calls satisfy `IsWellFormedCall` pass an audit too.
+/// Proves that a run of calls that meet the formats of the audit (`CallMeetsAuditFormats`)
+/// preserves the audit invariant, if the base satisfies both invariants. The tables after such a
+/// run from the empty base, or from the base of rows that pass the audit of the third schema, pass
+/// that audit. The tables after a run of well-formed calls (`IsWellFormedCall`) from the empty base
+/// pass it too.
 pub fn tables_after_runs_pass_the_audit()
     ensures preserved { (base : Base) (calls : List (ℕ × Call)) (outcomes : List Outcome) (after : Base)
         → BooksInvariant base → AuditInvariant base → AllByRecursion CallMeetsAuditFormats calls → Run base calls outcomes after → AuditInvariant after }
@@ -77,16 +79,15 @@ pub fn tables_after_runs_pass_the_audit()
         → AllByRecursion IsWellFormedCall calls → Run empty_base calls outcomes after → PassesAudit third_schema (sheets after) }
 {}
 
-/// Proves that the command of a row that parses satisfies `MeetsAuditFormats`, and that a command
-/// satisfies it if its row text parses as this command.
+/// Proves that the command that a row parses as meets the formats of the audit
+/// (`MeetsAuditFormats`), and that any command meets them if its row text parses as this command.
 pub fn parsed_rows_meet_audit_formats()
     ensures read { (fields : List Text) → IfOk (parse_row fields) MeetsAuditFormats }
     ensures formed { (command : Command) → IsWellFormedCommand command → MeetsAuditFormats command }
 {}
 
-/// Proves that the rows of a batch that were answered preserve the books invariant together with
-/// the audit invariant, if the batch name is well-formed and the number of rows is within the limit
-/// of ids.
+/// Proves that answering the rows of a batch preserves the books invariant together with the audit
+/// invariant, if the batch name is well-formed and the number of rows is at most the greatest id.
 pub fn batches_preserve_both_invariants()
     ensures { (base : Base) (name : Text) (moments : List ℕ) (rows : List Fields) (answers : List Answer) (after : Base)
         → IsTrue (is_batch_name name) → length rows ≤ greatest_id → RowsAreAnswered parse_row step_of_row name base moments rows answers after

@@ -7,27 +7,30 @@ use Rattle.brk_plans.specs.declared.reference.ReferenceFacts.{ReferenceFacts}
 use Rattle.brk_plans.specs.declared.reference.Reference.{Reference}
 use Rattle.brk_plans.specs.declared.reference.Reference.TheVariants as reference
 use Rattle.brk_model.specs.Form.{has_account, has_broker, has_customer, has_security}
-use Rattle.brk_book_theorems.specs.Reads.{contains_tax_id, account_count_of_customer, contains_permission, contains_charge, overlaps_some_band, contains_tax_rate, rate_of_tax_rate_with_id, contains_customer_tax, customer_tax_rate_sum}
+use Rattle.brk_book_theorems.specs.Reads.{contains_tax_id, account_count_of_customer, contains_permission, contains_charge, overlaps_some_band}
+use Rattle.brk_book_theorems.specs.Reads.{contains_tax_rate, rate_of_tax_rate_with_id, contains_customer_tax, customer_tax_rate_sum}
 
--- The facts `found` about the account `id`, its customer and its broker are true of the tables:
--- which of the three exist, and how many accounts the customer has.
+-- The facts `found` about a new account are true of the tables: whether an account with the id
+-- `id`, the customer `customer` and the broker `broker` exist, and how many accounts the customer
+-- has.
 pub record AccountFactsMatchTables (t : Tables) (id customer broker : ℕ) (found : ReferenceFacts) : Type 0 where
   pub same_id : found.same_id ≡ has_account t id
   pub customer_there : found.customer ≡ has_customer t customer
   pub broker_there : found.broker ≡ has_broker t broker
   pub count : found.accounts ≡ account_count_of_customer t customer
 
--- The facts `found` about a customer's tax are true of the tables: whether the customer exists and
--- already pays the tax, the tax rate, and the sum of the customer's rates. The sum is `None` if it
--- exceeds the greatest rate.
+-- The facts `found` about the tax `tax` of the customer `customer` are true of the tables: whether
+-- the customer exists and already pays the tax, the rate of the tax (`None` if it does not exist),
+-- and the sum of the customer's rates (`None` if it exceeds the greatest tax rate).
 pub record CustomerTaxFactsMatchTables (t : Tables) (customer tax : ℕ) (found : ReferenceFacts) : Type 0 where
   pub customer_there : found.customer ≡ has_customer t customer
   pub rate_there : found.rate ≡ rate_of_tax_rate_with_id t tax
   pub same_id : found.same_id ≡ contains_customer_tax t customer tax
   pub sum : SomeIff found.rates (customer_tax_rate_sum t customer ≤ greatest_tax_rate) (customer_tax_rate_sum t customer)
 
--- The facts `found` about a record of reference data are true of the tables. Facts that records of
--- its kind do not need may have any value.
+-- The facts `found` about a record of reference data are true of the tables: whether a record with
+-- its key exists, whether the records that it refers to exist, and the counts, rates and overlaps
+-- that its checks need. Facts that a record of its kind does not need may have any value.
 abbrev pub ReferenceFactsMatchTables : Tables → Reference → ReferenceFacts → Type 0
 ReferenceFactsMatchTables t (reference.Broker broker) found = found.same_id ≡ has_broker t broker.id
 ReferenceFactsMatchTables t (reference.Customer customer) found =

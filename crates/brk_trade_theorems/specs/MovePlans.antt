@@ -14,8 +14,9 @@ use Rattle.brk_book_theorems.specs.TradeReads.{last_cash_row_number_or_zero}
 
 -- ---- a movement
 
--- The facts `found` about the movement `m` are true of the tables: the balance of its account,
--- whether there is room for one movement more, and the next number of a cash row.
+-- The facts `found` about the movement `m` are true of the tables: the balance of its account in
+-- cents (`None` if the account does not exist), whether the number of movements has reached its
+-- limit, and the number of the next cash row.
 pub record MovementFactsMatchTables (t : Tables) (m : Movement) (found : MovementPlanFacts) : Type 0 where
   pub balance : found.balance ≡ option_map (λ r. r.balance) (account_row_with_id t m.account)
   -- True if and only if the number of movements reaches the greatest id; movements are the cash

@@ -18,11 +18,12 @@ use Rattle.brk_trade.specs.declared.order.OrderPlanFacts.{OrderPlanFacts}
 use Rattle.brk_book_theorems.specs.Books.{BooksInvariant}
 use Rattle.brk_book_theorems.specs.Reads.{customer_tax_rate_sum}
 use Rattle.brk_book_theorems.specs.TradeReads.{band_of_quantity, permission_list_for_tax_id, summary_row_of_position}
-use Rattle.brk_book_theorems.specs.OrderReads.{PositionLotsSatisfy, CustomerOfAccountSatisfies, charge_of_type_and_tier, last_price_of_symbol, trade_id_in_last_row}
+use Rattle.brk_book_theorems.specs.OrderReads.{PositionLotsSatisfy, CustomerOfAccountSatisfies, charge_of_type_and_tier}
+use Rattle.brk_book_theorems.specs.OrderReads.{last_price_of_symbol, trade_id_in_last_row}
 
 -- ---- lookups
 
--- The broker and the tax status of the account in its row.
+-- The broker and the tax status in the row `r` of CUSTOMER_ACCOUNT.
 abbrev pub order_account_of_row : AccountRow → OrderAccount
 order_account_of_row r = record { broker = r.broker; tax_status = r.tax_status }
 
@@ -33,9 +34,11 @@ order_account_of_row r = record { broker = r.broker; tax_status = r.tax_status }
 abbrev pub PassesFirstOrderChecks : ℕ → OrderPlanFacts → Type 0
 PassesFirstOrderChecks n found = first_refusal (take n (order_checks found)) ≡ None
 
--- The facts `found` about the order are true of the tables. A clause is vacuous if one of the
--- checks that it names fails, since the fact is not read then. A clause about the customer, the
--- account or the security is also vacuous if this does not exist.
+-- The facts `found` about the order are true of the tables: its account, the last price, whether
+-- its executor is permitted, the charge, the commission rate, the sum of the customer's tax rates,
+-- the assets and the summary. A clause is vacuous if one of the checks that it names fails, since
+-- the fact is not read then. A clause about the customer, the account or the security is also
+-- vacuous if this does not exist.
 pub record EstimateFactsMatchTables (t : Tables) (order : Order) (found : OrderPlanFacts) : Type 0 where
   pub account : found.account ≡ option_map order_account_of_row (account_row_with_id t order.account)
   pub last_price : PassesFirstOrderChecks 1 found → found.last_price ≡ last_price_of_symbol t order.symbol
@@ -45,32 +48,33 @@ pub record EstimateFactsMatchTables (t : Tables) (order : Order) (found : OrderP
       → CustomerOfAccountSatisfies t order.account (λ c.
       found.is_permitted
       ≡ is_customer_or_has_permission c (permission_list_for_tax_id t order.account order.executor.tax_id) (abstract_executor order.executor))
-  -- The charge is that of the customer's tier.
+  -- The charge is the one for the order's trade type and the customer's tier.
   pub charge : PassesFirstOrderChecks 3 found
       → CustomerOfAccountSatisfies t order.account (λ c.
       found.charge ≡ charge_of_type_and_tier t (trade_type_of_order order.order_type) c.tier)
-  -- The rate is that of the band of the quantity, by the customer's tier and the security's
-  -- exchange.
+  -- The rate is that of the commission band that contains the quantity, by the customer's tier and
+  -- the security's exchange.
   pub rate : PassesFirstOrderChecks 4 found
       → CustomerOfAccountSatisfies t order.account (λ c. IfSome (security_row_with_symbol t order.symbol) (λ s.
       found.rate ≡ option_map (λ b. b.rate) (band_of_quantity t c.tier (trade_type_of_order order.order_type) s.exchange order.qty)))
-  -- The rates are the sum of those that the customer pays.
+  -- The tax rates are the sum of the rates of the taxes that the customer pays.
   pub rates : PassesFirstOrderChecks 5 found → IfSome (account_row_with_id t order.account) (λ a. found.rates ≡ customer_tax_rate_sum t a.customer)
   -- The assets are the balance plus the market value of the holdings.
   pub assets : PassesFirstOrderChecks 5 found → IfSome (account_row_with_id t order.account) (λ a. found.assets ≡ a.balance +ℤ market_value_of_account_row t a)
-  -- The summary is that of the account in the symbol.
+  -- The summary is the quantity of the account's holding summary in the symbol.
   pub summary : PassesFirstOrderChecks 5 found → found.summary ≡ option_map (λ r. r.qty) (summary_row_of_position t order.account order.symbol)
 
--- The facts `found` about the order are true of the tables, as for an estimate, and so is the
--- number of the last trade. That number is arbitrary if one of the five checks fails.
+-- The facts `found` that an estimate of the order needs are true of the tables, and the last trade
+-- of `found` is the id in the last row of TRADE. The last trade may have any value if one of the
+-- five checks fails.
 pub record OrderFactsMatchTables (t : Tables) (order : Order) (found : OrderPlanFacts) : Type 0 where
   pub estimate : EstimateFactsMatchTables t order found
   pub last_trade : PassesFirstOrderChecks 5 found → found.last_trade ≡ trade_id_in_last_row t
 
 -- ---- lots
 
--- The lots of the order's account and symbol satisfy `given`. They are listed from the oldest on,
--- or from the newest on if the order closes last in, first out.
+-- The lots of the order's account in the order's symbol satisfy `given`. They are listed from the
+-- newest on if the order closes last in, first out, and otherwise from the oldest on.
 abbrev pub OrderLotsSatisfy : Tables → Order → (List Lot → Type 0) → Type 0
 OrderLotsSatisfy t order given = PositionLotsSatisfy t order.account order.symbol order.is_lifo given
 

@@ -24,9 +24,9 @@ pub record PlanReferencePrecondition (base : Base) (reference : Reference) (foun
   pub last_read : last ≡ (sheets base).last
   pub moment : now ≤ greatest_stamp
 
--- The plan implements the command: the command is accepted with the reply of the plan, the row
--- changes of the plan lead from the tables before it to the tables after it, and the base after it
--- satisfies the books invariant.
+-- The plan implements the command: the base accepts the command at the clock reading `now` with the
+-- reply of the plan, the row changes of the plan lead from the tables before the command to the
+-- tables after it, and the base after it satisfies the books invariant.
 pub record PlanImplementsCommand (base : Base) (now : ℕ) (command : Command) (plan : Plan) : Type 0 where
   pub steps : step base now command ≡ Ok (abstract_reply plan.reply, base_after_command base now command)
   pub rows : sheets (base_after_command base now command) ≡ tables_after_changes plan.changes.items (sheets base)

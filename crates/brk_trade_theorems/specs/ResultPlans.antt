@@ -19,51 +19,54 @@ use Rattle.brk_book_theorems.specs.TradeReads.{band_of_quantity, last_cash_row_n
 
 -- ---- facts
 
--- The first `n` checks of the result pass. The checks are, in this order: status, band and summary.
+-- The first `n` checks of the result pass. The checks are, in this order: the trade is submitted, a
+-- commission rate applies, and the summary is within its limit.
 abbrev pub PassesFirstResultChecks : ℕ → ResultPlanFacts → Type 0
 PassesFirstResultChecks n found = first_refusal (take n (checks_before_reading_lots found)) ≡ None
 
--- The broker, the tax status and the balance of the account in its row.
+-- The broker, the tax status and the balance in the row `r` of CUSTOMER_ACCOUNT.
 abbrev pub result_account_of_row : AccountRow → ResultAccount
 result_account_of_row r = record { broker = r.broker; tax_status = r.tax_status; balance = r.balance }
 
--- The facts `found` about the result are true of the tables. A clause is vacuous if one of the
+-- The facts `found` about the result of a trade are true of the tables: the commission rate, the
+-- summary, the account, the sum of the customer's tax rates, the broker totals, the security's
+-- name, the settlement day, and the number of the next cash row. A clause is vacuous if one of the
 -- checks that it names fails, since the fact is not read then. A clause about the customer, the
 -- account, the broker or the security is also vacuous if this does not exist.
 pub record ResultFactsMatchTables (t : Tables) (found : ResultPlanFacts) : Type 0 where
-  -- The rate is that of the band of the quantity, by the customer's tier and the security's
-  -- exchange.
+  -- The rate is that of the commission band that contains the quantity, by the customer's tier and
+  -- the security's exchange.
   pub rate : PassesFirstResultChecks 1 found
       → CustomerOfAccountSatisfies t found.trade.account (λ c. IfSome (security_row_with_symbol t found.trade.symbol) (λ s.
       found.rate ≡ option_map (λ b. b.rate) (band_of_quantity t c.tier found.trade.kind s.exchange found.trade.qty)))
-  -- The summary is that of the account in the symbol.
+  -- The summary is the quantity of the account's holding summary in the symbol.
   pub summary : PassesFirstResultChecks 2 found → found.summary ≡ option_map (λ r. r.qty) (summary_row_of_position t found.trade.account found.trade.symbol)
   pub account : PassesFirstResultChecks 3 found → IfSome (account_row_with_id t found.trade.account) (λ a. found.account ≡ result_account_of_row a)
-  -- The rates are the sum of those that the customer pays.
+  -- The tax rates are the sum of the rates of the taxes that the customer pays.
   pub rates : PassesFirstResultChecks 3 found → IfSome (account_row_with_id t found.trade.account) (λ a. found.rates ≡ customer_tax_rate_sum t a.customer)
-  -- The totals are those of the account's broker.
+  -- The totals are the trade count and the commission total of the account's broker.
   pub broker : PassesFirstResultChecks 3 found
       → IfSome (account_row_with_id t found.trade.account) (λ a. IfSome (find (λ r. r.id == a.broker) t.brokers) (λ b.
       (pos found.broker.trades ≡ b.trades) × (found.broker.commissions ≡ b.commissions)))
   pub security : PassesFirstResultChecks 3 found → IfSome (security_row_with_symbol t found.trade.symbol) (λ s. found.security ≡ s.name)
-  -- The settlement day is that of the tables, and the next number follows that of the last cash
-  -- row.
+  -- The settlement day equals that of the tables, and the next cash row has the number after the
+  -- last one.
   pub rule : PassesFirstResultChecks 3 found → found.rule ≡ t.rule
   pub next : PassesFirstResultChecks 3 found → found.next ≡ last_cash_row_number_or_zero t + 1
 
 -- ---- lots
 
--- The lots of the trade's account and symbol satisfy `given`. They are listed from the oldest on,
--- or from the newest on if the trade closes last in, first out.
+-- The lots of the trade's account in the trade's symbol satisfy `given`. They are listed from the
+-- newest on if the trade closes last in, first out, and otherwise from the oldest on.
 abbrev pub TradeLotsSatisfy : Tables → TradeRow → (List Lot → Type 0) → Type 0
 TradeLotsSatisfy t trade given = PositionLotsSatisfy t trade.account trade.symbol trade.is_lifo given
 
 -- ---- a result
 
 -- The precondition of planning the result of the trade `id`: the base satisfies the books
--- invariant, the trade, its facts and the last stamp are read from its tables, and the clock
--- reading `now` is within the range of stamps. If the trade is submitted, `given` holds of its
--- lots. The quantity of the trade is above 0.
+-- invariant, the trade and its facts (`found` is `None` if it does not exist) and the last stamp
+-- are read from its tables, and the clock reading `now` is within the range of stamps. If the trade
+-- is submitted, its lots satisfy `given`. The quantity of the trade is above 0.
 pub record PlanResultPrecondition (base : Base) (id : ℕ) (found : Option ResultPlanFacts) (given : List Lot → Type 0) (last : Option ℕ) (now : ℕ) : Type 0 where
   pub books : BooksInvariant base
   pub trade_read : trade_row_with_id (sheets base) id ≡ option_map (λ f. abstract_trade_row f.trade) found

@@ -33,8 +33,9 @@ pub record PlanCancelPrecondition (base : Base) (id : ℕ) (found : Option Statu
 
 -- ---- a feed
 
--- True if a price of the span can trigger the bid. A stop loss and a limit buy are triggered by the
--- lowest price if by any, a limit sell by the highest. Market types are never triggered.
+-- True if a price of the span can trigger a request of this trade type with the price `bid`, in
+-- cents: for a stop loss and a limit buy if the lowest price is at most `bid`, for a limit sell if
+-- the highest price is at least `bid`. Market types are never triggered.
 abbrev pub price_span_can_trigger_bid : Span → TradeType → ℕ → Bool
 price_span_can_trigger_bid span StopLoss bid = nat_le span.lowest bid
 price_span_can_trigger_bid span LimitSell bid = nat_le bid span.highest
@@ -43,14 +44,18 @@ price_span_can_trigger_bid span MarketBuy bid = false
 price_span_can_trigger_bid span MarketSell bid = false
 
 -- The quote has the row of LAST_TRADE of the tick's symbol in the tables. Its requests are exactly
--- the symbol's requests that a price of the symbol's ticks can trigger, sorted by trade.
+-- those requests of the symbol that a price between the lowest and the highest price of the
+-- symbol's ticks in `ticks` can trigger, sorted by trade, ascending.
 pub record IsQuoteOfTick (t : Tables) (tick : Tick) (ticks : List Tick) (quote : SymbolState) : Type 0 where
   pub symbol : quote.last.symbol ≡ tick.symbol
   pub last_trade : last_trade_row_of_symbol t tick.symbol ≡ Some (abstract_last_trade_row quote.last)
-  pub requests : IsPermutation (filter (λ r. price_span_can_trigger_bid (price_span_of_first_symbol tick ticks) r.kind r.bid) (requests_of_symbol t tick.symbol)) (map abstract_request_row quote.requests)
+  pub requests : IsPermutation
+      (filter (λ r. price_span_can_trigger_bid (price_span_of_first_symbol tick ticks) r.kind r.bid) (requests_of_symbol t tick.symbol))
+      (map abstract_request_row quote.requests)
   pub order : IsNonDecreasingBy (λ (r : request.RequestRow). r.trade) quote.requests
 
--- The quote satisfies `IsQuoteOfTick` for at least one of the ticks.
+-- For at least one of `ticks`, the quote has the row of LAST_TRADE of the tick's symbol, and the
+-- requests of this symbol that the ticks can trigger (`IsQuoteOfTick`).
 pub record IsQuoteOfSomeTick (t : Tables) (ticks : List Tick) (quote : SymbolState) : Type 0 where
   pub tick : Tick
   pub among : Contains ticks tick
@@ -61,13 +66,13 @@ abbrev pub HasDistinctQuoteSymbols : List SymbolState → Type 0
 HasDistinctQuoteSymbols [] = ⊤
 HasDistinctQuoteSymbols (quote ∷ quotes) = AllByRecursion (λ other. is_state_of_symbol quote.last.symbol other ≡ false) quotes × HasDistinctQuoteSymbols quotes
 
--- If the symbol of the tick has a row of LAST_TRADE, one of the quotes has this symbol. Vacuous if
--- it has no such row.
+-- If the symbol of the tick has a row of LAST_TRADE in the tables, one of `quotes` has this symbol.
+-- Vacuous if it has no such row.
 abbrev pub HasQuoteIfSymbolHasLastTrade : Tables → List SymbolState → Tick → Type 0
 HasQuoteIfSymbolHasLastTrade t quotes tick = is_some (last_trade_row_of_symbol t tick.symbol) ≡ true → list_any (is_state_of_symbol tick.symbol) quotes ≡ true
 
--- Each quote satisfies `IsQuoteOfTick` for a tick of the feed `all`, no two quotes have the same
--- symbol, and each symbol of `ticks` with a row of LAST_TRADE has a quote.
+-- Each of `quotes` is the quote of a tick of the feed `all` (`IsQuoteOfTick`), no two quotes have
+-- the same symbol, and each symbol of `ticks` with a row of LAST_TRADE has a quote.
 pub record AreQuotesOfTicks (t : Tables) (all ticks : List Tick) (quotes : List SymbolState) : Type 0 where
   pub read : AllByRecursion (IsQuoteOfSomeTick t all) quotes
   pub apart : HasDistinctQuoteSymbols quotes

@@ -13,16 +13,18 @@ use Rattle.brk_book_theorems.specs.Ticks.{exceeds_symbol_volume_limit, is_tick_o
 
 -- ---- a cancel
 
--- The checks of a cancel, in order: the trade exists, it is pending, and a stamp after the last
--- stamp is within the range.
+-- The checks of a cancel against the row of its trade (`None` if it does not exist), in order: the
+-- trade exists, it is pending, and a stamp after the last stamp `last` is within the range of
+-- stamps. Each check has the refusal that the cancel gets if the check fails.
 abbrev pub cancel_checks_on_trade_row : Option TradeRow → Option ℕ → ℕ → List RefusalCheck
 cancel_checks_on_trade_row None last now = (true, NoTrade) ∷ later_stamp_check last now ∷ []
 cancel_checks_on_trade_row (Some r) last now = (not (is_same_trade_status r.status Pending), WrongStatus r.status) ∷ later_stamp_check last now ∷ []
 
 -- ---- a feed
 
--- The checks of a feed, in order: each symbol has a row of LAST_TRADE, no volume exceeds the limit,
--- and a stamp after the last stamp is within the range.
+-- The checks of a feed against the tables, in order: the symbol of each tick has a row of
+-- LAST_TRADE, no volume exceeds the limit, and a stamp after the last stamp `last` is within the
+-- range of stamps. Each check has the refusal that the feed gets if the check fails.
 abbrev pub feed_checks_on_tables : Tables → List Tick → Option ℕ → ℕ → List RefusalCheck
 feed_checks_on_tables t ticks last now =
     (list_any (is_tick_of_unknown_symbol t) ticks, NoSecurity) ∷ (list_any (exceeds_symbol_volume_limit t ticks) ticks, Range limit.Volume)

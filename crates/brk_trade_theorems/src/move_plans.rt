@@ -16,8 +16,8 @@ ghost use Rattle.brk_plans.specs.declared.plan.Plan.{Plan};
 ghost use Rattle.brk_trade_theorems.specs.MovePlans.{PlanMovementPrecondition, PlanSettlementDayPrecondition};
 ghost use Rattle.brk_trade_theorems.specs.Plans.{PlanImplementsCommand};
 
-/// Proves that the checks of a movement against facts that were read refuse it exactly as the model
-/// does, and that its plan implements the command.
+/// Proves that the checks of a deposit or a withdrawal against facts that were read refuse it
+/// exactly as the model does, and that the plan of the movement implements the command.
 pub fn movement_plans_implement_commands()
     ensures first { (base : Base) (m : Movement) (found : MovementPlanFacts) (last : Option ℕ) (now : ℕ) → PlanMovementPrecondition base m found last now
         → first_refusal (movement_checks m found ++ later_stamp_check last now ∷ []) ≡ refusal_of_command base now (movement_command m) }
@@ -30,7 +30,7 @@ pub fn movement_plans_implement_commands()
 {}
 
 /// Proves that the checks of a settlement day against facts that were read refuse it exactly as the
-/// model does, and that its plan implements the command.
+/// model does, and that the plan of a settlement day implements the command.
 pub fn settlement_day_plans_implement_commands()
     ensures first { (base : Base) (day : ℕ) (rule last : Option ℕ) (now : ℕ) → PlanSettlementDayPrecondition base rule last now
         → first_refusal (settlement_day_checks day rule last now) ≡ refusal_of_command base now (SetOneDay day) }

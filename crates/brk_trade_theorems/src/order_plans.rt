@@ -28,15 +28,15 @@ ghost use Rattle.brk_trade_theorems.specs.OrderPlans.{OrderLotsSatisfy, Estimate
 ghost use Rattle.brk_trade_theorems.specs.Plans.{PlanImplementsCommand};
 
 /// Proves that the terms of an order that are computed from facts of the tables are the terms that
-/// the base has for the order, if the order passes its checks and the base satisfies the books
-/// invariant.
+/// the base has for the order, if the order passes its checks against these facts and the base
+/// satisfies the books invariant.
 pub fn terms_from_order_facts_match_the_base()
     ensures { (base : Base) (order : Order) (found : OrderPlanFacts) → BooksInvariant base → EstimateFactsMatchTables (sheets base) order found
         → first_refusal (order_checks found) ≡ None → AreOrderTermsInBase base (abstract_order order) (terms_of_order order found) }
 {}
 
 /// Proves that the checks of an order against facts that were read refuse it exactly as the model
-/// does, and that its plan implements the command.
+/// does, and that the plan of an order implements the command.
 pub fn order_plans_implement_commands()
     ensures first { (base : Base) (order : Order) (found : OrderPlanFacts) (last : Option ℕ) (now : ℕ) → PlanOrderPrecondition base order found last now
         → first_refusal (order_checks found ++ free_trade_id_check found.last_trade ∷ later_stamp_check last now ∷ [])
@@ -51,9 +51,9 @@ pub fn order_plans_implement_commands()
         → PlanImplementsCommand base now (PlaceOrder (abstract_order order)) plan }
 {}
 
-/// Proves that a refusal of an estimate is the refusal of its query in the model, and that an
-/// estimate equals the model's, so that its fields are the view of the query. The base satisfies
-/// the books invariant.
+/// Proves that the refusal of an estimate by the facts that were read is the refusal of its query
+/// in the model, and that an estimate equals the estimate of the model, so that its fields are the
+/// view of the query. The base satisfies the books invariant.
 pub fn estimates_equal_model_estimates()
     ensures refused { (base : Base) (order : Order) (found : OrderPlanFacts) (refusal : Refusal) → BooksInvariant base
         → EstimateFactsMatchTables (sheets base) order found

@@ -26,60 +26,65 @@ use Rattle.brk_book_theorems.specs.Steps.{base_after_command}
 
 -- ---- facts
 
--- The row of SETTLEMENT of the trade, or `None` if there is none.
+-- The row of SETTLEMENT of the trade with the id `trade`, or `None` if there is none.
 abbrev pub settlement_row_of_trade : Tables → ℕ → Option SettlementRow
 settlement_row_of_trade t trade = find (λ r. r.trade == trade) t.settlements
 
--- The first row of CASH_MOVE of the trade, or `None` if there is none.
+-- The first row of CASH_MOVE of the trade with the id `trade`, or `None` if there is none.
 abbrev pub cash_row_of_trade : Tables → ℕ → Option MoveRow
 cash_row_of_trade t trade = find (is_cash_row_of_trade trade) t.moves
 
--- The list `trades` has the rows of the trades with the numbers `ids`, in the order of `ids`. Each
--- of them exists.
+-- The typed rows `trades` are the rows of the trades with the ids `ids` in the tables, in the order
+-- of `ids`. Each of these trades exists.
 abbrev pub AreTradesWithIds : Tables → List ℕ → List row.TradeRow → Type 0
 AreTradesWithIds t ids trades = map (λ r. Some (abstract_trade_row r)) trades ≡ map (trade_row_with_id t) ids
 
--- The number of a trade, whether it is a cash trade, and its settlement text if it has one.
+-- The type of the columns of a trade that a text update of settlements reads: its id, whether it is
+-- a cash trade, and its settlement text, or `None` if it has no settlement.
 abbrev pub SettlementTextRow : Type 0
 SettlementTextRow = ℕ × Bool × Option Text
 
--- The trade, its kind and its settlement text in a typed row that was read.
+-- The trade, whether it is a cash trade, and its settlement text in the typed row `s`.
 abbrev pub settlement_text_row_of_typed_row : SettlementText → SettlementTextRow
 settlement_text_row_of_typed_row s = (s.trade, s.is_cash, Some (cash_type_text s.cash_type))
 
--- The trade `r`, its kind and its settlement text in the tables, or `None` in place of the text if
--- it has no settlement.
+-- The id of the trade `r`, whether it is a cash trade, and its settlement text in the tables, or
+-- `None` in place of the text if it has no settlement.
 abbrev pub settlement_text_row_in_tables : Tables → TradeRow → SettlementTextRow
 settlement_text_row_in_tables t r = (r.id, r.is_cash, option_map (λ s. s.cash_type) (settlement_row_of_trade t r.id))
 
--- The number of a trade, its type, its quantity, and its cash text if it has one.
+-- The type of the columns of a trade that a text update of cash rows reads: its id, its type, its
+-- quantity, and its cash text, or `None` if it has no cash row.
 abbrev pub CashTextRow : Type 0
 CashTextRow = ℕ × TradeType × ℕ × Option Text
 
--- The trade, its type, its quantity and its cash text in a typed row that was read.
+-- The trade, its type, its quantity and its cash text in the typed row `p`.
 abbrev pub cash_text_row_of_typed_row : CashText → CashTextRow
 cash_text_row_of_typed_row p = (p.trade, p.kind, p.qty, Some (string_bytes p.name))
 
--- The trade `r`, its type, its quantity and its cash text in the tables, or `None` in place of the
--- text if it has no cash row.
+-- The id of the trade `r`, its type, its quantity and its cash text in the tables, or `None` in
+-- place of the text if it has no cash row.
 abbrev pub cash_text_row_in_tables : Tables → TradeRow → CashTextRow
 cash_text_row_in_tables t r = (r.id, r.kind, r.qty, option_map (λ c. c.name) (cash_row_of_trade t r.id))
 
--- The list `settled` has, for each of `trades` in order, its settlement text in the tables.
+-- The list `settled` has, for each of `trades` in order, its id, whether it is a cash trade, and
+-- its settlement text in the tables. False if one of the trades has no settlement.
 abbrev pub SettlementTextsMatchTables : Tables → List TradeRow → List SettlementText → Type 0
 SettlementTextsMatchTables t trades settled = map settlement_text_row_of_typed_row settled ≡ map (settlement_text_row_in_tables t) trades
 
--- The list `paid` has, for each of `trades` in order, its cash text in the tables.
+-- The list `paid` has, for each of `trades` in order, its id, its type, its quantity and its cash
+-- text in the tables. False if one of the trades has no cash row.
 abbrev pub CashTextsMatchTables : Tables → List TradeRow → List CashText → Type 0
 CashTextsMatchTables t trades paid = map cash_text_row_of_typed_row paid ≡ map (cash_text_row_in_tables t) trades
 
--- The security of the symbol exists in the tables and has the name `name`.
+-- The security with the symbol `symbol` exists in the tables and has the name `name`.
 abbrev pub SecurityHasName : Tables → Text → Text → Type 0
 SecurityHasName t symbol name = option_map (λ s. s.name) (security_row_with_symbol t symbol) ≡ Some name
 
--- The selected trades are those that the update `u` selects in the tables, with the columns from
--- which their new texts are formed. The account or the security of the update exists. False if the
--- selection is one of another kind of update.
+-- The selection has exactly the trades that the update `u` selects in the tables: the trades with
+-- its ids, or at most 20 completed trades of its account or symbol, the oldest first, with the
+-- columns from which their new texts are formed. The account or the security of the update exists.
+-- False if the selection belongs to another kind of update.
 abbrev pub SelectedTradesMatchTables : Tables → told.Update → TextUpdate → Type 0
 SelectedTradesMatchTables t (update.Executors ids) (corrected.Executors trades) = AreTradesWithIds t ids trades.items
 SelectedTradesMatchTables t (update.CashTypes account span) (corrected.CashTypes settled) =
@@ -89,14 +94,14 @@ SelectedTradesMatchTables t (update.CashNames symbol span) (corrected.CashNames 
     SecurityHasName t symbol name × CashTextsMatchTables t (first_twenty_completed_cash_trade_rows_of_symbol symbol span.first span.last t) paid.items
 SelectedTradesMatchTables t _ _ = ⊥
 
--- The update `u` refers to a trade, an account or a security that does not exist in the tables.
+-- The update `u` names a trade id, an account or a symbol that does not exist in the tables.
 abbrev pub UpdateTargetIsMissing : Tables → told.Update → Type 0
 UpdateTargetIsMissing t (update.Executors ids) = list_any (λ id. is_none (trade_row_with_id t id)) ids ≡ true
 UpdateTargetIsMissing t (update.CashTypes account span) = is_none (account_row_with_id t account) ≡ true
 UpdateTargetIsMissing t (update.CashNames symbol span) = is_none (security_row_with_symbol t symbol) ≡ true
 
--- The lookup result `found` is true of the tables: `None` if the update `u` refers to something
--- that does not exist, otherwise the trades that it selects.
+-- The lookup result `found` is true of the tables: `None` if the update `u` names a trade, an
+-- account or a security that does not exist, otherwise the trades that the update selects.
 abbrev pub UpdateFactsMatchTables : Tables → told.Update → Option TextUpdate → Type 0
 UpdateFactsMatchTables t u found = MatchOption found (UpdateTargetIsMissing t u) (SelectedTradesMatchTables t u)
 
@@ -111,11 +116,11 @@ pub record PlanUpdatePrecondition (base : Base) (u : told.Update) (found : Optio
 
 -- ---- unchanged rows and columns
 
--- The tables after the command, as if it is accepted at the clock reading `now`.
+-- The tables after the command, as if it is accepted from `base` at the clock reading `now`.
 abbrev pub tables_after_command : Base → ℕ → Command → Tables
 tables_after_command base now command = sheets (base_after_command base now command)
 
--- The row of TRADE with an empty executor name.
+-- The row `r` of TRADE with an empty executor name.
 abbrev pub trade_row_without_executor_name : TradeRow → TradeRow
 trade_row_without_executor_name r = record r { executor = [] }
 
@@ -123,7 +128,7 @@ trade_row_without_executor_name r = record r { executor = [] }
 abbrev pub trade_rows_without_executor_names : List TradeRow → List TradeRow
 trade_rows_without_executor_names rows = map trade_row_without_executor_name rows
 
--- The row of SETTLEMENT with an empty text.
+-- The row `r` of SETTLEMENT with an empty text.
 abbrev pub settlement_row_without_text : SettlementRow → SettlementRow
 settlement_row_without_text r = record r { cash_type = [] }
 
@@ -131,7 +136,7 @@ settlement_row_without_text r = record r { cash_type = [] }
 abbrev pub settlement_rows_without_texts : List SettlementRow → List SettlementRow
 settlement_rows_without_texts rows = map settlement_row_without_text rows
 
--- The row of CASH_MOVE with an empty text.
+-- The row `r` of CASH_MOVE with an empty text.
 abbrev pub cash_row_without_text : MoveRow → MoveRow
 cash_row_without_text r = record r { name = [] }
 
@@ -139,22 +144,22 @@ cash_row_without_text r = record r { name = [] }
 abbrev pub cash_rows_without_texts : List MoveRow → List MoveRow
 cash_rows_without_texts rows = map cash_row_without_text rows
 
--- The command, if it is accepted, changes only executor names in TRADE and the last stamp. All
--- other rows and columns are unchanged.
+-- The command, as if it is accepted at the clock reading `now`, changes only executor names in
+-- TRADE and the last stamp. All other rows and columns are unchanged.
 pub record ChangesOnlyExecutorNames (base : Base) (now : ℕ) (command : Command) : Type 0 where
   pub others : tables_after_command base now command
       ≡ tables_with_last_stamp (stamp_of_next_command base now) (record (sheets base) { trades = (tables_after_command base now command).trades })
   pub rows : trade_rows_without_executor_names (tables_after_command base now command).trades ≡ trade_rows_without_executor_names (sheets base).trades
 
--- The command, if it is accepted, changes only texts in SETTLEMENT and the last stamp. All other
--- rows and columns are unchanged.
+-- The command, as if it is accepted at the clock reading `now`, changes only texts in SETTLEMENT
+-- and the last stamp. All other rows and columns are unchanged.
 pub record ChangesOnlySettlementTexts (base : Base) (now : ℕ) (command : Command) : Type 0 where
   pub others : tables_after_command base now command
       ≡ tables_with_last_stamp (stamp_of_next_command base now) (record (sheets base) { settlements = (tables_after_command base now command).settlements })
   pub rows : settlement_rows_without_texts (tables_after_command base now command).settlements ≡ settlement_rows_without_texts (sheets base).settlements
 
--- The command, if it is accepted, changes only texts in CASH_MOVE and the last stamp. All other
--- rows and columns are unchanged.
+-- The command, as if it is accepted at the clock reading `now`, changes only texts in CASH_MOVE and
+-- the last stamp. All other rows and columns are unchanged.
 pub record ChangesOnlyCashTexts (base : Base) (now : ℕ) (command : Command) : Type 0 where
   pub others : tables_after_command base now command
       ≡ tables_with_last_stamp (stamp_of_next_command base now) (record (sheets base) { moves = (tables_after_command base now command).moves })

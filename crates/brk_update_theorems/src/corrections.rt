@@ -17,7 +17,7 @@ ghost use Rattle.brk_trade_theorems.specs.Plans.{PlanImplementsCommand};
 ghost use Rattle.brk_update_theorems.specs.Corrections.{ChangesOnlyExecutorNames, ChangesOnlyCashTexts, ChangesOnlySettlementTexts, PlanUpdatePrecondition};
 
 /// Proves that the checks of a text update against facts that were read refuse it exactly as the
-/// model does, and that its plan implements the command.
+/// model does, and that the plan of a text update implements the command.
 pub fn update_plans_implement_commands()
     ensures first { (base : Base) (update : Update) (found : Option TextUpdate) (last : Option ℕ) (now : ℕ) → PlanUpdatePrecondition base update found last now
         → first_refusal (update_checks update found ++ later_stamp_check last now ∷ []) ≡ refusal_of_command base now (text_update_command update) }
@@ -30,7 +30,7 @@ pub fn update_plans_implement_commands()
         → IsUpdatePlan found last now plan → PlanImplementsCommand base now (text_update_command update) plan }
 {}
 
-/// Proves that a text update changes only one text column of one table and the last stamp. The
+/// Proves that a text update changes only one text column of one table, and the last stamp. The
 /// column is the executor name of TRADE, the text of SETTLEMENT or the text of CASH_MOVE.
 pub fn updates_change_one_text_column()
     ensures executors { (base : Base) (now : ℕ) (ids : List ℕ) → ChangesOnlyExecutorNames base now (ChangeExecutors ids) }

@@ -10,8 +10,9 @@ ghost use Rattle.brk_model.specs.Tables.{TradeRow, tables_of_base};
 ghost use Rattle.brk_invariant_theorems.specs.Sound.{AuditInvariant};
 ghost use Rattle.brk_book_theorems.specs.Books.{BooksInvariant};
 
-/// Proves that the view of the trades that pass a test, over the sorted tables, equals the
-/// specified view, if the base satisfies the books invariant and the audit invariant.
+/// Proves that the view of the trades that pass a test over the sorted tables of a base equals that
+/// view over its unsorted tables, if the base satisfies the books invariant and the audit
+/// invariant.
 #[tactic(auto, using(crate::proofs::LookupRows::same_lookup))]
 pub fn sorting_tables_preserves_lookup_view()
     ensures { (base : Base) (test : TradeRow → Bool) → BooksInvariant base → AuditInvariant base
@@ -19,17 +20,17 @@ pub fn sorting_tables_preserves_lookup_view()
 {}
 
 /// Proves that the view of the lots that the oldest trade of an account with a stamp of at least
-/// `first` touched, over the sorted tables, equals the specified view, if the base satisfies the
-/// books invariant and the audit invariant.
+/// `first` touched, over the sorted tables of a base, equals that view over its unsorted tables, if
+/// the base satisfies the books invariant and the audit invariant.
 #[tactic(auto, using(crate::proofs::TouchRows::same_lots))]
 pub fn sorting_tables_preserves_lots_view()
     ensures { (base : Base) (account first : ℕ) → BooksInvariant base → AuditInvariant base
         → touched_lots_of_oldest_trade (sheets base) account first ≡ touched_lots_of_oldest_trade (tables_of_base base) account first }
 {}
 
-/// Proves that at most one row has a given key, for settlements by trade, cash rows by trade,
-/// accounts by id and customers by id, if the base satisfies the books invariant and the audit
-/// invariant.
+/// Proves that at most one row of the sorted tables has a given key, for settlements by trade, cash
+/// rows by trade, accounts by id and customers by id, if the base satisfies the books invariant and
+/// the audit invariant.
 #[tactic(auto, using(crate::proofs::FoundRows::settlement_alone, crate::proofs::FoundRows::cash_alone, crate::proofs::FoundRows::account_alone, crate::proofs::FoundRows::customer_alone))]
 pub fn rows_with_a_key_are_unique()
     ensures settlements { (base : Base) (trade : ℕ) → BooksInvariant base → AuditInvariant base
@@ -42,9 +43,9 @@ pub fn rows_with_a_key_are_unique()
         → option_to_list (find (λ c. c.id == id) (sheets base).customers) ≡ filter (λ c. c.id == id) (sheets base).customers }
 {}
 
-/// Proves that the trades that are read by distinct ids, one by one, and sorted with the oldest
-/// first are all trades with these ids, if the base satisfies the books invariant and the audit
-/// invariant.
+/// Proves that the trades that are read by distinct ids, one by one, and then sorted with the
+/// oldest first are all trades with these ids, the oldest first, if the base satisfies the books
+/// invariant and the audit invariant.
 #[tactic(auto, using(crate::proofs::FoundRows::trades_by_id))]
 pub fn trades_read_by_ids_are_complete()
     ensures { (base : Base) (ids : List ℕ) → BooksInvariant base → AuditInvariant base → all_distinct ids ≡ true
@@ -52,12 +53,13 @@ pub fn trades_read_by_ids_are_complete()
         ≡ trade_rows_oldest_first (filter (λ t. contains_number t.id ids) (sheets base).trades) }
 {}
 
-/// Proves that the rows of HOLDING_HISTORY of the lots that a trade touched, read lot by lot in the
-/// order of the lots, are all rows of these lots in the order of the table, if the base satisfies
-/// the books invariant and the audit invariant.
+/// Proves that the rows of HOLDING_HISTORY of the lots that a trade touched, read lot by lot, are
+/// all rows of these lots in the order of the table, if the base satisfies the books invariant and
+/// the audit invariant.
 #[tactic(auto, using(crate::proofs::TouchRows::touched_by_lot))]
 pub fn lot_changes_read_by_lot_are_complete()
     ensures { (base : Base) (trade : ℕ) → BooksInvariant base → AuditInvariant base
-        → flat_map (λ lot. filter (λ r. r.lot == lot) (sheets base).holding_history) (map (λ r. r.lot) (filter (λ r. r.trade == trade) (sheets base).holding_history))
+        → flat_map (λ lot. filter (λ r. r.lot == lot) (sheets base).holding_history)
+        (map (λ r. r.lot) (filter (λ r. r.trade == trade) (sheets base).holding_history))
         ≡ filter (λ r. trade_touches_lot (sheets base) trade r.lot) (sheets base).holding_history }
 {}
