@@ -1,28 +1,29 @@
 use brk_money::{Day, Id, Stamp};
 use std::alloc::AllocError;
 
-/// The job that the command-line arguments name.
+/// The job that the command-line arguments request.
 #[derive(Drop)]
 pub enum Job {
-    /// A batch from standard input, on the file at `db` or a database in memory. Its timestamps are
-    /// `at`, or readings of the machine's clock.
+    /// Executes a batch from standard input on the desk in the file at `db`, or on a new desk in
+    /// memory. The timestamps of its commands are `at`, or readings of the machine's clock.
     Batch {
         db: Option<String>,
         at: Option<Stamp>,
     },
-    /// The statement of an account from `from` to `to`, of the file at `db`.
+    /// Prints the statement of an account of the desk in the file at `db`, from the day `from` to
+    /// the day `to`, both included.
     Statement {
         db: String,
         account: Id,
         from: Day,
         to: Day,
     },
-    /// The audit of the file at `db`.
+    /// Audits the desk in the file at `db`.
     Audit {
         db: String,
     },
-    /// The view that a name and its arguments ask for, of the file at `db`: as JSON or as CSV rows,
-    /// with the names of its fields first or without.
+    /// Prints the view with this name and these arguments, of the desk in the file at `db`: as JSON
+    /// or as CSV rows, with or without a first record of field names.
     Ask {
         db: String,
         json: bool,
@@ -30,13 +31,14 @@ pub enum Job {
         view: String,
         arguments: Vec<String>,
     },
-    /// The explanation that the words ask for, of the file at `db`.
+    /// Prints the explanation that the words request, of the desk in the file at `db`.
     Explain {
         db: String,
         words: Vec<String>,
     },
-    /// The given number of streams, in sequence, at a port of this machine, with `db` and `at` as
-    /// for a batch.
+    /// Serves the given number of streams of HTTP requests, in sequence, at a port of this machine,
+    /// on the desk in the file at `db` or on a new desk in memory. The timestamps of commands are
+    /// `at`, or readings of the machine's clock.
     Serve {
         port: u16,
         db: Option<String>,
@@ -45,21 +47,21 @@ pub enum Job {
     },
 }
 
-/// The reason why the arguments name no job.
+/// The reason why the arguments request no job.
 #[derive(Drop)]
 pub enum UsageFault {
-    /// The arguments are wrong, for the reason in this text.
+    /// The arguments are wrong; the text has the reason.
     Words(String),
-    /// Help or the version was requested, which is this text.
+    /// Help or the version was requested; the text is what is printed.
     Help(String),
-    /// An argument must be a day, and is not.
+    /// An argument that must be a day is none.
     Day,
     /// Out of memory.
     Memory,
 }
 
 impl From<AllocError> for UsageFault {
-    /// Returns the usage fault `Memory`.
+    /// Returns the usage fault `Memory`: an allocation was refused.
     fn from(_error: AllocError) -> UsageFault {
         UsageFault::Memory
     }

@@ -1,4 +1,4 @@
-//! The command-line arguments, and the job that they name.
+//! The command-line arguments, and the job that they request.
 #![tactic(auto)]
 
 pub mod job;

@@ -1,20 +1,21 @@
-/// Ends the help of `brk batch`.
+/// The text after the options in the help of `brk batch`.
 pub const BATCH: &str = "Example:
   brk batch --db desk.db < examples/setting.csv";
 
-/// Ends the help of `brk statement`.
+/// The text after the options in the help of `brk statement`.
 pub const STATEMENT: &str = "Example:
   brk statement --db desk.db --account 100 --from 2024-03-01 --to 2024-03-31";
 
-/// Ends the help of `brk audit`.
+/// The text after the options in the help of `brk audit`.
 pub const AUDIT: &str = "Example:
   brk audit --db desk.db";
 
-/// Ends the help of `brk serve`.
+/// The text after the options in the help of `brk serve`.
 pub const SERVE: &str = "Example:
   brk serve --port 8123 --db desk.db --streams 1000";
 
-/// Ends the help of `brk ask`.
+/// The text after the options in the help of `brk ask`: the views with their arguments, and an
+/// example.
 pub const ASK: &str = "Views and their arguments:
   customer ID
   taxid TAXID
@@ -32,7 +33,7 @@ Write -- before an argument that begins with a hyphen.
 Example:
   brk ask --db desk.db --heads customer 10";
 
-/// Ends the help of `brk explain`.
+/// The text after the options in the help of `brk explain`.
 pub const EXPLAIN: &str = "Example:
   brk explain --db desk.db trade 3
   brk explain --db desk.db holding 100 ABC";

@@ -5,18 +5,19 @@ use clap::error::ErrorKind;
 use clap::{Arg, ArgAction, ArgMatches, Command, Error, value_parser};
 use std::alloc::{AllocError, Global};
 
-// The version of the program, the schema of the files that it writes, and the kit that proves it:
-// what follows `rattle-kit-` in the output of `rt version`.
+// The version of the program, the schema of the files that it writes, and the version of the kit
+// that proves it, which is the text after `rattle-kit-` in the output of `rt version`.
 const VERSION: &str = "0.1.0 (schema 3, kit 13f)";
 
-// Returns the optional argument for the path of a file that is created if it is missing or empty.
+// Returns the optional argument `--db` for the path of a desk's file, which is created if it is
+// missing or empty.
 fn optional_file_argument<'a>(alloc: Global) -> Arg<'a> {
     Arg::new(alloc, "db").long("db").value_name("FILE").help(
         "The file of the desk, created if it is missing or empty; without it the desk is in memory",
     )
 }
 
-// Returns the required argument for the path of a file that must exist.
+// Returns the required argument `--db` for the path of a desk's file, which must exist.
 fn required_file_argument<'a>(alloc: Global) -> Arg<'a> {
     Arg::new(alloc, "db")
         .long("db")
@@ -25,7 +26,7 @@ fn required_file_argument<'a>(alloc: Global) -> Arg<'a> {
         .required(true)
 }
 
-// Returns the optional argument for a timestamp in milliseconds.
+// Returns the optional argument `--at` for a timestamp, in milliseconds since 1970-01-01 UTC.
 fn timestamp_argument<'a>(alloc: Global) -> Arg<'a> {
     Arg::new(alloc, "at")
         .long("at")
@@ -36,7 +37,7 @@ fn timestamp_argument<'a>(alloc: Global) -> Arg<'a> {
         )
 }
 
-// Returns a required argument for a day, with this name.
+// Returns a required argument for a day, with this name and this help text.
 fn day_argument<'a>(alloc: Global, name: &'static str, help: &'static str) -> Arg<'a> {
     Arg::new(alloc, name)
         .long(name)
@@ -45,7 +46,8 @@ fn day_argument<'a>(alloc: Global, name: &'static str, help: &'static str) -> Ar
         .required(true)
 }
 
-// Returns the subcommand that executes a batch, with its arguments.
+// Returns the subcommand `batch`, which executes a batch, with its arguments. Fails only if memory
+// runs out.
 fn batch_command<'a>(alloc: Global) -> Result<Command<'a>, AllocError> {
     Command::new(alloc, "batch")
         .about("Reads a batch from standard input and writes a line for each row")
@@ -54,7 +56,7 @@ fn batch_command<'a>(alloc: Global) -> Result<Command<'a>, AllocError> {
         .arg(timestamp_argument(alloc))
 }
 
-// Returns the required argument for the id of an account.
+// Returns the required argument `--account` for the id of an account.
 fn account_argument<'a>(alloc: Global) -> Arg<'a> {
     Arg::new(alloc, "account")
         .long("account")
@@ -64,7 +66,8 @@ fn account_argument<'a>(alloc: Global) -> Arg<'a> {
         .required(true)
 }
 
-// Returns the subcommand that prints a statement, with its arguments.
+// Returns the subcommand `statement`, which prints a statement, with its arguments. Fails only if
+// memory runs out.
 fn statement_command<'a>(alloc: Global) -> Result<Command<'a>, AllocError> {
     Command::new(alloc, "statement")
         .about("Prints the statement of an account: its cash, day by day, and its lots")
@@ -75,7 +78,8 @@ fn statement_command<'a>(alloc: Global) -> Result<Command<'a>, AllocError> {
         .arg(day_argument(alloc, "to", "The last day"))
 }
 
-// Returns the subcommand that audits a desk, with its argument.
+// Returns the subcommand `audit`, which audits a desk, with its argument. Fails only if memory runs
+// out.
 fn audit_command<'a>(alloc: Global) -> Result<Command<'a>, AllocError> {
     Command::new(alloc, "audit")
         .about("Recomputes every derived table of a desk, and prints ok if all are right")
@@ -83,7 +87,7 @@ fn audit_command<'a>(alloc: Global) -> Result<Command<'a>, AllocError> {
         .arg(required_file_argument(alloc))
 }
 
-// Returns an argument without a value, with this name.
+// Returns an argument without a value, with this name and this help text.
 fn flag_argument<'a>(alloc: Global, name: &'static str, help: &'static str) -> Arg<'a> {
     Arg::new(alloc, name)
         .long(name)
@@ -91,7 +95,7 @@ fn flag_argument<'a>(alloc: Global, name: &'static str, help: &'static str) -> A
         .help(help)
 }
 
-// Returns the required argument with the name of a view.
+// Returns the required argument for the name of a view.
 fn view_name_argument<'a>(alloc: Global) -> Arg<'a> {
     Arg::new(alloc, "view")
         .value_name("VIEW")
@@ -99,7 +103,7 @@ fn view_name_argument<'a>(alloc: Global) -> Arg<'a> {
         .required(true)
 }
 
-// Returns the argument with the arguments of a view, any number of them.
+// Returns the argument that takes the arguments of a view, any number of texts.
 fn view_arguments<'a>(alloc: Global) -> Arg<'a> {
     Arg::new(alloc, "arguments")
         .value_name("ARGUMENT")
@@ -107,7 +111,8 @@ fn view_arguments<'a>(alloc: Global) -> Arg<'a> {
         .help("The arguments of the view")
 }
 
-// Returns the subcommand that prints a view, with its arguments.
+// Returns the subcommand `ask`, which prints a view, with its arguments. Fails only if memory runs
+// out.
 fn ask_command<'a>(alloc: Global) -> Result<Command<'a>, AllocError> {
     Command::new(alloc, "ask")
         .about("Prints a view of a desk: a CSV row for each record")
@@ -123,7 +128,8 @@ fn ask_command<'a>(alloc: Global) -> Result<Command<'a>, AllocError> {
         .arg(view_arguments(alloc))
 }
 
-// Returns the subcommand that prints an explanation, with its arguments.
+// Returns the subcommand `explain`, which prints an explanation, with its arguments. Fails only if
+// memory runs out.
 fn explain_command<'a>(alloc: Global) -> Result<Command<'a>, AllocError> {
     let words = Arg::new(alloc, "words")
         .value_name("WORD")
@@ -138,7 +144,7 @@ fn explain_command<'a>(alloc: Global) -> Result<Command<'a>, AllocError> {
         .arg(words)
 }
 
-// Returns the required argument for a port: 1 to 65,535.
+// Returns the required argument `--port` for a port, from 1 to 65,535.
 fn port_argument<'a>(alloc: Global) -> Arg<'a> {
     Arg::new(alloc, "port")
         .long("port")
@@ -148,7 +154,7 @@ fn port_argument<'a>(alloc: Global) -> Arg<'a> {
         .required(true)
 }
 
-// Returns the argument for a number of streams: 1 to 1,000,000, and 1 by default.
+// Returns the argument `--streams` for a number of streams, from 1 to 1,000,000, and 1 by default.
 fn streams_argument<'a>(alloc: Global) -> Arg<'a> {
     Arg::new(alloc, "streams")
         .long("streams")
@@ -158,7 +164,8 @@ fn streams_argument<'a>(alloc: Global) -> Arg<'a> {
         .help("The number of streams that are served before the program ends")
 }
 
-// Returns the subcommand that serves a desk, with its arguments.
+// Returns the subcommand `serve`, which serves a desk over HTTP, with its arguments. Fails only if
+// memory runs out.
 fn serve_command<'a>(alloc: Global) -> Result<Command<'a>, AllocError> {
     Command::new(alloc, "serve")
         .about("Serves the desk over HTTP, one stream after the other")
@@ -169,8 +176,9 @@ fn serve_command<'a>(alloc: Global) -> Result<Command<'a>, AllocError> {
         .arg(streams_argument(alloc))
 }
 
-// Adds a subcommand to a command. It is a function of its own because a function that holds several
-// commands, at each place where it may return, takes the prover more than a minute.
+// Adds the subcommand `added` to `command` and returns the command, or the failure of one of them.
+// It is a function of its own because a function that holds several commands, at each place where
+// it may return, takes the prover more than a minute.
 fn add_subcommand<'a>(
     command: Result<Command<'a>, AllocError>,
     added: Result<Command<'a>, AllocError>,
@@ -178,7 +186,7 @@ fn add_subcommand<'a>(
     command?.subcommand(added?)
 }
 
-// Returns the command `brk` without its subcommands.
+// Returns the command `brk` without its subcommands. Fails only if memory runs out.
 fn program_command<'a>(alloc: Global) -> Result<Command<'a>, AllocError> {
     Command::new(alloc, "brk")
         .version(VERSION)
@@ -188,7 +196,7 @@ fn program_command<'a>(alloc: Global) -> Result<Command<'a>, AllocError> {
         .bin_name("brk")
 }
 
-// Returns the command `brk` with its six subcommands.
+// Returns the command `brk` with its six subcommands. Fails only if memory runs out.
 fn command_with_subcommands<'a>(alloc: Global) -> Result<Command<'a>, AllocError> {
     let command = add_subcommand(program_command(alloc), batch_command(alloc));
     let command = add_subcommand(command, statement_command(alloc));
@@ -198,7 +206,8 @@ fn command_with_subcommands<'a>(alloc: Global) -> Result<Command<'a>, AllocError
     add_subcommand(command, serve_command(alloc))
 }
 
-// Returns a copy of the text of argument `name`, or an empty text if it is missing.
+// Returns a copy of the text of the argument `name`, or an empty text if the argument is missing.
+// Fails only if memory runs out.
 fn argument_text(
     alloc: Global,
     matches: &ArgMatches<'_>,
@@ -207,7 +216,8 @@ fn argument_text(
     String::from_str(alloc, matches.get_str(name).unwrap_or(""))
 }
 
-// Returns a copy of the path that the option `--db` gives, or `None` without this option.
+// Returns a copy of the path that the option `--db` gives, or `None` without this option. Fails
+// only if memory runs out.
 fn file_path_of_matches(
     alloc: Global,
     matches: &ArgMatches<'_>,
@@ -218,18 +228,18 @@ fn file_path_of_matches(
     }
 }
 
-// Returns the timestamp of the arguments, or `None` if it is missing.
+// Returns the timestamp that the option `--at` gives, or `None` without this option.
 fn timestamp_of_matches(matches: &ArgMatches<'_>) -> Option<Stamp> {
     matches.get_one::<i64>("at").and_then(Stamp::new)
 }
 
-// Parses the day of argument `name`. Fails with `Day` if it is not a day.
+// Parses the day that the argument `name` gives. Fails with `Day` if its text is no day.
 fn parse_day_argument(matches: &ArgMatches<'_>, name: &str) -> Result<Day, UsageFault> {
     let text = matches.get_str(name).unwrap_or("");
     parse_day(text.as_bytes()).ok_or(UsageFault::Day)
 }
 
-// Returns the statement job of the matched arguments. Fails with `Day` or `Memory`, and with
+// Returns the statement job that the arguments request. Fails with `Day` or `Memory`, and with
 // `Words` if there is no account.
 fn statement_job(alloc: Global, matches: &ArgMatches<'_>) -> Result<Job, UsageFault> {
     let Some(account) = matches.get_one::<u64>("account").and_then(Id::new) else {
@@ -243,7 +253,7 @@ fn statement_job(alloc: Global, matches: &ArgMatches<'_>) -> Result<Job, UsageFa
     })
 }
 
-// Returns the serve job of the matched arguments. Fails with `Memory` only.
+// Returns the serve job that the arguments request. Fails with `Memory` only.
 fn serve_job(alloc: Global, matches: &ArgMatches<'_>) -> Result<Job, UsageFault> {
     Ok(Job::Serve {
         port: matches.get_one("port").unwrap_or(0),
@@ -253,7 +263,8 @@ fn serve_job(alloc: Global, matches: &ArgMatches<'_>) -> Result<Job, UsageFault>
     })
 }
 
-// Returns copies of the texts of argument `name`, in order.
+// Returns copies of the texts of the argument `name`, in order, or an empty list if the argument is
+// missing. Fails only if memory runs out.
 fn argument_texts(
     alloc: Global,
     matches: &ArgMatches<'_>,
@@ -266,7 +277,7 @@ fn argument_texts(
     Ok(texts)
 }
 
-// Returns the ask job of the matched arguments. Fails with `Memory` only.
+// Returns the ask job that the arguments request. Fails with `Memory` only.
 fn ask_job(alloc: Global, matches: &ArgMatches<'_>) -> Result<Job, UsageFault> {
     Ok(Job::Ask {
         db: argument_text(alloc, matches, "db")?,
@@ -277,7 +288,7 @@ fn ask_job(alloc: Global, matches: &ArgMatches<'_>) -> Result<Job, UsageFault> {
     })
 }
 
-// Returns the explain job of the matched arguments. Fails with `Memory` only.
+// Returns the explain job that the arguments request. Fails with `Memory` only.
 fn explain_job(alloc: Global, matches: &ArgMatches<'_>) -> Result<Job, UsageFault> {
     Ok(Job::Explain {
         db: argument_text(alloc, matches, "db")?,
@@ -285,8 +296,8 @@ fn explain_job(alloc: Global, matches: &ArgMatches<'_>) -> Result<Job, UsageFaul
     })
 }
 
-// Returns the job of the subcommand `name` with its matched arguments. Every other name than those
-// of five subcommands is a batch.
+// Returns the job of the subcommand `name` with its arguments `matches`: a batch for any name other
+// than those of the other five subcommands. Fails with the usage fault of the arguments.
 fn job_of_subcommand(
     alloc: Global,
     name: &str,
@@ -331,7 +342,8 @@ fn usage_fault_of_error(alloc: Global, error: &Error) -> UsageFault {
     }
 }
 
-/// Returns the usage fault of an argument that is not UTF-8: `Words` with its text, or `Memory`.
+/// Returns the usage fault of an argument that is not UTF-8: `Words` with the error text, or
+/// `Memory`.
 pub fn non_utf8_argument_fault(alloc: Global) -> UsageFault {
     match String::from_str(alloc, "error: a word that is no UTF-8\n") {
         Ok(text) => UsageFault::Words(text),
@@ -339,10 +351,11 @@ pub fn non_utf8_argument_fault(alloc: Global) -> UsageFault {
     }
 }
 
-/// Parses the command-line arguments, the program's own name first, and returns their job.
+/// Parses the command-line arguments, the program's own name first, and returns the job that they
+/// request.
 ///
 /// Fails with `Help` and its text if help or the version was requested, otherwise with the reason
-/// why the arguments give no job.
+/// why the arguments request no job.
 pub fn read_words(words: Vec<String>) -> Result<Job, UsageFault> {
     let alloc = *words.allocator();
     let command = command_with_subcommands(alloc)?;

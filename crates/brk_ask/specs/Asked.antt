@@ -18,38 +18,38 @@ use Rattle.brk_report_lines.specs.declared.fault.ReportFault.TheVariants.{Refuse
 use Rattle.brk_view.specs.Views.{records_of_view}
 use Rattle.brk_view.specs.declared.view.View.{View}
 
--- The writer's content is unchanged, and the result is this fault.
+-- The result `result` is the fault `fault`, and the writer's content is unchanged.
 abbrev pub FailsWritingNothing : Option Text → Option Text → Result (Unit {0}) ReportFault → ReportFault → Type 0
 FailsWritingNothing before after result fault = (after ≡ before) × (result ≡ Err fault)
 
--- `text` was written, or writing it failed. `Desk`: memory ran out, and nothing was written.
--- `Write`: a prefix of `text` was written, perhaps all of it. It is never `Refused`.
+-- `Ok`: the text `text` was written. `Desk`: memory ran out, and nothing was written. `Write`: a
+-- prefix of `text` was written, perhaps all of it. The result is never `Refused`.
 abbrev pub WritesTextOrFails : Text → Option Text → Option Text → Result (Unit {0}) ReportFault → Type 0
 WritesTextOrFails text before after (Ok u) = Appends before after text
 WritesTextOrFails text before after (Err (Refused refusal)) = ⊥
 WritesTextOrFails text before after (Err (Desk fault)) = (after ≡ before) × (fault ≡ Memory)
 WritesTextOrFails text before after (Err Write) = (k : ℕ) × Appends before after (take k text)
 
--- `result` is the result of writing the view of a query to which the desk gave this answer: a view
--- is written as `WritesTextOrFails` specifies; for a refusal or a fault, `result` is this refusal
--- or this fault, and nothing is written.
+-- `result` is the result of writing the answer of the desk to the query `query`, in the form
+-- `form`. A view is written as `WritesTextOrFails` specifies; for a refusal or a fault of the desk,
+-- `result` is this refusal or this fault, and nothing is written.
 abbrev pub WritesViewOrFails : Form → Query → Result (Result View Refusal) Fault → Option Text → Option Text → Result (Unit {0}) ReportFault → Type 0
 WritesViewOrFails form query (Ok (Ok view)) before after result = WritesTextOrFails (printed_view_text form query (records_of_view view)) before after result
 WritesViewOrFails form query (Ok (Err refusal)) before after result = FailsWritingNothing before after result (Refused refusal)
 WritesViewOrFails form query (Err fault) before after result = FailsWritingNothing before after result (Desk fault)
 
--- The desk executed this query and nothing else, and its view was written as `WritesViewOrFails`
--- specifies. If the texts are no query, the desk is unchanged, `result` is their refusal, and
--- nothing was written.
+-- The desk executed the parsed query and nothing else, and its view was written as
+-- `WritesViewOrFails` specifies. If the query is malformed, the desk is unchanged, `result` is its
+-- refusal, and nothing was written.
 abbrev pub AsksQueryAndWritesView : {S : Type 0} → Ghosts S → Held S → Held S → Form → ReadResult Query → Option Text → Option Text
     → Result (Unit {0}) ReportFault → Type 0
 AsksQueryAndWritesView g old new form (Ok query) before after result =
     (seen : Result (Result View Refusal) Fault) × AskPost g old new query seen × WritesViewOrFails form query seen before after result
 AsksQueryAndWritesView g old new form (Err refusal) before after result = (new ≡ old) × FailsWritingNothing before after result (Refused refusal)
 
--- The postcondition of printing a view: the desk executed the query and its view was written, with
--- the result of `AsksQueryAndWritesView`; or memory ran out before that, and the desk and the
--- writer's content are unchanged.
+-- The postcondition of printing the view of a parsed query: the desk executed the query and its
+-- view was written, with the result of `AsksQueryAndWritesView`; or memory ran out before that, and
+-- the desk and the writer's content are unchanged.
 abbrev pub PrintViewPost : {S : Type 0} → Ghosts S → Held S → Held S → Form → ReadResult Query → Option Text → Option Text → Result (Unit {0}) ReportFault
     → Type 0
 PrintViewPost g old new form query before after result =

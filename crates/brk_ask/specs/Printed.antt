@@ -17,7 +17,7 @@ field_names_of_view (EstimateOf order) =
 field_names_of_view (VolumeOf sector names) = codes "broker" ∷ codes "id" ∷ codes "volume" ∷ []
 field_names_of_view query = []
 
--- A list with one record, these names, or an empty list if there is no name.
+-- A list with one record, the names `names`, or an empty list if there is no name.
 abbrev pub record_of_names : List Text → View
 record_of_names [] = []
 record_of_names (name ∷ names) = (name ∷ names) ∷ []
@@ -27,21 +27,23 @@ record_of_names (name ∷ names) = (name ∷ names) ∷ []
 abbrev pub field_name_records : Query → View
 field_name_records query = record_of_names (field_names_of_view query)
 
--- The records as rows of CSV, each as the default writer of the `csv` crate writes it.
+-- The bytes of the records as rows of CSV, each as the default writer of the `csv` crate writes it,
+-- with its line end.
 abbrev pub csv_text : View → Text
 csv_text records = flat_map (row_text default_writer) records
 
--- The records as one line of JSON: the body of the HTTP reply to the query, and a line feed.
+-- The bytes of the records as one line of JSON: the body of the HTTP reply to the query, and a line
+-- feed.
 abbrev pub json_line_text : View → Text
 json_line_text records = json_records_object (codes "view") records ++ 10 ∷ []
 
--- The records that are written: those of the view, and before them the names of its fields if
--- `form.heads` is true.
+-- The records that are written for a query: those of its view, and before them a record with the
+-- names of its fields if `form.heads` is true and all records have the same fields.
 abbrev pub records_to_print : Form → Query → View → View
 records_to_print form query records = if form.heads then field_name_records query ++ records else records
 
--- The text of a query's view in this form: one line of JSON if `form.json` is true, otherwise rows
--- of CSV.
+-- The bytes that are written for a query's view with the records `records`: one line of JSON if
+-- `form.json` is true, otherwise rows of CSV.
 abbrev pub printed_view_text : Form → Query → View → Text
 printed_view_text form query records =
     if form.json then json_line_text (records_to_print form query records) else csv_text (records_to_print form query records)

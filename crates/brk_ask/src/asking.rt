@@ -18,7 +18,8 @@ use sqlite::Alter;
 use std::alloc::Global;
 use std::io::Write;
 
-// Returns the text of a query's view in this form. Fails with `Memory` only.
+// Returns the text of a query's view as JSON or CSV, with or without the names of its fields, as
+// `form` specifies. Fails with `Memory` only.
 fn format_view(alloc: Global, query: &Query, view: &View, form: Form) -> Result<Vec<u8>, Fault>
     ensures text { IfOk result (λ text. text.items ≡ printed_view_text form (abstract_query query.now) (records_of_view view.now)) }
     ensures fault { OnErr result (result ≡ Err Memory) }
@@ -37,7 +38,7 @@ fn format_view(alloc: Global, query: &Query, view: &View, form: Form) -> Result<
     }
 }
 
-// Writes the text of a query's view in this form.
+// Writes the text of a query's view, as JSON or CSV as `form` specifies.
 //
 // Fails with `Desk(Memory)` and nothing written, or with `Write` after a prefix of the text.
 fn write_view<W: Write>(
@@ -47,7 +48,8 @@ fn write_view<W: Write>(
     form: Form,
     writer: &mut W,
 ) -> Result<(), ReportFault>
-    ensures { WritesTextOrFails (printed_view_text form (abstract_query query.now) (records_of_view view.now)) (W.contents writer.old) (W.contents writer.new) result }
+    ensures { WritesTextOrFails (printed_view_text form (abstract_query query.now) (records_of_view view.now))
+        (W.contents writer.old) (W.contents writer.new) result }
 {
     match format_view(alloc, query, view, form) {
         Ok(text) => match write_all_bytes(writer, &text) {
@@ -58,7 +60,7 @@ fn write_view<W: Write>(
     }
 }
 
-// Executes the query on the desk, and writes its view in this form.
+// Executes a query on the desk, and writes its view, as JSON or CSV as `form` specifies.
 //
 // Fails with `Refused` or `Desk` and nothing written, or with `Write` after a prefix of the text.
 fn execute_query_and_write_view<W: Write, S: Alter>(
@@ -78,7 +80,7 @@ fn execute_query_and_write_view<W: Write, S: Alter>(
 }
 
 /// Parses a query from the name of a view and its arguments, executes it on the desk, and writes
-/// its view in this form.
+/// its view, as JSON or CSV as `form` specifies.
 ///
 /// Fails with `Refused` 18 if the texts are no query, otherwise with the refusal of the query;
 /// nothing is then written. Fails with `Desk` and `Memory` or `Store`, and nothing is written; with
@@ -94,7 +96,8 @@ pub fn parse_query_and_write_view<W: Write, S: Alter>(
     form: Form,
     writer: &mut W,
 ) -> Result<(), ReportFault>
-    ensures asked { PrintViewPost S.Store desk.old desk.new form (model.parse_query view.now (texts_of_fields arguments.now)) (W.contents writer.old) (W.contents writer.new) result }
+    ensures asked { PrintViewPost S.Store desk.old desk.new form (model.parse_query view.now (texts_of_fields arguments.now))
+        (W.contents writer.old) (W.contents writer.new) result }
 {
     match parse_query(alloc, view, arguments) {
         Ok(Ok(query)) => execute_query_and_write_view(alloc, desk, &query, form, writer),

@@ -32,7 +32,7 @@ fn view_field_names(query: &Query) -> &'static [&'static str]
     }
 }
 
-// Returns owned copies of names, in order.
+// Returns owned copies of the names, in order. Fails only if memory runs out.
 fn copy_names(alloc: Global, names: &[&str]) -> Result<Vec<String>, AllocError>
     ensures { IfOk result (λ owned. texts_of_record owned ≡ texts_of_fields names.now) }
 {
@@ -44,7 +44,7 @@ fn copy_names(alloc: Global, names: &[&str]) -> Result<Vec<String>, AllocError>
 }
 
 /// Returns a list with one record, the names of the fields of a query's view, or an empty list if
-/// the records of this view have different fields.
+/// the records of this view have different fields. Fails only if memory runs out.
 pub fn header_records(alloc: Global, query: &Query) -> Result<Vec<Vec<String>>, AllocError>
     ensures { IfOk result (λ heads. texts_of_records heads ≡ field_name_records (abstract_query query.now)) }
 {

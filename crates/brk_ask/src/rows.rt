@@ -8,7 +8,8 @@ use brk_http_engine::json_text_of_view;
 use csv::WriterBuilder;
 use std::alloc::{AllocError, Global};
 
-// Returns the bytes of the texts of a record as borrowed slices, in order.
+// Returns the bytes of the texts of a record as borrowed slices, in order. Fails only if memory
+// runs out.
 fn bytes_of_record(alloc: Global, texts: &[String]) -> Result<Vec<&[u8]>, AllocError>
     ensures { IfOk result (λ all. slices all.items ≡ map string_bytes texts.now) }
 {
@@ -19,7 +20,7 @@ fn bytes_of_record(alloc: Global, texts: &[String]) -> Result<Vec<&[u8]>, AllocE
     Ok(all)
 }
 
-// Returns a record as a row of CSV, with its line end.
+// Returns a record as a row of CSV, with its line end. Fails only if memory runs out.
 fn format_csv_row(alloc: Global, texts: &[String]) -> Result<Vec<u8>, AllocError>
     ensures { IfOk result (λ row. row.items ≡ row_text default_writer (map string_bytes texts.now)) }
 {
@@ -35,7 +36,7 @@ fn format_csv_row(alloc: Global, texts: &[String]) -> Result<Vec<u8>, AllocError
     }
 }
 
-/// Returns records as rows of CSV, in order.
+/// Returns records as rows of CSV, in order, each with its line end. Fails only if memory runs out.
 pub fn format_csv_rows(alloc: Global, records: &[Vec<String>]) -> Result<Vec<u8>, AllocError>
     ensures { IfOk result (λ text. text.items ≡ csv_text (map texts_of_record records.now)) }
 {
@@ -47,7 +48,8 @@ pub fn format_csv_rows(alloc: Global, records: &[Vec<String>]) -> Result<Vec<u8>
     Ok(text)
 }
 
-/// Returns records as one line of JSON, with its line feed.
+/// Returns records as one line of JSON, `{"view":[["TEXT",..],..]}`, with its line feed. Fails only
+/// if memory runs out.
 pub fn format_json_line(alloc: Global, records: &[Vec<String>]) -> Result<Vec<u8>, AllocError>
     ensures { IfOk result (λ text. text.items ≡ json_line_text (map texts_of_record records.now)) }
 {

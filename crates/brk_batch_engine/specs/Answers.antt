@@ -1,4 +1,10 @@
 -- The answers to the rows of a batch, and their effect on the desk.
+--
+-- Parameters that the traits `Rows` and `Clock` declare: `honest desk`, the disk assumption;
+-- `stands desk base`, the desk represents `base`; `leaves desk base other`, a crash exposes only
+-- one of these two bases; `acts old now call outcome new`, a call turns the desk `old` into `new`;
+-- `form`, the parser of a row; `step`, the model's step for a row; `gives clock moment later`, a
+-- reading of the clock.
 use Rattle.std.specs.Prelude.{◌≡◌, ◌⊎◌, ℕ, Bool, true, false, Result, Ok, Err, string_bytes}
 use Rattle.brk_money.specs.Spelling.{Text}
 use Rattle.brk_money.specs.declared.fault.Fault.{Fault}
@@ -12,45 +18,47 @@ use Rattle.brk_batch_engine.specs.Script.{RowCallRelation}
 use Rattle.brk_batch_engine.specs.declared.answer.RowAnswer.{RowAnswer}
 use Rattle.brk_batch_engine.specs.declared.answer.RowAnswer.TheVariants as given
 
--- The model's answer that a row's answer represents; `reply` maps a reply to the model's reply.
+-- The model's answer that the answer to a row represents; `reply` maps a reply to the model's
+-- reply.
 abbrev pub answer_in_model : {R : Type 0} → (R → Reply) → RowAnswer R → Answer
 answer_in_model reply (given.Done told) = Done (reply told)
 answer_in_model reply (given.Again line) = Again (string_bytes line)
 answer_in_model reply (given.Refused refusal) = Refused refusal
 
--- The model's outcome that the result of a row's call represents: its answer or its fault; `reply`
--- maps a reply to the model's reply.
+-- The model's outcome that the result of a row's call represents: `Did` with its answer, or
+-- `Failed` with its fault; `reply` maps a reply to the model's reply.
 abbrev pub outcome_in_model : {R : Type 0} → (R → Reply) → Result (RowAnswer R) Fault → Outcome
 outcome_in_model reply (Ok answer) = Did (answer_in_model reply answer)
 outcome_in_model reply (Err fault) = Failed fault
 
--- The call with `command` under `key` refines `step`: for every base that the desk represented
--- before, `step` from this base has this answer, and the desk represents the base after it. Vacuous
--- if the disk assumption (`honest`) fails.
+-- The call with `command` under `key` at the clock reading `now` refines `step`: for every base
+-- that the desk represented before, `step` from this base has this answer, and the desk represents
+-- the base after it. Vacuous if the disk assumption (`honest`) fails after the call.
 abbrev pub CallRefinesStep : {D S X : Type 0} → (D → Type 0) → (D → S → Type 0) → RowStep S X → D → D → ℕ → X → Key → Answer → Type 0
 CallRefinesStep {S = S} honest stands step old new now command key answer =
     honest new → (base : S) → stands old base → (after : S) × stands new after × (step base now command key ≡ (answer, after))
 
--- The desk represents every base that it represented before the call. Vacuous if the disk
--- assumption (`honest`) fails.
+-- The desk represents after the call (`new`) every base that it represented before (`old`). Vacuous
+-- if the disk assumption (`honest`) fails after the call.
 abbrev pub PreservesRepresentedBases : {D S : Type 0} → (D → Type 0) → (D → S → Type 0) → D → D → Type 0
 PreservesRepresentedBases {S = S} honest stands old new = honest new → (base : S) → stands old base → stands new base
 
--- The desk represents `base`. If the flag is true, also a crash exposes only this base.
+-- The desk represents `base`, and if the flag is true, a crash exposes only this base.
 abbrev pub RepresentsDurably : {D S : Type 0} → (D → S → Type 0) → (D → S → S → Type 0) → Bool → D → S → Type 0
 RepresentsDurably stands leaves false desk base = stands desk base
 RepresentsDurably stands leaves true desk base = stands desk base × leaves desk base base
 
 -- Crash safety of a failed call: for every base that the desk represented before, if a crash before
--- the call exposed only this base, a crash after it exposes this base or the one after `command`.
--- Vacuous if the disk assumption (`honest`) fails.
+-- the call exposed only this base, a crash after it exposes only this base or the base after
+-- `command`. Vacuous if the disk assumption (`honest`) fails after the call.
 abbrev pub IsFailedCallCrashSafe : {D S X : Type 0} → (D → Type 0) → (D → S → Type 0) → (D → S → S → Type 0) → RowStep S X → D → D → ℕ → X → Key → Type 0
 IsFailedCallCrashSafe {S = S} honest stands leaves step old new now command key =
     honest new → (base : S) → stands old base → leaves old base base → leaves new base (step base now command key).1
 
--- Row `n` of `batch` has this answer. A malformed row is refused with its refusal, and the desk and
--- the clock are unchanged. A command reads the clock once and is one call of the desk, under the
--- key of the row, which refines `step`.
+-- Row `n` of `batch` has the answer `answer`, and the desk changed from `old` to `new`, the clock
+-- from `clock` to `later`. A malformed row is refused with its refusal, and desk and clock are
+-- unchanged. A well-formed row reads the clock once and is one call of the desk, under the key of
+-- the row, which refines `step`.
 abbrev pub RowHasAnswer : {D S X C : Type 0} → (D → Type 0) → (Bool → D → S → Type 0) → RowCallRelation D X → RowStep S X → (C → ℕ → C → Type 0) → ReadResult X
     → Text → ℕ → Answer → D → D → C → C → Type 0
 RowHasAnswer honest stands acts step gives (Err refusal) batch n answer old new clock later = (answer ≡ Refused refusal) × (new ≡ old) × (later ≡ clock)
@@ -58,8 +66,8 @@ RowHasAnswer honest stands acts step gives (Ok command) batch n answer old new c
     (moment : ℕ) × gives clock moment later × acts old moment (command, record { batch = batch; row = n }) (Did answer) new
     × ((sure : Bool) → CallRefinesStep honest (stands sure) step old new moment command (record { batch = batch; row = n }) answer)
 
--- Row `n` of `batch` failed with this fault. Either the fault is `Memory`, and the desk and the
--- clock are unchanged; or the row is a command that read the clock once and was one call of the
+-- Row `n` of `batch` failed with the fault `fault`. Either the fault is `Memory`, and the desk and
+-- the clock are unchanged; or the row is a command that read the clock once and was one call of the
 -- desk, under the key of the row, which failed, with the crash safety of `IsFailedCallCrashSafe`.
 abbrev pub RowFailsWith : {D S X C : Type 0} → (D → Type 0) → (D → S → Type 0) → (D → S → S → Type 0) → RowCallRelation D X → RowStep S X → (C → ℕ → C → Type 0)
     → ReadResult X → Text → ℕ → Fault → D → D → C → C → Type 0

@@ -1,4 +1,11 @@
 -- The effects of a run of a batch, for each way in which it ends.
+--
+-- Parameters that the traits `Rows` and `Clock` declare: `honest desk`, the disk assumption;
+-- `stands desk base`, the desk represents `base`; `leaves desk base other`, a crash exposes only
+-- one of these two bases; `acts old now call outcome new`, a call turns the desk `old` into `new`;
+-- `form`, the parser of a row; `step`, the model's step for a row; `gives clock moment later`, a
+-- reading of the clock. `text` is the text of the batch, or `None` if it is unknown; `span` and
+-- `outside` are the desk's base, the clock and the writer's content before and after the batch.
 use Rattle.std.specs.Prelude.{◌≡◌, ◌+◌, ◌<◌, ◌⊎◌, ◌∷◌, ◌++◌, [], IfErr, List, ℕ, Option, Result, Ok, Err, take, length, map}
 use Rattle.std.specs.Io.KnownBytes.{Appends}
 use Rattle.brk_money.specs.Spelling.{Text}
@@ -22,7 +29,7 @@ use Rattle.brk_io.specs.declared.batch_fault.FaultKind.TheVariants as kinds
 use Rattle.brk_batch_engine.specs.declared.counts.Counts.{Counts}
 
 -- The batch ended with `ending` after `count` decided rows. The clock was read once for each of the
--- timestamps `moments`, and exactly the lines of the model's batch for these timestamps were
+-- timestamps `moments`, and exactly the lines `lines` of the model's batch at these timestamps were
 -- written, from the base before the batch to the base after it.
 pub record BatchEndsWith {S X C : Type 0} (form : Fields → ReadResult X) (step : RowStep S X) (gives : C → ℕ → C → Type 0)
     (text : Option Text) (span : EnvironmentChange S C) (ending : model.BatchEnding) (count : ℕ) : Type 0 where
@@ -32,35 +39,40 @@ pub record BatchEndsWith {S X C : Type 0} (form : Fields → ReadResult X) (step
   pub answered : model.IsResultOfTextWithHeader form step span.base moments text (record { text = lines; base = span.after; ending = ending; rows = count })
   pub written : Appends span.old span.new lines
 
--- The text begins with the header of batch `name`, these rows and the correct end record. Vacuous
--- if the text is unknown.
+-- The text begins with the header of the batch `name`, the rows `rows` and the correct end record.
+-- Vacuous if the text is unknown.
 abbrev pub BeginsWithWholeBatch : Option Text → Text → List Fields → Type 0
 BeginsWithWholeBatch text name rows = BeginsWithRecords text (batch_header name ∷ (rows ++ (correct_end_record (length rows) ∷ [])))
 
--- If there are rows, the text begins with the header, the rows and one more record. Vacuous if
--- there are no rows or the text is unknown.
+-- If `rows` is not empty, the text begins with the header of the batch `name`, these rows and one
+-- more record. Vacuous if there are no rows or the text is unknown.
 abbrev pub HasRecordAfterRows : Option Text → Text → List Fields → Type 0
 HasRecordAfterRows text name rows = 0 < length rows → (next : Fields) × BeginsWithRecords text (batch_header name ∷ (rows ++ (next ∷ [])))
 
--- The progress of a batch that a fault ended: after the header `name`, the text begins with the
--- rows `rows`, which are decided and have the answers `answers`. The list `told` has the `count`
--- answers that the batch decided. If there are rows, one more record follows them.
+-- The progress of a batch that a fault ended: after the header of the batch `name`, the text begins
+-- with the rows `rows`, which have the answers `answers`, and if there are rows, with one more
+-- record. The list `told` has the `count` answers that the batch decided.
 pub record BatchProgress {S X C : Type 0} (form : Fields → ReadResult X) (step : RowStep S X) (gives : C → ℕ → C → Type 0)
     (text : Option Text) (span : EnvironmentChange S C) (count : ℕ) : Type 0 where
+  -- The name of the batch, its first rows with their answers, and all decided answers.
   pub name : Text
   pub rows : List Fields
   pub answers : List Answer
   pub told : List Answer
+  -- The timestamps of the rows, and the clock after these readings.
   pub moments : List ℕ
   pub mid : C
   pub taken : ClockReturnsInOrder gives span.clock moments mid
+  -- From the base before, the rows have these answers in the model, at these timestamps, and the
+  -- base after them is the base after the batch.
   pub settled : model.BatchRowsAreDecided form step name span.base moments rows answers span.after
   pub begins : BeginsWithRecords text (batch_header name ∷ rows)
+  -- If there are rows, one more record follows them.
   pub next : HasRecordAfterRows text name rows
   pub counted : count ≡ length told
 
--- The lines of all answers in `told` were written, or the lines of all but the last. Vacuous if the
--- writer's content before is unknown.
+-- The lines of all answers in `told` were written, or the lines of all of them but the last.
+-- Vacuous if the writer's content before is unknown.
 abbrev pub WritesAllLinesOrAllButLast : Option Text → Option Text → List Answer → Type 0
 WritesAllLinesOrAllButLast old new told =
     Appends old new (answer_lines_from 1 told)
@@ -79,17 +91,18 @@ WritesPartOfLastLine old new told =
 abbrev pub WritesPartOfEndLine : Option Text → Option Text → List Answer → Type 0
 WritesPartOfEndLine old new told = (k : ℕ) × Appends old new (answer_lines_from 1 told ++ take k (batch_end_line told))
 
--- The decided answers `told` equal `answers`, or they are those of a text that ends without an end
--- record (`EndsWithoutEndRecord`): `answers` and the refusal of the last row, or no answer if the
--- text has only its header.
+-- The decided answers `told` equal `answers`; or the text ends without an end record
+-- (`EndsWithoutEndRecord`), and `told` has the answers and the refusal of its last row, or no
+-- answer if the text has only its header.
 abbrev pub MayAddCutRowRefusal : Option Text → Text → List Fields → List Answer → List Answer → Type 0
 MayAddCutRowRefusal text name rows answers told = (told ≡ answers) ⊎ model.EndsWithoutEndRecord text name rows answers told
 
--- The batch failed with this fault after `count` decided rows, and the fault determines which
--- answers were decided, how often the clock was read and which lines were written. `BadHeader`:
--- nothing changed. `NoEnd` and `BadEnd`: the model ends so too. `Read`: the lines of all decided
--- rows. `Write`: a part of the last line or of the end line. `Desk`: the lines of the decided rows,
--- or of all of them but the last.
+-- The batch failed with this fault after `count` decided rows. `BadHeader`: the text has no header,
+-- and nothing changed. `NoEnd` and `BadEnd`: the batch ends as that of the model (`BatchEndsWith`).
+-- `Read`: the lines of all decided rows were written, or no row was decided and nothing changed.
+-- `Write`: all lines but the last and a part of the last one were written, or all lines and a part
+-- of the end line. `Desk`: the lines of the decided rows were written, and the next row failed; or
+-- memory ran out, and the lines of the decided rows were written, or of all of them but the last.
 abbrev pub BatchFailsWith : {S X C : Type 0} → (Fields → ReadResult X) → RowStep S X → (C → ℕ → C → Type 0) → Option Text → EnvironmentChange S C → ℕ
     → FaultKind → Type 0
 BatchFailsWith form step gives text span count kinds.BadHeader =
@@ -112,33 +125,40 @@ BatchFailsWith form step gives text span count (kinds.Desk fault) =
     ⊎ ((s : BatchProgress form step gives text span count) × (span.later ≡ s.mid) × (fault ≡ Memory)
     × MayAddCutRowRefusal text s.name s.rows s.answers s.told × WritesAllLinesOrAllButLast span.old span.new s.told))
 
--- The result of the batch: at `Ok` the counts of the answers to all its rows, and at an error a
--- fault with the effect that `BatchFailsWith` specifies.
+-- The result of the batch: at `Ok` the text has the correct end record, and the counts are the
+-- numbers of accepted, repeated and refused answers to all its rows; at an error the fault has the
+-- effect that `BatchFailsWith` specifies.
 abbrev pub IsBatchResult : {S X C : Type 0} → (Fields → ReadResult X) → RowStep S X → (C → ℕ → C → Type 0) → Option Text → EnvironmentChange S C
     → Result Counts BatchFault → Type 0
 IsBatchResult form step gives text span (Ok counts) =
     (c : BatchEndsWith form step gives text span model.CorrectEnd (counts.ok + counts.again + counts.no)) × (counts ≡ counts_of_answers c.answered.answers)
 IsBatchResult form step gives text span (Err fault) = BatchFailsWith form step gives text span fault.rows fault.kind
 
--- The row after the decided rows has a record after it, and is a command, for which the clock was
--- read once. The fault of this row ended the batch, after the lines of the decided rows.
+-- The batch ended with the fault `cause` of the desk at the row after the decided rows. This row
+-- has a record after it and is a command, for which the clock was read once, and the lines of the
+-- decided rows were written.
 pub record NextRowFails {S X C : Type 0} (form : Fields → ReadResult X) (step : RowStep S X) (gives : C → ℕ → C → Type 0)
     (text : Option Text) (span : EnvironmentChange S C) (fault : BatchFault) : Type 0 where
+  -- The fault of the desk, which is `Memory` or `Store`.
   pub cause : Fault
   pub kind : fault.kind ≡ kinds.Desk cause
   pub may_fail : IsCallFault cause
+  -- The decided rows, whose lines were written.
   pub stopped : BatchProgress form step gives text span fault.rows
   pub told : stopped.told ≡ stopped.answers
   pub written : Appends span.old span.new (answer_lines_from 1 stopped.told)
+  -- The failed row and the record after it, which follow the decided rows in the text.
   pub row : Fields
   pub next : Fields
   pub begins : BeginsWithRecords text (batch_header stopped.name ∷ (stopped.rows ++ (row ∷ next ∷ [])))
+  -- The command of the failed row.
   pub command : X
   pub formed : form row ≡ Ok command
+  -- The clock reading of its call.
   pub moment : ℕ
   pub given : gives stopped.mid moment span.later
 
--- If the fault is one of the desk, it is `Memory`. Vacuous for any other fault.
+-- If the fault is one of the desk (`Desk`), it is `Memory`. Vacuous for any other fault.
 abbrev pub DeskFaultIsMemory : FaultKind → Type 0
 DeskFaultIsMemory (kinds.Desk fault) = fault ≡ Memory
 DeskFaultIsMemory kinds.BadHeader = Unit {0}
@@ -147,9 +167,9 @@ DeskFaultIsMemory kinds.BadEnd = Unit {0}
 DeskFaultIsMemory kinds.Read = Unit {0}
 DeskFaultIsMemory kinds.Write = Unit {0}
 
--- Every call of the script has an answer. A desk of the model that returns these answers, and
--- records its calls, receives exactly these calls from the batch, with these lines and this result.
--- A fault of the desk is `Memory`.
+-- Every call of `script` has an answer. A desk of the model that returns these answers, and records
+-- its calls (`recording_step`), receives exactly these calls from the batch, with these lines and
+-- this result. If the result is a fault of the desk, the fault is `Memory`.
 abbrev pub BatchMatchesAnsweredScript : {X C : Type 0} → (Fields → ReadResult X) → (C → ℕ → C → Type 0) → Option Text → RowCallScript X → ClockAndWriterChange C
     → Result Counts BatchFault → Type 0
 BatchMatchesAnsweredScript form gives text script outside result =
@@ -157,7 +177,7 @@ BatchMatchesAnsweredScript form gives text script outside result =
     × IsBatchResult form recording_step gives text (change_with_bases (answers, []) ([], script.0) outside) result
     × IfErr result (λ fault. DeskFaultIsMemory fault.kind)
 
--- The last call of the script failed with a fault, which ended the batch. It is the call of the row
+-- The last call of `script` failed with a fault, which ended the batch. It is the call of the row
 -- after the decided rows, under the key of that row. All calls before it have answers, and the
 -- lines and the result follow from these answers. False if the batch completed.
 abbrev pub BatchMatchesFailedScript : {X C : Type 0} → (Fields → ReadResult X) → (C → ℕ → C → Type 0) → Option Text → RowCallScript X → ClockAndWriterChange C
@@ -169,8 +189,8 @@ BatchMatchesFailedScript {X = X} form gives text script outside (Err fault) =
     × (script.0 ≡ calls ++ ((failed.moment, (failed.command, record { batch = failed.stopped.name; row = fault.rows + 1 })) ∷ []))
     × (script.1 ≡ map Did answers ++ (Failed failed.cause ∷ []))
 
--- The calls of the script are those of the rows of the batch: each decided row that is well-formed
--- and has a record after it is called once, in order, row n of batch NAME under the key (NAME, n),
+-- The calls of `script` are the calls of the rows of the batch, in order: row n of batch NAME, if
+-- it is decided and well-formed and has a record after it, is called once, under the key (NAME, n),
 -- and one more call may have failed at the end. The clock was read exactly once for each call. The
 -- lines and the result follow from the outcomes.
 abbrev pub BatchMatchesScript : {X C : Type 0} → (Fields → ReadResult X) → (C → ℕ → C → Type 0) → Option Text → RowCallScript X → ClockAndWriterChange C
@@ -179,17 +199,17 @@ BatchMatchesScript form gives text script outside result =
     ClockReturnsInOrder gives outside.clock (map (λ call. call.0) script.0) outside.later
     × (BatchMatchesAnsweredScript form gives text script outside result ⊎ BatchMatchesFailedScript form gives text script outside result)
 
--- The desk changed from `first` to `last` only by the calls of a script, with their outcomes, and
--- the script is that of the batch (`BatchMatchesScript`). It does not depend on the disk
+-- The desk changed from `first` to `last` only by the calls of some script, with their outcomes,
+-- and the script matches the batch (`BatchMatchesScript`). It does not depend on the disk
 -- assumption.
 abbrev pub ChangesOnlyByRowCalls : {D X C : Type 0} → RowCallRelation D X → (Fields → ReadResult X) → (C → ℕ → C → Type 0) → Option Text → D → D
     → ClockAndWriterChange C → Result Counts BatchFault → Type 0
 ChangesOnlyByRowCalls {X = X} acts form gives text first last outside result =
     (script : RowCallScript X) × IsCallSequence acts first script.0 script.1 last × BatchMatchesScript form gives text script outside result
 
--- The batch refines the model: for every base that the desk represented before, the batch is
--- answered as by `step` from this base, and the desk represents the base after it. Vacuous if the
--- disk assumption (`honest`) fails.
+-- The batch refines the model: for every base that the desk represented before, the lines and the
+-- result follow from the answers of `step` from this base, and the desk represents the base after
+-- it. Vacuous if the disk assumption (`honest`) fails after the batch.
 abbrev pub BatchRefinesModel : {D S X C : Type 0} → (D → Type 0) → (D → S → Type 0) → (Fields → ReadResult X) → RowStep S X → (C → ℕ → C → Type 0) → Option Text
     → D → D → ClockAndWriterChange C → Result Counts BatchFault → Type 0
 BatchRefinesModel {S = S} honest stands form step gives text first last outside result =
@@ -204,8 +224,8 @@ pub record CrashMayCommitFailedRow {D S X C : Type 0} (form : Fields → ReadRes
   pub failed : NextRowFails form step gives text span fault
   pub may : leaves last span.after (step span.after failed.moment failed.command (record { batch = failed.stopped.name; row = fault.rows + 1 })).1
 
--- A crash after the batch exposes only the base after it. After a fault, it may instead be that a
--- crash also exposes the base after the row whose call failed (`CrashMayCommitFailedRow`).
+-- A crash after the batch exposes only the base after it. After a fault a crash may instead also
+-- expose the base after the row whose call failed (`CrashMayCommitFailedRow`).
 abbrev pub BoundsBatchCrashStates : {D S X C : Type 0} → (Fields → ReadResult X) → RowStep S X → (C → ℕ → C → Type 0) → (D → S → S → Type 0) → Option Text
     → EnvironmentChange S C → D → Result Counts BatchFault → Type 0
 BoundsBatchCrashStates form step gives leaves text span last (Ok counts) = leaves last span.after span.after
@@ -215,7 +235,7 @@ BoundsBatchCrashStates form step gives leaves text span last (Err fault) =
 -- Crash safety of a batch: for every base that the desk represented before, if a crash before the
 -- batch exposed only this base, the batch is answered as by `step`, the desk represents the base
 -- after the decided rows, and a crash exposes only this base, or after a fault also the base after
--- the row whose call failed. Vacuous if the disk assumption (`honest`) fails.
+-- the row whose call failed. Vacuous if the disk assumption (`honest`) fails after the batch.
 abbrev pub IsBatchCrashSafe : {D S X C : Type 0} → (D → Type 0) → (D → S → Type 0) → (D → S → S → Type 0) → (Fields → ReadResult X) → RowStep S X
     → (C → ℕ → C → Type 0) → Option Text → D → D → ClockAndWriterChange C → Result Counts BatchFault → Type 0
 IsBatchCrashSafe {S = S} honest stands leaves form step gives text first last outside result =

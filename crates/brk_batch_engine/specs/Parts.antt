@@ -1,4 +1,4 @@
--- The output of one step of a batch that failed, by its fault.
+-- The output of a single step of a batch that failed, for each fault.
 use Rattle.std.specs.Prelude.{◌≡◌, [], ℕ, Option, take}
 use Rattle.std.specs.Io.KnownBytes.{Appends}
 use Rattle.brk_money.specs.Spelling.{Text}
@@ -11,8 +11,9 @@ use Rattle.brk_io.specs.declared.batch_fault.FaultKind.{FaultKind}
 use Rattle.brk_io.specs.declared.batch_fault.FaultKind.TheVariants as kinds
 use Rattle.brk_batch_engine.specs.declared.counts.Counts.{Counts}
 
--- Writing the line `text` failed with this fault. `Write`: the writer got a prefix of the line,
--- perhaps all of it. `Desk`: memory ran out, and nothing was written. No other fault is possible.
+-- Writing the line `text` failed with this fault. `Write`: the writer received a prefix of the
+-- line, perhaps all of it. `Desk`: memory ran out, and nothing was written. No other fault is
+-- possible.
 abbrev pub LineWriteFailsWith : Option Text → Option Text → Text → FaultKind → Type 0
 LineWriteFailsWith old new text kinds.Write = (k : ℕ) × Appends old new (take k text)
 LineWriteFailsWith old new text (kinds.Desk fault) = (fault ≡ Memory) × Appends old new []
@@ -21,9 +22,10 @@ LineWriteFailsWith old new text kinds.BadHeader = ⊥
 LineWriteFailsWith old new text kinds.NoEnd = ⊥
 LineWriteFailsWith old new text kinds.BadEnd = ⊥
 
--- The end record `row` after `n` rows failed with this fault. `BadEnd`: the record is wrong, and
--- nothing was written. `Write`: the record is correct, and the writer got a prefix of the end line,
--- perhaps all of it. `Desk`: memory ran out, and nothing was written. No other fault is possible.
+-- Checking the end record `row` after `n` rows, and writing the end line with `counts`, failed with
+-- this fault. `BadEnd`: the record is wrong, and nothing was written. `Write`: the record is
+-- correct, and the writer received a prefix of the end line, perhaps all of it. `Desk`: memory ran
+-- out, and nothing was written. No other fault is possible.
 abbrev pub EndRecordFailsWith : Option Text → Option Text → Fields → ℕ → Counts → FaultKind → Type 0
 EndRecordFailsWith old new row n counts kinds.BadEnd = (row ≡ correct_end_record n → ⊥) × Appends old new []
 EndRecordFailsWith old new row n counts kinds.Write = (row ≡ correct_end_record n) × ((k : ℕ) × Appends old new (take k (end_line_with_counts counts)))
@@ -32,9 +34,9 @@ EndRecordFailsWith old new row n counts kinds.Read = ⊥
 EndRecordFailsWith old new row n counts kinds.BadHeader = ⊥
 EndRecordFailsWith old new row n counts kinds.NoEnd = ⊥
 
--- A row without a record after it ended the batch with this fault. `NoEnd`: its line `text` was
--- written. `Write`: the writer got a prefix of the line, perhaps all of it. `Desk`: memory ran out,
--- and nothing was written. No other fault is possible.
+-- A row without a record after it, with the line `text`, ended the batch with this fault. `NoEnd`:
+-- the line was written. `Write`: the writer received a prefix of the line, perhaps all of it.
+-- `Desk`: memory ran out, and nothing was written. No other fault is possible.
 abbrev pub CutRowEndsBatchWith : Option Text → Option Text → Text → FaultKind → Type 0
 CutRowEndsBatchWith old new text kinds.NoEnd = Appends old new text
 CutRowEndsBatchWith old new text kinds.Write = (k : ℕ) × Appends old new (take k text)
@@ -43,8 +45,8 @@ CutRowEndsBatchWith old new text kinds.Read = ⊥
 CutRowEndsBatchWith old new text kinds.BadHeader = ⊥
 CutRowEndsBatchWith old new text kinds.BadEnd = ⊥
 
--- Reading the header failed with this fault. `BadHeader`: the text has no header. `Desk`: memory
--- ran out. `Read`: nothing is known of the text. No other fault is possible.
+-- Reading the header of the text failed with this fault. `BadHeader`: the text has no header.
+-- `Desk`: memory ran out. `Read`: nothing is specified of the text. No other fault is possible.
 abbrev pub HeaderReadFailsWith : Option Text → FaultKind → Type 0
 HeaderReadFailsWith text kinds.BadHeader = HasNoHeader text
 HeaderReadFailsWith text kinds.Read = Unit {0}

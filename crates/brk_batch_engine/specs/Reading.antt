@@ -13,8 +13,9 @@ use Rattle.brk_model.specs.Answers.{Fields}
 abbrev pub IsBatchReader : {R : Type 0} → Reader R → Type 0
 IsBatchReader reader = (reader_trim reader ≡ trim.None) × Ready reader × (reader_config reader ≡ default_config) × (is_flexible reader ≡ true)
 
--- The text begins with the records `front`, and a reader in `state` still has the bytes
--- `left` of it to read. Vacuous if the text is unknown.
+-- The text begins with the records `front`, and a CSV reader in the state `state` has read exactly
+-- these: `left` are the bytes after them that its source still has. Vacuous if the text is unknown;
+-- false if only `left` is unknown.
 abbrev pub ReaderIsAfterRecords : Option Text → List Fields → State → Option Text → Type 0
 ReaderIsAfterRecords None front state left = Unit {0}
 ReaderIsAfterRecords (Some text) front state None = ⊥

@@ -6,16 +6,16 @@ use Rattle.brk_model.specs.Commands.{Answer, Refused}
 use Rattle.brk_model.specs.Records.{Key}
 use Rattle.brk_model.specs.Run.{Outcome}
 
--- The type of a relation of calls between two desks: at a clock reading, a command under its key
--- may turn the first desk into the second, with this outcome.
+-- The type of a relation between two desks of type `D`: at a clock reading, the call with a command
+-- of type `X` under a key may turn the first desk into the second, with an outcome.
 abbrev pub RowCallRelation : Type 0 → Type 0 → Type 1
 RowCallRelation D X = D → ℕ → X × Key → Outcome → D → Type 0
 
--- The type of a list of calls: each has a clock reading, a command and its key.
+-- The type of a list of calls: each has a clock reading, a command of type `X`, and its key.
 abbrev pub RowCalls : Type 0 → Type 0
 RowCalls X = List (ℕ × (X × Key))
 
--- The type of a list of calls together with the list of their outcomes.
+-- The type of a pair: a list of calls with commands of type `X`, and the list of their outcomes.
 abbrev pub RowCallScript : Type 0 → Type 0
 RowCallScript X = RowCalls X × List Outcome
 

@@ -13,18 +13,18 @@ use brk_ref::{BatchName, Key, RowNumber};
 use csv::ByteRecord;
 use std::alloc::Global;
 
-/// The answer to a row.
+/// The answer to a row of a batch.
 #[derive(Debug, Drop)]
 pub enum RowAnswer<R> {
-    /// The row was executed, with this reply.
+    /// The row was accepted and committed, with this reply.
     Done(R),
     /// The row was accepted before, with this stored reply.
     Again(String),
-    /// The row was refused.
+    /// The row was refused with this refusal.
     Refused(Refusal),
 }
 
-// Returns the key of row `n` of a batch: its name and `n`. Fails with `Memory` only.
+// Returns the key of row `n` of a batch: the name of the batch and `n`. Fails with `Memory` only.
 fn row_key(batch: &BatchName, n: u64) -> Result<Key, Fault>
     requires first { 1 ≤ n }
     requires last { n ≤ 67108864 }
@@ -36,12 +36,13 @@ fn row_key(batch: &BatchName, n: u64) -> Result<Key, Fault>
     Ok(Key { batch, row })
 }
 
-/// Returns the answer to row `n` of `batch`. A well-formed row reads the clock once and is one call
-/// of the desk; a malformed one does neither.
+/// Executes row `n` of `batch` on the desk and returns its answer. A well-formed row reads the
+/// clock once and is one call of the desk, under its key; a malformed one does neither and is
+/// refused.
 ///
 /// Fails with `Memory` or `Store`; the clock was then read at most once, for the call that failed.
-/// The desk then represents what it represented before, but a crash may expose the row as
-/// committed.
+/// The desk then represents every base that it represented before, but a crash may expose the row
+/// as committed.
 pub fn execute_row<C: Clock, D: Rows>(
     alloc: Global,
     desk: &mut D::Desk,
@@ -53,7 +54,8 @@ pub fn execute_row<C: Clock, D: Rows>(
     requires first { 1 ≤ n }
     requires last { n ≤ 67108864 }
     ensures disk_was_clean { D.honest desk.new → D.honest desk.old }
-    ensures ok { IfOk result (λ answer. RowHasAnswer D.honest (RepresentsDurably D.stands D.leaves) D.acts D.step C.gives (D.form (fields_of row.now)) batch.now n
+    ensures ok { IfOk result (λ answer. RowHasAnswer D.honest (RepresentsDurably D.stands D.leaves) D.acts D.step C.gives
+        (D.form (fields_of row.now)) batch.now n
         (answer_in_model D.told answer) desk.old desk.new clock.old clock.new) }
     ensures represented_at_error { OnErr result (PreservesRepresentedBases D.honest D.stands desk.old desk.new) }
     ensures failed { IfErr result (λ fault. RowFailsWith D.honest D.stands D.leaves D.acts D.step C.gives (D.form (fields_of row.now)) batch.now n fault

@@ -8,23 +8,24 @@ use crate::answer::RowAnswer;
 /// The number of answered rows of a batch, by kind of answer.
 #[derive(Clone, Copy, Debug, PartialEq, Eq)]
 pub struct Counts {
-    /// Rows that were executed.
+    /// The number of rows that were accepted.
     pub ok: u64,
-    /// Rows that were accepted before.
+    /// The number of rows that were accepted before, under the same keys.
     pub again: u64,
-    /// Rows that were refused.
+    /// The number of rows that were refused.
     pub no: u64,
 }
 
 impl Counts {
-    // The counts before the first row.
+    // The counts of a batch before its first row: three zeros.
     pub(crate) const NONE: Counts = Counts {
         ok: 0,
         again: 0,
         no: 0,
     };
 
-    // Returns the counts with 1 added to that of the answer's kind.
+    // Returns the counts with 1 added to the number of accepted, repeated or refused rows, by the
+    // kind of the answer.
     pub(crate) fn with_answer<R>(self, answer: &RowAnswer<R>) -> Counts
         requires ok { self.ok + 1 < 2 ^ 64 }
         requires again { self.again + 1 < 2 ^ 64 }

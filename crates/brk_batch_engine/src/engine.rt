@@ -28,7 +28,7 @@ use std::alloc::Global;
 use std::io::{Read, Take, Write};
 use std::mem;
 
-// Writes the line of the answer to row `n`.
+// Writes the line of the answer to row `n`: `n,ok,FIELDS`, `n,again,FIELDS` or `n,no,FIELDS`.
 //
 // Fails with `Write`, after a prefix of the line, or with `Desk(Memory)` and nothing written.
 fn write_answer_line<W: Write, D: Rows>(
@@ -38,7 +38,8 @@ fn write_answer_line<W: Write, D: Rows>(
     answer: &RowAnswer<D::Reply>,
 ) -> Result<(), FaultKind>
     ensures ok { OnOk result (Appends (W.contents writer.old) (W.contents writer.new) (answer_line n (answer_in_model D.told answer.now))) }
-    ensures err { IfErr result (λ kind. LineWriteFailsWith (W.contents writer.old) (W.contents writer.new) (answer_line n (answer_in_model D.told answer.now)) kind) }
+    ensures err { IfErr result (λ kind. LineWriteFailsWith (W.contents writer.old) (W.contents writer.new)
+        (answer_line n (answer_in_model D.told answer.now)) kind) }
 {
     let Ok(text) = row_answer_line::<D>(alloc, n, answer) else {
         return Err(FaultKind::Desk(Fault::Memory));
@@ -61,10 +62,10 @@ fn write_refusal_of_cut_row<W: Write, D: Rows>(alloc: Global, writer: &mut W, n:
 }
 
 // Checks that `row` is the correct end record of a batch of `n` rows, and writes the end line with
-// `counts`.
+// the counts `counts`.
 //
-// Fails with `BadEnd` or `Desk(Memory)` and nothing written, or with `Write` after a prefix of the
-// line.
+// Fails with `BadEnd` if the record is wrong, or with `Desk(Memory)`, and nothing is then written;
+// or with `Write` after a prefix of the line.
 fn check_end_record_and_write_end_line<W: Write>(
     alloc: Global,
     writer: &mut W,
@@ -88,9 +89,10 @@ fn check_end_record_and_write_end_line<W: Write>(
     }
 }
 
-// Reads the header and returns the name of the batch.
+// Reads the first record, the header `batch,NAME`, and returns the name of the batch.
 //
-// Fails with `BadHeader`, `Read` or `Desk(Memory)`.
+// Fails with `BadHeader` if there is no such record, with `Read` if the reader fails, and with
+// `Desk(Memory)`.
 fn read_batch_name<R: Read>(alloc: Global, records: &mut Reader<R>) -> Result<BatchName, FaultKind>
     requires { IsBatchReader records.old }
     ensures setup { OnOk result (IsBatchReader records.new) }
@@ -113,7 +115,9 @@ fn read_batch_name<R: Read>(alloc: Global, records: &mut Reader<R>) -> Result<Ba
 
 // Executes the rows after the header of the batch `name`, writes their lines and the end line, and
 // returns the counts of the answers. Each record has at least one byte, so the number of rows is at
-// most the number of bytes.
+// most the number of bytes, which limits the loop.
+//
+// At an error returns the fault with the number of decided rows, whose changes remain.
 fn execute_rows_and_write_lines<R: Read, W: Write, C: Clock, D: Rows>(
     alloc: Global,
     records: &mut Reader<R>,

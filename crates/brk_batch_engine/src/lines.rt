@@ -10,7 +10,8 @@ use crate::rows::Rows;
 use itoa::Buffer;
 use std::alloc::{AllocError, Global};
 
-// Returns the text of an answer: its word, and its fields, separated by commas.
+// Returns the text of an answer: `ok`, `again` or `no`, a comma, and the fields of the reply, of
+// the stored reply or of the refusal. Fails only if memory runs out.
 fn answer_text<D: Rows>(alloc: Global, answer: &RowAnswer<D::Reply>) -> Result<String, AllocError>
     ensures { IfOk result (λ text. string_bytes text ≡ answer_text (answer_in_model D.told answer.now)) }
 {
@@ -24,7 +25,8 @@ fn answer_text<D: Rows>(alloc: Global, answer: &RowAnswer<D::Reply>) -> Result<S
     }
 }
 
-/// Returns the line of row `n` with this answer, with its line feed.
+/// Returns the line of row `n` with this answer and a line feed: `n,ok,FIELDS`, `n,again,FIELDS` or
+/// `n,no,FIELDS`. Fails only if memory runs out.
 pub fn row_answer_line<D: Rows>(
     alloc: Global,
     n: u64,
@@ -41,7 +43,8 @@ pub fn row_answer_line<D: Rows>(
     Ok(line)
 }
 
-/// Returns the end line of a batch with these counts, with its line feed.
+/// Returns the end line of a batch with these counts, `end,OK,AGAIN,NO`, with its line feed. Fails
+/// only if memory runs out.
 pub fn end_line_of_counts(alloc: Global, counts: Counts) -> Result<Vec<u8>, AllocError>
     ensures { IfOk result (λ line. line.items ≡ end_line_with_counts counts) }
 {

@@ -1,4 +1,5 @@
-ghost use Rattle.std.specs.Prelude.{◌≡◌, ◌⊎◌, ◌↔◌, ◌∷◌, ◌++◌, [], ℕ, List, Option, Some, IsTrue, IfOk, IfErr, OnOk, MatchBool, MatchOption, option_map, OnErr, Err};
+ghost use Rattle.std.specs.Prelude.{◌≡◌, ◌⊎◌, ◌↔◌, ◌∷◌, ◌++◌, [], ℕ, List, Option, Some, IsTrue, IfOk};
+ghost use Rattle.std.specs.Prelude.{IfErr, OnOk, MatchBool, MatchOption, option_map, OnErr, Err};
 ghost use Rattle.std.specs.Io.Take.{take_remaining};
 ghost use Rattle.csv.specs.Reading.{reader_state, source_of};
 ghost use Rattle.csv.specs.Records.{field_at, fields_of};
@@ -16,7 +17,8 @@ use itoa::Buffer;
 use std::alloc::{AllocError, Global};
 use std::io::{Read, Take};
 
-/// The greatest number of bytes of an input that are read. The rest of a longer input is ignored.
+/// The greatest number of bytes of an input that are read: 64 MiB. The rest of a longer input is
+/// ignored.
 pub const MAXIMUM_INPUT_BYTES: u64 = 67_108_864;
 
 /// Returns a reader of the records in the first `MAXIMUM_INPUT_BYTES` bytes of an input. Records
@@ -33,7 +35,7 @@ pub fn new_record_reader<R: Read + Drop>(alloc: Global, reader: R) -> Reader<Tak
 
 /// Reads the next record into `row` and returns true, or returns false if no record is left.
 ///
-/// Fails with `Read` or `Desk(Memory)`.
+/// Fails with `Read` if the reader fails, or with `Desk(Memory)`.
 pub fn read_record<R: Read>(
     records: &mut Reader<R>,
     row: &mut ByteRecord,
@@ -59,7 +61,7 @@ pub fn read_record<R: Read>(
     }
 }
 
-/// Returns the fields of a record, in order.
+/// Returns the bytes of the fields of a record, in order. Fails only if memory runs out.
 pub fn record_fields(alloc: Global, row: &ByteRecord) -> Result<Vec<&[u8]>, AllocError>
     ensures { IfOk result (λ all. texts_of_fields all.items ≡ fields_of row.now) }
 {
@@ -70,7 +72,8 @@ pub fn record_fields(alloc: Global, row: &ByteRecord) -> Result<Vec<&[u8]>, Allo
     Ok(all)
 }
 
-// Returns true if the field at index `i` exists and equals `text`.
+// Returns true if the record has a field at index `i`, counted from 0, and this field equals
+// `text`.
 fn field_equals(row: &ByteRecord, i: usize, text: &[u8]) -> bool
     ensures { IsTrue result ↔ (field_at (fields_of row.now) i ≡ Some text.now) }
 {
@@ -101,7 +104,8 @@ pub fn begins_with_end_field(row: &ByteRecord) -> bool
     field_equals(row, 0, b"end")
 }
 
-/// Returns true if a record is the correct end record after `n` rows.
+/// Returns true if a record is the correct end record after `n` rows: the two fields `end` and `n`
+/// in decimal digits.
 pub fn is_correct_end_record(row: &ByteRecord, n: u64) -> bool
     ensures { IsTrue result ↔ (fields_of row.now ≡ correct_end_record n) }
 {
@@ -109,8 +113,8 @@ pub fn is_correct_end_record(row: &ByteRecord, n: u64) -> bool
     has_exactly_two_fields(row, b"end", buffer.format(n).as_bytes())
 }
 
-/// Returns the name of the batch if the record is a header, otherwise `None`. Fails with `Memory`
-/// only.
+/// Returns the name of the batch if the record is a header, `batch` and a well-formed name,
+/// otherwise `None`. Fails with `Memory` only.
 #[tactic(auto, using(crate::proofs::Reading::header_name_is))]
 pub fn batch_name_in_header(alloc: Global, row: &ByteRecord) -> Result<Option<BatchName>, Fault>
     ensures header { IfOk result (λ found. MatchOption found

@@ -7,7 +7,8 @@ ghost use Rattle.brk_model.specs.Rows.{line_text};
 ghost use Rattle.brk_model.specs.Run.{IsCallFault};
 ghost use Rattle.brk_ref.specs.Fields.{ParsesAs, texts_of_fields};
 ghost use Rattle.brk_ref.specs.Records.{abstract_key};
-ghost use Rattle.brk_batch_engine.specs.Answers.{CallRefinesStep, PreservesRepresentedBases, IsFailedCallCrashSafe, RepresentsDurably, answer_in_model, outcome_in_model};
+ghost use Rattle.brk_batch_engine.specs.Answers.{CallRefinesStep, PreservesRepresentedBases, IsFailedCallCrashSafe};
+ghost use Rattle.brk_batch_engine.specs.Answers.{RepresentsDurably, answer_in_model, outcome_in_model};
 ghost use Rattle.brk_batch_engine.specs.Script.{RowCallRelation};
 
 use crate::answer::RowAnswer;
@@ -15,7 +16,7 @@ use brk_money::{Fault, Planned, Stamp};
 use brk_ref::Key;
 use std::alloc::{AllocError, Global};
 
-/// The operations of a desk that the rows of a batch need.
+/// The operations of a desk that executes the rows of a batch.
 pub trait Rows {
     /// The desk that executes the rows.
     type Desk;
@@ -23,38 +24,39 @@ pub trait Rows {
     /// A command: a well-formed row.
     type Command: Drop;
 
-    /// The reply to a row that was executed.
+    /// The reply to a row that was accepted.
     type Reply: Drop;
 
-    /// The abstract state that the desk represents.
+    /// The type of the bases that the desk represents.
     ghost Base: { Type 0 };
 
-    /// The abstract command of a well-formed row.
+    /// The type of the model's commands.
     ghost Asked: { Type 0 };
 
-    /// The desk satisfies the disk assumption: every read so far returned what was written.
+    /// Holds if the desk satisfies the disk assumption: every read so far returned what was
+    /// written.
     ghost honest: { Self.Desk → Type 0 };
 
-    /// The desk represents this base.
+    /// Holds if the desk represents this base.
     ghost stands: { Self.Desk → Base → Type 0 };
 
-    /// A crash exposes only one of these two bases.
+    /// Holds if a crash exposes only one of these two bases.
     ghost leaves: { Self.Desk → Base → Base → Type 0 };
 
-    /// A call at a timestamp, with a command under its key, may turn the first desk into the
-    /// second, with this outcome.
+    /// Holds if a call at this timestamp, with a command under its key, may turn the first desk
+    /// into the second, with this outcome.
     ghost acts: { RowCallRelation Self.Desk Asked };
 
-    /// The abstract command of a command.
+    /// The model's command that a command represents.
     ghost asked: { Self.Command → Asked };
 
-    /// The abstract reply of a reply.
+    /// The model's reply that a reply represents.
     ghost told: { Self.Reply → Reply };
 
-    /// The abstract command of a row's fields, or the refusal of a malformed row.
+    /// The model's command of the fields of a row, or the refusal of a malformed row.
     ghost form: { Fields → ReadResult Asked };
 
-    /// The answer to a command with a key at a timestamp, and the base after it.
+    /// The model's answer to a command under a key at a timestamp, and the base after it.
     ghost step: { RowStep Base Asked };
 
     /// Parses the fields of a row: returns a command, or the refusal of a malformed row. Fails with
@@ -65,8 +67,8 @@ pub trait Rows {
 
     /// Executes a command under its key at the clock reading `now`, and returns its answer.
     ///
-    /// Fails with `Memory` or `Store`. The desk then represents what it represented before, but a
-    /// crash may expose the command as committed.
+    /// Fails with `Memory` or `Store`. The desk then represents every base that it represented
+    /// before, but a crash may expose the command as committed.
     fn call(
         desk: &mut Self::Desk,
         alloc: Global,
@@ -75,14 +77,17 @@ pub trait Rows {
         key: &Key,
     ) -> Result<RowAnswer<Self::Reply>, Fault>
         ensures called { acts desk.old now (asked command.now, abstract_key key.now) (outcome_in_model told result) desk.new }
+        // If the disk assumption holds after the call, it held before.
         ensures earlier { honest desk.new → honest desk.old }
         ensures ok { IfOk result (λ answer. (sure : Bool) →
-            CallRefinesStep honest (RepresentsDurably stands leaves sure) step desk.old desk.new now (asked command.now) (abstract_key key.now) (answer_in_model told answer)) }
+            CallRefinesStep honest (RepresentsDurably stands leaves sure) step desk.old desk.new now
+            (asked command.now) (abstract_key key.now) (answer_in_model told answer)) }
         ensures err { OnErr result (PreservesRepresentedBases honest stands desk.old desk.new) }
+        // After a failed call, a crash exposes only the base before or the base after the command.
         ensures stop { OnErr result (IsFailedCallCrashSafe honest stands leaves step desk.old desk.new now (asked command.now) (abstract_key key.now)) }
         ensures fault { IfErr result IsCallFault };
 
-    /// Returns the fields of a reply, joined by commas.
+    /// Returns the fields of a reply, joined by commas. Fails only if memory runs out.
     fn reply_line(alloc: Global, reply: &Self::Reply) -> Result<String, AllocError>
         ensures { IfOk result (λ line. string_bytes line ≡ line_text (told reply.now)) };
 }

@@ -1,4 +1,4 @@
-//! The commands of transcripts, each of which appends its output lines.
+//! The commands of transcripts, each of which appends its output lines to the replay.
 
 use crate::escape::{Piece, append_output_line, append_written_bytes};
 use crate::failed::Failed;
@@ -23,19 +23,22 @@ struct Still {
 }
 
 impl Clock for Still {
+    // Returns the fixed timestamp.
     fn now(&mut self) -> Stamp {
         self.at
     }
 }
 
-// Returns the clock that always returns this timestamp, or 0 if the word is no timestamp.
+// Returns a clock that always returns the timestamp that `moment` spells in milliseconds, or 0 if
+// it spells none.
 fn fixed_clock_from_word(moment: &str) -> Still {
     Still {
         at: parse_stamp(moment.as_bytes()).unwrap_or(Stamp::nearest(0)),
     }
 }
 
-// Returns the bytes of all input lines, with their line feeds.
+// Returns the bytes of all input lines of a command in one list, with their line feeds. Fails only
+// if memory runs out.
 fn join_input_lines(alloc: Global, pieces: &[Piece]) -> Result<Vec<u8>, AllocError> {
     let mut bytes = Vec::new(alloc);
     for piece in pieces {
@@ -47,7 +50,7 @@ fn join_input_lines(alloc: Global, pieces: &[Piece]) -> Result<Vec<u8>, AllocErr
     Ok(bytes)
 }
 
-// Returns the word for a fault of a batch.
+// Returns the word for a fault of a batch in an output line.
 fn word_of_batch_fault(kind: FaultKind) -> &'static str {
     match kind {
         FaultKind::BadHeader => "bad header",
@@ -59,7 +62,8 @@ fn word_of_batch_fault(kind: FaultKind) -> &'static str {
     }
 }
 
-// Runs the input as a batch, and appends its lines and its fault.
+// Executes the input as a batch at the timestamp `moment`, and appends its lines and, if it failed,
+// its fault with the number of decided rows.
 fn execute_batch_command(
     alloc: Global,
     out: &mut String,
@@ -87,8 +91,8 @@ fn execute_batch_command(
     Ok(())
 }
 
-// Serves the input as a stream of requests, and appends the replies and the number of requests, or
-// the fault.
+// Serves the input as a stream of HTTP requests at the timestamp `moment`, and appends the replies
+// and their number, or the word `fault`.
 fn execute_http_command(
     alloc: Global,
     out: &mut String,
@@ -112,8 +116,8 @@ fn execute_http_command(
     Ok(())
 }
 
-// Writes a statement, of the account and the two days in `words`, and appends its lines, its
-// refusal or its fault.
+// Writes the statement of the account from and to the days in `words`, and appends its lines, and
+// its refusal or the word `fault` if it failed.
 fn execute_statement_command(
     alloc: Global,
     out: &mut String,
@@ -139,7 +143,8 @@ fn execute_statement_command(
     }
 }
 
-// Writes the explanation that `words` name, and appends its lines, its refusal or its fault.
+// Writes the explanation that `words` request, and appends its lines, and its refusal or the word
+// `fault` if it failed.
 fn execute_explain_command(
     alloc: Global,
     out: &mut String,
@@ -165,7 +170,8 @@ fn execute_explain_command(
     }
 }
 
-// Appends the result of an audit or of an adoption.
+// Appends the result of an audit or of an adoption: `ok`, the first condition that fails, or the
+// word `fault`.
 fn append_audit_result(out: &mut String, audited: Result<(), Fault>) -> Result<(), Failed> {
     match audited {
         Ok(()) => append_output_line(out, "ok"),
@@ -177,7 +183,8 @@ fn append_audit_result(out: &mut String, audited: Result<(), Fault>) -> Result<(
     }
 }
 
-// Audits the open desk or database, and appends the result. A database remains without a desk.
+// Audits the open desk, or the open database by adopting it, appends the result, and returns what
+// was open. A database remains without a desk.
 fn execute_audit_command(alloc: Global, out: &mut String, place: Place) -> Result<Place, Failed> {
     match place {
         Place::Open(mut desk) => {
@@ -193,7 +200,7 @@ fn execute_audit_command(alloc: Global, out: &mut String, place: Place) -> Resul
     }
 }
 
-// Returns the open database without its desk.
+// Returns the open database without its desk, or `Nothing` if nothing is open.
 fn database_without_desk(place: Place) -> Place {
     match place.into_conn() {
         Some(conn) => Place::Database(conn),
@@ -201,7 +208,8 @@ fn database_without_desk(place: Place) -> Place {
     }
 }
 
-// Adopts the open database, appends the result, and returns its desk or the database.
+// Adopts the open database, appends the result, and returns its desk, or the database if the
+// adoption failed.
 fn execute_adopt_command(alloc: Global, out: &mut String, place: Place) -> Result<Place, Failed> {
     match place.into_conn() {
         Some(conn) => {
@@ -213,7 +221,7 @@ fn execute_adopt_command(alloc: Global, out: &mut String, place: Place) -> Resul
     }
 }
 
-// Executes an SQL statement of another program, and appends a line if it fails.
+// Executes an SQL statement, as another program would, and appends an output line if it fails.
 fn execute_sql_statement(
     out: &mut String,
     conn: &mut Connection<MemStore>,
@@ -230,7 +238,8 @@ fn execute_sql_statement(
     }
 }
 
-// Executes the input lines as SQL statements of another program, on the database without its desk.
+// Executes each input line as an SQL statement, as another program would, on the database without
+// its desk. Returns the database.
 fn execute_sql_command(out: &mut String, place: Place, pieces: &[Piece]) -> Result<Place, Failed> {
     match place.into_conn() {
         Some(mut conn) => {
@@ -243,7 +252,8 @@ fn execute_sql_command(out: &mut String, place: Place, pieces: &[Piece]) -> Resu
     }
 }
 
-// Appends the rows of all tables, and adopts the database again.
+// Appends the rows of all tables, adopts the database again, and returns its desk, or the database
+// if the adoption failed.
 fn execute_tables_command(alloc: Global, out: &mut String, place: Place) -> Result<Place, Failed> {
     match place.into_conn() {
         Some(mut conn) => {
@@ -255,7 +265,8 @@ fn execute_tables_command(alloc: Global, out: &mut String, place: Place) -> Resu
     }
 }
 
-// Executes a command that needs an open desk, and appends its output lines.
+// Executes a command that needs an open desk, given by its first word `verb`, the other words and
+// its input lines, and appends its output lines.
 fn execute_desk_command(
     alloc: Global,
     out: &mut String,

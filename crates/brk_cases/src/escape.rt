@@ -3,20 +3,25 @@
 use crate::failed::Failed;
 use std::alloc::{AllocError, Global};
 
-/// The bytes of an input line.
+/// An input line of a transcript, without its escapes.
 #[derive(Drop)]
 pub struct Piece {
+    /// The bytes of the line.
     pub bytes: Vec<u8>,
-    /// Whether a line feed follows them.
+    /// True if a line feed follows the bytes.
     pub has_feed: bool,
 }
 
-// The part of an escape that was read.
+// The part of an escape that was read so far.
 #[derive(Clone, Copy)]
 enum Escape {
+    // No escape was begun.
     Nothing,
+    // A backslash.
     Backslash,
+    // A backslash and `x`.
     Hex,
+    // A backslash, `x`, and a hexadecimal digit with this value.
     Digit(u8),
 }
 
@@ -26,8 +31,9 @@ fn value_of_hex_digit(byte: u8) -> u8 {
     u8::try_from(value).unwrap_or(0)
 }
 
-// Reads one byte of an input line: appends the byte that it completes, and returns the escape that
-// it begins or continues.
+// Reads one byte of an input line after the part of an escape that `read` names. Appends the byte
+// that it completes, if any, and returns the part of an escape that was read after it. Fails only
+// if memory runs out.
 fn unescape_byte(bytes: &mut Vec<u8>, read: Escape, byte: u8) -> Result<Escape, AllocError> {
     match (read, byte) {
         (Escape::Nothing, b'\\') => return Ok(Escape::Backslash),
@@ -40,8 +46,8 @@ fn unescape_byte(bytes: &mut Vec<u8>, read: Escape, byte: u8) -> Result<Escape, 
     Ok(Escape::Nothing)
 }
 
-/// Returns the bytes of an input line without its escapes. A single backslash at its end means that
-/// no line feed follows.
+/// Returns the bytes of an input line without its escapes, and whether a line feed follows: a
+/// single backslash at the end of the line means that none does. Fails only if memory runs out.
 pub fn unescape_input_line(alloc: Global, text: &str) -> Result<Piece, AllocError> {
     let mut bytes = Vec::new(alloc);
     let mut read = Escape::Nothing;
@@ -54,7 +60,8 @@ pub fn unescape_input_line(alloc: Global, text: &str) -> Result<Piece, AllocErro
     })
 }
 
-// Appends text with the escapes of an output line; within a record a bar is escaped too.
+// Appends a text with the escapes of an output line; if `in_record` is true, a bar is escaped too.
+// Fails only if memory runs out.
 fn append_escaped_text(out: &mut String, text: &str, in_record: bool) -> Result<(), Failed> {
     for c in text.chars() {
         match c {
@@ -68,8 +75,8 @@ fn append_escaped_text(out: &mut String, text: &str, in_record: bool) -> Result<
     Ok(())
 }
 
-/// Appends bytes with the escapes of an output line; within a record a bar is escaped too, and so
-/// is a byte that is no part of a UTF-8 character.
+/// Appends bytes with the escapes of an output line; a byte that is no part of a UTF-8 character is
+/// escaped too, and if `in_record` is true, a bar. Fails only if memory runs out.
 pub fn append_escaped_bytes(out: &mut String, bytes: &[u8], in_record: bool) -> Result<(), Failed> {
     let mut rest = bytes;
     for _ in 0..bytes.len() {
@@ -88,8 +95,9 @@ pub fn append_escaped_bytes(out: &mut String, bytes: &[u8], in_record: bool) -> 
     Ok(())
 }
 
-/// Appends written bytes as output lines: one for each line feed, and one that ends in a single
-/// backslash for the bytes after the last.
+/// Appends written bytes as output lines: one for the bytes before each line feed, and one that
+/// ends in a single backslash for the bytes after the last line feed, if there are any. Fails only
+/// if memory runs out.
 pub fn append_written_bytes(out: &mut String, bytes: &[u8]) -> Result<(), Failed> {
     for piece in bytes.split_inclusive(|byte| *byte == b'\n') {
         out.push_str("> ")?;
@@ -105,7 +113,7 @@ pub fn append_written_bytes(out: &mut String, bytes: &[u8]) -> Result<(), Failed
     Ok(())
 }
 
-/// Appends an output line.
+/// Appends the text `line` as an output line. Fails only if memory runs out.
 pub fn append_output_line(out: &mut String, line: &str) -> Result<(), Failed> {
     writeln!(out, "> {line}")?;
     Ok(())

@@ -13,7 +13,7 @@ pub enum Failed {
 }
 
 impl Failed {
-    /// Returns the line for standard error.
+    /// Returns the line that the program writes to standard error for this failure.
     pub fn stderr_line(self) -> &'static str {
         match self {
             Failed::Input => "brk_cases: input\n",
@@ -24,18 +24,22 @@ impl Failed {
 }
 
 impl From<AllocError> for Failed {
+    /// Returns `Memory`: an allocation was refused.
     fn from(_: AllocError) -> Failed {
         Failed::Memory
     }
 }
 
 impl From<fmt::Error> for Failed {
+    /// Returns `Memory`: text is formatted only into memory, so a failure to format is a refused
+    /// allocation.
     fn from(_: fmt::Error) -> Failed {
         Failed::Memory
     }
 }
 
 impl<T: Drop> From<AllocFailed<T>> for Failed {
+    /// Returns `Memory`: an allocation was refused.
     fn from(_: AllocFailed<T>) -> Failed {
         Failed::Memory
     }

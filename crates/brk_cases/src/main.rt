@@ -1,6 +1,6 @@
-//! Replays transcripts: reads them from standard input, executes their commands, and prints them
-//! again with its own output lines in place of those that it read. A desk that answers as a
-//! transcript says prints the bytes of the transcript.
+//! Replays transcripts: reads one from standard input, executes its commands, and prints it again
+//! with new output lines in place of the old ones. If the desk answers as the transcript states,
+//! the bytes that are printed equal the transcript.
 #![tactic(auto)]
 
 mod commands;
@@ -16,7 +16,8 @@ use failed::Failed;
 use std::io;
 use std::process::ExitCode;
 
-// Reads a transcript from standard input and writes its replay to standard output.
+// Reads a transcript from standard input and writes its replay to standard output. Fails with the
+// reason why the replay ended early.
 fn replay_standard_input(rt: &HostRuntime) -> Result<(), Failed> {
     let Ok(text) = io::read_to_string(rt.alloc(), rt.reader()) else {
         return Err(Failed::Input);
@@ -28,8 +29,8 @@ fn replay_standard_input(rt: &HostRuntime) -> Result<(), Failed> {
     }
 }
 
-// Replays the transcript. Writes the reason of a failure to standard error and returns the exit
-// status.
+// Runs the program: replays the transcript, writes the reason of a failure to standard error, and
+// returns the exit status, 0 without a failure.
 fn main(rt: HostRuntime) -> ExitCode {
     match replay_standard_input(&rt) {
         Ok(()) => ExitCode::SUCCESS,

@@ -6,17 +6,19 @@ use brk_money::Fault;
 use sqlite::{Connection, MemStore};
 use std::alloc::Global;
 
-/// The database or the desk that is open, if any.
+/// The database or the desk that a transcript has open.
 #[derive(Drop)]
 pub enum Place {
+    /// Neither is open.
     Nothing,
     /// A database without a desk.
     Database(Connection<MemStore>),
+    /// A desk.
     Open(Desk<MemStore>),
 }
 
 impl Place {
-    /// Returns a new database without tables, or `Nothing` if it is out of memory.
+    /// Creates an open database in memory without tables, or returns `Nothing` if memory runs out.
     pub fn with_empty_database(alloc: Global) -> Place {
         match Connection::open_in_memory(alloc) {
             Ok(conn) => Place::Database(conn),
@@ -24,7 +26,8 @@ impl Place {
         }
     }
 
-    /// Returns a new desk, or `Nothing` if it cannot be created.
+    /// Creates an open desk in memory, with empty tables, or returns `Nothing` if it cannot be
+    /// created.
     pub fn with_new_desk(alloc: Global) -> Place {
         let Ok(conn) = Connection::open_in_memory(alloc) else {
             return Place::Nothing;
@@ -45,8 +48,8 @@ impl Place {
     }
 }
 
-/// Adopts the database of a connection. Returns its desk if its rows pass the audit, otherwise the
-/// database with the fault.
+/// Adopts the database of a connection. Returns its desk and `Ok` if its rows pass the audit,
+/// otherwise the database without a desk, and the fault.
 pub fn adopt_database(alloc: Global, conn: Connection<MemStore>) -> (Place, Result<(), Fault>) {
     match Store::adopt(alloc, conn) {
         Ok(store) => (Place::Open(Desk::new(store)), Ok(())),

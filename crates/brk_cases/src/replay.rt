@@ -6,15 +6,16 @@ use crate::failed::Failed;
 use crate::place::Place;
 use std::alloc::Global;
 
-// A command and its input lines, which is executed at its next other line.
+// The pending command of a replay with its input lines so far. It is executed when the replay
+// reaches the next line that is neither input nor output.
 #[derive(Drop)]
 struct Due<'a> {
     command: &'a str,
     pieces: Vec<Piece>,
 }
 
-// Executes the pending command, if there is one, and returns the desk or database that is open
-// after it.
+// Executes the pending command, if there is one, appends its output lines, and returns the desk or
+// the database that is open after it.
 fn execute_pending_command(
     alloc: Global,
     out: &mut String,
@@ -40,7 +41,8 @@ struct Replay<'a> {
 }
 
 impl<'a> Replay<'a> {
-    // Adds an input line to the pending command, if there is one.
+    // Returns the replay with an input line added to its pending command; unchanged if there is
+    // none. Fails only if memory runs out.
     fn with_input_line(self, alloc: Global, text: &str) -> Result<Replay<'a>, Failed> {
         let Replay { place, due } = self;
         let Some(mut due) = due else {
@@ -53,8 +55,8 @@ impl<'a> Replay<'a> {
         })
     }
 
-    // Executes the pending command, copies the line, and makes it the pending command unless it is
-    // a comment or empty.
+    // Executes the pending command, copies the line `line` to the replay, and makes it the pending
+    // command unless it is a comment or empty.
     fn execute_pending_and_start_next(
         self,
         alloc: Global,
@@ -75,8 +77,8 @@ impl<'a> Replay<'a> {
         Ok(Replay { place, due })
     }
 
-    // Processes the next line: drops an output line, adds an input line to the pending command, and
-    // begins with any other line.
+    // Processes the next line of a transcript: drops an output line; adds an input line to the
+    // pending command; executes the pending command at any other line, which begins the next one.
     fn process_line(
         self,
         alloc: Global,
@@ -96,10 +98,10 @@ impl<'a> Replay<'a> {
     }
 }
 
-/// Returns the transcript with new output lines, which its commands write now, in place of the old
-/// ones.
+/// Executes the commands of a transcript, and returns the transcript with their output lines in
+/// place of the old ones.
 ///
-/// Fails if it is out of memory.
+/// Fails only if memory runs out.
 pub fn replay_transcript(alloc: Global, text: &str) -> Result<String, Failed> {
     let mut out = String::new(alloc);
     let mut replay = Replay {

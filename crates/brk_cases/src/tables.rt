@@ -7,8 +7,8 @@ use sqlite::types::ValueRef;
 use sqlite::{Connection, MemStore, Row};
 use std::alloc::Global;
 
-// Appends the value of a column, with a bar before each but the first. A null or any value that is
-// neither a whole number nor text is `\x00`.
+// Appends the value of the column at index `at` of a row, with a bar before each but the first. A
+// value that is neither a whole number nor text, for example a null, is written as `\x00`.
 fn append_cell_text(out: &mut String, row: &Row, at: usize) -> Result<(), Failed> {
     if at > 0 {
         out.push_str("|")?;
@@ -21,7 +21,8 @@ fn append_cell_text(out: &mut String, row: &Row, at: usize) -> Result<(), Failed
     Ok(())
 }
 
-// Appends a row of a table as an output line.
+// Appends a row of a table as an output line: the name of the table, and the values of the columns,
+// separated by bars.
 fn append_table_row(out: &mut String, table: &str, row: &Row) -> Result<(), Failed> {
     write!(out, "> {table} ")?;
     for at in 0..row.column_count() {
@@ -31,7 +32,8 @@ fn append_table_row(out: &mut String, table: &str, row: &Row) -> Result<(), Fail
     Ok(())
 }
 
-// Appends the rows of a table, sorted by its key, or a line if there is no such table.
+// Appends the rows of a table, sorted by the columns `key`, each as an output line, or a line that
+// there is no such table.
 fn append_rows_of_table(
     alloc: Global,
     out: &mut String,
@@ -51,7 +53,7 @@ fn append_rows_of_table(
     Ok(())
 }
 
-/// Appends the rows of all tables, each sorted by its key.
+/// Appends the rows of all tables of a desk, each table sorted by its key, as output lines.
 pub fn append_rows_of_all_tables(
     alloc: Global,
     out: &mut String,

@@ -10,13 +10,13 @@ use brk_view_text::view_fields;
 use sqlite::MemStore;
 use std::alloc::{AllocError, Global};
 
-/// Appends the output line of a refusal.
+/// Appends the output line of a refusal: `no` and its number.
 pub fn append_refusal_line(out: &mut String, refusal: Refusal) -> Result<(), Failed> {
     writeln!(out, "> no {}", refusal.number())?;
     Ok(())
 }
 
-// Appends a record as an output line.
+// Appends the fields of a record as an output line, separated by bars.
 fn append_record_line(out: &mut String, record: &[String]) -> Result<(), Failed> {
     let mut sign = "> ";
     for field in record {
@@ -28,7 +28,7 @@ fn append_record_line(out: &mut String, record: &[String]) -> Result<(), Failed>
     Ok(())
 }
 
-// Appends the records of a view as output lines.
+// Appends each record of a view as an output line.
 fn append_view_lines(alloc: Global, out: &mut String, view: &View) -> Result<(), Failed> {
     match view_fields(alloc, view) {
         Ok(records) => {
@@ -41,7 +41,8 @@ fn append_view_lines(alloc: Global, out: &mut String, view: &View) -> Result<(),
     }
 }
 
-// Returns the bytes of the input lines, in order.
+// Returns the bytes of each input line as a borrowed slice, in order. Fails only if memory runs
+// out.
 fn bytes_of_input_lines(alloc: Global, pieces: &[Piece]) -> Result<Vec<&[u8]>, AllocError> {
     let mut texts = Vec::new(alloc);
     for piece in pieces {
@@ -50,8 +51,8 @@ fn bytes_of_input_lines(alloc: Global, pieces: &[Piece]) -> Result<Vec<&[u8]>, A
     Ok(texts)
 }
 
-// Parses a query from a view's name and its arguments, and executes it on a desk. Returns the view
-// or the refusal.
+// Parses a query from the name of a view and its arguments, and executes it on a desk. Returns the
+// view or the refusal, or fails with a fault.
 fn parse_and_execute_query(
     alloc: Global,
     desk: &mut Desk<MemStore>,
@@ -64,8 +65,8 @@ fn parse_and_execute_query(
     }
 }
 
-/// Executes the query of a view on a desk, with the input lines as its arguments, and appends the
-/// records, the refusal or the fault.
+/// Executes the query for the view `view` on a desk, with the input lines as its arguments, and
+/// appends the records, the refusal, or the word `fault`.
 pub fn execute_ask_command(
     alloc: Global,
     out: &mut String,
@@ -81,8 +82,8 @@ pub fn execute_ask_command(
     }
 }
 
-// Returns the form of a printed view: as JSON for `json` and `json-heads`, with the names of the
-// fields for `csv-heads` and `json-heads`.
+// Returns the form of a printed view that `word` names: as JSON for `json` and `json-heads`,
+// otherwise as CSV, and with the names of the fields for `csv-heads` and `json-heads`.
 fn form_of_printed_view(word: &str) -> Form {
     Form {
         json: word == "json" || word == "json-heads",
@@ -90,8 +91,8 @@ fn form_of_printed_view(word: &str) -> Form {
     }
 }
 
-/// Prints a view of a desk and appends the text: the words are the form and the view, the input
-/// lines the arguments.
+/// Prints a view of a desk, and appends the text, the refusal, or the word `fault`. `words` are the
+/// form and the name of the view, the input lines its arguments.
 pub fn execute_print_command(
     alloc: Global,
     out: &mut String,

@@ -25,8 +25,8 @@ fn command_line_arguments(rt: &HostRuntime) -> Result<Vec<String>, UsageFault> {
     }
 }
 
-// Executes the job of the command-line arguments, from standard input to standard output, and
-// returns the outcome.
+// Executes the job that the command-line arguments request, from standard input to standard output,
+// and returns the outcome of the program.
 fn execute_command_line(rt: &HostRuntime) -> Ending {
     match command_line_arguments(rt) {
         Ok(words) => execute_arguments(rt, words, rt.reader(), &mut rt.stdout()),

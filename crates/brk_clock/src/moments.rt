@@ -16,7 +16,7 @@ pub enum Moments<'a, R> {
 }
 
 /// Returns the stamp of a time of the machine: its whole milliseconds since 1970-01-01 UTC, or the
-/// greatest stamp if they are more.
+/// greatest stamp if it is smaller.
 pub fn stamp_of_system_time(time: SystemTime) -> Stamp
     ensures { result ≡ stamp_of_time time }
 {
@@ -29,8 +29,8 @@ pub fn stamp_of_system_time(time: SystemTime) -> Stamp
     }
 }
 
-// Reads the machine's clock. Returns its stamp, or 0 if the clock cannot be read. No contract
-// states this.
+// Reads the machine's clock and returns the stamp of its time, or 0 if the clock cannot be read. No
+// contract states this.
 fn read_machine_clock<R: rt::Clock>(clock: &R) -> Stamp {
     match SystemTime::now(clock) {
         Ok(time) => stamp_of_system_time(time),
@@ -39,7 +39,8 @@ fn read_machine_clock<R: rt::Clock>(clock: &R) -> Stamp {
 }
 
 impl<'a, R: rt::Clock> Moments<'a, R> {
-    /// Returns a clock that always returns `at`, or the machine's clock if there is no `at`.
+    /// Creates a clock that always returns the timestamp `at`, or, without `at`, one that reads the
+    /// machine's clock `clock`.
     pub fn new(clock: &'a R, at: Option<Stamp>) -> Moments<'a, R>
         ensures { result ≡ program_clock clock.entry at }
     {
@@ -55,7 +56,7 @@ impl<'a, R: rt::Clock> Moments<'a, R> {
 impl<R: rt::Clock> Clock for Moments<'_, R> {
     ghost gives = { ReturnsReading };
 
-    /// Returns the fixed timestamp, or the reading of the machine's clock.
+    /// Returns the fixed timestamp, or a reading of the machine's clock, 0 if that cannot be read.
     fn now(&mut self) -> Stamp {
         match self {
             Moments::At(stamp) => *stamp,

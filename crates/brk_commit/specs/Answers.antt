@@ -1,5 +1,5 @@
--- The answer of the model that an answer represents, and the results of a call that commits nothing
--- or a command.
+-- The answer of the model that the answer of a call represents, and the results of a call by which
+-- it commits a command or nothing.
 use Rattle.std.specs.Prelude.{Result, Ok, Err, string_bytes}
 use Rattle.brk_money.specs.declared.fault.Fault.{Fault}
 use Rattle.brk_model.specs.Commands.{Answer, Done, Again, Refused}
@@ -7,7 +7,8 @@ use Rattle.brk_plans.specs.Replies.{abstract_reply}
 use Rattle.brk_commit.specs.declared.answer.Answer as booked
 use Rattle.brk_commit.specs.declared.answer.Answer.TheVariants as given
 
--- The answer of the model that the answer of a call represents.
+-- The answer of the model that the answer of a call represents: `Done` with the reply, `Again` with
+-- the bytes of the stored reply, or `Refused` with the refusal.
 abbrev pub model_answer : booked.Answer → Answer
 model_answer (given.Done reply) = Done (abstract_reply reply)
 model_answer (given.Again line) = Again (string_bytes line)

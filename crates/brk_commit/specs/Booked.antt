@@ -18,38 +18,39 @@ use Rattle.brk_store.specs.Holds.{IsDiskContentOfRows, WasOpenAndIsUnchanged, Cr
 use Rattle.brk_commit.specs.Answers.{IsNotDoneResult, IsDoneResult, model_answer}
 use Rattle.brk_commit.specs.declared.answer.Answer as booked
 
--- For every base that the store represented before the call, `answer` is the answer of the model's
--- step for the command (`keyed_step`) at the clock reading `now` and under the key, and the store
--- represents the base after this step.
+-- For every base that the store represented before the call (in the state `old`), `answer` is the
+-- answer of the model's step for the command (`keyed_step`) at the clock reading `now`, under `key`
+-- or without one, and the store represents the base after this step in the state `new`.
 abbrev pub RefinesStep : {S : Type 0} → Ghosts S → Held S → Held S → ℕ → Command → Option Key → booked.Answer → Type 0
 RefinesStep g old new now command key answer =
     (base : Base) → Represents g old base → (after : Base) × Represents g new after × (keyed_step base now command key ≡ (model_answer answer, after))
 
--- The store `new` represents every base that the store `old` represents.
+-- The store in the state `new` represents every base that it represents in the state `old`.
 abbrev pub PreservesRepresentation : {S : Type 0} → Ghosts S → Held S → Held S → Type 0
 PreservesRepresentation g old new = (base : Base) → Represents g old base → Represents g new base
 
--- The base after the command was executed on `base` at the clock reading `now` under its key, or
--- without one.
+-- The base after the model executes `command` on `base` at the clock reading `now`, under `key` or
+-- without one. It is `base` itself if the command is refused or repeated.
 abbrev pub base_after_call : Base → ℕ → Command → Option Key → Base
 base_after_call base now command key = (keyed_step base now command key).1
 
--- The store was open, and for every base that it represented, `trees` are the disk contents of a
--- database that contains the tables of the base after the command, and the texts of these tables
--- are UTF-8.
+-- The store was open in the state `old`, and for every base that it represented, `trees` are the
+-- disk contents of a database that contains the tables of the base after the command, and the texts
+-- of these tables are UTF-8.
 abbrev pub IsDiskContentAfterCommand : {S : Type 0} → Ghosts S → Held S → ℕ → Command → Option Key → Trees → Type 0
 IsDiskContentAfterCommand g old now command key trees =
     IsTrue (state g old).is_open × ((base : Base) → Represents g old base → IsDiskContentOfRows (sheets (base_after_call base now command key)) trees)
     × ((base : Base) → Represents g old base → IsTrue (has_utf8_texts (sheets (base_after_call base now command key))))
 
--- The postcondition of a call that executes a command. At `Ok` the call refines the model's step
--- for the command. At an error the open store is unchanged, although a crash may expose the command
--- as committed. `brk_store/specs/Holds.antt` explains the terms of the clauses.
+-- The postcondition of a call that executes a command, between the states `old` and `new` of the
+-- store. At `Ok` the call refines the model's step for the command. At an error the open store is
+-- unchanged, although a crash may expose the command as committed. `brk_store/specs/Holds.antt`
+-- explains the terms of the clauses; `g` are the ghosts of the storage `S`.
 pub record CallPost {S : Type 0} (g : Ghosts S) (old new : Held S) (now : ℕ) (command : Command) (key : Option Key)
     (result : Result booked.Answer Fault) : Type 0 where
   -- At `Ok` the call refines the model's step. Vacuous if the disk assumption fails.
   pub answered : HasCleanDisk (state g new) → IfOk result (RefinesStep g old new now command key)
-  -- At an error the store represents every base that it represented.
+  -- At an error the store represents every base that it represented before the call.
   pub same_bases_at_error : OnErr result (PreservesRepresentation g old new)
   -- The error is `Memory` or `Store`.
   pub fault : IfErr result IsCallFault

@@ -1,13 +1,13 @@
 use brk_money::Refusal;
 use brk_trade::Reply;
 
-/// The answer to a command.
+/// The answer of a desk to a command.
 #[derive(Drop)]
 pub enum Answer {
-    /// The command was accepted and committed. Contains its reply.
+    /// The command was accepted and committed, with this reply.
     Done(Reply),
-    /// The same command was accepted before under the same key. Contains the stored reply.
+    /// The same command was accepted before under the same key, with this stored reply.
     Again(String),
-    /// The command was refused, and nothing was changed.
+    /// The command was refused with this refusal, and nothing was changed.
     Refused(Refusal),
 }

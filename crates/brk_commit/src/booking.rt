@@ -19,7 +19,7 @@ use brk_store::Store;
 use sqlite::Alter;
 use std::alloc::Global;
 
-// Proves that a command and its key, if it has one, are well-formed. Does nothing at run time.
+// Proves that a command is well-formed, and its key if it has one. Does nothing at run time.
 fn prove_command_and_key_are_well_formed(command: &Command, key: Option<&Key>)
     ensures command { MeetsAuditFormats (abstract_command command.now) }
     ensures key { IfSome (optional_model_key (option_copied key.entry)) IsWellFormedKey }

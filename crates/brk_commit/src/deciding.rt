@@ -18,8 +18,8 @@ use brk_update_decisions::decide_update;
 use sqlite::Alter;
 use std::alloc::Global;
 
-// Decides on a command at the clock reading `now`: returns its plan, or the refusal. Changes
-// nothing. Fails with `Memory` or `Store` only.
+// Decides on a command at the clock reading `now`: reads the tables and returns the plan of the
+// command, or its refusal. Changes nothing. Fails with `Memory` or `Store` only.
 pub(crate) fn decide_command<S: Alter>(
     alloc: Global,
     store: &mut Store<S>,

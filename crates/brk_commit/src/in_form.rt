@@ -7,7 +7,8 @@ ghost use Rattle.brk_plans.specs.Commands as books;
 ghost use Rattle.brk_commands.specs.Commands.{abstract_command};
 ghost use Rattle.brk_model.specs.Commands.{AddAccount, AddBand, AddBroker, AddCharge, AddCustomer, AddCustomerTax, AddPermission, AddSecurity, AddTaxRate};
 ghost use Rattle.brk_orders.specs.Records.{movement_command, abstract_order, abstract_ticks, text_update_command};
-ghost use Rattle.brk_ref.specs.Records.{abstract_account, abstract_band, abstract_broker, abstract_charge, abstract_customer, abstract_customer_tax, abstract_key, abstract_listing, abstract_permission, abstract_tax_rate};
+ghost use Rattle.brk_ref.specs.Records.{abstract_account, abstract_band, abstract_broker, abstract_charge, abstract_customer, abstract_customer_tax};
+ghost use Rattle.brk_ref.specs.Records.{abstract_key, abstract_listing, abstract_permission, abstract_tax_rate};
 ghost use Rattle.brk_invariant_theorems.specs.InForm.{MeetsAuditFormats, IsWellFormedKey, OrderMeetsAuditFormats, TickMeetsAuditFormats};
 
 use brk_commands::Command;
@@ -15,7 +16,7 @@ use brk_orders::{Direction, Movement, Order, Tick, Update};
 use brk_plans::Reference;
 use brk_ref::{Account, Band, Broker, Charge, Customer, Key, Listing, Permission, Tax};
 
-// Proves that the command that adds a broker is well-formed. Does nothing at run time.
+// Proves that the command that adds this broker is well-formed. Does nothing at run time.
 fn prove_broker_is_well_formed(broker: &Broker)
     ensures { MeetsAuditFormats (AddBroker (abstract_broker broker.now)) }
 {
@@ -23,7 +24,7 @@ fn prove_broker_is_well_formed(broker: &Broker)
     broker.name.prove_text_has_its_format();
 }
 
-// Proves that the command that adds a customer is well-formed. Does nothing at run time.
+// Proves that the command that adds this customer is well-formed. Does nothing at run time.
 fn prove_customer_is_well_formed(customer: &Customer)
     ensures { MeetsAuditFormats (AddCustomer (abstract_customer customer.now)) }
 {
@@ -34,7 +35,7 @@ fn prove_customer_is_well_formed(customer: &Customer)
     customer.first_name.prove_text_has_its_format();
 }
 
-// Proves that the command that adds an account is well-formed. Does nothing at run time.
+// Proves that the command that adds this account is well-formed. Does nothing at run time.
 fn prove_account_is_well_formed(account: &Account)
     ensures { MeetsAuditFormats (AddAccount (abstract_account account.now)) }
 {
@@ -43,7 +44,7 @@ fn prove_account_is_well_formed(account: &Account)
     let _ = account.opening.get();
 }
 
-// Proves that the command that adds a permission is well-formed. Does nothing at run time.
+// Proves that the command that adds this permission is well-formed. Does nothing at run time.
 fn prove_permission_is_well_formed(permission: &Permission)
     ensures { MeetsAuditFormats (AddPermission (abstract_permission permission.now)) }
 {
@@ -53,7 +54,8 @@ fn prove_permission_is_well_formed(permission: &Permission)
     permission.first_name.prove_text_has_its_format();
 }
 
-// Proves that the command that adds a listing is well-formed. Does nothing at run time.
+// Proves that the command that adds this security with its first price is well-formed. Does nothing
+// at run time.
 fn prove_listing_is_well_formed(listing: &Listing)
     ensures { MeetsAuditFormats (AddSecurity (abstract_listing listing.now)) }
 {
@@ -64,7 +66,7 @@ fn prove_listing_is_well_formed(listing: &Listing)
     let _ = listing.price.get();
 }
 
-// Proves that the command that adds a charge is well-formed. Does nothing at run time.
+// Proves that the command that adds this charge is well-formed. Does nothing at run time.
 fn prove_charge_is_well_formed(charge: &Charge)
     ensures { MeetsAuditFormats (AddCharge (abstract_charge charge.now)) }
 {
@@ -72,7 +74,7 @@ fn prove_charge_is_well_formed(charge: &Charge)
     let _ = charge.amount.get();
 }
 
-// Proves that the command that adds a band is well-formed. Does nothing at run time.
+// Proves that the command that adds this commission band is well-formed. Does nothing at run time.
 fn prove_band_is_well_formed(band: &Band)
     ensures { MeetsAuditFormats (AddBand (abstract_band band.now)) }
 {
@@ -83,7 +85,7 @@ fn prove_band_is_well_formed(band: &Band)
     let _ = band.rate.get();
 }
 
-// Proves that the command that adds a tax is well-formed. Does nothing at run time.
+// Proves that the command that adds this tax rate is well-formed. Does nothing at run time.
 fn prove_tax_is_well_formed(tax: &Tax)
     ensures { MeetsAuditFormats (AddTaxRate (abstract_tax_rate tax.now)) }
 {
@@ -92,7 +94,8 @@ fn prove_tax_is_well_formed(tax: &Tax)
     let _ = tax.rate.get();
 }
 
-// Proves that the command that adds a reference record is well-formed. Does nothing at run time.
+// Proves that the command that adds this reference record, for example a broker or a charge, is
+// well-formed. Does nothing at run time.
 fn prove_reference_is_well_formed(reference: &Reference)
     ensures { MeetsAuditFormats (books.command_adding_record reference.now) }
 {

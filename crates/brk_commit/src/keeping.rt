@@ -40,8 +40,9 @@ pub(crate) fn read_stored_reply<S: Alter>(
     }
 }
 
-// Returns the answer to a command under whose key `kept` is stored: the stored reply if the command
-// is the same, otherwise refusal 19. Fails with `Memory` only.
+// Returns the answer to a command whose key already has the stored row `kept`: `Again` with the
+// stored reply if the command is the stored one, otherwise `Refused` with refusal 19. Fails with
+// `Memory` only.
 pub(crate) fn answer_retry(alloc: Global, command: &Command, kept: Kept) -> Result<Answer, Fault>
     ensures answer { IfOk result (λ answer. (base : Base)
         → answer_to_repeated_row base (abstract_command command.now) (abstract_kept_row kept) ≡ (model_answer answer, base)) }
@@ -55,8 +56,8 @@ pub(crate) fn answer_retry(alloc: Global, command: &Command, kept: Kept) -> Resu
     }
 }
 
-// Returns the plan with one more change, which adds the row of KEPT with the command and its reply
-// under the key. Without a key, returns the plan unchanged. Fails with `Memory` only.
+// Returns `plan` with one more change, which adds the row of KEPT that stores the command and its
+// reply under the key. Without a key, returns `plan` unchanged. Fails with `Memory` only.
 pub(crate) fn plan_with_stored_reply(
     alloc: Global,
     plan: Plan,
@@ -65,7 +66,8 @@ pub(crate) fn plan_with_stored_reply(
 ) -> Result<Plan, Fault>
     ensures reply { IfOk result (λ kept. kept.reply ≡ plan.reply) }
     ensures rows { IfOk result (λ kept. (t : Tables) → tables_after_changes kept.changes.items t
-        ≡ with_stored_command (optional_model_key (option_copied key.entry)) (abstract_command command.now) (abstract_reply plan.reply) (tables_after_changes plan.changes.items t)) }
+        ≡ with_stored_command (optional_model_key (option_copied key.entry)) (abstract_command command.now)
+        (abstract_reply plan.reply) (tables_after_changes plan.changes.items t)) }
     ensures fault { OnErr result (result ≡ Err Memory) }
 {
     let Some(key) = key else {

@@ -1,5 +1,5 @@
--- From the result of a desk's call to its outcome (`Outcome` of this crate), and from that to the
--- outcome of the model (`run.Outcome` of brk_model).
+-- The outcome of a desk's call for each result (`Outcome` of this crate), and the outcome of the
+-- model that it represents (`run.Outcome` of brk_model).
 use Rattle.std.specs.Prelude.{Result, Ok, Err}
 use Rattle.brk_money.specs.declared.fault.Fault.{Fault}
 use Rattle.brk_money.specs.declared.refusal.Refusal.{Refusal}
@@ -11,20 +11,22 @@ use Rattle.brk_commit.specs.declared.answer.Answer as desk
 use Rattle.brk_desk.specs.declared.call.Outcome.{Outcome}
 use Rattle.brk_desk.specs.declared.call.Outcome.TheVariants as came
 
--- The outcome of the model that the outcome of a desk's call represents. An answer becomes the
--- answer of the model, and a view the list of its records of texts.
+-- The outcome of the model that the outcome of a desk's call represents. It has the answer of the
+-- model for an answer, and the list of records of texts for a view.
 abbrev pub model_outcome : Outcome → run.Outcome
 model_outcome (came.Did answer) = run.Did (model_answer answer)
 model_outcome (came.Saw view) = run.Saw (records_of_view view)
 model_outcome (came.NoView refusal) = run.NoView refusal
 model_outcome (came.Failed fault) = run.Failed fault
 
--- The outcome of a call that executed a command and returned this result: its answer or its fault.
+-- The outcome of a desk's call that executed a command and returned this result: `Did` with its
+-- answer, or `Failed` with its fault.
 abbrev pub outcome_of_command : Result desk.Answer Fault → Outcome
 outcome_of_command (Ok answer) = came.Did answer
 outcome_of_command (Err fault) = came.Failed fault
 
--- The outcome of a call that answered a query with this result: its view, its refusal or its fault.
+-- The outcome of a desk's call that executed a query and returned this result: `Saw` with its view,
+-- `NoView` with its refusal, or `Failed` with its fault.
 abbrev pub outcome_of_query : Result (Result View Refusal) Fault → Outcome
 outcome_of_query (Ok (Ok view)) = came.Saw view
 outcome_of_query (Ok (Err refusal)) = came.NoView refusal

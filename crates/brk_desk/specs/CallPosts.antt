@@ -1,8 +1,9 @@
 -- The postconditions of a desk's calls: a query, a run and an audit. The postcondition of a command
--- is `CallPost` of brk_commit. `brk_store/specs/Holds.antt` explains the terms of their clauses:
--- `state`, `HasCleanDisk`, `is_open`, `Survives` and disk contents (`Trees`). A clause with the
--- premise `HasCleanDisk` for the new state, and the promise on crashes in `survives`, are vacuous
--- if the disk assumption fails after the call.
+-- is `CallPost` of brk_commit. `g` are the ghosts of the storage `S`; `old` and `new` are the
+-- states of the connection before and after a call. `brk_store/specs/Holds.antt` explains the other
+-- terms of the clauses: `state`, `HasCleanDisk`, `is_open`, `Survives` and disk contents (`Trees`).
+-- A clause with the premise `HasCleanDisk` for the new state, and the promise on crashes in
+-- `survives`, are vacuous if the disk assumption fails after the call.
 use Rattle.brk_model.specs.Form.{has_utf8_texts}
 use Rattle.std.specs.Prelude.{◌≡◌, ℕ, List, None, map, length, Result, IfOk, IfErr, IsTrue}
 use Rattle.std.specs.List.{AllByRecursion}
@@ -44,8 +45,8 @@ use Rattle.brk_desk.specs.declared.call.Call.TheVariants as call
 use Rattle.brk_desk.specs.declared.call.Outcome.{Outcome}
 use Rattle.brk_desk.specs.declared.call.Outcome.TheVariants as came
 
--- The postcondition of a query, which writes nothing: the result is that of the model for every
--- base that the store represented, or a fault.
+-- The postcondition of a query, which writes nothing: the result equals that of the model for every
+-- base that the store represented, or it is a fault.
 pub record AskPost {S : Type 0} (g : Ghosts S) (old new : Held S) (query : Query) (result : Result (Result View Refusal) Fault) : Type 0 where
   -- At `Ok` the result, a view or a refusal, equals that of the model for each base that the store
   -- represented. Vacuous if the disk assumption fails.
@@ -67,9 +68,9 @@ pub record AskPost {S : Type 0} (g : Ghosts S) (old new : Held S) (query : Query
   -- If the disk assumption holds after the call, it held before.
   pub clean : HasCleanDisk (state g new) → HasCleanDisk (state g old)
 
--- The call was executed at the clock reading `now` and changed the state `old` to the state `new`.
--- It satisfies the postcondition of its kind, `CallPost` for a command and `AskPost` for a query,
--- with a result whose outcome is `outcome`.
+-- The call `call`, a command or a query, was executed at the clock reading `now`, changed the state
+-- `old` to the state `new`, and had the outcome `outcome`: some result with this outcome satisfies
+-- the postcondition of the call, `CallPost` for a command and `AskPost` for a query.
 abbrev pub OutcomePost : {S : Type 0} → Ghosts S → Held S → Held S → ℕ → Call → Outcome → Type 0
 OutcomePost g old new now (call.Do command key) outcome =
     (result : Result desk.Answer Fault) × (outcome ≡ outcome_of_command result)
@@ -77,8 +78,8 @@ OutcomePost g old new now (call.Do command key) outcome =
 OutcomePost g old new now (call.Ask query) outcome =
     (result : Result (Result View Refusal) Fault) × (outcome ≡ outcome_of_query result) × AskPost g old new (abstract_query query) result
 
--- No outcome is `Did` with the answer `Done`: each outcome is a view, a refusal, a stored reply or
--- a fault.
+-- No outcome acknowledges a change: each is a view, a refusal, a stored reply or a fault, and none
+-- is `Did` with the answer `Done`.
 abbrev pub OutcomesAcknowledgeNothing : List Outcome → Type 0
 OutcomesAcknowledgeNothing outcomes = AllByRecursion AcknowledgesNothing (map model_outcome outcomes)
 
@@ -106,7 +107,7 @@ CrashMayExposeDiskContent g old calls outcomes trees =
 -- state `new`. For every base that the store represented, the calls with their outcomes are a run
 -- of the model (`Run`), and the store represents the base after this run.
 pub record RunPost {S : Type 0} (g : Ghosts S) (old new : Held S) (calls : List (ℕ × Call)) (outcomes : List Outcome) : Type 0 where
-  -- There is one outcome for each call.
+  -- There is exactly one outcome for each call.
   pub count : length outcomes ≡ length calls
   -- The calls refine a run of the model. Vacuous if the disk assumption fails after the calls.
   pub refines_model : HasCleanDisk (state g new) → (base : Base) → Represents g old base
@@ -116,7 +117,7 @@ pub record RunPost {S : Type 0} (g : Ghosts S) (old new : Held S) (calls : List 
   -- If no outcome is `Done` and the database is open after the calls, it was open before and is
   -- unchanged.
   pub same : HasCleanDisk (state g new) → IsTrue (state g new).is_open → OutcomesAcknowledgeNothing outcomes → WasOpenAndIsUnchanged (state g old) (state g new)
-  -- The store is open after the calls only if it was open before.
+  -- If the store is open after the calls, it was open before.
   pub opened : HasCleanDisk (state g new) → IsTrue (state g new).is_open → IsTrue (state g old).is_open
   -- Crash safety: a crash exposes a state that a crash before the calls could expose or, only if
   -- the store was open, the tables of a recoverable base (`IsRecoverableDiskContent`).
@@ -159,10 +160,11 @@ pub record RunGuarantee {S : Type 0} (g : Ghosts S) (old new : Held S) (calls : 
       → HoldsRows g old (tables_upgraded_from_schema (abstract_schema schema) rows) → IsTrue (has_utf8_texts rows) → PassesAudit (abstract_schema schema) rows
       → ReachesAuditedState g new (base_of_tables rows) calls outcomes
 
--- The postcondition of an audit of the desk's store, which writes nothing: it satisfies
--- `AuditPost`; under the disk assumption it does not return `Damaged` if the store represents a
--- base; and the store represents every base that it represented before.
+-- The postcondition of an audit of the desk's store, which writes nothing.
 pub record DeskAuditPost {S : Type 0} (g : Ghosts S) (old new : Held S) (result : Result (Unit {0}) Fault) : Type 0 where
+  -- It satisfies the postcondition of an audit of a store.
   pub audited : AuditPost g old new result
+  -- Under the disk assumption, if the store represents a base, the result is not `Damaged`.
   pub passes : HasCleanDisk (state g new) → (base : Base) → Represents g old base → AuditAnswerSatisfies result (λ failing. failing ≡ None)
+  -- The store represents every base that it represented before the audit.
   pub same_bases : PreservesRepresentation g old new

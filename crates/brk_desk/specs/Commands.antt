@@ -1,4 +1,5 @@
--- From a desk's call (`Call` of this crate) to the call of the model (`run.Call` of brk_model).
+-- The call of the model (`run.Call` of brk_model) that a desk's call (`Call` of this crate)
+-- represents.
 use Rattle.std.specs.Prelude.{ℕ}
 use Rattle.brk_commit.specs.Keys.{optional_model_key}
 use Rattle.brk_commands.specs.Commands.{abstract_command}
@@ -7,7 +8,8 @@ use Rattle.brk_view.specs.Queries.{abstract_query}
 use Rattle.brk_desk.specs.declared.call.Call.{Call}
 use Rattle.brk_desk.specs.declared.call.Call.TheVariants as call
 
--- The call of the model that a desk's call represents, with its clock reading, which is unchanged.
+-- The call of the model that a desk's call represents, a command with its key or a query, paired
+-- with the unchanged clock reading of the call.
 abbrev pub model_call : ℕ × Call → ℕ × run.Call
 model_call (now, call.Do command key) = (now, run.Do (abstract_command command) (optional_model_key key))
 model_call (now, call.Ask query) = (now, run.Ask (abstract_query query))

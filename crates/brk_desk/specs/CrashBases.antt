@@ -8,15 +8,15 @@ use Rattle.brk_model.specs.Keyed.{keyed_step}
 use Rattle.brk_model.specs.Records.{Key}
 use Rattle.brk_model.specs.Run.{Call, Do, Outcome, Did, Failed, Run}
 
--- The outcome acknowledges no change: it is any outcome but `Did` with the answer `Done`.
+-- The outcome acknowledges no change: it is not `Did` with the answer `Done`.
 abbrev pub AcknowledgesNothing : Outcome → Type 0
 AcknowledgesNothing (Did (Done reply)) = ⊥
 AcknowledgesNothing _ = Unit {0}
 
 -- One of the calls is a command that returned a fault, and no outcome after it is `Done`. The calls
 -- before this command run from `base` to a base `before`, with their outcomes. `after` is the base
--- that the command reaches from `before`, as if it had not failed. So `after` has the changes of
--- the calls before the command, of the command, and of no call after it.
+-- after the command on `before`, as if it had not failed. So `after` has the changes of the calls
+-- before the command, of the command, and of no call after it.
 pub record HasUnacknowledgedCommand (base : Base) (calls : List (ℕ × Call)) (outcomes : List Outcome) (after : Base) : Type 0 where
   -- The calls before the command, the command with its clock reading and its key, and the calls
   -- after it.
@@ -35,7 +35,9 @@ pub record HasUnacknowledgedCommand (base : Base) (calls : List (ℕ × Call)) (
   -- The base before the command: the calls before it run from `base` to this base.
   pub before : Base
   pub earlier_run : Run base earlier earlier_outcomes before
+  -- No outcome after the fault is `Did` with the answer `Done`.
   pub none_later_is_done : AllByRecursion AcknowledgesNothing later_outcomes
+  -- The base after the command, as if it had not failed.
   pub after_is : after ≡ (keyed_step before now command key).1
 
 -- A crash after the calls from `base` may expose the tables of `after`: either a run of the calls

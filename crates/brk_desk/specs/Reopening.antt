@@ -16,18 +16,23 @@ use Rattle.brk_store.specs.Holds.{IsDiskContentOfRows, IsConnectionToDiskContent
 
 -- The store represents the base, and a crash exposes only the tables of this base.
 pub record RepresentsDurableBase {S : Type 0} (g : Ghosts S) (store : Held S) (base : Base) : Type 0 where
+  -- The store represents the base.
   pub represented : Represents g store base
+  -- A crash exposes only the tables of the base.
   pub alone : CrashStatesSatisfy g store (IsDiskContentOfRows (sheets base))
 
 -- `conn` is in the state of a new connection to a database with the disk contents `trees`. Under
 -- the disk assumption it is open, with no transaction, no savepoint and no counted change, its
 -- current state equals its committed state, and `trees` are the disk contents of this state.
 pub record IsNewConnectionToDiskContent {S : Type 0} (g : Ghosts S) (trees : Trees) (conn : Held S) : Type 0 where
+  -- The connection is to a database with these disk contents.
   pub over : IsConnectionToDiskContent g trees conn
+  -- Under the disk assumption it is open, without a transaction, a savepoint or a counted change,
+  -- and its current state is committed.
   pub opens : HasCleanDisk (state g conn) → Opens (state g conn)
 
 -- `conn` is in the state of a new connection (`IsNewConnectionToDiskContent`) to disk contents that
--- a crash in the state `left` of a store may expose.
+-- a crash may expose when the connection of a store is in the state `left`.
 abbrev pub IsNewConnectionAfterCrash : {S : Type 0} → Ghosts S → Held S → Held S → Type 0
 IsNewConnectionAfterCrash g left conn = (trees : Trees) × (state g left).may_leave trees × IsNewConnectionToDiskContent g trees conn
 
@@ -39,18 +44,24 @@ RepresentsPassingRowsDurably g conn store =
     (schema : known.Schema) × (rows : Tables) × StoresRowsWithAuditResult (abstract_schema schema) rows (state g conn).now None
     × RepresentsDurableBase g store (base_of_tables rows)
 
--- The adoption with this result did not fail with `Damaged`; at `Ok` the store represents `base`,
--- and a crash exposes only its tables. If the adoption failed with `Memory` or `Store`, the store
--- is not specified.
+-- The adoption with the result `result` did not fail with `Damaged`; at `Ok` the store represents
+-- `base`, and a crash exposes only the tables of `base`. If the adoption failed with `Memory` or
+-- `Store`, nothing is specified of the store.
 pub record AdoptsBaseWithoutDamage {S : Type 0} (g : Ghosts S) (store : Held S) (result : Result (Unit {0}) Fault) (base : Base) : Type 0 where
+  -- The adoption did not fail with `Damaged`.
   pub undamaged : AuditAnswerSatisfies result (λ failing. failing ≡ None)
+  -- At `Ok` the store represents `base`, and a crash exposes only its tables.
   pub represented : OnOk result (RepresentsDurableBase g store base)
 
--- The adoption with this result did not fail with `Damaged`. The store after it, at `Ok`, or the
--- connection that it returned with `Memory` or `Store`, represents a base that satisfies `May`, and
--- a crash exposes only the tables of this base.
+-- The adoption with the result `result` did not fail with `Damaged`. The store after it at `Ok`,
+-- and the connection that it returned at `Memory` or `Store`, represents a base that satisfies
+-- `May`, and a crash exposes only the tables of this base.
 pub record IsRecovered {S : Type 0} (g : Ghosts S) (store : Held S) (result : Result (Unit {0}) Fault) (May : Base → Type 0) : Type 0 where
+  -- The base that is represented after the adoption.
   pub base : Base
+  -- It is one of the bases that may be recovered.
   pub may : May base
+  -- The adoption did not fail with `Damaged`.
   pub undamaged : AuditAnswerSatisfies result (λ failing. failing ≡ None)
+  -- The store represents this base, and a crash exposes only its tables.
   pub represented : RepresentsDurableBase g store base

@@ -15,11 +15,13 @@ pub record IsRunWithOutcomes {S : Type 0} (g : Ghosts S) (old new : Held S) (cal
   -- `old`, each later one in the state after the call before it, and the last one ends in `new`.
   -- Without calls `new` equals `old`.
   pub executed : IsCallSequence (λ old now call outcome new. OutcomePost g old new now call outcome) old calls outcomes new
+  -- The postcondition of a run.
   pub post : RunPost g old new calls outcomes
+  -- The guarantee of a run.
   pub guarantee : RunGuarantee g old new calls outcomes
 
--- Some sequence of calls of the desk was executed between the state `old` and the state `new`, and
--- nothing else (`IsRunWithOutcomes`).
+-- Exactly some calls of the desk were executed between the state `old` and the state `new`, in
+-- order, with some outcomes (`IsRunWithOutcomes`), and nothing else.
 pub record IsSomeDeskRun {S : Type 0} (g : Ghosts S) (old new : Held S) : Type 0 where
   pub calls : List (ℕ × Call)
   pub outcomes : List Outcome

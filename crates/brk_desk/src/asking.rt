@@ -8,8 +8,8 @@ use brk_view::{Query, View};
 use sqlite::Alter;
 use std::alloc::Global;
 
-/// Returns the view of a query, or the refusal. Fails with `Memory` or `Store` only. The open
-/// database is unchanged, whatever the result.
+// Executes a query on a store: returns its view, or its refusal. Fails with `Memory` or `Store`
+// only. If the database is still open, it is unchanged, whatever the result.
 pub(crate) fn answer_query<S: Alter>(
     alloc: Global,
     store: &mut Store<S>,

@@ -25,17 +25,18 @@ ghost use Rattle.brk_changes.specs.declared.schema.Schema.{Schema};
 
 use sqlite::Alter;
 
-/// Proves that a store whose tables have no rows, as newly created tables, represents the empty
-/// base.
+/// Proves that a store whose tables have no rows, for example a newly created one, represents the
+/// empty base.
 pub fn new_stores_represent_the_empty_base<S: Alter>()
     ensures { (store : Held S) → HoldsRows S.Store store tables_without_rows → Represents S.Store store empty_base }
 {}
 
-/// Proves that a store represents the base that its rows determine, if these pass the audit of
+/// Proves that a store represents the base that its rows determine, if these rows pass the audit of
 /// schema 3 and their texts are UTF-8 (`rows`).
 ///
-/// `upgraded`: a store with the upgraded rows of a schema represents the base that the rows before
-/// the upgrade determine, if these pass the audit of that schema and their texts are UTF-8.
+/// `upgraded`: a store with rows that were upgraded from an older schema represents the base that
+/// the rows before the upgrade determine, if those rows pass the audit of their schema and their
+/// texts are UTF-8.
 pub fn adopted_rows_represent_their_base<S: Alter>()
     ensures rows { (store : Held S) (rows : Tables) → HoldsRows S.Store store rows → IsTrue (has_utf8_texts rows) → PassesAudit third_schema rows
         → Represents S.Store store (base_of_tables rows) }
@@ -44,10 +45,10 @@ pub fn adopted_rows_represent_their_base<S: Alter>()
         → PassesAudit (abstract_schema schema) rows → Represents S.Store store (base_of_tables rows) }
 {}
 
-/// Proves that a store that is opened on the tables of a base represents this base, if a crash
-/// after a run may expose the base (`CrashMayExposeBase`), its texts are UTF-8, the calls of the
-/// run are well-formed, and the base before the run satisfies the books invariant and the audit
-/// invariant.
+/// Proves that a connection to a database with the tables of the base `after` represents `after`,
+/// if a crash after a run may expose `after` (`CrashMayExposeBase`), its texts are UTF-8, the calls
+/// of the run are well-formed, and the base before the run satisfies the books invariant and the
+/// audit invariant.
 pub fn reopened_store_represents_exposed_base<S: Alter>()
     ensures { (base : Base) (calls : List (ℕ × Call)) (outcomes : List Outcome) (after : Base) (trees : Trees) (conn : Held S) → BooksInvariant base
         → AuditInvariant base

@@ -7,23 +7,24 @@ use brk_money::{Fault, Planned, Refusal};
 use brk_ref::Key;
 use brk_view::{Query, View};
 
-/// A call of a run.
+/// A call of a run of a desk: a command or a query.
 #[derive(Drop)]
 pub enum Call {
-    /// A command. It is booked if it is accepted, and accepted at most once under its key.
+    /// A command, with its key if it has one. It is booked if it is accepted, and under its key it
+    /// is accepted at most once.
     Do(Command, Option<Key>),
     /// A query, which changes nothing.
     Ask(Query),
 }
 
-/// The outcome of a call.
+/// The outcome of a call of a run.
 #[derive(Drop)]
 pub enum Outcome {
     /// The answer of the command: `Done`, `Again` or `Refused`.
     Did(Answer),
     /// The view of the query.
     Saw(View),
-    /// The query was refused.
+    /// The refusal of the query.
     NoView(Refusal),
     /// The call failed. The open store is unchanged, but if the call was a command, a crash may
     /// still expose it as committed.
@@ -31,7 +32,8 @@ pub enum Outcome {
 }
 
 impl Outcome {
-    // Returns the outcome that carries the result of a command.
+    // Returns the outcome of a command with this result: `Did` with its answer, or `Failed` with
+    // its fault.
     pub(crate) fn of_command(answered: Result<Answer, Fault>) -> Outcome
         ensures { result ≡ outcome_of_command answered }
     {
@@ -41,7 +43,8 @@ impl Outcome {
         }
     }
 
-    // Returns the outcome that carries the result of a query.
+    // Returns the outcome of a query with this result: `Saw` with its view, `NoView` with its
+    // refusal, or `Failed` with its fault.
     pub(crate) fn of_query(seen: Planned<View>) -> Outcome
         ensures { result ≡ outcome_of_query seen }
     {

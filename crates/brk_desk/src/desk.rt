@@ -19,7 +19,11 @@ use std::alloc::Global;
 use std::marker::Model;
 
 /// A desk, which executes commands and answers queries over one store. In contracts the value of a
-/// desk is the state of its store's connection.
+/// desk is the state of the connection of its store, and `t` are the tables that the store
+/// contains.
+///
+/// The clauses `called` of `call`, `asked`, `audited`, `read` and `walked` are the postconditions
+/// of a command, of a query, of an audit, of a read and of a walk.
 pub struct Desk<S: Alter> {
     store: Store<S>,
 }
@@ -64,7 +68,8 @@ impl<S: Alter> Desk<S> {
     ghost use Rattle.brk_store.specs.Holds.{ReadPost};
     ghost use Rattle.brk_store.specs.Walked.{CallsClosureWithEachRecord, WalkPost, cash_rows_in_span};
 
-    /// Creates a desk over a store, which is unchanged.
+    /// Creates a desk over a store and changes nothing in the store. In contracts the value of the
+    /// desk is the value of the store (`same`).
     pub fn new(store: Store<S>) -> Desk<S>
         ensures same { result ≡ store }
     {
@@ -132,7 +137,9 @@ impl<S: Alter> Desk<S> {
     ) -> Result<(), Fault>
         ensures executed { OnOk result ((outcomes : List came.Outcome) × (out.new.items ≡ out.old.items ++ outcomes)
             × IsRunWithOutcomes S.Store self.old self.new calls.now outcomes) }
+        // Fails with `Memory` only.
         ensures fault { OnErr result (result ≡ Err Memory) }
+        // At an error the desk and `out` are unchanged.
         ensures unchanged { OnErr result ((self.new ≡ self.old) × (out.new.items ≡ out.old.items)) }
     {
         out.reserve(calls.len())?;
@@ -170,6 +177,7 @@ impl<S: Alter> Desk<S> {
     #[tactic(auto, using(crate::proofs::Audits::audits))]
     pub fn audit(&mut self, alloc: Global) -> Result<(), Fault>
         ensures audited { DeskAuditPost S.Store self.old self.new result }
+        // The fault is never `Damaged(NotEmpty)`, which only the creation of tables returns.
         ensures never_not_empty { IfErr result (λ fault. fault ≢ Damaged NotEmpty) }
     {
         self.store.audit(alloc)
@@ -198,8 +206,8 @@ impl<S: Alter> Desk<S> {
     /// exist.
     ///
     /// Fails with `Memory` or `Store` only; with `Store` also if a row names another row that does
-    /// not exist, or if a completed trade has no price or no settlement. The open database is
-    /// unchanged, whatever the result.
+    /// not exist, or if a completed trade has no price or no settlement. If the database is still
+    /// open, it is unchanged, whatever the result.
     ///
     /// A crash exposes only states that a crash before the call could expose.
     pub fn trade_explanation_rows(
@@ -216,8 +224,8 @@ impl<S: Alter> Desk<S> {
     /// Returns the row of an account and its holding summaries with last prices, or `None` if the
     /// account does not exist.
     ///
-    /// Fails with `Memory` or `Store` only; with `Store` also if a symbol has no last price. The
-    /// open database is unchanged, whatever the result.
+    /// Fails with `Memory` or `Store` only; with `Store` also if a symbol has no last price. If the
+    /// database is still open, it is unchanged, whatever the result.
     ///
     /// A crash exposes only states that a crash before the call could expose.
     pub fn account_explanation_rows(
@@ -277,6 +285,9 @@ impl<S: Alter> Desk<S> {
     /// `Store` after a prefix of the trades. If the database is still open, it is unchanged,
     /// whatever the result.
     ///
+    /// `ready`: the visitor must accept records, and accepts them after the walk too. `leads`: the
+    /// state of the visitor after the walk is one that its calls can reach.
+    ///
     /// A crash exposes only states that a crash before the call could expose.
     pub fn visit_completed_trades<E, V: Visitor<TradeRow, E>>(
         &mut self,
@@ -287,7 +298,8 @@ impl<S: Alter> Desk<S> {
         requires ready { V.ready visitor.old }
         ensures ready { V.ready visitor.new }
         ensures leads { V.leads visitor.old visitor.new }
-        ensures walked { WalkPost S.Store self.old self.new abstract_trade_row (λ t. completed_trades_of_broker t broker) V.takes V.stops visitor.old visitor.new result }
+        ensures walked { WalkPost S.Store self.old self.new abstract_trade_row
+            (λ t. completed_trades_of_broker t broker) V.takes V.stops visitor.old visitor.new result }
     {
         visit_completed_trades::<S, E, V>(alloc, &mut self.store, broker, visitor)
     }
@@ -300,6 +312,9 @@ impl<S: Alter> Desk<S> {
     /// `Store` after a prefix of the rows. If the database is still open, it is unchanged, whatever
     /// the result.
     ///
+    /// `ready`: the visitor must accept records, and accepts them after the walk too. `leads`: the
+    /// state of the visitor after the walk is one that its calls can reach.
+    ///
     /// A crash exposes only states that a crash before the call could expose.
     pub fn visit_cash_rows<E, V: Visitor<MoveRow, E>>(
         &mut self,
@@ -311,7 +326,8 @@ impl<S: Alter> Desk<S> {
         requires ready { V.ready visitor.old }
         ensures ready { V.ready visitor.new }
         ensures leads { V.leads visitor.old visitor.new }
-        ensures walked { WalkPost S.Store self.old self.new abstract_move_row (cash_rows_in_span account from to) V.takes V.stops visitor.old visitor.new result }
+        ensures walked { WalkPost S.Store self.old self.new abstract_move_row
+            (cash_rows_in_span account from to) V.takes V.stops visitor.old visitor.new result }
     {
         self.store
             .visit_cash_rows::<E, V>(account, from, to, visitor)
@@ -324,6 +340,9 @@ impl<S: Alter> Desk<S> {
     /// `Store` after a prefix of the lots. If the database is still open, it is unchanged, whatever
     /// the result.
     ///
+    /// `ready`: the visitor must accept records, and accepts them after the walk too. `leads`: the
+    /// state of the visitor after the walk is one that its calls can reach.
+    ///
     /// A crash exposes only states that a crash before the call could expose.
     pub fn visit_lots<E, V: Visitor<HoldingRow, E>>(
         &mut self,
@@ -333,7 +352,8 @@ impl<S: Alter> Desk<S> {
         requires ready { V.ready visitor.old }
         ensures ready { V.ready visitor.new }
         ensures leads { V.leads visitor.old visitor.new }
-        ensures walked { WalkPost S.Store self.old self.new abstract_holding_row (λ t. holding_rows_of_account t account) V.takes V.stops visitor.old visitor.new result }
+        ensures walked { WalkPost S.Store self.old self.new abstract_holding_row
+            (λ t. holding_rows_of_account t account) V.takes V.stops visitor.old visitor.new result }
     {
         self.store.visit_lots::<E, V>(account, visitor)
     }
@@ -345,6 +365,9 @@ impl<S: Alter> Desk<S> {
     /// type `E`, after a prefix of the rows. If the database is still open, it is unchanged,
     /// whatever the result.
     ///
+    /// `callable`: the closure must have no precondition, however often it is called. `called`: it
+    /// is called with each row, in order, until its first error.
+    ///
     /// A crash exposes only states that a crash before the call could expose.
     pub fn walk_cash_rows<E: From<Fault>, F: FnMut(&MoveRow) -> Result<(), E> + Drop>(
         &mut self,
@@ -354,7 +377,8 @@ impl<S: Alter> Desk<S> {
         call: F,
     ) -> Result<(), E>
         requires callable { F.IsAlwaysCallable call }
-        ensures called { CallsClosureWithEachRecord S.Store self.old self.new abstract_move_row (cash_rows_in_span account from to) (CalledAt F.FnMut) E.from_gives call result }
+        ensures called { CallsClosureWithEachRecord S.Store self.old self.new abstract_move_row
+            (cash_rows_in_span account from to) (CalledAt F.FnMut) E.from_gives call result }
     {
         self.store.walk_cash_rows::<E, F>(account, from, to, call)
     }
@@ -366,6 +390,9 @@ impl<S: Alter> Desk<S> {
     /// type `E`, after a prefix of the lots. If the database is still open, it is unchanged,
     /// whatever the result.
     ///
+    /// `callable`: the closure must have no precondition, however often it is called. `called`: it
+    /// is called with each lot, in order, until its first error.
+    ///
     /// A crash exposes only states that a crash before the call could expose.
     pub fn walk_lots<E: From<Fault>, F: FnMut(&str, &Lot) -> Result<(), E> + Drop>(
         &mut self,
@@ -373,12 +400,14 @@ impl<S: Alter> Desk<S> {
         call: F,
     ) -> Result<(), E>
         requires callable { F.IsAlwaysCallable call }
-        ensures called { CallsClosureWithEachRecord S.Store self.old self.new abstract_holding_row (λ t. holding_rows_of_account t account) (IsClosureCallWithLot F.FnMut) E.from_gives call result }
+        ensures called { CallsClosureWithEachRecord S.Store self.old self.new abstract_holding_row
+            (λ t. holding_rows_of_account t account) (IsClosureCallWithLot F.FnMut) E.from_gives call result }
     {
         self.store.walk_lots::<E, F>(account, call)
     }
 
-    /// Returns the store of the desk, unchanged.
+    /// Returns the store of the desk and changes nothing in it. In contracts the value of the store
+    /// is the value of the desk (`same`).
     pub fn into_store(self) -> Store<S>
         ensures same { result ≡ self }
     {

@@ -9,7 +9,8 @@ ghost use Rattle.brk_desk.specs.Answers.{model_outcome};
 ghost use Rattle.brk_desk.specs.Commands.{model_call};
 ghost use Rattle.brk_commit.specs.Booked.{CallPost, base_after_call};
 ghost use Rattle.brk_desk.specs.CallPosts.{RunPost};
-ghost use Rattle.brk_desk.specs.Reopening.{RepresentsPassingRowsDurably, IsNewConnectionToDiskContent, AdoptsBaseWithoutDamage, IsNewConnectionAfterCrash, IsRecovered, RepresentsDurableBase};
+ghost use Rattle.brk_desk.specs.Reopening.{RepresentsPassingRowsDurably, IsNewConnectionToDiskContent, AdoptsBaseWithoutDamage};
+ghost use Rattle.brk_desk.specs.Reopening.{IsNewConnectionAfterCrash, IsRecovered, RepresentsDurableBase};
 ghost use Rattle.brk_desk.specs.CrashBases.{CrashMayExposeBase};
 ghost use Rattle.brk_commit.specs.declared.answer.Answer as given;
 ghost use Rattle.brk_desk.specs.declared.call.Call as made;
@@ -43,13 +44,14 @@ pub fn recovery_never_reports_damage<S: Alter>()
     // After a crash in the adoption of a newly opened database whose rows pass the audit of their
     // schema, perhaps an older one, a later adoption does not fail with `Damaged`. If it succeeds,
     // the store represents the base that the same rows determine.
-    ensures crash_in_adoption { (trees : Trees) (first left conn store : Held S) (stopped result : Result (Unit {0}) faults.Fault) (schema : Schema) (rows : Tables)
+    ensures crash_in_adoption { (trees : Trees) (first left conn store : Held S)
+        (stopped result : Result (Unit {0}) faults.Fault) (schema : Schema) (rows : Tables)
         → IsNewConnectionToDiskContent S.Store trees first → StoresRowsWithAuditResult (abstract_schema schema) rows (state S.Store first).now None
         → AdoptPost S.Store first left stopped → HasCleanDisk (state S.Store left)
         → IsNewConnectionAfterCrash S.Store left conn → AdoptPost S.Store conn store result → HasCleanDisk (state S.Store store)
         → AdoptsBaseWithoutDamage S.Store store result (base_of_tables rows) }
     // After a crash in the creation of the tables, the adopted store represents the empty base.
-    // This says nothing of a state that a crash before the creation could expose.
+    // Nothing is specified for a state that a crash before the creation could expose.
     ensures crash_in_creation { (first left conn store : Held S) (created result : Result (Unit {0}) faults.Fault) (trees : Trees)
         → CreatePost S.Store first left created
         → HasCleanDisk (state S.Store left) → (state S.Store left).may_leave trees → IsNewConnectionToDiskContent S.Store trees conn
@@ -60,7 +62,8 @@ pub fn recovery_never_reports_damage<S: Alter>()
     // call of this store, the adopted store represents the base before the command or the base
     // after it. A crash then exposes only the tables of the base that it represents, so this clause
     // and the next one apply again after each further crash.
-    ensures crash_after_call { (first left conn store : Held S) (base : Base) (result : Result (Unit {0}) faults.Fault) (now : ℕ) (command : Command) (key : Option Key)
+    ensures crash_after_call { (first left conn store : Held S) (base : Base) (result : Result (Unit {0}) faults.Fault)
+        (now : ℕ) (command : Command) (key : Option Key)
         (answer : Result given.Answer faults.Fault) → RepresentsDurableBase S.Store first base → CallPost S.Store first left now command key answer
         → HasCleanDisk (state S.Store left)
         → IsNewConnectionAfterCrash S.Store left conn → AdoptPost S.Store conn store result → HasCleanDisk (state S.Store store)

@@ -23,7 +23,7 @@ exit_status_of_fault fault.Memory = 3
 exit_status_of_fault fault.Store = 3
 
 -- The exit status of a batch that ended early: 1 if its header or its end is missing or wrong, 3 if
--- reading or writing failed, otherwise that of the desk's fault.
+-- reading or writing failed, otherwise the exit status of the desk's fault.
 abbrev pub exit_status_of_batch_fault : FaultKind → ℕ
 exit_status_of_batch_fault kind.BadHeader = 1
 exit_status_of_batch_fault kind.NoEnd = 1
@@ -33,14 +33,15 @@ exit_status_of_batch_fault kind.Write = 3
 exit_status_of_batch_fault (kind.Desk fault) = exit_status_of_fault fault
 
 -- The exit status of a report that ended early: 1 if it is refused, 3 if writing failed, otherwise
--- that of the desk's fault.
+-- the exit status of the desk's fault.
 abbrev pub exit_status_of_report_fault : ReportFault → ℕ
 exit_status_of_report_fault (report.Refused refusal) = 1
 exit_status_of_report_fault (report.Desk fault) = exit_status_of_fault fault
 exit_status_of_report_fault report.Write = 3
 
--- The exit status of an ending: 0 if the job is done and for help, 2 if the arguments are wrong,
--- otherwise that of its fault.
+-- The exit status of an ending: 0 if the job is done or help was requested, 2 if the arguments are
+-- wrong, 3 if a stream ended early, no stream could be accepted, or the output could not be
+-- written, otherwise the exit status of its fault.
 abbrev pub exit_status : Ending → ℕ
 exit_status ending.Done = 0
 exit_status (ending.Open fault) = exit_status_of_fault fault
@@ -54,13 +55,13 @@ exit_status (ending.Usage (usage.Words text)) = 2
 exit_status (ending.Usage usage.Day) = 2
 exit_status (ending.Usage usage.Memory) = 3
 
--- The ending of the program after the database was closed: a fault of the close replaces the ending
--- only if the job was done.
+-- The ending of the program after the database was closed, with the result `closed`: the fault of
+-- the close if the job was done and the close failed, otherwise the ending before it.
 abbrev pub ending_after_close : Ending → Result (Unit {0}) Fault → Ending
 ending_after_close ending.Done (Err fault) = ending.Open fault
 ending_after_close ending closed = ending
 
--- The error line of a batch that ended early.
+-- The bytes of the error line of a batch that ended early, with its line feed.
 abbrev pub error_line_of_batch : FaultKind → List ℕ
 error_line_of_batch kind.BadHeader = codes "brk: batch: bad header\n"
 error_line_of_batch kind.NoEnd = codes "brk: batch: no end\n"
@@ -69,27 +70,26 @@ error_line_of_batch kind.Read = codes "brk: fault: read\n"
 error_line_of_batch kind.Write = codes "brk: fault: write\n"
 error_line_of_batch (kind.Desk fault) = error_line_of_fault fault
 
--- The error line of a stream that ended early.
+-- The bytes of the error line of a stream that ended early, with its line feed.
 abbrev pub error_line_of_stream : StreamFault → List ℕ
 error_line_of_stream stream.Read = codes "brk: fault: read\n"
 error_line_of_stream stream.Write = codes "brk: fault: write\n"
 error_line_of_stream stream.Memory = codes "brk: fault: memory\n"
 
--- The error line of a report that is refused or ended early.
+-- The bytes of the error line of a report that is refused or ended early, with its line feed.
 abbrev pub error_line_of_report : ReportFault → List ℕ
 error_line_of_report (report.Refused refusal) = codes "brk: refused: " ++ (decimal (refusal_number refusal) ++ (10 ∷ []))
 error_line_of_report (report.Desk fault) = error_line_of_fault fault
 error_line_of_report report.Write = codes "brk: fault: write\n"
 
--- The error text of arguments that give no job, which is empty for help.
+-- The bytes of the error text of arguments that request no job, or no byte for help.
 abbrev pub error_line_of_usage : UsageFault → List ℕ
 error_line_of_usage (usage.Words text) = string_bytes text
 error_line_of_usage (usage.Help text) = []
 error_line_of_usage usage.Day = codes "brk: usage: day\n"
 error_line_of_usage usage.Memory = codes "brk: fault: memory\n"
 
--- The text that an ending writes to standard error, which is empty for a job that is done and for
--- help.
+-- The bytes that an ending sends to standard error, or no byte for a job that is done and for help.
 abbrev pub error_line : Ending → List ℕ
 error_line ending.Done = []
 error_line (ending.Open fault) = error_line_of_fault fault

@@ -5,11 +5,11 @@ use Rattle.brk_money.specs.Kinds.{condition_word}
 use Rattle.brk_money.specs.declared.fault.Fault.{Fault}
 use Rattle.brk_money.specs.declared.fault.Fault.TheVariants as fault
 
--- The bytes of an error line: its two parts and a line feed.
+-- The bytes of an error line in two parts: the first, the second, and a line feed.
 abbrev pub bytes_of_error_line : Bor (List ℕ) × Bor (List ℕ) → List ℕ
 bytes_of_error_line line = line.0.now ++ (line.1.now ++ (10 ∷ []))
 
--- The error line of a fault of a desk.
+-- The bytes of the error line of a fault of a desk, with its line feed.
 abbrev pub error_line_of_fault : Fault → List ℕ
 error_line_of_fault fault.Memory = codes "brk: fault: memory\n"
 error_line_of_fault fault.Store = codes "brk: fault: store\n"

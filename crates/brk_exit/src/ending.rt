@@ -22,19 +22,19 @@ pub enum Ending {
     Open(Fault),
     /// The batch ended early.
     Batch(BatchFault),
-    /// The statement or the view is refused, or ended early.
+    /// The statement, the explanation or the view is refused, or ended early.
     Report(ReportFault),
     /// A stream of requests ended because memory ran out.
     Serve(ServeFault),
-    /// No stream could be accepted: the port is in use, or the machine gives no more.
+    /// No stream could be accepted: the port is in use, or the machine allows no more streams.
     Net,
     /// The requested output could not be printed.
     Output,
-    /// The command-line arguments give no job.
+    /// The command-line arguments request no job.
     Usage(UsageFault),
 }
 
-// Returns the error line of a batch that ended early.
+// Returns the error line of a batch that ended early, in its two parts.
 fn batch_error_line(kind: FaultKind) -> Line<'static>
     ensures { line.bytes_of_error_line result ≡ spec.error_line_of_batch kind }
 {
@@ -48,7 +48,7 @@ fn batch_error_line(kind: FaultKind) -> Line<'static>
     }
 }
 
-// Returns the error line of a stream that ended early.
+// Returns the error line of a stream that ended early, in its two parts.
 fn stream_error_line(kind: StreamFault) -> Line<'static>
     ensures { line.bytes_of_error_line result ≡ spec.error_line_of_stream kind }
 {
@@ -69,7 +69,8 @@ fn fault_exit_status(fault: Fault) -> u8
     }
 }
 
-// Returns the exit status of a batch that ended early.
+// Returns the exit status of a batch that ended early: 1 if its header or its end is missing or
+// wrong, 3 if reading or writing failed, otherwise the exit status of the desk's fault.
 fn batch_exit_status(kind: FaultKind) -> u8
     ensures { result ≡ spec.exit_status_of_batch_fault kind }
 {
@@ -80,7 +81,8 @@ fn batch_exit_status(kind: FaultKind) -> u8
     }
 }
 
-// Returns the exit status of a report that is refused or ended early.
+// Returns the exit status of a report that is refused or ended early: 1 for a refusal, 3 if writing
+// failed, otherwise the exit status of the desk's fault.
 fn report_exit_status(fault: &ReportFault) -> u8
     ensures { result ≡ spec.exit_status_of_report_fault fault.now }
 {
@@ -91,7 +93,8 @@ fn report_exit_status(fault: &ReportFault) -> u8
     }
 }
 
-// Returns the exit status of an ending.
+// Returns the exit status of an ending: 0 if the job is done or help was requested, 2 if the
+// arguments are wrong, otherwise the exit status of its fault, 1 or 3.
 fn ending_exit_status(ending: &Ending) -> u8
     ensures { result ≡ spec.exit_status ending.now }
 {
@@ -109,8 +112,8 @@ fn ending_exit_status(ending: &Ending) -> u8
     }
 }
 
-/// Returns the ending of the program after the database was closed. A fault of the close replaces
-/// the ending only if the job was done.
+/// Returns the ending of the program after the database was closed, with the result `closed`: the
+/// fault of the close if the job was done and the close failed, otherwise `ending`.
 pub fn ending_after_close(ending: Ending, closed: Result<(), Fault>) -> Ending
     ensures { result ≡ spec.ending_after_close ending closed }
 {
@@ -120,8 +123,8 @@ pub fn ending_after_close(ending: Ending, closed: Result<(), Fault>) -> Ending
     }
 }
 
-// Sends the error line of a report to `errors`. If the sink fails, it has received a prefix of the
-// line.
+// Sends the error line of a report that is refused or ended early to `errors`. If the sink fails,
+// it has received a prefix of the line.
 fn send_report_error_line<S: Sink>(fault: &ReportFault, errors: &mut S) -> Result<(), NotWritten>
     ensures ok { OnOk result (Appends (S.contents errors.old) (S.contents errors.new) (spec.error_line_of_report fault.now)) }
     ensures err { OnErr result (SinkFailsWithinText S.contents S.fails errors.old errors.new (spec.error_line_of_report fault.now)) }
@@ -136,8 +139,8 @@ fn send_report_error_line<S: Sink>(fault: &ReportFault, errors: &mut S) -> Resul
     }
 }
 
-// Sends the error text of a usage fault to `errors`; help has none. If the sink fails, it has
-// received a prefix of the text.
+// Sends the error text of arguments that request no job to `errors`, or nothing for help. If the
+// sink fails, it has received a prefix of the text.
 fn send_usage_error_text<S: Sink>(fault: &UsageFault, errors: &mut S) -> Result<(), NotWritten>
     ensures ok { OnOk result (Appends (S.contents errors.old) (S.contents errors.new) (spec.error_line_of_usage fault.now)) }
     ensures err { OnErr result (SinkFailsWithinText S.contents S.fails errors.old errors.new (spec.error_line_of_usage fault.now)) }
@@ -150,8 +153,8 @@ fn send_usage_error_text<S: Sink>(fault: &UsageFault, errors: &mut S) -> Result<
     }
 }
 
-/// Sends the error line of an ending to `errors`. Help and a job that is done have no line. If the
-/// sink fails, it has received a prefix of the line.
+/// Sends the error line of an ending to `errors`, or nothing for a job that is done and for help.
+/// If the sink fails, it has received a prefix of the line.
 pub fn send_error_line<S: Sink>(ending: &Ending, errors: &mut S) -> Result<(), NotWritten>
     ensures ok { OnOk result (Appends (S.contents errors.old) (S.contents errors.new) (spec.error_line ending.now)) }
     ensures err { OnErr result (SinkFailsWithinText S.contents S.fails errors.old errors.new (spec.error_line ending.now)) }
@@ -168,8 +171,8 @@ pub fn send_error_line<S: Sink>(ending: &Ending, errors: &mut S) -> Result<(), N
     }
 }
 
-/// Sends the error line of an ending to `errors` and returns the exit status, which does not depend
-/// on a failure of the sink. Help and a job that is done have no line.
+/// Sends the error line of an ending to `errors`, if it has one, and returns its exit status, which
+/// does not depend on a failure of the sink.
 pub fn end_with<S: Sink>(ending: &Ending, errors: &mut S) -> u8
     ensures status { result ≡ spec.exit_status ending.now }
     ensures line { ReceivesTextOrFails S.contents S.fails errors.old errors.new (spec.error_line ending.now) }

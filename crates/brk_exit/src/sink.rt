@@ -7,7 +7,7 @@ use std::io::Write;
 
 /// A receiver of bytes that may fail.
 pub trait Sink {
-    /// The bytes that the sink has received, or none if they are unknown. Unknown for a sink that
+    /// The bytes that the sink has received, or `None` if they are unknown. Unknown for a sink that
     /// does not define them.
     ghost contents: { Self → Option (List ℕ) } = { λ _. None };
 
@@ -15,7 +15,7 @@ pub trait Sink {
     /// sink that defines no relation of its own.
     ghost fails: { Self → Self → Type 0 } = { λ _ _. Unit {0} };
 
-    /// Sends all bytes. If the sink fails, it has received a prefix of them.
+    /// Sends all bytes to the sink. If it fails, it has received a prefix of them, perhaps all.
     fn send(&mut self, bytes: &[u8]) -> Result<(), NotWritten>
         ensures ok { OnOk result (Appends (contents self.old) (contents self.new) bytes.now) }
         ensures err { OnErr result (SinkFailsWithinText contents fails self.old self.new bytes.now) };

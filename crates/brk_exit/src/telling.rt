@@ -7,10 +7,11 @@ use crate::sink::Sink;
 use brk_io::NotWritten;
 use brk_money::Fault;
 
-/// An error line in two parts: the program's name with the subject, and the cause.
+/// An error line in two parts, without its line feed: the program's name with the subject, and the
+/// cause.
 pub type Line<'a> = (&'a str, &'a str);
 
-/// Returns the error line of a fault of a desk.
+/// Returns the error line of a fault of a desk, in its two parts.
 pub fn fault_error_line(fault: Fault) -> Line<'static>
     ensures { spec.bytes_of_error_line result ≡ spec.error_line_of_fault fault }
 {
@@ -21,7 +22,8 @@ pub fn fault_error_line(fault: Fault) -> Line<'static>
     }
 }
 
-/// Sends an error line and a line feed. If the sink fails, it has received a prefix of them.
+/// Sends an error line, its two parts and a line feed, to a sink. If the sink fails, it has
+/// received a prefix of them.
 pub fn send_line<S: Sink>(sink: &mut S, line: Line<'_>) -> Result<(), NotWritten>
     ensures ok { OnOk result (Appends (S.contents sink.old) (S.contents sink.new) (spec.bytes_of_error_line line.entry)) }
     ensures err { OnErr result (SinkFailsWithinText S.contents S.fails sink.old sink.new (spec.bytes_of_error_line line.entry)) }

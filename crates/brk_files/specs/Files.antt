@@ -8,12 +8,12 @@ use Rattle.sqlite.specs.State.{HasCleanDisk}
 use Rattle.sqlite.specs.Files.{file_state, IsOpened}
 use Rattle.sqlite.specs.Closing.{IsCopied}
 
--- The connection to a file is new. Under the disk assumption it is also open.
+-- The connection `conn` to a database file is new, and under the disk assumption it is open.
 pub record IsNewConnectionToFile {D : Type 0} {g : Ghosts D} (conn : Held (FileStore D g)) : Type 0 where
   pub opened : HasCleanDisk (file_state conn) → IsOpened conn
   pub fresh : IsNew conn
 
--- The last commit of the connection is in a database file, also without its log, and a crash
+-- The last commit of the connection `conn` is in a database file, also without its log, and a crash
 -- exposes only this commit. Vacuous if the disk assumption fails.
 abbrev pub HasLastCommitInFile : {D : Type 0} {g : Ghosts D} → Held (FileStore D g) → Type 0
 HasLastCommitInFile {D} {g} conn = (files : Files D) × (AreClean g files.log files.db → IsCopied conn files)

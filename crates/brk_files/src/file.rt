@@ -15,7 +15,7 @@ use std::alloc::Global;
 use std::fs;
 use std::io::ErrorKind;
 
-/// A desk's database in a file, which its connection locks for this program alone.
+/// A desk's store in a file, which its connection locks for this program alone.
 pub type FileDesk = Store<FileStore<File>>;
 
 // Closes the files of a connection. At `Ok` the database file contains the last commit even without
@@ -54,7 +54,7 @@ fn open_connection(rt: &HostRuntime, path: &str) -> Result<Connection<FileStore<
     }
 }
 
-// Adopts the database of a connection as a store. At a fault returns the connection with it.
+// Adopts the database of a connection as a store. At a fault returns the connection with the fault.
 fn adopt_connection<S: Alter>(
     alloc: Global,
     conn: Connection<S>,
@@ -65,8 +65,8 @@ fn adopt_connection<S: Alter>(
     Store::adopt(alloc, conn)
 }
 
-// Adopts the database of a connection as a store. If the adoption fails, closes the file and
-// returns the fault.
+// Adopts the database of a connection as a store. If the adoption fails, closes the file and fails
+// with the fault of the adoption.
 fn adopt_or_close_connection(
     rt: &HostRuntime,
     conn: Connection<FileStore<File>>,
@@ -84,7 +84,8 @@ fn adopt_or_close_connection(
 }
 
 /// Opens the desk in the file at `path`, and upgrades a file of an older schema. Creates a desk if
-/// the file is missing or empty or has no table of a desk.
+/// the file is missing or empty or has no table of a desk. Fails with `Damaged` and the first
+/// condition that fails if the file has a table of a desk and does not pass the audit.
 ///
 /// A new desk is closed and opened again, so that its tables are in the file itself, and a file
 /// that then loses its log is never treated as a new one.
@@ -108,7 +109,7 @@ pub fn open_or_create_desk_file(rt: &HostRuntime, path: &str) -> Result<FileDesk
 }
 
 // Returns true if no file exists at the path, or if the file is empty, so that opening it would
-// create a database.
+// create a database. Returns false if the file cannot be examined.
 fn is_missing_or_empty(rt: &HostRuntime, path: &str) -> bool {
     match fs::metadata(rt, path) {
         Ok(found) => found.is_file() && found.len() == 0,
@@ -116,8 +117,9 @@ fn is_missing_or_empty(rt: &HostRuntime, path: &str) -> bool {
     }
 }
 
-/// Opens the desk in the file at `path`, and upgrades a file of an older schema. Creates nothing:
-/// if the file is missing or empty, fails with `Damaged(Schema)`.
+/// Opens the desk in the file at `path`, and upgrades a file of an older schema. Creates nothing.
+/// Fails with `Damaged(Schema)` if the file is missing or empty, and with `Damaged` and the first
+/// condition that fails if it does not pass the audit.
 pub fn open_desk_file(rt: &HostRuntime, path: &str) -> Result<FileDesk, Fault>
     ensures opened { OpenPost result }
     ensures represented { IfOk result (λ store. RepresentsRowsOfFile over_files store) }

@@ -10,17 +10,21 @@ use Rattle.brk_http_engine.specs.Limits.{call_limit_of_stream}
 use Rattle.brk_http_engine.specs.declared.stream.ServeFault.{ServeFault}
 use Rattle.brk_http_listener.specs.Listening.{ServeRelation}
 
--- A stream that ended with this result changed the desk only by a sequence of its calls with these
--- outcomes. The number of replies and the number of calls are within their limits.
+-- A stream that ended with the result `ended` changed the desk from the state `old` to the state
+-- `new` only by a sequence of its calls, with their outcomes. The number of replies and the number
+-- of calls are within their limits.
 pub record ServesStreamByCalls {S : Type 0} (g : Ghosts S) (old new : Held S) (ended : Result ℕ ServeFault) : Type 0 where
   pub calls : List (ℕ × Call)
   pub outcomes : List Outcome
   pub run : IsRunWithOutcomes g old new calls outcomes
+  -- At most one call for each reply, and one more after a fault of memory or of the writer.
   pub few : length calls ≤ call_limit_of_stream ended
+  -- At most 1,000 replies, and fewer before a fault.
   pub within : IfOk ended (λ count. count ≤ most_requests_per_stream)
   pub early : IfErr ended (λ fault. fault.done < most_requests_per_stream)
 
--- The stream that ended with this result changed the desk only by a sequence of its calls
--- (`ServesStreamByCalls`). The clock and the bytes of the stream are not specified.
+-- Serving the stream, with the result `ended`, changed the desk from `old` to `new` only by a
+-- sequence of its calls (`ServesStreamByCalls`). The clock and the bytes of the stream are not
+-- specified.
 abbrev pub DeskServesStream : {S C X : Type 0} → Ghosts S → ServeRelation C (Held S) X
 DeskServesStream g clock old stream ended later new = ServesStreamByCalls g old new ended

@@ -20,7 +20,7 @@ use sqlite::Alter;
 use std::alloc::{AllocError, Global};
 use std::marker::PhantomData;
 
-// Returns the answer of the HTTP engine that corresponds to an answer of the desk.
+// Converts an answer of the desk into the equal answer of the HTTP engine.
 fn http_answer_of_desk(answer: Answer) -> RowAnswer<Reply>
     ensures { row_outcome_in_model abstract_reply (Ok result) ≡ Did (model_answer answer) }
 {
@@ -31,7 +31,7 @@ fn http_answer_of_desk(answer: Answer) -> RowAnswer<Reply>
     }
 }
 
-/// The operations of a desk over a store, for the HTTP engine.
+/// The operations of a desk over a store that the HTTP engine uses.
 pub struct DeskService<S> {
     _store: PhantomData<S>,
 }
@@ -59,12 +59,14 @@ impl<S: Alter> Service for DeskService<S> {
 
     ghost shown = { records_of_view };
 
-    /// Parses the fields of a row: returns a command, or the refusal of a malformed row.
+    /// Parses the fields of a row: returns a command, or the refusal of a malformed row. Fails if
+    /// memory runs out.
     fn parse_row(alloc: Global, row: &[&[u8]]) -> Planned<Command> {
         parse_row(alloc, row)
     }
 
-    /// Returns `name` as the name of a view if a view with this name exists, otherwise `None`.
+    /// Returns the name of the view with this name, with a static lifetime, or `None` if there is
+    /// no such view.
     fn view_named(name: &str) -> Option<&'static str> {
         match name {
             "submitted" => Some("submitted"),
@@ -82,12 +84,14 @@ impl<S: Alter> Service for DeskService<S> {
         }
     }
 
-    /// Parses the arguments of a view: returns a query, or the refusal of a malformed query.
+    /// Parses the arguments of the view with the name `view`: returns a query, or the refusal of a
+    /// malformed query. Fails if memory runs out.
     fn parse_query(alloc: Global, view: &str, arguments: &[&[u8]]) -> Planned<Query> {
         parse_query(alloc, view, arguments)
     }
 
-    /// Executes a command by `Desk::call`, with or without a key, and returns its answer.
+    /// Executes a command by `Desk::call`, under its key or without one, and returns its answer.
+    /// Fails with the fault of the desk.
     fn call(
         desk: &mut Desk<S>,
         alloc: Global,
@@ -101,12 +105,13 @@ impl<S: Alter> Service for DeskService<S> {
         }
     }
 
-    /// Executes a query by `Desk::ask`, and returns its view or its refusal.
+    /// Executes a query by `Desk::ask`, and returns its view or its refusal. Fails with the fault
+    /// of the desk.
     fn ask(desk: &mut Desk<S>, alloc: Global, query: &Query) -> Planned<View> {
         desk.ask(alloc, query)
     }
 
-    /// Returns the fields of a reply.
+    /// Returns the fields of a reply, in order. Fails only if memory runs out.
     fn reply_fields(alloc: Global, reply: &Reply) -> Result<Vec<String>, AllocError> {
         match line_text(alloc, reply) {
             Ok(line) => fields_between_commas(alloc, line.as_str()),
@@ -114,7 +119,8 @@ impl<S: Alter> Service for DeskService<S> {
         }
     }
 
-    /// Returns the records of a view, each a list of texts.
+    /// Returns the records of a view, in order, each a list of texts. Fails only if memory runs
+    /// out.
     fn records(alloc: Global, view: &View) -> Result<Vec<Vec<String>>, AllocError> {
         match view_fields(alloc, view) {
             Ok(records) => Ok(records),

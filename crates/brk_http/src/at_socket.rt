@@ -17,20 +17,23 @@ use std::time::Duration;
 /// ended.
 pub const STREAM_TIMEOUT_SECONDS: u64 = 30;
 
-// The time limit in milliseconds for each read after the last reply, whose bytes are dropped. There
-// are at most `MAXIMUM_DRAIN_READS` such reads.
+// The time limit in milliseconds for each read after the last reply; the bytes that it reads are
+// dropped.
 const DRAIN_TIMEOUT_MILLISECONDS: u64 = 250;
 
+// The greatest number of reads after the last reply.
 const MAXIMUM_DRAIN_READS: u32 = 128;
 
-// Sets the time limits of a socket: a read or a write that waits for more than 30 seconds fails.
+// Sets the time limits of a socket: each read or write that waits for more than 30 seconds fails.
+// Fails if a limit cannot be set.
 fn set_socket_time_limits(stream: &TcpStream) -> io::Result<()> {
     stream.set_read_timeout(Some(Duration::from_secs(STREAM_TIMEOUT_SECONDS)))?;
     stream.set_write_timeout(Some(Duration::from_secs(STREAM_TIMEOUT_SECONDS)))
 }
 
 // Shuts down the writing side of a socket, and then reads and drops the bytes that still arrive, by
-// at most 128 reads, so that the kernel does not drop the last reply.
+// at most 128 reads, so that the kernel does not drop the last reply. Fails if the shutdown or a
+// read fails.
 fn drain_before_close(stream: &TcpStream) -> io::Result<()> {
     stream.shutdown(Shutdown::Write)?;
     stream.set_read_timeout(Some(Duration::from_millis(DRAIN_TIMEOUT_MILLISECONDS)))?;
@@ -44,7 +47,7 @@ fn drain_before_close(stream: &TcpStream) -> io::Result<()> {
     Ok(())
 }
 
-/// A server of TCP streams, which executes the requests on a desk.
+/// A server of TCP streams, which executes their requests on a desk.
 pub struct SocketServer<C, S> {
     _clock: PhantomData<C>,
     _store: PhantomData<S>,
@@ -59,7 +62,11 @@ impl<C: Clock, S: Alter> StreamServer for SocketServer<C, S> {
 
     ghost serves = { DeskServesStream S.Store };
 
-    // If the time limits of a socket cannot be set, fails with `Read`, and serves no request.
+    /// Serves the requests of a TCP stream to its end, drains the socket, and returns the number of
+    /// requests that were answered.
+    ///
+    /// Fails with the fault that ended the stream early; with `Read`, and no request is executed,
+    /// if the time limits of the socket cannot be set.
     fn serve_accepted_stream(
         alloc: Global,
         stream: TcpStream,

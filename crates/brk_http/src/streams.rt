@@ -57,7 +57,8 @@ pub fn serve_stream<R: Read + Drop, W: Write, C: Clock, S: Alter>(
     // Under the disk assumption, for every base that the desk represented before the stream, the
     // outcomes equal those of the model from this base, and the desk represents the base after
     // them. Vacuous for a reader whose content is not specified.
-    ensures refines_model { IfSome (R.remaining reader) (λ input. StreamRefinesModel (λ desk. HasCleanDisk (state S.Store desk)) (λ desk. Represents S.Store desk)
+    ensures refines_model { IfSome (R.remaining reader) (λ input. StreamRefinesModel
+        (λ desk. HasCleanDisk (state S.Store desk)) (λ desk. Represents S.Store desk)
         model_parsers IsOutcomeOfCall C.gives input desk.old desk.new
         (record { clock = clock.old; later = clock.new; old = W.contents writer.old; new = W.contents writer.new }) result) }
 {

@@ -1,4 +1,4 @@
--- The model's values of the code's values.
+-- The values of the model that the values of the program represent.
 use Rattle.std.specs.Prelude.{List, map, Option, option_map, Result, Ok, Err, String, string_bytes}
 use Rattle.std.specs.Global.{Global, Vec}
 use Rattle.brk_money.specs.Spelling.{Text}
@@ -22,20 +22,20 @@ use Rattle.brk_http_engine.specs.declared.asking.RequestedCall.TheVariants as as
 use Rattle.brk_http_engine.specs.declared.acting.ServiceAnswer.{ServiceAnswer}
 use Rattle.brk_http_engine.specs.declared.acting.ServiceAnswer.TheVariants as told
 
--- The model's key that a row's key represents, or none if the row has none.
+-- The model's key that the key of a row represents, or `None` if the row has no key.
 abbrev pub key_in_model : Option ref.Key → Option records.Key
 key_in_model key = option_map abstract_key key
 
--- The model's outcome that the result of a row's call represents; `reply` maps a reply to the
--- model's reply.
+-- The model's outcome that the result of a row's call represents: `Did` with its answer, or
+-- `Failed` with its fault; `reply` maps a reply to the model's reply.
 abbrev pub row_outcome_in_model : {R : Type 0} → (R → model.Reply) → Result (RowAnswer R) Fault → run.Outcome
 row_outcome_in_model reply (Ok (given.Done r)) = run.Did (model.Done (reply r))
 row_outcome_in_model reply (Ok (given.Again line)) = run.Did (model.Again (string_bytes line))
 row_outcome_in_model reply (Ok (given.Refused refusal)) = run.Did (model.Refused refusal)
 row_outcome_in_model reply (Err fault) = run.Failed fault
 
--- The model's outcome that the result of a query represents; `shown` maps a view to the model's
--- view.
+-- The model's outcome that the result of a query represents: `Saw` with its view, `NoView` with its
+-- refusal, or `Failed` with its fault; `shown` maps a view to the model's view.
 abbrev pub query_outcome_in_model : {V : Type 0} → (V → queries.View) → Result (Result V Refusal) Fault → run.Outcome
 query_outcome_in_model shown (Ok (Ok view)) = run.Saw (shown view)
 query_outcome_in_model shown (Ok (Err refusal)) = run.NoView refusal
@@ -49,13 +49,14 @@ bytes_of_texts texts = map string_bytes texts.items
 abbrev pub bytes_of_records : Vec (Vec (String Global)) → queries.View
 bytes_of_records records = map bytes_of_texts records.items
 
--- The model's route that a route represents.
+-- The model's route that a route represents: to a row, with its key if it has one, or to the view
+-- with a name.
 abbrev pub route_in_model : Route → routes.Route
 route_in_model (route.ToRow key) = routes.ToRow (key_in_model key)
 route_in_model (route.ToView view) = routes.ToView view.now
 
--- The model's call that a request makes, or its response if the request makes no call; `command`
--- and `query` map to the model's commands and queries.
+-- The call that a request makes in the model, or its response if the request makes no call;
+-- `command` and `query` map commands and queries to those of the model.
 abbrev pub call_in_model : {X Q : Type 0} → (X → model.Command) → (Q → queries.Query) → RequestedCall X Q → asked.RequestDemand
 call_in_model command query (asking.Wrong problem) = asked.ResponseOnly (FromProblem problem)
 call_in_model command query (asking.BadRow refusal) = asked.ResponseOnly (FromOutcome (run.Did (model.Refused refusal)))
@@ -63,8 +64,8 @@ call_in_model command query (asking.BadQuery refusal) = asked.ResponseOnly (From
 call_in_model command query (asking.Row x key) = asked.DeskCall (run.Do (command x) (key_in_model key))
 call_in_model command query (asking.View q) = asked.DeskCall (run.Ask (query q))
 
--- The model's response that a response represents; `reply` and `shown` map to the model's replies
--- and views.
+-- The model's response that a response represents; `reply` and `shown` map replies and views to
+-- those of the model.
 abbrev pub response_in_model : {R V : Type 0} → (R → model.Reply) → (V → queries.View) → ServiceAnswer R V → Response
 response_in_model reply shown (told.Wrong problem) = FromProblem problem
 response_in_model reply shown (told.NoRow refusal) = FromOutcome (run.Did (model.Refused refusal))

@@ -1,4 +1,4 @@
--- The greatest number of requests of a stream, and of calls of the desk that they make.
+-- The greatest number of calls of the desk that a request and a stream make.
 use Rattle.std.specs.Prelude.{ℕ, ◌+◌, Result, Ok, Err}
 use Rattle.brk_http_engine.specs.declared.turning.Turn.{Turn}
 use Rattle.brk_http_engine.specs.declared.turning.Turn.TheVariants as turn
@@ -6,15 +6,15 @@ use Rattle.brk_http_engine.specs.declared.turning.FaultKind.{FaultKind}
 use Rattle.brk_http_engine.specs.declared.turning.FaultKind.TheVariants as kinds
 use Rattle.brk_http_engine.specs.declared.stream.ServeFault.{ServeFault}
 
--- The greatest number of calls of the desk that a request made if this fault ended it: 0 if the
--- request could not be read, otherwise 1.
+-- The greatest number of calls of the desk that the request at which this fault ended the stream
+-- made: 0 if the request could not be read, otherwise 1.
 abbrev pub call_limit_at_fault : FaultKind → ℕ
 call_limit_at_fault kinds.Read = 0
 call_limit_at_fault kinds.Write = 1
 call_limit_at_fault kinds.Memory = 1
 
 -- The greatest number of calls of the desk that a turn of a stream with this result made: 0 if the
--- input was at its end, 1 after a reply, and otherwise that of the fault.
+-- input was at its end, 1 after a reply, and otherwise the limit at the fault.
 abbrev pub call_limit_of_turn : Result Turn FaultKind → ℕ
 call_limit_of_turn (Ok turn.Ended) = 0
 call_limit_of_turn (Ok turn.Open) = 1
@@ -22,7 +22,7 @@ call_limit_of_turn (Ok turn.Closed) = 1
 call_limit_of_turn (Err kind) = call_limit_at_fault kind
 
 -- The greatest number of calls of the desk that a stream with this result made: 1 for each reply,
--- and those of the request at which a fault ended the stream.
+-- and after a fault also the limit at this fault.
 abbrev pub call_limit_of_stream : Result ℕ ServeFault → ℕ
 call_limit_of_stream (Ok count) = count
 call_limit_of_stream (Err fault) = fault.done + call_limit_at_fault fault.kind

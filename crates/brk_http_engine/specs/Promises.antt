@@ -14,25 +14,27 @@ abbrev pub ChangesOnlyByCalls : {D : Type 0} → CallRelation D → ℕ → D �
 ChangesOnlyByCalls acts most old new =
     (calls : List (ℕ × Call)) × (outcomes : List Outcome) × IsCallSequence acts old calls outcomes new × (length calls ≤ most)
 
--- The type of a list of calls with their timestamps, together with the list of their outcomes.
+-- The type of a pair: a list of calls with their timestamps, and the list of their outcomes.
 abbrev pub CallScript : Type 0
 CallScript = List (ℕ × Call) × List Outcome
 
--- The relation of a call of a scripted desk: `call` at the clock reading `now` is the first call of
--- `script`, `outcome` is its first outcome, and `rest` is the script without both.
+-- The relation of a call of a scripted desk, whose states are scripts: `call` at the clock reading
+-- `now` is the first call of `script`, `outcome` is its first outcome, and `rest` is the script
+-- without both.
 abbrev pub IsNextScriptedCall : CallRelation CallScript
 IsNextScriptedCall script now call outcome rest = (script.0 ≡ (now, call) ∷ rest.0) × (script.1 ≡ outcome ∷ rest.1)
 
--- The stream makes exactly the calls of `script`, in order, and its replies and its result follow
--- from the outcomes of `script`.
+-- The stream with the content `input` makes exactly the calls of `script`, in order, and its
+-- replies and its result follow from the outcomes of `script`.
 abbrev pub StreamMatchesScript : {C : Type 0} → RequestParsers → (C → ℕ → C → Type 0) → Text → CallScript → ClockAndWriterChange C → Result ℕ ServeFault
     → Type 0
 StreamMatchesScript forms gives input script outside result =
     IsStreamResult forms IsNextScriptedCall gives input (change_with_bases script ([], []) outside) result
 
--- The stream refines the model: for every base that the desk represented before the stream, the
--- replies are those that `does` allows from this base, and the desk represents the base after the
--- stream. Vacuous if the disk assumption (`honest`) fails.
+-- The stream with the content `input` refines the model: for every base that the desk represented
+-- before the stream (`stands`), the replies are those that `does` allows from this base, and the
+-- desk represents the base after the stream. Vacuous if the disk assumption (`honest`) fails after
+-- the stream.
 abbrev pub StreamRefinesModel : {D B C : Type 0} → (D → Type 0) → (D → B → Type 0) → RequestParsers → CallRelation B → (C → ℕ → C → Type 0) → Text → D → D
     → ClockAndWriterChange C → Result ℕ ServeFault → Type 0
 StreamRefinesModel {B = B} honest stands forms does gives input first last outside result =

@@ -5,8 +5,8 @@ use Rattle.matchit.specs.Router.{RouteOf}
 use Rattle.brk_http_engine.specs.declared.router.RouteKind.{RouteKind}
 use Rattle.brk_http_engine.specs.declared.router.RouteKind.TheVariants.{Row, KeyedRow, View}
 
--- A row of the router for a route of this kind: its pattern, and its text with the positions of the
--- parameter names in it.
+-- The row of the router for a route of the kind `kind`: its pattern, and its text `text` with the
+-- start and the end of each parameter's name in it.
 abbrev pub router_row : List ℕ → List ℕ → List (ℕ × ℕ) → RouteKind → List ℕ × RouteOf RouteKind
 router_row pattern text names kind = (pattern, record { pattern = pattern; text = text; names = names; value = kind })
 
@@ -18,7 +18,7 @@ all_router_rows =
     ∷ router_row (codes "/rows") (codes "/rows") [] Row
     ∷ []
 
--- True if the name has at least one byte.
+-- True if the list of bytes `name` is not empty.
 abbrev pub is_nonempty : List ℕ → Bool
 is_nonempty [] = false
 is_nonempty (b ∷ name) = true

@@ -1,5 +1,10 @@
 -- The effects of a turn of a stream, in which one request is read, executed and answered, and of a
 -- whole stream, for each way in which they end.
+--
+-- Parameters: `forms`, the parsers of rows and queries; `does base now call outcome after`, a call
+-- leads from `base` to `after`; `gives clock moment later`, a reading of the clock; `n`, the number
+-- of earlier replies of the stream; `input`, the bytes of the stream that are not yet answered;
+-- `span`, the desk's base, the clock and the writer's content before and after.
 use Rattle.std.specs.Prelude.{◌≡◌, ◌⊎◌, ◌==◌, ◌||◌, Bool, ℕ, ◌+◌, List, [], Option, Some, Result, Ok, Err, length, take}
 use Rattle.std.specs.Io.KnownBytes.{Appends}
 use Rattle.std.specs.List.{concat}
@@ -7,7 +12,8 @@ use Rattle.brk_money.specs.Spelling.{Text}
 use Rattle.brk_http_model.specs.Asked.{RequestParsers, demand_of_request}
 use Rattle.brk_http_model.specs.Found.{Request, ReadsFirstRequest, NoBytesLeft}
 use Rattle.brk_http_model.specs.Replies.{Response, is_fault_response, reply_text}
-use Rattle.brk_http_model.specs.Stream.{CallRelation, IsResponseToDemand, most_requests_per_stream, StreamState, Finished, Continues, One, AreRepliesOfStream, AreFirstReplies}
+use Rattle.brk_http_model.specs.Stream.{CallRelation, IsResponseToDemand, most_requests_per_stream, StreamState}
+use Rattle.brk_http_model.specs.Stream.{Finished, Continues, One, AreRepliesOfStream, AreFirstReplies}
 use Rattle.brk_io.specs.Span.{IsUnchangedEnvironment, EnvironmentChange}
 use Rattle.brk_io.specs.Moments.{ClockReturnsInOrder}
 use Rattle.brk_http_engine.specs.declared.turning.Turn.{Turn}
@@ -16,30 +22,34 @@ use Rattle.brk_http_engine.specs.declared.turning.FaultKind.{FaultKind}
 use Rattle.brk_http_engine.specs.declared.turning.FaultKind.TheVariants as kinds
 use Rattle.brk_http_engine.specs.declared.stream.ServeFault.{ServeFault}
 
--- After `n` replies the request at the front of `input` was executed and `reply` is its reply. The
--- stream then ends or continues, as `next` says. The clock was read once for each of the timestamps
--- `taken`.
+-- After `n` replies the request at the front of `input` was executed, and `reply` is its reply.
+-- After it the stream has the state `next`: it is finished, or it continues with the rest of the
+-- input. The clock was read once for each of the timestamps `taken`.
 pub record ExchangeHasReply {B C : Type 0} (forms : RequestParsers) (does : CallRelation B) (gives : C → ℕ → C → Type 0) (n : ℕ) (input : Text)
     (span : EnvironmentChange B C) (reply : Text) (next : StreamState) : Type 0 where
   pub taken : List ℕ
+  -- The clock returned these timestamps, in order.
   pub moments : ClockReturnsInOrder gives span.clock taken span.later
+  -- In the model it is the reply to the first request of the input.
   pub one : One forms does n input span.base taken reply next span.after
 
--- The request was executed and `reply` is its reply. The reply is the last of its stream (`closes`)
--- if it reaches the limit of replies, if the request asks to close the stream, or if the desk
--- failed. The clock was read once for each of the timestamps `taken`.
+-- After `n` replies the request `request` was executed, and `reply` is its reply. The reply is the
+-- last of its stream (`closes`) if it reaches the limit of replies, if the request asks to close
+-- the stream, or if the desk failed. The clock was read once for each of the timestamps `taken`.
 pub record ExecutesRequest {B C : Type 0} (forms : RequestParsers) (does : CallRelation B) (gives : C → ℕ → C → Type 0) (n : ℕ) (request : Request)
     (span : EnvironmentChange B C) (closes : Bool) (reply : Text) : Type 0 where
   pub taken : List ℕ
   pub response : Response
+  -- The clock returned these timestamps, in order.
   pub moments : ClockReturnsInOrder gives span.clock taken span.later
+  -- In the model `response` is the response to the call that the request makes, if it makes one.
   pub responds : IsResponseToDemand does (demand_of_request forms request) span.base taken response span.after
   pub last : closes ≡ ((n + 1 == most_requests_per_stream) || request.closes || is_fault_response response)
   pub bytes : reply ≡ reply_text response closes
 
 -- The turn after `n` replies completed with this result. `Ended`: no input was left, and nothing
--- changed. `Closed`: the reply was written and ends the stream. `Open`: the reply was written, and
--- `left` is the rest of the input.
+-- changed. `Closed`: the reply was written and is the last of its stream. `Open`: the reply was
+-- written, and `left` is the rest of the input.
 abbrev pub ExchangeCompletesWith : {B C : Type 0} → RequestParsers → CallRelation B → (C → ℕ → C → Type 0) → ℕ → Text → EnvironmentChange B C → Option Text
     → Turn → Type 0
 ExchangeCompletesWith forms does gives n input span left turn.Ended = ReadsFirstRequest input NoBytesLeft × IsUnchangedEnvironment span
@@ -60,8 +70,8 @@ ExchangeFailsWith forms does gives n input span kinds.Memory =
 ExchangeFailsWith forms does gives n input span kinds.Write =
     (reply : Text) × (next : StreamState) × (k : ℕ) × ExchangeHasReply forms does gives n input span reply next × Appends span.old span.new (take k reply)
 
--- The stream completed: exactly its `count` replies were written, and the clock was read once for
--- each of the timestamps `moments`.
+-- The stream with the content `input` completed: exactly its `count` replies were written, and the
+-- clock was read once for each of the timestamps `moments`.
 pub record StreamCompletesWith {B C : Type 0} (forms : RequestParsers) (does : CallRelation B) (gives : C → ℕ → C → Type 0) (input : Text)
     (span : EnvironmentChange B C) (count : ℕ) : Type 0 where
   pub moments : List ℕ
@@ -71,24 +81,30 @@ pub record StreamCompletesWith {B C : Type 0} (forms : RequestParsers) (does : C
   pub written : Appends span.old span.new (concat replies)
   pub counted : count ≡ length replies
 
--- A fault ended the stream: the first `count` replies were written, and the next turn failed with
--- `kind`.
+-- A fault ended the stream with the content `input`: the first `count` replies were written, and
+-- the next turn failed with `kind`.
 pub record StreamFailsWith {B C : Type 0} (forms : RequestParsers) (does : CallRelation B) (gives : C → ℕ → C → Type 0) (input : Text)
     (span : EnvironmentChange B C) (kind : FaultKind) (count : ℕ) : Type 0 where
+  -- The timestamps and the bytes of the first replies.
   pub moments : List ℕ
   pub replies : List Text
+  -- The input, the desk's base, the clock and the writer's content after the first replies.
   pub rest : Text
   pub mid : B
   pub later : C
   pub between : Option Text
   pub taken : ClockReturnsInOrder gives span.clock moments later
+  -- In the model these are the first replies of the stream.
   pub begun : AreFirstReplies forms does 0 input span.base moments replies rest mid
   pub written : Appends span.old between (concat replies)
-  pub failed : ExchangeFailsWith forms does gives (length replies) rest (record { base = mid; after = span.after; clock = later; later = span.later; old = between; new = span.new }) kind
+  -- The next turn failed with this fault.
+  pub failed : ExchangeFailsWith forms does gives (length replies) rest
+      (record { base = mid; after = span.after; clock = later; later = span.later; old = between; new = span.new }) kind
   pub counted : count ≡ length replies
 
--- The result of a stream: at `Ok` the number of its replies, and at an error a fault with the
--- effect that `StreamFailsWith` specifies.
+-- The result of the stream with the content `input`: at `Ok` the number of its replies, which were
+-- all written (`StreamCompletesWith`); at an error a fault with the effect that `StreamFailsWith`
+-- specifies.
 abbrev pub IsStreamResult : {B C : Type 0} → RequestParsers → CallRelation B → (C → ℕ → C → Type 0) → Text → EnvironmentChange B C → Result ℕ ServeFault
     → Type 0
 IsStreamResult forms does gives input span (Ok count) = StreamCompletesWith forms does gives input span count

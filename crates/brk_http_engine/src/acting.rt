@@ -13,22 +13,22 @@ use brk_money::{Fault, Refusal, Stamp};
 use brk_ref::Key;
 use std::alloc::Global;
 
-/// The response to a request.
+/// The response to a request, which its reply reports.
 #[derive(Debug, Drop)]
 pub enum ServiceAnswer<R, V> {
-    /// The request has this problem.
+    /// The request makes no call, because it has this problem.
     Wrong(Problem),
-    /// A row was refused.
+    /// A row was refused with this refusal.
     NoRow(Refusal),
-    /// A query was refused.
+    /// A query was refused with this refusal.
     NoView(Refusal),
-    /// A row was executed, with this reply.
+    /// A row was accepted and committed, with this reply.
     Done(R),
     /// A row was accepted before, with this stored reply.
     Again(String),
     /// A query returned this view.
     Saw(V),
-    /// The desk failed.
+    /// The desk failed with this fault.
     Failed(Fault),
 }
 

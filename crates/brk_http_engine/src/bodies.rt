@@ -8,7 +8,8 @@ ghost use Rattle.brk_http_engine.specs.Words.{member_name_text};
 use serde_json::{Value, json};
 use std::alloc::{AllocError, Global};
 
-// Returns the texts in a list of JSON values, or `None` if one of them is not a text.
+// Returns the texts in a list of JSON values, or `None` if one of the values is not a string. Fails
+// only if memory runs out.
 fn texts_of_values(alloc: Global, values: &[Value]) -> Result<Option<Vec<String>>, AllocError>
     ensures found { IfOk result (λ o. IfSome o (λ v. map view values.now ≡ map string (map string_bytes v.items))) }
     ensures none { IfOk result (λ o. IfNone o ((ts : List (List ℕ)) → map view values.now ≢ map string ts)) }
@@ -23,8 +24,8 @@ fn texts_of_values(alloc: Global, values: &[Value]) -> Result<Option<Vec<String>
     Ok(Some(texts))
 }
 
-/// Parses a body as a JSON list of texts. Returns the texts, or `None` if the body is anything
-/// else.
+/// Parses a body as a JSON list of strings. Returns their texts, or `None` if the body is anything
+/// else. Fails only if memory runs out.
 #[tactic(auto, using(crate::proofs::BodyLemmas::no_value))]
 pub fn texts_of_body(alloc: Global, body: &[u8]) -> Result<Option<Vec<String>>, AllocError>
     ensures { IfOk result (λ found. option_map bytes_of_texts found ≡ spec.texts_of_body body.now) }
@@ -50,14 +51,19 @@ pub fn texts_of_body(alloc: Global, body: &[u8]) -> Result<Option<Vec<String>>, 
 /// The name of the one member of the JSON object that is the body of a reply.
 #[derive(Clone, Copy, Debug, PartialEq, Eq)]
 pub enum MemberName {
+    /// `ok`: the fields of the reply to an accepted row.
     Ok,
+    /// `again`: the fields of the stored reply to a row that was accepted before.
     Again,
+    /// `no`: the fields of a refusal.
     No,
+    /// `view`: the records of a view.
     View,
+    /// `error`: the text of a problem with a request, or of a fault of the desk.
     Error,
 }
 
-// Returns the JSON list of these texts.
+// Returns the JSON list of these texts, as strings. Fails only if memory runs out.
 fn json_list_of_texts(alloc: Global, texts: &[String]) -> Result<Value, AllocError>
     ensures { IfOk result (λ v. view v ≡ spec.json_array_of_texts (map string_bytes texts.now)) }
 {
@@ -68,7 +74,7 @@ fn json_list_of_texts(alloc: Global, texts: &[String]) -> Result<Value, AllocErr
     Ok(Value::Array(list))
 }
 
-// Returns the JSON list of these records, each a list of texts.
+// Returns the JSON list of these records, each a list of strings. Fails only if memory runs out.
 fn json_list_of_records(alloc: Global, records: &[Vec<String>]) -> Result<Value, AllocError>
     ensures { IfOk result (λ v. view v ≡ array (items_of (map spec.json_array_of_texts (map bytes_of_texts records.now)))) }
 {
@@ -79,7 +85,8 @@ fn json_list_of_records(alloc: Global, records: &[Vec<String>]) -> Result<Value,
     Ok(Value::Array(list))
 }
 
-// Returns the JSON object with the one member `word` and this value.
+// Returns the JSON object whose one member has the name `word` and the value `value`. Fails only if
+// memory runs out.
 fn json_object_of_member(alloc: Global, word: MemberName, value: Value) -> Result<Value, AllocError>
     ensures { IfOk result (λ v. view v ≡ object (member (member_name_text word) (view value) no_members)) }
 {
@@ -92,7 +99,8 @@ fn json_object_of_member(alloc: Global, word: MemberName, value: Value) -> Resul
     }
 }
 
-/// Returns the JSON text `{"WORD":["TEXT",..]}` for the member name `word` and these texts.
+/// Returns the JSON text `{"NAME":["TEXT",..]}` for the member name `word` and these texts. Fails
+/// only if memory runs out.
 pub fn json_text_of_texts(
     alloc: Global,
     word: MemberName,
@@ -105,7 +113,8 @@ pub fn json_text_of_texts(
     told.to_string(alloc)
 }
 
-/// Returns the JSON text `{"view":[["TEXT",..],..]}` of these records.
+/// Returns the JSON text `{"view":[["TEXT",..],..]}` of these records. Fails only if memory runs
+/// out.
 pub fn json_text_of_view(alloc: Global, records: &[Vec<String>]) -> Result<String, AllocError>
     ensures { IfOk result (λ s. string_bytes s ≡ spec.json_records_object (codes "view") (map bytes_of_texts records.now)) }
 {
@@ -114,14 +123,14 @@ pub fn json_text_of_view(alloc: Global, records: &[Vec<String>]) -> Result<Strin
     told.to_string(alloc)
 }
 
-// Returns the JSON string of a text.
+// Returns the JSON string with this text. Fails only if memory runs out.
 fn json_string(alloc: Global, text: &str) -> Result<Value, AllocError>
     ensures { IfOk result (λ v. view v ≡ string text.now) }
 {
     Ok(Value::String(String::from_str(alloc, text)?))
 }
 
-/// Returns the JSON text `{"error":"WORDS"}` with the text `words`.
+/// Returns the JSON text `{"error":"TEXT"}` with the text `words`. Fails only if memory runs out.
 pub fn json_text_of_error(alloc: Global, words: &str) -> Result<String, AllocError>
     ensures { IfOk result (λ s. string_bytes s ≡ spec.json_error_object words.now) }
 {

@@ -5,7 +5,8 @@ ghost use Rattle.brk_http_engine.specs.Codes.{bytes_of_texts};
 
 use std::alloc::{AllocError, Global};
 
-/// Returns the parts of `text` between the occurrences of the ASCII character `cut`.
+/// Returns the parts of `text` before, between and after the occurrences of the ASCII character
+/// `cut`, in order. Fails only if memory runs out.
 #[tactic(auto, unfolding(brk_http_model::specs::Routes::split_at_byte))]
 pub fn split_at_byte(alloc: Global, cut: char, text: &str) -> Result<Vec<&str>, AllocError>
     requires ascii { cut < 128 }
@@ -14,7 +15,7 @@ pub fn split_at_byte(alloc: Global, cut: char, text: &str) -> Result<Vec<&str>, 
     text.split(cut).collect(alloc)
 }
 
-/// Returns owned copies of the texts, in order.
+/// Returns owned copies of the texts, in order. Fails only if memory runs out.
 pub fn copy_texts(alloc: Global, parts: &[&str]) -> Result<Vec<String>, AllocError>
     ensures { IfOk result (λ all. bytes_of_texts all ≡ slices parts.now) }
 {
@@ -25,7 +26,7 @@ pub fn copy_texts(alloc: Global, parts: &[&str]) -> Result<Vec<String>, AllocErr
     Ok(all)
 }
 
-/// Returns the bytes of the texts as borrowed slices, in order.
+/// Returns the bytes of the texts as borrowed slices, in order. Fails only if memory runs out.
 pub fn borrow_bytes_of_texts(alloc: Global, texts: &[String]) -> Result<Vec<&[u8]>, AllocError>
     ensures { IfOk result (λ all. slices all.items ≡ map string_bytes texts.now) }
 {

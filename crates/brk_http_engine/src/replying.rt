@@ -1,6 +1,7 @@
 ghost use Rattle.std.specs.Prelude.{◌≡◌, ◌++◌, [], IfOk, OnOk, Bool, codes, decimal, map, string_bytes, unwrap_or};
 ghost use Rattle.http.specs.StatusCode.{reason_phrase};
-ghost use Rattle.brk_http_model.specs.Replies.{FromOutcome, FromProblem, names_allowed_method, response_body, fault_word, head_line, is_fault_response, http_status_of_problem, text_of_problem, reply_text, reply_bytes, http_status_of_response, head_line_if};
+ghost use Rattle.brk_http_model.specs.Replies.{FromOutcome, FromProblem, names_allowed_method, response_body, fault_word, head_line, is_fault_response};
+ghost use Rattle.brk_http_model.specs.Replies.{http_status_of_problem, text_of_problem, reply_text, reply_bytes, http_status_of_response, head_line_if};
 ghost use Rattle.brk_model.specs.Commands as model;
 ghost use Rattle.brk_model.specs.Queries as queries;
 ghost use Rattle.brk_model.specs.Run as run;
@@ -17,7 +18,7 @@ use brk_money::{Fault, Refusal};
 use http::StatusCode;
 use std::alloc::{AllocError, Global};
 
-// Returns the HTTP status of the reply to a request with this problem.
+// Returns the HTTP status of the reply to a request with this problem: 413, 400, 501, 404 or 405.
 fn status_of_problem(problem: Problem) -> StatusCode
     ensures { status_text result ≡ http_status_of_problem problem }
 {
@@ -30,7 +31,7 @@ fn status_of_problem(problem: Problem) -> StatusCode
     }
 }
 
-// Returns the text of the error reply to a request with this problem.
+// Returns the text in the body of the error reply to a request with this problem.
 fn text_of_problem(problem: Problem) -> &'static str
     ensures { result.now ≡ text_of_problem problem }
 {
@@ -43,7 +44,8 @@ fn text_of_problem(problem: Problem) -> &'static str
     }
 }
 
-// Returns the word of the error reply for a fault of the desk: `memory` or `store`.
+// Returns the text in the body of the error reply for a fault of the desk: `memory` if memory ran
+// out, otherwise `store`.
 fn fault_word(fault: Fault) -> &'static str
     ensures { result.now ≡ fault_word fault }
 {
@@ -53,7 +55,8 @@ fn fault_word(fault: Fault) -> &'static str
     }
 }
 
-// Returns the HTTP status of a response.
+// Returns the HTTP status of a response: 200 for a reply, a stored reply or a view, 409 for a
+// refusal, 503 for a fault of the desk, otherwise the status of the problem.
 fn status_of_response<R, V>(told: &ServiceAnswer<R, V>) -> StatusCode
     ensures { (reply : R → model.Reply) (shown : V → queries.View) → status_text result ≡ http_status_of_response (response_in_model reply shown told.now) }
 {
@@ -79,7 +82,7 @@ fn is_method_refusal<R, V>(told: &ServiceAnswer<R, V>) -> bool
     }
 }
 
-/// Returns true if the response reports that the desk failed.
+/// Returns true if the response is a fault of the desk.
 pub fn is_fault_response<R, V>(told: &ServiceAnswer<R, V>) -> bool
     ensures { (reply : R → model.Reply) (shown : V → queries.View) → result ≡ is_fault_response (response_in_model reply shown told.now) }
 {
@@ -89,7 +92,8 @@ pub fn is_fault_response<R, V>(told: &ServiceAnswer<R, V>) -> bool
     }
 }
 
-/// Returns the fields of a line, split at its commas.
+/// Returns copies of the fields of a line, split at its commas, in order. Fails only if memory runs
+/// out.
 pub fn fields_between_commas(alloc: Global, line: &str) -> Result<Vec<String>, AllocError>
     ensures { IfOk result (λ fields. bytes_of_texts fields ≡ split_at_byte 44 line.now) }
 {
@@ -107,7 +111,7 @@ fn refusal_body(alloc: Global, refusal: Refusal) -> Result<String, AllocError>
     json_text_of_texts(alloc, MemberName::No, &fields)
 }
 
-// Returns the JSON body of the reply with this response.
+// Returns the JSON body of the reply with this response. Fails only if memory runs out.
 fn response_body<D: Service>(
     alloc: Global,
     told: &ServiceAnswer<D::Reply, D::View>,
@@ -135,14 +139,15 @@ fn response_body<D: Service>(
     }
 }
 
-// Appends a line and its line end to the head.
+// Appends a line and its line end, CR LF, to the head. Fails only if memory runs out.
 fn append_head_line(head: &mut String, line: &str) -> Result<(), AllocError>
     ensures { OnOk result (string_bytes head.new ≡ string_bytes head.old ++ head_line line.now) }
 {
     write!(head, "{line}\r\n")
 }
 
-// Appends a line and its line end to the head if `stands` is true, and otherwise nothing.
+// Appends a line and its line end, CR LF, to the head if the flag `stands` is true, and otherwise
+// nothing. Fails only if memory runs out.
 fn append_head_line_if(head: &mut String, stands: bool, line: &str) -> Result<(), AllocError>
     ensures { OnOk result (string_bytes head.new ≡ string_bytes head.old ++ head_line_if stands line.now) }
 {
@@ -153,7 +158,8 @@ fn append_head_line_if(head: &mut String, stands: bool, line: &str) -> Result<()
     }
 }
 
-// Returns the phrase of a status, or an empty text if it has none.
+// Returns the reason phrase of an HTTP status, for example `Not Found`, or an empty text if it has
+// none.
 fn status_phrase(code: StatusCode) -> &'static str
     ensures { result.now ≡ unwrap_or (reason_phrase code) [] }
 {
@@ -163,7 +169,8 @@ fn status_phrase(code: StatusCode) -> &'static str
     }
 }
 
-// Returns the digits of a status, a space, and its reason phrase.
+// Returns the three digits of an HTTP status, a space, and its reason phrase. Fails only if memory
+// runs out.
 fn status_digits_and_phrase(alloc: Global, code: StatusCode) -> Result<String, AllocError>
     ensures { IfOk result (λ s. string_bytes s ≡ status_text code) }
 {
@@ -173,7 +180,8 @@ fn status_digits_and_phrase(alloc: Global, code: StatusCode) -> Result<String, A
     Ok(line)
 }
 
-// Returns the text of a label followed by a value.
+// Returns a text that consists of a label and then a value, with nothing between them. Fails only
+// if memory runs out.
 fn join_label_and_value(alloc: Global, label: &str, value: &str) -> Result<String, AllocError>
     ensures { IfOk result (λ s. string_bytes s ≡ label.now ++ value.now) }
 {
@@ -189,7 +197,8 @@ fn decimal_digits(alloc: Global, n: usize) -> Result<String, AllocError>
     format!(in alloc; "{n}")
 }
 
-// Returns the first three lines of a head: status line, content type, and content length `len`.
+// Returns the first three lines of the head of a reply: the status line with the text `status`, the
+// content type, and the content length `len` in bytes. Fails only if memory runs out.
 fn first_head_lines(alloc: Global, status: &str, len: usize) -> Result<String, AllocError>
     ensures { IfOk result (λ s. string_bytes s ≡ first_head_lines status.now len) }
 {
@@ -242,7 +251,8 @@ pub fn reply_text<D: Service>(
     )
 }
 
-/// Returns the bytes of the reply to an unreadable request, with a `Connection: close` line.
+/// Returns the bytes of the reply to a request that could not be read, because of this problem,
+/// with a `Connection: close` line. Fails only if memory runs out.
 pub fn format_problem_reply(alloc: Global, problem: Problem) -> Result<String, AllocError>
     ensures { IfOk result (λ s. string_bytes s ≡ reply_text (FromProblem problem) Bool.true) }
 {

@@ -7,18 +7,18 @@ ghost use Rattle.brk_http_engine.specs.Rows.{all_router_rows};
 use matchit::{InsertError, Router};
 use std::alloc::Global;
 
-/// The kind of request that the targets of a route make.
+/// The kind of requests that the targets of a route make.
 #[derive(Clone, Copy, Debug, PartialEq, Eq)]
 pub enum RouteKind {
-    /// A row without a key.
+    /// A row without a key: `/rows`.
     Row,
-    /// A row with its key.
+    /// A row with its key: `/rows/{batch}/{n}`.
     KeyedRow,
-    /// A view.
+    /// A query for a view: `/ask/{view}`.
     View,
 }
 
-/// Creates the router of the three routes.
+/// Creates the router of the three routes `/rows`, `/rows/{batch}/{n}` and `/ask/{view}`.
 pub fn new_router(alloc: Global) -> Result<Router<RouteKind>, InsertError>
     ensures { IfOk result (λ router. router ≡ all_router_rows) }
 {

@@ -15,17 +15,17 @@ use brk_ref::{BatchName, Key, RowNumber, parse_id};
 use matchit::Router;
 use std::alloc::Global;
 
-/// The route of a target.
+/// The route of a request target.
 #[derive(Drop)]
 pub enum Route {
-    /// A row, with or without a key.
+    /// To a row, with its key or without one.
     ToRow(Option<Key>),
-    /// The view with this name.
+    /// To the view with this name.
     ToView(&'static str),
 }
 
-// Parses the batch name and the row number of a key. Returns the key, or `None` if one of them is
-// malformed.
+// Returns the key with the batch name and the row number that these bytes spell, or `None` if one
+// of them is malformed. Fails if memory runs out.
 fn key_of_batch_row(alloc: Global, batch: &[u8], n: &[u8]) -> Result<Option<Key>, Fault>
     ensures { IfOk result (λ key. option_map abstract_key key ≡ key_of_batch_row batch.now (read_id n.now)) }
 {
@@ -39,8 +39,8 @@ fn key_of_batch_row(alloc: Global, batch: &[u8], n: &[u8]) -> Result<Option<Key>
     Ok(Some(Key { batch, row }))
 }
 
-// Returns true if `first` is empty and `word` equals `name`, as in a target whose first segment is
-// `name`.
+// Returns true if a target that was split at `/` has the first segment `name`: the part `first`,
+// before the first `/`, is empty, and the part `word`, after it, equals `name`.
 fn has_first_segment(first: &str, word: &str, name: &str) -> bool
     ensures { result ≡ has_first_segment first.now word.now name.now }
 {
@@ -50,8 +50,8 @@ fn has_first_segment(first: &str, word: &str, name: &str) -> bool
     word == name
 }
 
-// Returns the route of a view if the segments are those of a target `/ask/VIEW` and this view
-// exists, otherwise `None`.
+// Returns the route of a view if the parts are those of a target `/ask/VIEW` and this view exists,
+// otherwise `None`.
 fn parse_view_route<D: Service>(first: &str, word: &str, view: &str) -> Option<Route>
     ensures { option_map route_in_model result ≡ route_of_segments D.forms.views (first.now ∷ word.now ∷ view.now ∷ []) }
 {
@@ -64,8 +64,8 @@ fn parse_view_route<D: Service>(first: &str, word: &str, view: &str) -> Option<R
     }
 }
 
-// Returns the route of a row with its key if the segments are those of a target `/rows/BATCH/N` and
-// the key is well-formed, otherwise `None`.
+// Returns the route of a row with its key if the parts are those of a target `/rows/BATCH/N` and
+// the key is well-formed, otherwise `None`. Fails if memory runs out.
 fn parse_keyed_row_route<D: Service>(
     alloc: Global,
     first: &str,
@@ -84,8 +84,8 @@ fn parse_keyed_row_route<D: Service>(
     }
 }
 
-// Returns the route of a row without a key if the segments are those of the target `/rows`,
-// otherwise `None`.
+// Returns the route of a row without a key if the parts are those of the target `/rows`, otherwise
+// `None`.
 fn parse_unkeyed_row_route<D: Service>(first: &str, word: &str) -> Option<Route>
     ensures { option_map route_in_model result ≡ route_of_segments D.forms.views (first.now ∷ word.now ∷ []) }
 {
@@ -97,7 +97,7 @@ fn parse_unkeyed_row_route<D: Service>(first: &str, word: &str) -> Option<Route>
 }
 
 // Returns the route of a target that was split at `/` into these parts, or `None` if it has no
-// route.
+// route. Fails if memory runs out.
 fn route_of_segments<D: Service>(alloc: Global, parts: &[&str]) -> Result<Option<Route>, Fault>
     ensures { IfOk result (λ route. option_map route_in_model route ≡ route_of_segments D.forms.views (texts_of_fields parts.now)) }
 {
@@ -109,7 +109,7 @@ fn route_of_segments<D: Service>(alloc: Global, parts: &[&str]) -> Result<Option
     }
 }
 
-/// Returns the route of a request target, or `None` if it has no route.
+/// Returns the route of a request target, or `None` if it has no route. Fails if memory runs out.
 #[tactic(auto, unfolding(brk_http_model::specs::Routes::route_of_target))]
 pub fn route_of_target<D: Service>(
     alloc: Global,

@@ -13,18 +13,18 @@ use brk_money::{Fault, Planned, Refusal, Stamp};
 use brk_ref::Key;
 use std::alloc::{AllocError, Global};
 
-/// The answer to a row.
+/// The answer to a row that an HTTP request sends.
 #[derive(Debug, Drop)]
 pub enum RowAnswer<R> {
-    /// The row was executed, with this reply.
+    /// The row was accepted and committed, with this reply.
     Done(R),
     /// The row was accepted before, with this stored reply.
     Again(String),
-    /// The row was refused.
+    /// The row was refused with this refusal.
     Refused(Refusal),
 }
 
-/// The operations of a desk that the requests of a stream need.
+/// The operations of a desk that serves HTTP requests.
 pub trait Service {
     /// The desk that executes the calls.
     type Desk;
@@ -32,7 +32,7 @@ pub trait Service {
     /// A command: a well-formed row.
     type Command: Drop;
 
-    /// The reply to a row that was executed.
+    /// The reply to a row that was accepted.
     type Reply: Drop;
 
     /// A well-formed query.
@@ -44,36 +44,41 @@ pub trait Service {
     /// The parsers of rows and queries, and the names of the views.
     ghost forms: { RequestParsers };
 
-    /// A call at a timestamp may turn the first desk into the second, with this outcome.
+    /// Holds if a call at this timestamp may turn the first desk into the second, with this
+    /// outcome. The timestamp of a query is 0.
     ghost acts: { Self.Desk → ℕ → Call → Outcome → Self.Desk → Type 0 };
 
-    /// The abstract command of a command.
+    /// The model's command that a command represents.
     ghost command_of: { Self.Command → model.Command };
 
-    /// The abstract query of a query.
+    /// The model's query that a query represents.
     ghost query_of: { Self.Query → queries.Query };
 
-    /// The abstract reply of a reply.
+    /// The model's reply that a reply represents.
     ghost told: { Self.Reply → model.Reply };
 
-    /// The abstract view of a view.
+    /// The model's view, a list of records of texts, that a view represents.
     ghost shown: { Self.View → queries.View };
 
-    /// Parses the fields of a row: returns a command, or the refusal of a malformed row.
+    /// Parses the fields of a row: returns a command, or the refusal of a malformed row. Fails if
+    /// memory runs out.
     fn parse_row(alloc: Global, row: &[&[u8]]) -> Planned<Self::Command>
         ensures { IfOk result (λ read. ParsesAs command_of read (forms.row (texts_of_fields row.now))) };
 
-    /// Returns `name` as the name of a view if a view with this name exists, otherwise `None`.
+    /// Returns the name of the view with this name, with a static lifetime, or `None` if there is
+    /// no such view.
     fn view_named(name: &str) -> Option<&'static str>
         ensures { MatchOption result
             (list_any (λ v. bytes_eq v name.now) forms.views ≡ Bool.false)
             (λ view. (view.now ≡ name.now) × (list_any (λ v. bytes_eq v name.now) forms.views ≡ Bool.true)) };
 
-    /// Parses the arguments of a view: returns a query, or the refusal of a malformed query.
+    /// Parses the arguments of the view with the name `view`: returns a query, or the refusal of a
+    /// malformed query. Fails if memory runs out.
     fn parse_query(alloc: Global, view: &str, arguments: &[&[u8]]) -> Planned<Self::Query>
         ensures { IfOk result (λ read. ParsesAs query_of read (forms.query view.now (texts_of_fields arguments.now))) };
 
-    /// Executes a command at the clock reading `now`, with or without a key.
+    /// Executes a command at the clock reading `now`, under its key or without one, and returns its
+    /// answer. Fails with a fault of the desk.
     fn call(
         desk: &mut Self::Desk,
         alloc: Global,
@@ -83,15 +88,16 @@ pub trait Service {
     ) -> Result<RowAnswer<Self::Reply>, Fault>
         ensures { acts desk.old now (Do (command_of command.now) (key_in_model (option_copied key.entry))) (row_outcome_in_model told result) desk.new };
 
-    /// Executes a query and returns its view or its refusal.
+    /// Executes a query and returns its view or its refusal. Fails with a fault of the desk.
     fn ask(desk: &mut Self::Desk, alloc: Global, query: &Self::Query) -> Planned<Self::View>
         ensures { acts desk.old 0 (Ask (query_of query.now)) (query_outcome_in_model shown result) desk.new };
 
-    /// Returns the fields of a reply.
+    /// Returns the fields of a reply, in order. Fails only if memory runs out.
     fn reply_fields(alloc: Global, reply: &Self::Reply) -> Result<Vec<String>, AllocError>
         ensures { IfOk result (λ fields. bytes_of_texts fields ≡ reply_fields (told reply.now)) };
 
-    /// Returns the records of a view.
+    /// Returns the records of a view, in order, each a list of texts. Fails only if memory runs
+    /// out.
     fn records(alloc: Global, view: &Self::View) -> Result<Vec<Vec<String>>, AllocError>
         ensures { IfOk result (λ records. bytes_of_records records ≡ shown view.now) };
 }

@@ -14,18 +14,19 @@ use matchit::Router;
 use std::alloc::Global;
 use std::io::{Read, Write};
 
-/// A fault that ended a stream early.
+/// A fault that ended a stream early, with the number of replies before it.
 #[derive(Clone, Copy, Debug, PartialEq, Eq)]
 pub struct ServeFault {
-    /// The number of requests that were answered before.
+    /// The number of requests that were answered before the fault.
     pub done: u64,
+    /// The cause of the fault.
     pub kind: FaultKind,
 }
 
-// Serves the requests of a stream with a router of the three routes, and returns the number of
-// replies.
+// Serves the requests of a stream with a router of the three routes, in order, and returns the
+// number of replies.
 //
-// Fails with the number of replies before the fault.
+// Fails with the fault and the number of replies before it.
 fn serve_with_router<R: Read + Drop, W: Write, C: Clock, D: Service>(
     alloc: Global,
     router: &Router<RouteKind>,
@@ -36,9 +37,14 @@ fn serve_with_router<R: Read + Drop, W: Write, C: Clock, D: Service>(
 ) -> Result<u64, ServeFault>
     requires routes { router.now ≡ all_router_rows }
     requires named { list_all is_nonempty D.forms.views ≡ Bool.true }
+    // At most 1,000 requests are answered, and fewer before a fault.
     ensures few { IfOk result (λ count. count ≤ most_requests_per_stream) }
     ensures early { IfErr result (λ fault. fault.done < most_requests_per_stream) }
+    // The desk changed only by its calls: at most one for each reply, and one more after a fault of
+    // memory or of the writer.
     ensures called { ChangesOnlyByCalls D.acts (call_limit_of_stream result) desk.old desk.new }
+    // For a reader whose content is specified, the calls, the replies and the result follow from
+    // its requests (`IsStreamResult`).
     ensures gives { IfSome (R.remaining reader) (λ input. IsStreamResult D.forms D.acts C.gives input
         (record { base = desk.old; after = desk.new; clock = clock.old; later = clock.new; old = W.contents writer.old; new = W.contents writer.new }) result) }
 {
@@ -66,8 +72,9 @@ fn serve_with_router<R: Read + Drop, W: Write, C: Clock, D: Service>(
 /// Serves the requests of a stream, in order, at most 1,000, and returns the number of replies. No
 /// view may have an empty name.
 ///
-/// Each request makes at most one call of the desk. After a fault of memory or of the writer, the
-/// next request may have been executed; after a fault of the reader it was not.
+/// Each request makes at most one call of the desk. Fails with the fault and the number of replies
+/// before it. After a fault of memory or of the writer, the next request may have been executed;
+/// after a fault of the reader it was not.
 pub fn serve_requests<R: Read + Drop, W: Write, C: Clock, D: Service>(
     alloc: Global,
     reader: R,
@@ -76,9 +83,14 @@ pub fn serve_requests<R: Read + Drop, W: Write, C: Clock, D: Service>(
     desk: &mut D::Desk,
 ) -> Result<u64, ServeFault>
     requires named { list_all is_nonempty D.forms.views ≡ Bool.true }
+    // At most 1,000 requests are answered, and fewer before a fault.
     ensures few { IfOk result (λ count. count ≤ most_requests_per_stream) }
     ensures early { IfErr result (λ fault. fault.done < most_requests_per_stream) }
+    // The desk changed only by its calls: at most one for each reply, and one more after a fault of
+    // memory or of the writer.
     ensures called { ChangesOnlyByCalls D.acts (call_limit_of_stream result) desk.old desk.new }
+    // For a reader whose content is specified, the calls, the replies and the result follow from
+    // its requests (`IsStreamResult`).
     ensures gives { IfSome (R.remaining reader) (λ input. IsStreamResult D.forms D.acts C.gives input
         (record { base = desk.old; after = desk.new; clock = clock.old; later = clock.new; old = W.contents writer.old; new = W.contents writer.new }) result) }
 {

@@ -25,18 +25,18 @@ use std::io::{Read, Write};
 /// The greatest number of requests that are answered on one stream.
 pub const MAXIMUM_REQUESTS: u64 = 1000;
 
-/// The result of one turn of a stream: of reading, executing and answering its next request.
+/// The result of one turn of a stream, which reads, executes and answers its next request.
 #[derive(Clone, Copy, Debug, PartialEq, Eq)]
 pub enum Turn {
-    /// The input ended before a request.
+    /// The input ended before another request.
     Ended,
     /// The stream continues after the reply.
     Open,
-    /// The reply ended the stream.
+    /// The reply was the last of its stream.
     Closed,
 }
 
-/// The cause that ended a stream early.
+/// The cause of a fault that ended a stream early.
 #[derive(Clone, Copy, Debug, PartialEq, Eq)]
 pub enum FaultKind {
     /// The reader failed; an interrupted read is a failure too.
@@ -47,7 +47,8 @@ pub enum FaultKind {
     Memory,
 }
 
-// Returns true if the reply after `done` replies is the last of its stream.
+// Returns true if the reply after `done` replies is the last of its stream: it reaches the limit,
+// the request asks to close the stream (`closes`), or the desk failed (`failed`).
 fn is_last_reply(done: u64, closes: bool, failed: bool) -> bool
     requires few { done < most_requests_per_stream }
     ensures { result ≡ ((done + 1 == most_requests_per_stream) || closes || failed) }
@@ -55,7 +56,7 @@ fn is_last_reply(done: u64, closes: bool, failed: bool) -> bool
     done + 1 == MAXIMUM_REQUESTS || closes || failed
 }
 
-// The bytes of a reply, and a flag that is true if the reply is the last of its stream.
+// The text of a reply, and a flag that is true if the reply is the last of its stream.
 #[derive(Drop)]
 struct FormattedReply {
     text: String,
@@ -71,7 +72,8 @@ enum OutOfMemoryPoint {
     After,
 }
 
-// Executes the request at `places` of the buffer and returns its reply.
+// Executes the request that has these positions in the buffer, after `done` replies, and returns
+// its reply.
 //
 // Fails with `Before` if memory ran out before the execution, and with `After` if it ran out after
 // it.
@@ -91,11 +93,14 @@ fn execute_and_format_reply<C: Clock, D: Service>(
     requires target { IsWithin (length buffer.now) places.target }
     requires body { IsWithin (length buffer.now) places.body }
     ensures called { ChangesOnlyByCalls D.acts 1 desk.old desk.new }
+    // If the stream continues after the reply, fewer than 1,000 requests are answered so far.
     ensures open { IfOk result (λ draft. draft.closes ≡ Bool.false → done + 1 < most_requests_per_stream) }
     ensures ok { (old : Option (List ℕ)) (new : Option (List ℕ))
         → IfOk result (λ draft. ExecutesRequest D.forms D.acts C.gives done (request_at buffer.now places)
         (record { base = desk.old; after = desk.new; clock = clock.old; later = clock.new; old = old; new = new }) draft.closes (string_bytes draft.text)) }
+    // At `Before` neither the desk nor the clock has changed.
     ensures before { result ≡ Err OutOfMemoryPoint.Before → (desk.new ≡ desk.old) × (clock.new ≡ clock.old) }
+    // At `After` the request was executed, but its reply is lost.
     ensures after { (old : Option (List ℕ)) (new : Option (List ℕ)) → result ≡ Err OutOfMemoryPoint.After
         → (closes : Bool) × (reply : List ℕ) × ExecutesRequest D.forms D.acts C.gives done (request_at buffer.now places)
         (record { base = desk.old; after = desk.new; clock = clock.old; later = clock.new; old = old; new = new }) closes reply }
@@ -115,11 +120,11 @@ fn execute_and_format_reply<C: Clock, D: Service>(
     }
 }
 
-/// Reads the next request, executes it and writes its reply. Returns `Ended` if no input is left,
-/// `Closed` if the reply is the last of the stream, otherwise `Open`.
+/// Reads the next request, after `done` replies, executes it and writes its reply. Returns `Ended`
+/// if no input is left, `Closed` if the reply is the last of the stream, otherwise `Open`.
 ///
-/// Fails with `Read` and nothing executed. After `Memory` or `Write` the request may have been
-/// executed.
+/// Fails with `Read`, and no request is executed. After `Memory` or `Write` the request may have
+/// been executed.
 pub fn serve_next_request<R: Read, W: Write, C: Clock, D: Service>(
     alloc: Global,
     router: &Router<RouteKind>,

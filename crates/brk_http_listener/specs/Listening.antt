@@ -8,28 +8,28 @@ use Rattle.brk_http_listener.specs.declared.faults.AcceptFault.TheVariants.{Abor
 use Rattle.brk_http_listener.specs.declared.faults.ListenFault.{ListenFault}
 use Rattle.brk_http_listener.specs.declared.faults.ListenFault.TheVariants.{Stream, Net}
 
--- A listener, a clock and a desk at one time.
+-- The states of a listener, of a clock and of a desk at one time.
 pub record ListenerClockAndDesk (L C D : Type 0) : Type 0 where
   pub listener : L
   pub clock : C
   pub desk : D
 
--- The type of a relation of one accept: it may turn the first listener into the second, with this
--- result.
+-- The type of the relation of one accept: the accept may turn the first listener into the second,
+-- with this result, a stream of type `X` or a fault.
 abbrev pub AcceptRelation : Type 0 → Type 0 → Type 1
 AcceptRelation L X = L → Result X AcceptFault → L → Type 0
 
--- The type of a relation of one served stream: with this stream, it may turn the first clock and
--- desk into the second, with this result.
+-- The type of the relation of serving one stream of type `X`: it may turn the first clock and desk
+-- into the second, with this result, the number of replies or a fault.
 abbrev pub ServeRelation : Type 0 → Type 0 → Type 0 → Type 1
 ServeRelation C D X = C → D → X → Result ℕ ServeFault → C → D → Type 0
 
--- The end of a stream: the result of serving it, or `None` if its peer broke it off before it was
--- accepted.
+-- The type of the end of a stream: the result of serving it, or `None` if its peer broke it off
+-- before it was accepted.
 abbrev pub StreamEnd : Type 0
 StreamEnd = Option (Result ℕ ServeFault)
 
--- The accept had this result, and changed neither the clock nor the desk.
+-- The accept had the result `result`, and changed neither the clock nor the desk.
 pub record AcceptHasResult {L C D X : Type 0} (accepts : AcceptRelation L X) (old : ListenerClockAndDesk L C D) (result : Result X AcceptFault)
     (new : ListenerClockAndDesk L C D) : Type 0 where
   pub accepted : accepts old.listener result new.listener
@@ -45,7 +45,8 @@ HandlesStream accepts serves old None new = AcceptHasResult accepts old (Err Abo
 HandlesStream {X = X} accepts serves old (Some ended) new =
     (stream : X) × accepts old.listener (Ok stream) new.listener × serves old.clock old.desk stream ended new.clock new.desk
 
--- The next stream may be accepted: this stream did not end because memory ran out.
+-- The listener may accept the next stream: the stream with this end did not end because memory ran
+-- out.
 abbrev pub MayAcceptNextStream : StreamEnd → Type 0
 MayAcceptNextStream None = Unit {0}
 MayAcceptNextStream (Some (Ok count)) = Unit {0}

@@ -9,7 +9,7 @@ pub enum AcceptFault {
     Failed,
 }
 
-/// The cause that ended serving early.
+/// The cause that ended the serving of a listener early.
 #[derive(Clone, Copy, Debug, PartialEq, Eq)]
 pub enum ListenFault {
     /// A stream ended because memory ran out.

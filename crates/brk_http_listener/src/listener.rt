@@ -5,12 +5,13 @@ use crate::faults::AcceptFault;
 use std::io::ErrorKind;
 use std::net::{TcpListener, TcpStream};
 
-/// A source of streams.
+/// A source of streams, which accepts one after the other.
 pub trait Listener {
     /// A stream that a peer opened.
     type Stream: Drop;
 
-    /// A relation of one accept: it may turn the first listener into the second, with this result.
+    /// Holds if an accept may turn the first listener into the second, with this result. Always
+    /// holds for a listener that defines no relation of its own.
     ghost accepts: { Self → Result Self.Stream AcceptFault → Self → Type 0 } = { λ _ _ _. Unit {0} };
 
     /// Waits for the next stream of a peer and accepts it.

@@ -15,10 +15,12 @@ pub trait StreamServer {
     /// The desk that executes the calls.
     type Desk;
 
-    /// Serving this stream may turn the first clock and desk into the second, with this result.
+    /// Holds if serving this stream may turn the first clock and desk into the second, with this
+    /// result.
     ghost serves: { Self.Clock → Self.Desk → Self.Stream → Result ℕ ServeFault → Self.Clock → Self.Desk → Type 0 };
 
-    /// Serves a stream to its end, and returns the number of requests that were answered.
+    /// Serves a stream to its end, and returns the number of requests that were answered. Fails
+    /// with the fault that ended the stream early.
     fn serve_accepted_stream(
         alloc: Global,
         stream: Self::Stream,

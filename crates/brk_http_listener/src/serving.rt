@@ -6,7 +6,8 @@ use crate::server::StreamServer;
 use brk_http_engine::FaultKind;
 use std::alloc::Global;
 
-// Accepts the next stream and serves it to its end. A stream that its peer broke off is not served.
+// Accepts the next stream of a listener and serves it to its end. A stream that its peer broke off
+// is not served. A fault of the stream's reader or writer is no failure here.
 //
 // Fails with `Stream` if memory ran out, and with `Net` if no stream could be accepted.
 fn serve_next_stream<L: Listener, H: StreamServer<Stream = L::Stream>>(

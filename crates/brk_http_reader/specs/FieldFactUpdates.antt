@@ -1,11 +1,14 @@
--- The facts of the fields that were read so far.
+-- The facts of the fields of a head that were read so far.
 use Rattle.std.specs.Prelude.{List, codes, ◌&&◌, ◌||◌, if◌then◌else◌, Err}
-use Rattle.brk_http_model.specs.Fields.{HeadField, equals_ignoring_case, has_field_named, asks_to_close_stream, body_length_of_values, values_of_field, body_length_of_value}
+use Rattle.brk_http_model.specs.Fields.{HeadField, equals_ignoring_case, has_field_named, asks_to_close_stream}
+use Rattle.brk_http_model.specs.Fields.{body_length_of_values, values_of_field, body_length_of_value}
 use Rattle.brk_http_model.specs.declared.problem.Problem.TheVariants.{BadRequest}
 use Rattle.brk_http_reader.specs.declared.fields.FieldFactsSoFar.{FieldFactsSoFar}
 
--- The facts `s` of the fields that were read so far, updated for one more field `p`, a name and a
--- value.
+-- The facts of the head fields that were read so far, `s`, with those of one more field `p`, a name
+-- and a value: whether there is a `Transfer-Encoding`, whether `Connection: close` asks to close
+-- the stream, whether there is a `Content-Length`, and the body length that it gives, or
+-- `BadRequest` if it is repeated or malformed.
 abbrev pub facts_with_field : FieldFactsSoFar → HeadField → FieldFactsSoFar
 facts_with_field s p = record {
   chunked = s.chunked || equals_ignoring_case p.0 (codes "transfer-encoding");
@@ -14,8 +17,9 @@ facts_with_field s p = record {
   len = if equals_ignoring_case p.0 (codes "content-length") then (if s.any_length then Err BadRequest else body_length_of_value p.1) else s.len;
 }
 
--- The facts of the fields `ps` of a head: whether the body is chunked, whether the request asks to
--- close the stream, whether a length is given, and the body length or the problem with it.
+-- The facts of all fields `ps` of a head: whether there is a `Transfer-Encoding` (`chunked`),
+-- whether the request asks to close the stream, whether there is a `Content-Length`, and the body
+-- length in bytes or the problem with it.
 abbrev pub facts_of_fields : List HeadField → FieldFactsSoFar
 facts_of_fields ps = record {
   chunked = has_field_named (codes "transfer-encoding") ps;

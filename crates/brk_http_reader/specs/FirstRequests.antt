@@ -7,20 +7,22 @@ use Rattle.brk_http_reader.specs.declared.next.RequestPositions.{RequestPosition
 use Rattle.brk_http_reader.specs.declared.next.NextRequest.{NextRequest}
 use Rattle.brk_http_reader.specs.declared.next.NextRequest.TheVariants.{Ended, Broken, Whole}
 
--- The method, the target and the body of a whole request are within the first `len` bytes. Vacuous
--- if there is no whole request.
+-- The positions of the method, the target and the body of a whole request are within the first
+-- `len` bytes. Vacuous if there is no whole request.
 abbrev pub IsRequestWithin : NextRequest → ℕ → Type 0
 IsRequestWithin Ended len = ⊤
 IsRequestWithin (Broken b) len = ⊤
 IsRequestWithin (Whole r) len = IsWithin len r.method × IsWithin len r.target × IsWithin len r.body
 
--- The request whose method, target and body are at the positions `r` of the buffer.
+-- The request whose method, target and body are the bytes of `buffer` at the positions `r`, with
+-- the close flag of `r`.
 abbrev pub request_at : List ℕ → RequestPositions → Request
 request_at buffer r = record { method = span_bytes buffer r.method; target = span_bytes buffer r.target; closes = r.closes; body = span_bytes buffer r.body }
 
--- The result of reading is the next request as specified, `found`: no more input, an unreadable
--- request with this problem, or a whole request. After a whole request, the bytes of the buffer
--- after its body and the bytes `left` in the reader are together the rest of the input.
+-- The result of reading is the next request `found` of the specification: no more input, an
+-- unreadable request with a problem, or a whole request. After a whole request, the bytes of the
+-- buffer after its body and the bytes `left` in the reader are together the rest of the input.
+-- False after a whole request if `left` is unknown.
 abbrev pub MatchesNextRequest : NextRequest → List ℕ → Option (List ℕ) → RequestReading → Type 0
 MatchesNextRequest Ended buffer left found = found ≡ NoBytesLeft
 MatchesNextRequest (Broken b) buffer left found = found ≡ Unreadable b

@@ -1,4 +1,5 @@
--- The relation between the code's facts and the head that they describe.
+-- The relation between the parts of a head that the program parsed and the head of the
+-- specification.
 use Rattle.std.specs.Prelude.{◌≡◌, ◌≤◌, ℕ, List, map, length, ◌==◌, ◌||◌}
 use Rattle.httparse.specs.Grammar.{RequestHead, ReadsRequest}
 use Rattle.httparse.specs.Spans.{span_bytes, name_and_value}
@@ -7,7 +8,7 @@ use Rattle.brk_http_model.specs.Found.{most_head_fields}
 use Rattle.brk_http_reader.specs.declared.head.HeadFacts.{HeadFacts}
 
 -- The bytes `front` begin with the head `h`, which has at most `most_head_fields` fields, and
--- continue with `rest`. The method, the target, the body length and the close flag in `facts` are
+-- continue with `rest`. The method, the target, the body length and the close flag in `facts` equal
 -- those of `h`; the close flag is also true for version 1.0.
 pub record FactsDescribeHead (front : List ℕ) (facts : HeadFacts) (h : RequestHead) (rest : List ℕ) : Type 0 where
   pub reads : ReadsRequest front h rest

@@ -19,28 +19,28 @@ pub struct FieldFacts {
     pub closes: bool,
 }
 
-// Returns true if two texts are equal, apart from the case of ASCII letters.
+// Returns true if two texts are equal, apart from upper and lower case of ASCII letters.
 fn equals_ignoring_case(a: &[u8], b: &[u8]) -> bool
     ensures { result ≡ spec.equals_ignoring_case a.now b.now }
 {
     a.eq_ignore_ascii_case(b)
 }
 
-// Returns true if every byte of `value` is an ASCII digit; also if `value` is empty.
+// Returns true if every byte of `value` is an ASCII digit, also if `value` is empty.
 fn every_byte_is_digit(value: &[u8]) -> bool
     ensures { result ≡ list_all is_ascii_digit value.now }
 {
     value.iter().all(|b| b.is_ascii_digit())
 }
 
-/// Returns true if `value` is one or more ASCII digits.
+/// Returns true if `value` is one or more ASCII digits and nothing else.
 fn has_only_digits(value: &[u8]) -> bool
     ensures { result ≡ spec.has_only_digits value.now }
 {
     value.len() > 0 && every_byte_is_digit(value)
 }
 
-/// Returns the decimal value of at most nine digits.
+/// Returns the number that at most nine ASCII digits spell in decimal; 0 for an empty text.
 fn value_of_digits(value: &[u8]) -> usize
     requires few { length value.now ≤ 9 }
     requires digits { list_all is_ascii_digit value.now ≡ true }
@@ -53,7 +53,7 @@ fn value_of_digits(value: &[u8]) -> usize
     number
 }
 
-/// Parses a body length, which is at most 65,536 bytes.
+/// Parses the value of a `Content-Length` field: the length of the body in bytes, at most 65,536.
 ///
 /// Fails with `BadRequest` if `value` is not one or more digits, and with `TooLarge` if it has more
 /// than nine digits or exceeds the limit.
@@ -75,17 +75,21 @@ fn body_length_of_value(value: &[u8]) -> Result<usize, Problem>
     }
 }
 
-/// The facts of the fields that were read so far: whether the body is chunked, whether the request
-/// asks to close the stream, whether a length was given, and the length or the problem with it.
+/// The facts of the fields that were read so far.
 #[derive(Clone, Copy, Debug)]
 struct FieldFactsSoFar {
+    /// True if there is a `Transfer-Encoding` field.
     chunked: bool,
+    /// True if a `Connection` field has exactly the value `close`, in upper or lower case.
     closes: bool,
+    /// True if there is a `Content-Length` field.
     any_length: bool,
+    /// The length of the body in bytes, 0 without a `Content-Length` field, or the problem with it.
     len: Result<usize, Problem>,
 }
 
-/// Returns the facts `seen` of the fields read so far, with those of one more field.
+/// Returns the facts `seen` of the fields that were read so far, updated for one more field with
+/// this name and value.
 fn facts_with_one_more_field(seen: FieldFactsSoFar, name: &[u8], value: &[u8]) -> FieldFactsSoFar
     ensures value { result ≡ facts_with_field seen (name.now, value.now) }
     ensures small { IfOk seen.len (λ n. n ≤ 65536) → IfOk result.len (λ n. n ≤ 65536) }
@@ -108,7 +112,8 @@ fn facts_with_one_more_field(seen: FieldFactsSoFar, name: &[u8], value: &[u8]) -
     }
 }
 
-/// Returns the body length and the close flag of the fields of a head.
+/// Returns the body length and the close flag that the fields of a head give. `headers` are the
+/// positions of their names and values in `front`.
 ///
 /// The length is at most 65,536 bytes, and 0 without a `Content-Length` field. It is
 /// `NotImplemented` with a `Transfer-Encoding` field, otherwise `BadRequest` if `Content-Length` is

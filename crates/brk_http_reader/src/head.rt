@@ -10,6 +10,7 @@ use brk_http_model::Problem;
 use httparse::Status;
 use httparse::spans::{EMPTY_HEADER_SPAN, Span, parse_request};
 
+/// The greatest number of fields of a head.
 const MAXIMUM_HEAD_FIELDS: usize = 100;
 
 /// The parts of a request's head: the positions of method and target, the close flag, and the body
@@ -24,15 +25,16 @@ pub struct HeadFacts {
     pub len: Result<usize, Problem>,
 }
 
-// Returns true if `a` or `b` is true.
+// Returns true if `a` or `b`, or both, are true.
 fn is_either_true(a: bool, b: bool) -> bool
     ensures { result ≡ (a || b) }
 {
     a || b
 }
 
-/// Parses the head at the front of `front`. Returns its parts, whose spans are within `front`, or
-/// `None` if these bytes do not begin with a head of at most 100 fields.
+/// Parses the head at the front of `front`. Returns the positions of its method and target, which
+/// are within `front`, its close flag and its body length, or `None` if these bytes do not begin
+/// with a head of at most 100 fields.
 pub fn parse_head(front: &[u8]) -> Option<HeadFacts>
     ensures within { IfSome result (λ facts. IsWithin (length front.now) facts.method × IsWithin (length front.now) facts.target) }
     ensures small { IfSome result (λ facts. IfOk facts.len (λ n. n ≤ 65536)) }

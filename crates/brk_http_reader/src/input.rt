@@ -31,8 +31,8 @@ impl From<AllocError> for InputFault {
     }
 }
 
-/// Returns the length in bytes of the line end, LF or CR LF, at the front of `bytes`, or `None` if
-/// there is none.
+/// Returns the length in bytes of the line end at the front of `bytes`, 1 for LF and 2 for CR LF,
+/// or `None` if `bytes` do not begin with a line end.
 fn line_end_length_in_bytes(bytes: &[u8]) -> Option<usize>
     ensures { result ≡ spec.leading_line_end_length bytes.now }
 {
@@ -43,8 +43,9 @@ fn line_end_length_in_bytes(bytes: &[u8]) -> Option<usize>
     }
 }
 
-/// Returns the length of the line end at the front of `rest` if `byte` is LF, so that the two form
-/// an empty line, and otherwise `None`.
+/// Returns the length in bytes of the line end at the front of `rest` if `byte` is LF, so that the
+/// two form an empty line. Returns `None` if `byte` is not LF or `rest` does not begin with a line
+/// end.
 fn line_end_length_after_byte(byte: u8, rest: &[u8]) -> Option<usize>
     ensures { result ≡ spec.line_end_length_after_byte byte rest.now }
 {
@@ -55,8 +56,8 @@ fn line_end_length_after_byte(byte: u8, rest: &[u8]) -> Option<usize>
     }
 }
 
-/// Returns the number of bytes up to and including the first empty line, or `None` if there is
-/// none.
+/// Returns the number of bytes up to and including the first empty line, which ends a head, or
+/// `None` if there is no empty line.
 pub fn head_length_in_bytes(bytes: &[u8]) -> Option<usize>
     ensures value { result ≡ spec.head_length bytes.now }
     ensures within { IfSome result (λ n. n ≤ length bytes.now) }
@@ -70,10 +71,10 @@ pub fn head_length_in_bytes(bytes: &[u8]) -> Option<usize>
     None
 }
 
-/// Reads at most 1,024 bytes, once, and appends them to the buffer. Returns false at the end of the
-/// input, otherwise true.
+/// Reads at most 1,024 bytes, by one read, and appends them to the buffer. Returns false at the end
+/// of the input, otherwise true.
 ///
-/// Fails with `Read` or `Memory`.
+/// Fails with `Read` if the reader fails, or with `Memory`.
 pub fn read_into_buffer<R: Read>(reader: &mut R, buffer: &mut Vec<u8>) -> Result<bool, InputFault>
     ensures moves { OnOk result (ReadsIntoBuffer (R.remaining reader.old) (R.remaining reader.new) buffer.old.items buffer.new.items) }
     ensures more { result ≡ Ok true → length buffer.old.items < length buffer.new.items }
@@ -87,8 +88,9 @@ pub fn read_into_buffer<R: Read>(reader: &mut R, buffer: &mut Vec<u8>) -> Result
     Ok(count > 0)
 }
 
-/// Reads until the buffer begins with a whole head, has reached the limit for a head, or the input
-/// has ended. Returns the position at which the head ends, or the reason why it has no end.
+/// Reads until the buffer begins with a whole head, has 16,384 bytes without the end of a head, or
+/// the input has ended. Returns the position at which the head ends, or the reason why it has no
+/// end.
 ///
 /// Fails with `Read` or `Memory`.
 pub fn read_head<R: Read>(reader: &mut R, buffer: &mut Vec<u8>) -> Result<HeadEnd, InputFault>

@@ -15,6 +15,7 @@ use std::io::Read;
 pub struct RequestPositions {
     pub method: Span,
     pub target: Span,
+    /// True if the request asks to close the stream, or is of version 1.0.
     pub closes: bool,
     pub body: Span,
 }
@@ -24,13 +25,14 @@ pub struct RequestPositions {
 pub enum NextRequest {
     /// No byte is left.
     Ended,
-    /// No request can be read, for this reason.
+    /// The next request cannot be read, because of this problem.
     Broken(Problem),
     /// A whole request, at these positions.
     Whole(RequestPositions),
 }
 
-/// Reads the next request into the buffer, up to the end of its body, and returns its positions.
+/// Reads the next request into the buffer, up to the end of its body, and returns the positions of
+/// its parts.
 ///
 /// Returns `Ended` if no byte is left, and `Broken` with a problem if no request can be read. Fails
 /// with `Read` or `Memory`.

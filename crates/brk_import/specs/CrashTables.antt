@@ -7,7 +7,7 @@ use Rattle.brk_model.specs.Sheets.{sheets}
 use Rattle.brk_store.specs.Audited.{IsConsistent}
 use Rattle.brk_store.specs.Holds.{IsDiskContentOfRows, CrashStatesSatisfy}
 
--- A crash exposes only the tables of `base` or the tables of `other`; if it exposes those of
+-- A crash exposes only the tables of `base` or the tables of `other`, and if it exposes those of
 -- `other`, then `other` is consistent.
 abbrev pub CrashExposesOnlyOneOf : {S : Type 0} → Ghosts S → Held S → Base → Base → Type 0
 CrashExposesOnlyOneOf g desk base other =

@@ -8,14 +8,16 @@ use Rattle.brk_model.specs.Batch.{BatchRowsAreDecided, step_of_row}
 use Rattle.brk_model.specs.Commands.{Answer, Command}
 use Rattle.brk_model.specs.Forms.{ReadResult}
 use Rattle.brk_model.specs.Lines.{refused_answer_count, batch_end_line, answer_lines_from}
-use Rattle.brk_model_theorems.specs.Laws.{AnswersMatchStoredReplies, AcceptedCallsAreStored, IsCompletedByRetry, answers_for_new_keys, calls_with_new_keys, accepted_answers, accepted_calls}
+use Rattle.brk_model_theorems.specs.Laws.{AnswersMatchStoredReplies, AcceptedCallsAreStored, IsCompletedByRetry, answers_for_new_keys}
+use Rattle.brk_model_theorems.specs.Laws.{calls_with_new_keys, accepted_answers, accepted_calls}
 use Rattle.brk_io.specs.Moments.{ClockReturnsInOrder}
 use Rattle.brk_io.specs.Span.{ClockAndWriterChange}
 use Rattle.brk_batch_engine.specs.Batch.{BeginsWithWholeBatch}
 
 -- A batch whose first run began at `base` was retried in full, and the retry completed at `after`.
--- If the first run refused none of the rows that it answered, the two runs equal one uninterrupted
--- run of the batch.
+-- `one` and `two` are the changes of clock and writer in the first run and in the retry. If the
+-- first run refused none of the rows that it answered, the two runs equal one uninterrupted run of
+-- the batch.
 pub record RetryCompletesBatch {C : Type 0} (form : Fields → ReadResult Command) (gives : C → ℕ → C → Type 0) (text : Option Text) (base after : Base)
     (one two : ClockAndWriterChange C) : Type 0 where
   -- All rows of the batch.
@@ -39,8 +41,8 @@ pub record RetryCompletesBatch {C : Type 0} (form : Fields → ReadResult Comman
       × IsCompletedByRetry form name base (moments ++ moment ∷ []) others rows (answers ++ answer ∷ []) retry_answers after)
 
 -- A batch whose first run began at `base` was retried in full, and the retry completed at `after`.
--- Whichever rows the two runs refused, they are equivalent to one run of calls from `base` to
--- `after`.
+-- `one` and `two` are the changes of clock and writer in the first run and in the retry. Whichever
+-- rows the two runs refused, they are equivalent to one run of calls from `base` to `after`.
 pub record RunAndRetryEqualOneRun {C : Type 0} (form : Fields → ReadResult Command) (gives : C → ℕ → C → Type 0) (text : Option Text) (base after : Base)
     (one two : ClockAndWriterChange C) : Type 0 where
   -- All rows of the batch.

@@ -18,21 +18,24 @@ use Rattle.brk_model.specs.Records.{Key}
 use Rattle.brk_model.specs.Run.{Call, Do, Outcome}
 use Rattle.brk_money.specs.Spelling.{Text}
 
--- The call of the desk for a row of a batch, at its clock reading: its command under its key.
+-- The model's call of the desk for a row of a batch, with its clock reading: the command of the row
+-- under its key.
 abbrev pub desk_call_of_row : ℕ × (Command × Key) → ℕ × Call
 desk_call_of_row call = (call.0, Do call.1.0 (Some call.1.1))
 
--- A call of the desk at the clock reading `now`, with the command of a row under its key, had this
--- outcome, with the effect that `OutcomePost` specifies.
+-- A call of the desk at the clock reading `now`, with the command of the row `row` under its key,
+-- changed the state `old` to the state `new` and had the outcome `outcome`, with the effect that
+-- `OutcomePost` specifies.
 pub record RowCallHasOutcome {S : Type 0} (g : Ghosts S) (old : Held S) (now : ℕ) (row : Command × Key) (outcome : Outcome) (new : Held S) : Type 0 where
+  -- The call of the desk and its outcome; in the model they are the call of the row and `outcome`.
   pub made : made.Call
   pub came : came.Outcome
   pub call_is : model_call (now, made) ≡ desk_call_of_row (now, row)
   pub outcome_is : model_outcome came ≡ outcome
   pub is_made : OutcomePost g old new now made came
 
--- The calls are exactly those of the rows of the batch, each with its command under its key, and
--- the lines and the result of the batch follow from their outcomes.
+-- The calls `calls` are exactly the calls of the rows of the batch, each with its command under its
+-- key, and the lines and the result of the batch follow from their outcomes (`BatchMatchesScript`).
 abbrev pub BatchMatchesRowCalls : {C : Type 0} → (C → ℕ → C → Type 0) → Option Text → List (ℕ × Call) → List Outcome → ClockAndWriterChange C
     → Result Counts BatchFault → Type 0
 BatchMatchesRowCalls gives text calls outcomes outside result =

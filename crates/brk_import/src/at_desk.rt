@@ -22,7 +22,7 @@ use sqlite::Alter;
 use std::alloc::{AllocError, Global};
 use std::marker::PhantomData;
 
-// Returns the answer of the batch engine that corresponds to an answer of the desk.
+// Converts an answer of the desk into the equal answer of the batch engine.
 fn batch_answer_of_desk(answer: Answer) -> RowAnswer<Reply>
     ensures { engine.answer_in_model abstract_reply result ≡ model_answer answer }
 {
@@ -33,7 +33,7 @@ fn batch_answer_of_desk(answer: Answer) -> RowAnswer<Reply>
     }
 }
 
-/// The operations of a desk over a store, for the batch engine.
+/// The operations of a desk over a store that the batch engine uses.
 pub struct DeskRows<S> {
     _store: PhantomData<S>,
 }
@@ -71,7 +71,8 @@ impl<S: Alter> Rows for DeskRows<S> {
         parse_row(alloc, row)
     }
 
-    /// Executes a command under its key by `Desk::call`, and returns its answer.
+    /// Executes a command under its key by `Desk::call`, and returns its answer. Fails with
+    /// `Memory` or `Store`.
     fn call(
         desk: &mut Desk<S>,
         alloc: Global,
@@ -85,7 +86,7 @@ impl<S: Alter> Rows for DeskRows<S> {
         }
     }
 
-    /// Returns the fields of a reply, joined by commas.
+    /// Returns the fields of a reply, joined by commas. Fails only if memory runs out.
     fn reply_line(alloc: Global, reply: &Reply) -> Result<String, AllocError> {
         match line_text(alloc, reply) {
             Ok(line) => Ok(line),

@@ -54,13 +54,15 @@ pub fn run_batch<R: Read + Drop, W: Write, C: Clock, S: Alter>(
         (record { clock = clock.old; later = clock.new; old = W.contents writer.old; new = W.contents writer.new }) result }
     // Under the disk assumption, for every base that the desk represented before the batch, the
     // answers equal those of the model from this base, and the desk represents the base after them.
-    ensures refines_model { BatchRefinesModel (λ desk. HasCleanDisk (state S.Store desk)) (λ desk. Represents S.Store desk) (parse_by_first_field row_parsers) step_of_row C.gives
+    ensures refines_model { BatchRefinesModel (λ desk. HasCleanDisk (state S.Store desk))
+        (λ desk. Represents S.Store desk) (parse_by_first_field row_parsers) step_of_row C.gives
         (option_map input_text (R.remaining reader)) desk.old desk.new
         (record { clock = clock.old; later = clock.new; old = W.contents writer.old; new = W.contents writer.new }) result }
     // Crash safety: if a crash before the batch exposes only the tables of such a base, a crash
     // after the batch exposes the tables of the base after it. If the call of a row failed, a crash
     // may also expose the tables after the command of this row.
-    ensures crash_safe { IsBatchCrashSafe (λ desk. HasCleanDisk (state S.Store desk)) (λ desk. Represents S.Store desk) (CrashExposesOnlyOneOf S.Store) (parse_by_first_field row_parsers) step_of_row
+    ensures crash_safe { IsBatchCrashSafe (λ desk. HasCleanDisk (state S.Store desk))
+        (λ desk. Represents S.Store desk) (CrashExposesOnlyOneOf S.Store) (parse_by_first_field row_parsers) step_of_row
         C.gives (option_map input_text (R.remaining reader)) desk.old desk.new
         (record { clock = clock.old; later = clock.new; old = W.contents writer.old; new = W.contents writer.new }) result }
 {

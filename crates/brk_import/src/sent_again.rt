@@ -28,9 +28,11 @@ use sqlite::Alter;
 /// run refused none of the rows that it answered, both runs equal one uninterrupted run of the
 /// batch (`RetryCompletesBatch`). Both include a row that was committed but not answered.
 pub fn an_interrupted_batch_can_be_retried<S: Alter, C: Clock>()
-    ensures { (input : List ℕ) (base : Base) (first left conn store last : Held S) (one two : ClockAndWriterChange C) (ended : Result counted.Counts faults.BatchFault)
+    ensures { (input : List ℕ) (base : Base) (first left conn store last : Held S) (one two : ClockAndWriterChange C)
+        (ended : Result counted.Counts faults.BatchFault)
         (taken : Result (Unit {0}) money.Fault) (counts : counted.Counts) → RepresentsDurableBase S.Store first base
-        → IsBatchCrashSafe (λ desk. HasCleanDisk (state S.Store desk)) (λ desk. Represents S.Store desk) (CrashExposesOnlyOneOf S.Store) (parse_by_first_field row_parsers) step_of_row
+        → IsBatchCrashSafe (λ desk. HasCleanDisk (state S.Store desk)) (λ desk. Represents S.Store desk)
+        (CrashExposesOnlyOneOf S.Store) (parse_by_first_field row_parsers) step_of_row
         C.gives (Some (input_text input)) first left one ended
         → HasCleanDisk (state S.Store left) → IsNewConnectionAfterCrash S.Store left conn → AdoptPost S.Store conn store taken
         → HasCleanDisk (state S.Store store)

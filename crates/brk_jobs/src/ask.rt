@@ -7,8 +7,8 @@ use sqlite::Alter;
 use std::alloc::Global;
 use std::io::Write;
 
-/// Executes the query with the view name `view` and its arguments on a desk, and writes its view to
-/// `output` in this form. Returns the outcome.
+/// Executes the query for the view `view` with these arguments on a desk, and writes its view to
+/// `output` in this form. Returns the outcome of the program.
 pub(crate) fn execute_ask_job<S: Alter, W: Write>(
     alloc: Global,
     desk: &mut Desk<S>,

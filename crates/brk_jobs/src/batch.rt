@@ -6,8 +6,8 @@ use brk_money::Stamp;
 use sqlite::Alter;
 use std::io::{Read, Write};
 
-/// Executes a batch from `input` on a desk, and writes its lines to `output`. Returns the outcome.
-/// The timestamps are `at`, or readings of the machine's clock.
+/// Executes a batch from `input` on a desk, and writes its lines to `output`. The timestamps are
+/// `at`, or readings of the machine's clock. Returns the outcome of the program.
 pub(crate) fn execute_batch_job<R: Read + Drop, W: Write, S: Alter>(
     rt: &HostRuntime,
     at: Option<Stamp>,

@@ -1,6 +1,6 @@
 use std::alloc::{AllocError, Global};
 
-/// Returns the bytes of the texts as borrowed slices, in order.
+/// Returns the bytes of the texts as borrowed slices, in order. Fails only if memory runs out.
 pub fn bytes_of_arguments<'a>(
     alloc: Global,
     texts: &'a [String],

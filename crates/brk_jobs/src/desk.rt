@@ -12,8 +12,8 @@ use brk_store::Store;
 use sqlite::{Alter, Connection};
 use std::io::{Read, Write};
 
-// Executes a job on an open desk, and returns the outcome. An audit passed when the desk was
-// opened, so its outcome is `Done`.
+// Executes a job on an open desk, and returns the outcome of the program. For an audit it is
+// `Done`: the audit passed when the desk was opened.
 fn execute_job_at_desk<R: Read + Drop, W: Write, S: Alter>(
     rt: &HostRuntime,
     desk: &mut Desk<S>,
@@ -58,9 +58,9 @@ fn execute_job_at_desk<R: Read + Drop, W: Write, S: Alter>(
     }
 }
 
-// Executes a job on the desk of a store, and returns the outcome and the store. Each call of a
-// function over any store, at a store of files, takes the prover some twenty seconds, so this crate
-// has one such call, of this function.
+// Executes a job on the desk of a store, and returns the outcome of the program and the store. It
+// is the only function over stores of any type that this crate calls with a store over files,
+// because each such call takes the prover some twenty seconds.
 fn execute_job_at_store<R: Read + Drop, W: Write, S: Alter>(
     rt: &HostRuntime,
     store: Store<S>,
@@ -73,8 +73,8 @@ fn execute_job_at_store<R: Read + Drop, W: Write, S: Alter>(
     (ending, desk.into_store())
 }
 
-/// Executes a job on the desk in a file that was opened, closes the file and returns the outcome.
-/// If the file could not be opened, returns its fault.
+/// Executes a job on the desk in a file that was opened, closes the file and returns the outcome of
+/// the program. If the file could not be opened, returns its fault as the outcome.
 pub(crate) fn execute_job_in_file<R: Read + Drop, W: Write>(
     rt: &HostRuntime,
     opened: Result<FileDesk, Fault>,
@@ -91,7 +91,7 @@ pub(crate) fn execute_job_in_file<R: Read + Drop, W: Write>(
     }
 }
 
-/// Executes a job on a new desk in memory, and returns the outcome.
+/// Executes a job on a new desk in memory, and returns the outcome of the program.
 pub(crate) fn execute_job_in_memory<R: Read + Drop, W: Write>(
     rt: &HostRuntime,
     job: &Job,

@@ -7,8 +7,8 @@ use sqlite::Alter;
 use std::alloc::Global;
 use std::io::Write;
 
-/// Parses `words` as a request for an explanation, and writes the explanation of a desk's trade or
-/// account to `output`. Returns the outcome.
+/// Parses `words` as a request for the explanation of a trade, an account, a holding or a broker,
+/// and writes this explanation of a desk to `output`. Returns the outcome of the program.
 pub(crate) fn execute_explain_job<S: Alter, W: Write>(
     alloc: Global,
     desk: &mut Desk<S>,

@@ -6,7 +6,7 @@ use brk_files as file;
 use brk_io::write_all_bytes;
 use std::io::{Read, Write};
 
-// Writes a help text or the version text to `output`, and returns the outcome.
+// Writes a help text or the version text to `output`, and returns the outcome of the program.
 fn write_help_text<W: Write>(text: String, output: &mut W) -> Ending {
     match write_all_bytes(output, text.as_bytes()) {
         Ok(()) => Ending::Usage(UsageFault::Help(text)),
@@ -17,6 +17,7 @@ fn write_help_text<W: Write>(text: String, output: &mut W) -> Ending {
 // The place of the database of a job's desk.
 #[derive(Clone, Copy)]
 enum Place<'a> {
+    /// In memory.
     Memory,
     /// In the file at a path, created if it is missing or empty.
     FileOrNewFile(&'a str),
@@ -45,8 +46,8 @@ fn place_of_job(job: &Job) -> Place<'_> {
     }
 }
 
-// Opens the desk of a job, executes the job, and returns the outcome. An audit that passed writes
-// `ok`.
+// Opens the desk of a job, executes the job, and returns the outcome of the program. After an audit
+// that passed, writes `ok`.
 fn execute_job<R: Read + Drop, W: Write>(
     rt: &HostRuntime,
     job: &Job,
@@ -76,9 +77,9 @@ fn execute_job<R: Read + Drop, W: Write>(
     }
 }
 
-/// Executes the job that the command-line arguments give, the program's own name first, and returns
-/// the outcome. A batch is read from `input`. The output of the job, also help, is written to
-/// `output`.
+/// Executes the job that the command-line arguments request, the program's own name first, and
+/// returns the outcome of the program. A batch is read from `input`. The output of the job, also
+/// help, is written to `output`.
 pub fn execute_arguments<R: Read + Drop, W: Write>(
     rt: &HostRuntime,
     words: Vec<String>,

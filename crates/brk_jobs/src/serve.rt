@@ -8,8 +8,8 @@ use brk_money::Stamp;
 use sqlite::Alter;
 use std::net::TcpListener;
 
-/// Serves `streams` streams, in sequence, on `port` of 127.0.0.1. Returns the outcome. The
-/// timestamps are `at`, or readings of the machine's clock.
+/// Serves `streams` streams of HTTP requests on a desk, in sequence, on `port` of 127.0.0.1. The
+/// timestamps are `at`, or readings of the machine's clock. Returns the outcome of the program.
 pub(crate) fn execute_serve_job<S: Alter>(
     rt: &HostRuntime,
     port: u16,

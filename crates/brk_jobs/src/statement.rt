@@ -6,8 +6,8 @@ use sqlite::Alter;
 use std::alloc::Global;
 use std::io::Write;
 
-/// Writes the statement of an account of a desk, from `from` to `to`, both included, to `output`.
-/// Returns the outcome.
+/// Writes the statement of an account of a desk, from the day `from` to the day `to`, both
+/// included, to `output`. Returns the outcome of the program.
 pub(crate) fn execute_statement_job<S: Alter, W: Write>(
     alloc: Global,
     desk: &mut Desk<S>,

@@ -1,4 +1,4 @@
--- The specification of the result of a query.
+-- The result of a query, compared with the result of the model.
 use Rattle.std.specs.Prelude.{◌≡◌, IfOk, Result, Ok, Err}
 use Rattle.brk_money.specs.declared.refusal.Refusal.{Refusal}
 use Rattle.brk_model.specs.Ask.{ask}
@@ -13,26 +13,26 @@ use Rattle.brk_view.specs.Carried.{HasRowsOfQuery}
 use Rattle.brk_view.specs.Views.{records_of_view}
 use Rattle.brk_view.specs.declared.view.View.{View}
 
--- The result of the model that a query's result represents: for a view its records of texts, or the
--- refusal.
+-- The result of the model that the result of a query represents: for a view the list of its records
+-- of texts, and for a refusal this refusal.
 abbrev pub model_query_result : Result View Refusal → Result model.View Refusal
 model_query_result (Ok view) = Ok (records_of_view view)
 model_query_result (Err refusal) = Err refusal
 
--- The result of the query equals that of the model: the view as records of texts, or the refusal.
--- Vacuous if `t` are not the tables of a base that satisfies the books invariant and the audit
--- invariant.
+-- The result `seen` of `query` equals the result of the model: the view as records of texts, or the
+-- refusal. Vacuous if `t` are not the tables of a base that satisfies the books invariant and the
+-- audit invariant.
 abbrev pub EqualsModelQueryResult : Query → Result View Refusal → Tables → Type 0
 EqualsModelQueryResult query seen t = (base : Base) → BooksInvariant base → AuditInvariant base → t ≡ sheets base → ask base query ≡ model_query_result seen
 
--- The view has the variant of the query and carries the rows that the query selects from the tables
--- `t` (`HasRowsOfQuery`). Vacuous at a refusal, and if `t` are not the tables of a base that
--- satisfies the books invariant and the audit invariant.
+-- The view that `seen` contains has the variant of `query` and the rows that the query selects from
+-- the tables `t` (`HasRowsOfQuery`). Vacuous if `seen` is a refusal, and if `t` are not the tables
+-- of a base that satisfies the books invariant and the audit invariant.
 abbrev pub ViewHasSelectedRows : Query → Result View Refusal → Tables → Type 0
 ViewHasSelectedRows query seen t = IfOk seen (λ view. (base : Base) → BooksInvariant base → AuditInvariant base → t ≡ sheets base → HasRowsOfQuery query view t)
 
--- The result of the query equals that of the model, as texts, and a returned view carries the rows
--- that the query selects. Vacuous if `t` are not the tables of a base that satisfies the books
--- invariant and the audit invariant.
+-- The result `seen` of `query` equals the result of the model, as records of texts or a refusal,
+-- and a view has the rows that the query selects from the tables `t`. Vacuous if `t` are not the
+-- tables of a base that satisfies the books invariant and the audit invariant.
 abbrev pub AnswersQueryAsModel : Query → Result View Refusal → Tables → Type 0
 AnswersQueryAsModel query seen t = EqualsModelQueryResult query seen t × ViewHasSelectedRows query seen t

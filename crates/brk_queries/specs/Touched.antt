@@ -8,16 +8,18 @@ use Rattle.brk_view.specs.Lots.{is_earlier_lot_change, stamped_lot_change}
 use Rattle.brk_view.specs.declared.lots.LotTouch.{LotTouch}
 use Rattle.brk_view.specs.declared.lots.TouchedLots.{TouchedLots}
 
--- The stamp of the last status of the trade with this id, or 0 if the trade does not exist.
+-- The stamp of the last status of the trade with the id `trade`, in milliseconds since 1970-01-01
+-- UTC, or 0 if the trade does not exist.
 abbrev pub last_status_stamp : Tables → ℕ → ℕ
 last_status_stamp t trade = option_map_or (λ r. r.stamp) (trade_row_with_id t trade) 0
 
--- The changes of the lot with this id, each with the stamp of the trade that made it.
+-- All changes of the lot with the id `lot`, one for each row of HOLDING_HISTORY with this lot, each
+-- with the stamp of the trade that made it.
 abbrev pub stamped_changes_of_lot : Tables → ℕ → List LotTouch
 stamped_changes_of_lot t lot = map (stamped_lot_change t) (filter (λ r. r.lot == lot) t.holding_history)
 
--- `lots` has the id `trade` and the first 20 changes, sorted by `is_earlier_lot_change`, of all
--- lots that this trade touched.
+-- `lots` has the id `trade` and the first 20 changes of all lots that this trade touched, sorted by
+-- stamp, then by lot, ascending.
 abbrev pub AreTouchedLotsOfTrade : ℕ → TouchedLots → Tables → Type 0
 AreTouchedLotsOfTrade trade lots t =
     (lots.trade ≡ trade)

@@ -9,24 +9,26 @@ use Rattle.brk_money.specs.Spelling.{Text}
 use Rattle.brk_view.specs.Volume as volume
 use Rattle.brk_view.specs.declared.volumes.BrokerVolume.{BrokerVolume}
 
--- True if the security with this symbol exists and is in the sector.
+-- True if the security with the symbol `symbol` exists and is in the sector `sector`.
 abbrev pub is_symbol_in_sector : Tables → Text → Text → Bool
 is_symbol_in_sector t sector symbol = option_map_or (λ s. bytes_eq s.sector sector) (security_row_with_symbol t symbol) false
 
--- The list `found` with the request `row` appended if its security is in the sector, otherwise
--- `found`.
+-- The list `found`, with the pending request `row` appended if the security of the request is in
+-- the sector, otherwise `found` unchanged.
 abbrev pub requests_with_row_if_in_sector : Tables → Text → read.RequestRow → List read.RequestRow → List read.RequestRow
 requests_with_row_if_in_sector t sector row found = if is_symbol_in_sector t sector row.symbol then found ++ row ∷ [] else found
 
--- True if the broker has at least one pending request in the sector.
+-- True if the broker `b` has at least one pending request for a security in the sector.
 abbrev pub has_requests_in_sector : Tables → Text → BrokerRow → Bool
 has_requests_in_sector t sector b = nat_lt 0 (length (sector_requests_of_broker t sector b.id))
 
--- The brokers with this name that have at least one pending request in the sector.
+-- The brokers with the name `name` that have at least one pending request for a security in the
+-- sector.
 abbrev pub brokers_of_name_in_sector : Tables → Text → Text → List BrokerRow
 brokers_of_name_in_sector t sector name = filter (has_requests_in_sector t sector) (filter (λ b. bytes_eq b.name name) t.brokers)
 
--- The volumes in the sector of the brokers in `brokers` that have at least one pending request in
--- it.
+-- The volumes in the sector, in cents, of those brokers in `brokers` that have at least one pending
+-- request for a security in it. The volume of a broker is the sum of quantity times bid price over
+-- these requests.
 abbrev pub volumes_of_brokers_in_sector : Tables → Text → List BrokerRow → List BrokerVolume
 volumes_of_brokers_in_sector t sector brokers = map (volume.volume_of_broker_in_sector t sector) (filter (has_requests_in_sector t sector) brokers)

@@ -16,8 +16,8 @@ use brk_view::{AccountWorth, View, position};
 use sqlite::Alter;
 use std::alloc::Global;
 
-// Returns the balance and the market value of an account. Changes nothing. Fails with `Memory` or
-// `Store` only.
+// Returns the id and the balance of an account, and the market value of its holdings at last
+// prices, both in cents. Changes nothing. Fails with `Memory` or `Store` only.
 fn read_balance_and_market_value<S: Alter>(
     alloc: Global,
     store: &mut Store<S>,
@@ -34,8 +34,8 @@ fn read_balance_and_market_value<S: Alter>(
     })
 }
 
-// Returns the balances and market values of a customer's accounts, sorted by id, ascending. Changes
-// nothing. Fails with `Memory` or `Store` only.
+// Returns the balances and the market values of all accounts of a customer, in cents, sorted by the
+// account's id, ascending. Changes nothing. Fails with `Memory` or `Store` only.
 fn read_balances_and_market_values<S: Alter>(
     alloc: Global,
     store: &mut Store<S>,
@@ -54,8 +54,9 @@ fn read_balances_and_market_values<S: Alter>(
     Ok(worths)
 }
 
-// Returns the view of the balances and market values of a customer's accounts, or refuses with
-// `NoCustomer`. Changes nothing. Fails with `Memory` or `Store` only.
+// Returns the view of the balances and the market values of the accounts of the customer with this
+// id. Refuses with `NoCustomer` if there is no such customer. Changes nothing. Fails with `Memory`
+// or `Store` only.
 pub(crate) fn view_of_account_values<S: Alter>(
     alloc: Global,
     store: &mut Store<S>,
@@ -72,8 +73,9 @@ pub(crate) fn view_of_account_values<S: Alter>(
     Ok(Ok(view))
 }
 
-// Returns the view of the balances and market values of the accounts of the customer with a tax id,
-// or refuses with `NoCustomer`. Changes nothing. Fails with `Memory` or `Store` only.
+// Returns the view of the balances and the market values of the accounts of the customer with this
+// tax id. Refuses with `NoCustomer` if there is no such customer. Changes nothing. Fails with
+// `Memory` or `Store` only.
 pub(crate) fn view_of_account_values_by_tax_id<S: Alter>(
     alloc: Global,
     store: &mut Store<S>,

@@ -13,15 +13,18 @@ use std::alloc::Global;
 /// The figures of an account's statement that are not rows.
 #[derive(Drop)]
 pub struct StatementHead {
+    /// The name of the account.
     pub name: Name,
-    /// The opening balance, in cents.
+    /// The opening balance of the account, in cents.
     pub opening: Cents,
-    /// The market value of its holdings at last prices, in cents.
+    /// The market value of the holdings of the account at last prices, in cents; shares sold short
+    /// count below 0.
     pub holdings: Wide,
 }
 
-/// Returns the figures of an account's statement that are not rows, or `None` if the account does
-/// not exist. Changes nothing. Fails with `Memory` or `Store` only.
+/// Returns the name and the opening balance of an account, and the market value of its holdings at
+/// last prices, or `None` if the account does not exist. Changes nothing. Fails with `Memory` or
+/// `Store` only.
 pub fn read_statement_head<S: Alter>(
     alloc: Global,
     store: &mut Store<S>,

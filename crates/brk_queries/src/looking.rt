@@ -17,7 +17,8 @@ use brk_view::{Query, View};
 use sqlite::Alter;
 use std::alloc::Global;
 
-/// Returns the view of a query, or the refusal.
+/// Executes a query: reads the rows that it selects and returns them as a view, or returns the
+/// refusal of the query.
 ///
 /// Fails with `Memory` or `Store` only. If the database is still open, it is unchanged, whatever
 /// the result.

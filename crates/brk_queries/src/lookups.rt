@@ -21,8 +21,8 @@ use brk_view::{
 use sqlite::Alter;
 use std::alloc::Global;
 
-// Returns a trade with the rows that other tables have of it: its settlement, its cash row and its
-// history. Changes nothing. Fails with `Memory` or `Store` only.
+// Returns a trade with the rows that other tables contain for it: its settlement and its cash row,
+// each if it exists, and its history. Changes nothing. Fails with `Memory` or `Store` only.
 fn read_all_rows_of_trade<S: Alter>(
     alloc: Global,
     store: &mut Store<S>,
@@ -37,7 +37,7 @@ fn read_all_rows_of_trade<S: Alter>(
     create_looked_up_trade(alloc, trade, settlement, cash, &history)
 }
 
-// Returns the trades in the given order, each with its settlement, cash row and history. Changes
+// Returns the given trades, in their order, each with its settlement, cash row and history. Changes
 // nothing. Fails with `Memory` or `Store` only.
 fn read_all_rows_of_trades<S: Alter>(
     alloc: Global,
@@ -58,8 +58,9 @@ fn read_all_rows_of_trades<S: Alter>(
     Ok(found)
 }
 
-// Returns the view of trades by their ids, or refuses with `NoTrade`. Changes nothing. Fails with
-// `Memory` or `Store` only.
+// Returns the view of the trades with these ids, the oldest first, each with its settlement, cash
+// row and history. Refuses with `NoTrade` if one of the trades does not exist. Changes nothing.
+// Fails with `Memory` or `Store` only.
 pub(crate) fn view_of_trades_by_ids<S: Alter>(
     alloc: Global,
     store: &mut Store<S>,
@@ -76,8 +77,9 @@ pub(crate) fn view_of_trades_by_ids<S: Alter>(
     Ok(Ok(lookup_ids(found)))
 }
 
-// Returns the view of the first trades of an account between two stamps, or refuses with
-// `NoAccount`. Changes nothing. Fails with `Memory` or `Store` only.
+// Returns the view of the first 20 trades of an account whose stamps are in `span`, both ends
+// included, the oldest first, each with its settlement, cash row and history. Refuses with
+// `NoAccount` if the account does not exist. Changes nothing. Fails with `Memory` or `Store` only.
 pub(crate) fn view_of_account_trades<S: Alter>(
     alloc: Global,
     store: &mut Store<S>,
@@ -95,8 +97,10 @@ pub(crate) fn view_of_account_trades<S: Alter>(
     Ok(Ok(lookup_account(found)))
 }
 
-// Returns the view of the first trades of a symbol between two stamps, or refuses with
-// `NoSecurity`. Changes nothing. Fails with `Memory` or `Store` only.
+// Returns the view of the first 20 trades of a symbol whose stamps are in `span`, both ends
+// included, the oldest first, each with its settlement, cash row and history. Refuses with
+// `NoSecurity` if the security does not exist. Changes nothing. Fails with `Memory` or `Store`
+// only.
 pub(crate) fn view_of_symbol_trades<S: Alter>(
     alloc: Global,
     store: &mut Store<S>,

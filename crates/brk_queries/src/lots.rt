@@ -14,8 +14,8 @@ use brk_view::{LotTouch, TouchedLots, View, lookup_lots, merge_lot_changes_into_
 use sqlite::Alter;
 use std::alloc::Global;
 
-// Returns the stamp of a trade's last status. Changes nothing. Fails with `Memory` or `Store` only;
-// with `Store` also if the trade does not exist.
+// Returns the stamp of the last status of a trade that must exist. Changes nothing. Fails with
+// `Memory` or `Store` only; with `Store` also if the trade does not exist.
 fn require_last_status_stamp<S: Alter>(store: &mut Store<S>, trade: Id) -> Result<Stamp, Fault>
     ensures read { ReadPost S.Store store.old store.new result (λ stamp t. stamp ≡ last_status_stamp t trade) }
     ensures fault { IfErr result IsCallFault }
@@ -26,8 +26,8 @@ fn require_last_status_stamp<S: Alter>(store: &mut Store<S>, trade: Id) -> Resul
     }
 }
 
-// Returns the changes of a lot, each with the stamp of the trade that made it. Changes nothing.
-// Fails with `Memory` or `Store` only.
+// Returns all changes of a lot, sorted by trade, ascending, each with the stamp of the trade that
+// made it. Changes nothing. Fails with `Memory` or `Store` only.
 fn read_stamped_changes_of_lot<S: Alter>(
     alloc: Global,
     store: &mut Store<S>,
@@ -49,8 +49,8 @@ fn read_stamped_changes_of_lot<S: Alter>(
     Ok(touches)
 }
 
-// Returns the first 20 changes of all lots that a trade touched, sorted by `is_earlier_lot_change`.
-// Changes nothing. Fails with `Memory` or `Store` only.
+// Returns the id of a trade and the first 20 changes of all lots that it touched, sorted by stamp,
+// then by lot, ascending. Changes nothing. Fails with `Memory` or `Store` only.
 fn read_changes_of_touched_lots<S: Alter>(
     alloc: Global,
     store: &mut Store<S>,
@@ -71,8 +71,10 @@ fn read_changes_of_touched_lots<S: Alter>(
     })
 }
 
-// Returns the view of the changes of the lots that the oldest trade of an account at or after a
-// stamp touched, or refuses with `NoAccount`. Changes nothing. Fails with `Memory` or `Store` only.
+// Returns the view of the changes of the lots that one trade touched: the oldest trade of the
+// account whose stamp is `first` or later. Without such a trade the view has no record. Refuses
+// with `NoAccount` if the account does not exist. Changes nothing. Fails with `Memory` or `Store`
+// only.
 pub(crate) fn view_of_touched_lots<S: Alter>(
     alloc: Global,
     store: &mut Store<S>,

@@ -15,7 +15,8 @@ use brk_view::{View, submitted};
 use sqlite::Alter;
 use std::alloc::Global;
 
-// Returns the view of the submitted trades. Changes nothing. Fails with `Memory` or `Store` only.
+// Returns the view of all submitted trades, sorted by id, ascending. Changes nothing. Fails with
+// `Memory` or `Store` only.
 pub(crate) fn view_of_submitted_trades<S: Alter>(
     alloc: Global,
     store: &mut Store<S>,
@@ -28,8 +29,9 @@ pub(crate) fn view_of_submitted_trades<S: Alter>(
     Ok(Ok(view))
 }
 
-// Returns the view of an order's estimate, or the refusal. Changes nothing. Fails with `Memory` or
-// `Store` only.
+// Returns the view of the estimate of an order, with its price, tax, commission and charge, or the
+// refusal of the order, which is not accepted here. Changes nothing. Fails with `Memory` or `Store`
+// only.
 pub(crate) fn view_of_estimate<S: Alter>(
     alloc: Global,
     store: &mut Store<S>,

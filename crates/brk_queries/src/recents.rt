@@ -16,7 +16,8 @@ use brk_view::{View, recent};
 use sqlite::Alter;
 use std::alloc::Global;
 
-// Appends the rows `rows` to `history`. Fails with `Memory` or `Store` only.
+// Appends the status changes `rows` (of TRADE_HISTORY) to `history`. Fails with `Memory` or `Store`
+// only.
 fn append_history_rows(history: &mut Vec<HistoryRow>, rows: &[HistoryRow]) -> Result<(), Fault>
     ensures added { OnOk result (history.new.items ≡ history.old.items ++ rows.now) }
     ensures fault { IfErr result IsCallFault }
@@ -27,8 +28,9 @@ fn append_history_rows(history: &mut Vec<HistoryRow>, rows: &[HistoryRow]) -> Re
     Ok(())
 }
 
-// Returns the last trades of an account, the most recent first, and all rows of their history.
-// Changes nothing. Fails with `Memory` or `Store` only.
+// Returns the last ten trades of an account, the most recent first, and their status changes (of
+// TRADE_HISTORY), trade by trade in this order. Changes nothing. Fails with `Memory` or `Store`
+// only.
 fn read_recent_trades_with_history<S: Alter>(
     alloc: Global,
     store: &mut Store<S>,
@@ -48,8 +50,9 @@ fn read_recent_trades_with_history<S: Alter>(
     Ok((trades, history))
 }
 
-// Returns the view of an account's last trades and their statuses, or refuses with `NoAccount`.
-// Changes nothing. Fails with `Memory` or `Store` only.
+// Returns the view of the last ten trades of an account, the most recent first, with their status
+// changes. Refuses with `NoAccount` if the account does not exist. Changes nothing. Fails with
+// `Memory` or `Store` only.
 pub(crate) fn view_of_recent_trades<S: Alter>(
     alloc: Global,
     store: &mut Store<S>,

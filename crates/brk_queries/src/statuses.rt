@@ -19,8 +19,8 @@ use brk_view::{TradeStatus, View, status};
 use sqlite::Alter;
 use std::alloc::Global;
 
-// Returns a trade with its security. Changes nothing. Fails with `Memory` or `Store` only; with
-// `Store` also if the security does not exist.
+// Returns a trade with its security, which must exist. Changes nothing. Fails with `Memory` or
+// `Store` only; with `Store` also if the security does not exist.
 fn read_trade_with_security<S: Alter>(
     store: &mut Store<S>,
     trade: TradeRow,
@@ -35,15 +35,15 @@ fn read_trade_with_security<S: Alter>(
     }
 }
 
-// Returns true if the trade of `status` is of the symbol.
+// Returns true if the trade of `status` has this symbol.
 fn is_trade_of_symbol(status: &TradeStatus, symbol: &Symbol) -> bool
     ensures { result ≡ bytes_eq status.now.trade.symbol symbol.now }
 {
     status.trade.symbol.as_str() == symbol.as_str()
 }
 
-// Returns the security of the first of `statuses` whose trade is of the symbol, or `None` if there
-// is no such trade. Fails with `Memory` only.
+// Returns the security of the first trade of `statuses` in the symbol, or `None` if there is no
+// such trade. Fails with `Memory` only.
 fn security_of_symbol(statuses: &[TradeStatus], symbol: &Symbol) -> Result<Option<Security>, Fault>
     ensures security { IfOk result (λ security. security
         ≡ option_map (λ s. s.security) (find (λ s. bytes_eq s.trade.symbol symbol.now) statuses.now)) }
@@ -59,8 +59,8 @@ fn security_of_symbol(statuses: &[TradeStatus], symbol: &Symbol) -> Result<Optio
     Ok(Some(security))
 }
 
-// Returns the last trades of an account, each with its security, the most recent first. Reads the
-// security of each symbol once. Changes nothing. Fails with `Memory` or `Store` only.
+// Returns the last fifty trades of an account, the most recent first, each with its security. Reads
+// the security of each symbol once. Changes nothing. Fails with `Memory` or `Store` only.
 fn read_recent_trades_with_securities<S: Alter>(
     alloc: Global,
     store: &mut Store<S>,
@@ -84,8 +84,9 @@ fn read_recent_trades_with_securities<S: Alter>(
     Ok(statuses)
 }
 
-// Returns the view of an account's parties and its last trades, or refuses with `NoAccount`.
-// Changes nothing. Fails with `Memory` or `Store` only.
+// Returns the view of the names of an account's customer and broker, and of its last fifty trades,
+// the most recent first, with their securities. Refuses with `NoAccount` if the account does not
+// exist. Changes nothing. Fails with `Memory` or `Store` only.
 pub(crate) fn view_of_account_status<S: Alter>(
     alloc: Global,
     store: &mut Store<S>,

@@ -19,8 +19,8 @@ use brk_view::{BrokerNames, BrokerVolume, View, broker_volume, total_bid_value_o
 use sqlite::Alter;
 use std::alloc::Global;
 
-// Returns true if the security of a symbol exists and is in a sector. Changes nothing. Fails with
-// `Memory` or `Store` only.
+// Returns true if the security with this symbol exists and is in the sector. Changes nothing. Fails
+// with `Memory` or `Store` only.
 fn is_security_in_sector<S: Alter>(
     store: &mut Store<S>,
     symbol: &Symbol,
@@ -35,8 +35,8 @@ fn is_security_in_sector<S: Alter>(
     }
 }
 
-// Appends the request `row` to `found` if its security is in a sector. Changes no table. Fails with
-// `Memory` or `Store` only.
+// Appends the pending request `row` to `found` if its security is in the sector. Changes no table.
+// Fails with `Memory` or `Store` only.
 fn append_request_if_in_sector<S: Alter>(
     store: &mut Store<S>,
     sector: &Name,
@@ -53,8 +53,8 @@ fn append_request_if_in_sector<S: Alter>(
     Ok(())
 }
 
-// Returns the requests of a broker in a sector, sorted by trade, ascending. Changes nothing. Fails
-// with `Memory` or `Store` only.
+// Returns the pending requests of a broker for securities in the sector, sorted by trade,
+// ascending. Changes nothing. Fails with `Memory` or `Store` only.
 fn read_requests_in_sector<S: Alter>(
     alloc: Global,
     store: &mut Store<S>,
@@ -74,8 +74,8 @@ fn read_requests_in_sector<S: Alter>(
     Ok(found)
 }
 
-// Appends to `found` the volume of a broker in a sector, if the broker has a request in it. Changes
-// no table. Fails with `Memory` or `Store` only.
+// Appends the volume of a broker in the sector, in cents, to `found`, if the broker has at least
+// one pending request for a security in it. Changes no table. Fails with `Memory` or `Store` only.
 fn append_broker_volume<S: Alter>(
     alloc: Global,
     store: &mut Store<S>,
@@ -101,8 +101,8 @@ fn append_broker_volume<S: Alter>(
     Ok(())
 }
 
-// Appends to `found` the volumes in a sector of the brokers with a name that have a request in it.
-// Changes no table. Fails with `Memory` or `Store` only.
+// Appends to `found` the volumes in the sector, in cents, of the brokers with this name that have a
+// pending request for a security in it. Changes no table. Fails with `Memory` or `Store` only.
 fn append_volumes_of_brokers_named<S: Alter>(
     alloc: Global,
     store: &mut Store<S>,
@@ -121,8 +121,9 @@ fn append_volumes_of_brokers_named<S: Alter>(
     Ok(())
 }
 
-// Returns the volumes in a sector of the brokers with these names, name by name. Changes nothing.
-// Fails with `Memory` or `Store` only.
+// Returns the volumes in the sector, in cents, of the brokers with these names that have a pending
+// request for a security in it, in the order of the names. Changes nothing. Fails with `Memory` or
+// `Store` only.
 fn read_volumes_of_brokers_named<S: Alter>(
     alloc: Global,
     store: &mut Store<S>,
@@ -141,8 +142,8 @@ fn read_volumes_of_brokers_named<S: Alter>(
     Ok(found)
 }
 
-// Returns the view of the volumes in a sector of the brokers with these names. Changes nothing.
-// Fails with `Memory` or `Store` only.
+// Returns the view of the volumes in the sector of the brokers with these names that have a pending
+// request for a security in it. Changes nothing. Fails with `Memory` or `Store` only.
 pub(crate) fn view_of_broker_volumes<S: Alter>(
     alloc: Global,
     store: &mut Store<S>,

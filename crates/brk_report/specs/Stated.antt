@@ -8,7 +8,8 @@ use Rattle.brk_money.specs.Spelling.{Text}
 use Rattle.brk_money.specs.declared.fault.Fault.{Fault}
 use Rattle.brk_model.specs.Joins.{account_row_with_id}
 use Rattle.brk_model.specs.Run.{IsCallFault}
-use Rattle.brk_model.specs.Statement.{cash_move_rows_of_account, cash_row_line, cash_row_total, cash_move_rows_within_days, text_of_lines, lot_line, holding_rows_of_account, statement, statement_lines}
+use Rattle.brk_model.specs.Statement.{cash_move_rows_of_account, cash_row_line, cash_row_total, cash_move_rows_within_days}
+use Rattle.brk_model.specs.Statement.{text_of_lines, lot_line, holding_rows_of_account, statement, statement_lines}
 use Rattle.brk_model.specs.Tables.{AccountRow, Tables}
 use Rattle.brk_store.specs.Holds.{HoldsRows, WasOpenAndIsUnchanged}
 use Rattle.brk_report_lines.specs.Written.{FailsWithinFirstLines, WritesProperPrefixOfLines, WritesLinesAndPartOfNext}
@@ -20,7 +21,7 @@ use Rattle.brk_report.specs.declared.visitors.CashCountAndTotal.{CashCountAndTot
 
 -- The call between the states `old` and `new` of the desk's store changes nothing: the rows and the
 -- open database are unchanged, and a crash exposes only states that a crash before the call could
--- expose.
+-- expose. `g` are the ghosts of the storage `S`.
 pub record PreservesDesk {S : Type 0} (g : Ghosts S) (old new : Held S) : Type 0 where
   -- The store holds after the call the rows that it held before.
   pub same_rows : (t : Tables) → HoldsRows g old t → HoldsRows g new t
@@ -31,26 +32,27 @@ pub record PreservesDesk {S : Type 0} (g : Ghosts S) (old new : Held S) : Type 0
   -- assumption fails.
   pub survives : Survives (state g old) (state g new) (λ _. ⊥)
 
--- All rows that the store held before the call satisfy `So`. Vacuous if the disk assumption fails
--- after the call.
+-- All tables that the store held before the call, in the state `old`, satisfy `So`. Vacuous if the
+-- disk assumption fails after the call.
 abbrev pub HoldsForStoredTables : {S : Type 0} → Ghosts S → Held S → Held S → (Tables → Type 0) → Type 0
 HoldsForStoredTables g old new So = HasCleanDisk (state g new) → (t : Tables) → HoldsRows g old t → So t
 
--- If the fault is one of the desk, it is `Memory` or `Store`. Vacuous for a fault of the writer.
+-- The fault is the fault `Memory` or `Store` of the desk, or a fault of the writer.
 abbrev pub IsMemoryStoreOrWriteFault : LinesFault → Type 0
 IsMemoryStoreOrWriteFault (lines.Desk fault) = IsCallFault fault
 IsMemoryStoreOrWriteFault lines.Write = Unit {0}
 
 -- ---- the parts of a statement
 
--- `Ok`: the returned sum equals `total`. `Err`: the fault is `Memory` or `Store` of the desk.
+-- `Ok`: the returned sum equals `total`, in cents. `Err`: the fault is the fault `Memory` or
+-- `Store` of the desk.
 abbrev pub IsTotalOrFault : ℤ → Result ℤ LinesFault → Type 0
 IsTotalOrFault total (Ok sum) = sum ≡ total
 IsTotalOrFault total (Err e) = (f : Fault) × (e ≡ lines.Desk f) × IsCallFault f
 
 -- `Ok`: exactly the lines of the cash rows of `account` from the day `from` to the day `to` were
--- written, and the result has the number of these rows, and `amount` plus their amounts. `Err`:
--- writing them failed as `FailsWithinFirstLines` specifies.
+-- written, and the result has the number of these rows and, in cents, `amount` plus their amounts.
+-- `Err`: writing them failed as `FailsWithinFirstLines` specifies.
 abbrev pub WritesCashLines : Tables → ℕ → ℕ → ℕ → ℤ → Option Text → Option Text → Result CashCountAndTotal LinesFault → Type 0
 WritesCashLines t account from to amount old new (Ok moved) =
     Appends old new (text_of_lines (map cash_row_line (cash_move_rows_within_days from to (cash_move_rows_of_account t account))))
@@ -86,15 +88,15 @@ WritesStatement t account from to old new (Err (Desk fault)) =
     IsCallFault fault × (Appends old new [] ⊎ ((lines : List Text) × AreStatementLines t account from to lines × WritesProperPrefixOfLines lines old new))
 WritesStatement t account from to old new (Err Write) = (lines : List Text) × AreStatementLines t account from to lines × WritesLinesAndPartOfNext lines old new
 
--- If the fault is one of the desk, it is `Memory` or `Store`. Vacuous for a refusal and for a fault
--- of the writer.
+-- The fault is a refusal, the fault `Memory` or `Store` of the desk, or a fault of the writer.
 abbrev pub IsRefusalOrMemoryStoreOrWriteFault : ReportFault → Type 0
 IsRefusalOrMemoryStoreOrWriteFault (Refused refusal) = Unit {0}
 IsRefusalOrMemoryStoreOrWriteFault (Desk fault) = IsCallFault fault
 IsRefusalOrMemoryStoreOrWriteFault Write = Unit {0}
 
--- The postcondition of writing the statement of `account` from the day `from` to the day `to`. The
--- desk is unchanged.
+-- The postcondition of writing the statement of `account` from the day `from` to the day `to`,
+-- between the states `old` and `new` of the desk's store; `before` and `after` are the writer's
+-- content.
 pub record StatementPost {S : Type 0} (g : Ghosts S) (old new : Held S) (account from to : ℕ) (before after : Option Text)
     (result : Result (Unit {0}) ReportFault) : Type 0 where
   -- The output is that of `WritesStatement` for all rows that the store held before the call.
@@ -102,6 +104,7 @@ pub record StatementPost {S : Type 0} (g : Ghosts S) (old new : Held S) (account
   pub written : HoldsForStoredTables g old new (λ t. WritesStatement t account from to before after result)
   -- A fault of the desk is `Memory` or `Store`. This does not depend on the disk assumption.
   pub fault : IfErr result IsRefusalOrMemoryStoreOrWriteFault
+  -- The desk is unchanged.
   pub desk_unchanged : PreservesDesk g old new
   -- Nothing is written if the statement is refused.
   pub unwritten : (refusal : _) → result ≡ Err (Refused refusal) → after ≡ before

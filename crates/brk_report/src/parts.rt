@@ -17,7 +17,8 @@ use sqlite::Alter;
 use std::alloc::Global;
 use std::io::Write;
 
-/// Writes the first four lines of a statement. Fails with `Desk` or `Write`.
+/// Writes the first four lines of a statement: the title, the name of the account, the days, and
+/// the opening amount, in cents. Fails with `Desk` or `Write`.
 pub(crate) fn write_header_lines<W: Write>(
     alloc: Global,
     account: Id,
@@ -35,9 +36,9 @@ pub(crate) fn write_header_lines<W: Write>(
     write_line(writer, amount_line(alloc, "Opening", opening))
 }
 
-/// Writes a line for each cash row of an account from the day `from` to the day `to`, and the line
-/// of the closing amount, which is `opening` plus these rows. Returns the number of these cash
-/// rows. Fails with `Desk` or `Write`.
+/// Writes a line for each cash row of an account from the day `from` to the day `to`, both
+/// included, and the line of the closing amount, which is `opening` plus these rows, in cents.
+/// Returns the number of these cash rows. Does not change the desk. Fails with `Desk` or `Write`.
 pub(crate) fn write_cash_and_closing_lines<W: Write, S: Alter>(
     alloc: Global,
     desk: &mut Desk<S>,
@@ -49,15 +50,17 @@ pub(crate) fn write_cash_and_closing_lines<W: Write, S: Alter>(
 ) -> Result<u64, LinesFault>
     ensures keeps { PreservesDesk S.Store desk.old desk.new }
     ensures fault { IfErr result IsMemoryStoreOrWriteFault }
-    ensures written { HoldsForStoredTables S.Store desk.old desk.new (λ t. WritesCashAndClosingLines t account from to opening (W.contents writer.old) (W.contents writer.new) result) }
+    ensures written { HoldsForStoredTables S.Store desk.old desk.new
+        (λ t. WritesCashAndClosingLines t account from to opening (W.contents writer.old) (W.contents writer.new) result) }
 {
     let moved = write_cash_lines(alloc, desk, account, from, to, opening, writer)?;
     write_line(writer, amount_line(alloc, "Closing", moved.total))?;
     Ok(moved.count)
 }
 
-/// Writes a line for each lot of an account, the line of the market value `holdings`, and the line
-/// of the number of cash rows, `cash`, and of lots. Fails with `Desk` or `Write`.
+/// Writes a line for each lot of an account, the line of the market value `holdings`, in cents, and
+/// the line of the number of cash rows, `cash`, and of lots. Does not change the desk. Fails with
+/// `Desk` or `Write`.
 pub(crate) fn write_lot_and_total_lines<W: Write, S: Alter>(
     alloc: Global,
     desk: &mut Desk<S>,
@@ -68,7 +71,8 @@ pub(crate) fn write_lot_and_total_lines<W: Write, S: Alter>(
 ) -> Result<(), LinesFault>
     ensures keeps { PreservesDesk S.Store desk.old desk.new }
     ensures fault { IfErr result IsMemoryStoreOrWriteFault }
-    ensures written { HoldsForStoredTables S.Store desk.old desk.new (λ t. WritesLines (lot_and_total_lines t account holdings cash) (W.contents writer.old) (W.contents writer.new) result) }
+    ensures written { HoldsForStoredTables S.Store desk.old desk.new
+        (λ t. WritesLines (lot_and_total_lines t account holdings cash) (W.contents writer.old) (W.contents writer.new) result) }
 {
     let lots = write_lot_lines(alloc, desk, account, writer)?;
     write_line(writer, amount_line(alloc, "Holdings", holdings))?;

@@ -14,8 +14,8 @@ use sqlite::Alter;
 use std::alloc::Global;
 use std::io::Write;
 
-// Returns the fault of a failed walk as a fault of writing lines: the fault of the desk, or the
-// error of the visitor.
+// Converts the error of a failed walk into a fault of writing lines: returns the fault of the desk,
+// or the fault with which the visitor stopped the walk.
 fn fault_from_walk_error(stop: WalkError<LinesFault>) -> LinesFault
     ensures { result ≡ fault_of_walk_error stop }
 {
@@ -25,8 +25,8 @@ fn fault_from_walk_error(stop: WalkError<LinesFault>) -> LinesFault
     }
 }
 
-/// Returns `opening` plus the amounts of the cash rows of an account on days before `from`, in
-/// cents. Fails with `Desk` only.
+/// Returns the balance before the day `from`, in cents: `opening` plus the amounts of the cash rows
+/// of an account on earlier days. Does not change the desk. Fails with `Desk` only.
 pub(crate) fn read_balance_before_day<S: Alter>(
     desk: &mut Desk<S>,
     account: Id,
@@ -50,8 +50,9 @@ pub(crate) fn read_balance_before_day<S: Alter>(
     }
 }
 
-/// Writes a line for each cash row of an account from the day `from` to the day `to`. Returns the
-/// number of these rows, and `opening` plus their amounts. Fails with `Desk` or `Write`.
+/// Writes a line for each cash row of an account from the day `from` to the day `to`, both
+/// included. Returns the number of these rows, and `opening` plus their amounts, in cents. Does not
+/// change the desk. Fails with `Desk` or `Write`.
 pub(crate) fn write_cash_lines<W: Write, S: Alter>(
     alloc: Global,
     desk: &mut Desk<S>,
@@ -63,7 +64,8 @@ pub(crate) fn write_cash_lines<W: Write, S: Alter>(
 ) -> Result<CashCountAndTotal, LinesFault>
     ensures keeps { PreservesDesk S.Store desk.old desk.new }
     ensures fault { IfErr result IsMemoryStoreOrWriteFault }
-    ensures written { HoldsForStoredTables S.Store desk.old desk.new (λ t. WritesCashLines t account from to opening (W.contents writer.old) (W.contents writer.new) result) }
+    ensures written { HoldsForStoredTables S.Store desk.old desk.new
+        (λ t. WritesCashLines t account from to opening (W.contents writer.old) (W.contents writer.new) result) }
 {
     let mut visitor = CashLines {
         alloc,
@@ -84,8 +86,8 @@ pub(crate) fn write_cash_lines<W: Write, S: Alter>(
     }
 }
 
-/// Writes a line for each lot of an account, and returns the number of lots. Fails with `Desk` or
-/// `Write`.
+/// Writes a line for each lot of an account, sorted by symbol, then by opening stamp, and returns
+/// the number of lots. Does not change the desk. Fails with `Desk` or `Write`.
 pub(crate) fn write_lot_lines<W: Write, S: Alter>(
     alloc: Global,
     desk: &mut Desk<S>,

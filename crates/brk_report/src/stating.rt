@@ -12,8 +12,9 @@ use sqlite::Alter;
 use std::alloc::Global;
 use std::io::Write;
 
-// Writes all lines of the statement of an account that exists, for the days `from` to `to`. Fails
-// with `Desk` or `Write`.
+// Writes all lines of the statement of an account that exists, from the day `from` to the day `to`,
+// both included. `head` has its name, its opening balance and its market value. Does not change the
+// desk. Fails with `Desk` or `Write`.
 fn write_statement_lines<W: Write, S: Alter>(
     alloc: Global,
     desk: &mut Desk<S>,
@@ -25,7 +26,8 @@ fn write_statement_lines<W: Write, S: Alter>(
 ) -> Result<(), LinesFault>
     ensures keeps { PreservesDesk S.Store desk.old desk.new }
     ensures fault { IfErr result IsMemoryStoreOrWriteFault }
-    ensures written { HoldsForStoredTables S.Store desk.old desk.new (λ t. WritesLines (all_statement_lines t account head.now from to) (W.contents writer.old) (W.contents writer.new) result) }
+    ensures written { HoldsForStoredTables S.Store desk.old desk.new
+        (λ t. WritesLines (all_statement_lines t account head.now from to) (W.contents writer.old) (W.contents writer.new) result) }
 {
     let opening = read_balance_before_day(desk, account, from, head.opening)?;
     write_header_lines(alloc, account, head, from, to, opening, writer)?;

@@ -14,12 +14,12 @@ use brk_report_lines::{LinesFault, cash_row_line, lot_line, write_line};
 use std::alloc::Global;
 use std::io::Write;
 
-/// A record that is written as one line of a statement.
+/// A record that a statement shows as one line.
 pub trait Line {
-    /// The text of the line.
+    /// The text of the line, without its line feed.
     ghost line: { Self → Text };
 
-    /// Returns the line with its line feed. Fails with `Memory` or `Store`.
+    /// Returns the line of the record with its line feed. Fails with `Memory` or `Store`.
     fn line(&self, alloc: Global) -> Result<Vec<u8>, Fault>
         ensures line { IfOk result (λ l. l.items ≡ line_with_line_feed (line self.now)) }
         ensures fault { IfErr result IsCallFault };
@@ -49,7 +49,8 @@ impl Line for MoveRow {
     }
 }
 
-// Returns `total` plus `amount`. Fails with `Desk(Store)` if the sum does not fit.
+// Returns `total` plus `amount`, both in cents. Fails with `Desk(Store)` if the sum exceeds the
+// range of 128 bits.
 fn total_plus_amount(total: Wide, amount: Cents) -> Result<Wide, LinesFault>
     ensures sum { IfOk result (λ sum. sum ≡ total +ℤ amount) }
     ensures fault { OnErr result (result ≡ Err (Desk fault.Store)) }
@@ -63,6 +64,7 @@ fn total_plus_amount(total: Wide, amount: Cents) -> Result<Wide, LinesFault>
 /// A visitor that adds up the amounts of cash rows.
 #[derive(Drop)]
 pub struct Sum {
+    /// The sum of the amounts so far, in cents.
     pub total: Wide,
 }
 
@@ -96,6 +98,7 @@ impl Visitor<MoveRow, LinesFault> for Sum {
 pub struct Lines<'a, W> {
     pub alloc: Global,
     pub writer: &'a mut W,
+    /// The number of records so far.
     pub count: u64,
 }
 
@@ -113,8 +116,8 @@ impl<R: Line, W: Write> Visitor<R, LinesFault> for Lines<'_, W> {
 
     ghost stops = { λ p r e q. FailsWithinLines (R.line r ∷ []) (W.contents p.writer.now) (W.contents q.writer.now) e };
 
-    /// Writes the line of the record, and counts it. Fails with `Desk` or `Write`; the count is
-    /// then unchanged.
+    /// Writes the line of the record and counts the record. Fails with `Desk` or `Write`; the count
+    /// is then unchanged.
     fn visit(&mut self, item: &R) -> Result<(), LinesFault> {
         let Some(count) = self.count.checked_add(1) else {
             return Err(LinesFault::Desk(Fault::Store));
@@ -129,7 +132,8 @@ impl<R: Line, W: Write> Visitor<R, LinesFault> for Lines<'_, W> {
     ghost transitive = { λ _ _ _ a b. b ∙ a };
 }
 
-/// The number of cash rows that were written, and an opening amount plus the amounts of these rows.
+/// The number of cash rows that were written, and the sum of an opening amount and the amounts of
+/// these rows, in cents.
 #[derive(Clone, Copy)]
 pub struct CashCountAndTotal {
     pub count: u64,
@@ -145,7 +149,8 @@ pub struct CashLines<'a, W> {
 }
 
 impl<W> CashLines<'_, W> {
-    /// Returns the number of cash rows so far, and the total so far.
+    /// Returns the number of cash rows that the visitor has written so far, and the total after
+    /// them, in cents.
     pub fn count_and_total(&self) -> CashCountAndTotal
         ensures { result ≡ self.now.moved }
     {
@@ -170,8 +175,8 @@ impl<W: Write> Visitor<MoveRow, LinesFault> for CashLines<'_, W> {
 
     ghost stops = { λ p r e q. FailsWithinLines (cash_row_line (abstract_move_row r) ∷ []) (W.contents p.writer.now) (W.contents q.writer.now) e };
 
-    /// Writes the line of the cash row, counts it and adds its amount. Fails with `Desk` or
-    /// `Write`; the count and the total are then unchanged.
+    /// Writes the line of the cash row, counts the row and adds its amount to the total. Fails with
+    /// `Desk` or `Write`; the count and the total are then unchanged.
     fn visit(&mut self, item: &MoveRow) -> Result<(), LinesFault> {
         let total = total_plus_amount(self.moved.total, item.amount)?;
         let Some(count) = self.moved.count.checked_add(1) else {

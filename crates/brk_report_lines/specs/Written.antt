@@ -12,7 +12,7 @@ abbrev pub line_with_line_feed : Text → Text
 line_with_line_feed line = line ++ 10 ∷ []
 
 -- The first lines of `lines` were written whole, perhaps none of them, and at least the last line
--- was not.
+-- of `lines` was not written.
 abbrev pub WritesProperPrefixOfLines : List Text → Option Text → Option Text → Type 0
 WritesProperPrefixOfLines lines old new =
     (first : List Text) × (next : Text) × (rest : List Text) × (first ++ next ∷ rest ≡ lines) × Appends old new (text_of_lines first)
@@ -39,7 +39,8 @@ FailsWithinFirstLines lines old new (Desk fault) =
     IsCallFault fault × ((first : List Text) × (rest : List Text) × (first ++ rest ≡ lines) × Appends old new (text_of_lines first))
 FailsWithinFirstLines lines old new Write = WritesLinesAndPartOfNext lines old new
 
--- `Ok`: exactly `lines` were written. `Err`: writing them failed as `FailsWithinLines` specifies.
+-- `Ok`: exactly the lines `lines` were written. `Err`: writing them failed as `FailsWithinLines`
+-- specifies.
 abbrev pub WritesLines : {R : Type 0} → List Text → Option Text → Option Text → Result R LinesFault → Type 0
 WritesLines lines old new (Ok r) = Appends old new (text_of_lines lines)
 WritesLines lines old new (Err fault) = FailsWithinLines lines old new fault

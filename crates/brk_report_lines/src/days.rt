@@ -7,21 +7,22 @@ use brk_money::{Day, Stamp};
 // The number of milliseconds of a day.
 const MILLISECONDS_PER_DAY: i64 = 86_400_000;
 
-/// Returns the first stamp of a day.
+/// Returns the first stamp of a day, in milliseconds since 1970-01-01 UTC.
 pub fn first_stamp_of_day(day: Day) -> Stamp
     ensures { result ≡ day * 86400000 }
 {
     Stamp::nearest(i64::from(day.get()) * MILLISECONDS_PER_DAY)
 }
 
-/// Returns the last stamp of a day.
+/// Returns the last stamp of a day, in milliseconds since 1970-01-01 UTC.
 pub fn last_stamp_of_day(day: Day) -> Stamp
     ensures { result ≡ day * 86400000 + 86399999 }
 {
     Stamp::nearest(i64::from(day.get()) * MILLISECONDS_PER_DAY + (MILLISECONDS_PER_DAY - 1))
 }
 
-/// Returns the last stamp before a day, or `None` for day 0.
+/// Returns the last stamp before a day, in milliseconds since 1970-01-01 UTC, or `None` for
+/// 1970-01-01, before which there is no stamp.
 pub fn last_stamp_before_day(day: Day) -> Option<Stamp>
     ensures { MatchOption result (day ≡ 0) (λ stamp. (0 < day) × (stamp ≡ day * 86400000 - 1)) }
 {

@@ -9,8 +9,8 @@ use brk_io::write_all_bytes;
 use brk_money::Fault;
 use std::io::Write;
 
-/// Writes `line`, or nothing if `line` is a fault. Fails with `Desk` and this fault, and with
-/// `Write` if the writer fails or accepts no byte.
+/// Writes the line `line`, or nothing if `line` is a fault. Fails with `Desk` and this fault, and
+/// with `Write` if the writer fails or accepts no byte.
 pub fn write_line<W: Write>(writer: &mut W, line: Result<Vec<u8>, Fault>) -> Result<(), LinesFault>
     ensures written { (text : Text) → IfOk line (λ l. l.items ≡ line_with_line_feed text) → IfErr line IsCallFault
         → WritesLines (text ∷ []) (W.contents writer.old) (W.contents writer.new) result }

@@ -12,8 +12,8 @@ use std::alloc::{AllocError, Global};
 use std::process::Abort;
 use std::test::Fail;
 
-// Returns the text of an outcome: of a command its answer, of a query its refusal or the number of
-// its trades.
+// Returns the text of an outcome: for a command its answer, for a query its refusal or the number
+// of trades in its view. Fails only if memory runs out.
 fn format_outcome(alloc: Global, outcome: &Outcome) -> Result<String, AllocError> {
     match outcome {
         Outcome::Did(Answer::Done(Reply::Booked(stamp))) => {
@@ -27,7 +27,7 @@ fn format_outcome(alloc: Global, outcome: &Outcome) -> Result<String, AllocError
     }
 }
 
-// Runs calls on a desk, and checks the texts of their outcomes.
+// Executes calls on a desk as one run, and checks the number and the texts of their outcomes.
 fn expect_run_outcomes(
     rt: &impl Abort,
     alloc: Global,
@@ -57,8 +57,9 @@ fn a_run_continues_after_a_refusal(rt: HostRuntime) -> Result<(), Fail> {
     expect_run_outcomes(&rt, alloc, &mut new_desk_in_memory(alloc)?, &calls, &wanted)
 }
 
-// Checks that a run returns the stored reply for a repeated row, and refuses another row under its
-// key with 19.
+// Checks that a run returns the stored reply for a repeated row under its key, refuses another row
+// under this key with 19, and refuses the same row under another key with 15, because its broker
+// exists.
 #[test]
 fn a_run_repeats_the_stored_reply(rt: HostRuntime) -> Result<(), Fail> {
     let alloc = rt.alloc();
@@ -75,7 +76,7 @@ fn a_run_repeats_the_stored_reply(rt: HostRuntime) -> Result<(), Fail> {
     expect_run_outcomes(&rt, alloc, &mut new_desk_in_memory(alloc)?, &calls, &wanted)
 }
 
-// Checks that a run executes queries and returns their views and refusals.
+// Checks that a run executes queries, and returns the view of one and the refusal of another.
 #[test]
 fn a_run_answers_queries(rt: HostRuntime) -> Result<(), Fail> {
     let alloc = rt.alloc();

@@ -1,4 +1,5 @@
-//! Tests of one batch whose reader or writer fails at each byte. A retry completes it.
+//! Tests of one batch whose reader or writer fails at each byte, and of its retry, which completes
+//! it.
 
 pub mod batch;
 mod readers;

@@ -16,7 +16,7 @@ pub struct Still {
 }
 
 impl Still {
-    /// Returns the clock that always returns 2024-03-01 00:00 UTC.
+    /// Creates the clock that always returns 2024-03-01 00:00 UTC.
     pub fn at_first_timestamp() -> Still {
         Still {
             at: Stamp::nearest(FIRST_MOMENT),
@@ -25,19 +25,20 @@ impl Still {
 }
 
 impl Clock for Still {
+    /// Returns the fixed timestamp.
     fn now(&mut self) -> Stamp {
         self.at
     }
 }
 
-/// A batch, and the lines that a desk writes for it at 2024-03-01 00:00 UTC.
+/// A batch, and the lines that it writes on a desk at 2024-03-01 00:00 UTC.
 #[derive(Clone, Copy)]
 pub struct Step<'a> {
     pub batch: &'a [u8],
     pub lines: &'a str,
 }
 
-/// Returns a new desk in memory, with empty tables.
+/// Returns a new desk in memory, whose tables have no rows.
 pub fn new_desk_in_memory(alloc: Global) -> Result<Desk<MemStore>, Fail> {
     let Ok(store) = Store::create(Connection::open_in_memory(alloc)?) else {
         return Err("no store")?;
@@ -45,7 +46,8 @@ pub fn new_desk_in_memory(alloc: Global) -> Result<Desk<MemStore>, Fail> {
     Ok(Desk::new(store))
 }
 
-/// Returns a desk in memory after the batch `SET`.
+/// Returns a desk in memory after the batch `SET`, which adds a broker, a customer, an account, a
+/// security, charges, commission bands and a tax.
 pub fn desk_with_reference_data(alloc: Global) -> Result<Desk<MemStore>, Fail> {
     let mut desk = new_desk_in_memory(alloc)?;
     let set = Step {
@@ -56,7 +58,8 @@ pub fn desk_with_reference_data(alloc: Global) -> Result<Desk<MemStore>, Fail> {
     Ok(desk)
 }
 
-/// Runs a batch on a desk. Returns its lines and its result.
+/// Executes a batch on a desk at 2024-03-01 00:00 UTC. Returns the bytes that it wrote and its
+/// result.
 pub fn run_batch_at_desk(
     alloc: Global,
     desk: &mut Desk<MemStore>,
@@ -73,7 +76,8 @@ pub fn run_batch_at_desk(
     (lines, ended)
 }
 
-// Checks the lines of a batch, one by one.
+// Checks that a batch wrote exactly the wanted lines. Fails with `name` and the number of the first
+// other line.
 fn expect_batch_lines(name: &str, told: &[u8], wanted: &str) -> Result<(), Fail> {
     let told = str::from_utf8(told).map_err(|_| "no text")?;
     let mut row = 0u64;
@@ -89,7 +93,7 @@ fn expect_batch_lines(name: &str, told: &[u8], wanted: &str) -> Result<(), Fail>
     Ok(())
 }
 
-// Checks that a batch completed, and that its end line has its counts.
+// Checks that a batch completed, and that the wanted lines end with the end line of its counts.
 fn expect_batch_counts(
     alloc: Global,
     name: &str,
@@ -107,7 +111,8 @@ fn expect_batch_counts(
     }
 }
 
-/// Runs a batch on a desk, and checks its lines and its counts.
+/// Executes the batch of `step` on a desk, and checks its lines and its counts. Fails with `name`
+/// if they differ.
 pub fn expect_batch_result(
     alloc: Global,
     desk: &mut Desk<MemStore>,

@@ -4,8 +4,7 @@ use std::alloc::Global;
 use std::io;
 use std::io::{Error, ErrorKind, Read, Write};
 
-/// A reader that returns the first bytes, then fails once, and would return the remaining bytes
-/// after that.
+/// A reader that returns the first bytes, then fails once, and after that returns the other bytes.
 #[derive(Drop)]
 pub struct Failing<'a> {
     before: &'a [u8],
@@ -14,8 +13,8 @@ pub struct Failing<'a> {
 }
 
 impl<'a> Failing<'a> {
-    /// Returns a reader of `bytes` that fails once after the given number of first bytes, or after
-    /// all of them.
+    /// Returns a reader of `bytes` that fails once, with an error of the kind `fault`, after the
+    /// first `count` bytes, or after all of them if there are fewer.
     pub fn reader_failing_once(bytes: &'a [u8], count: usize, fault: ErrorKind) -> Failing<'a> {
         let (before, after) = bytes.split_at(count.min(bytes.len()));
         Failing {
@@ -27,6 +26,7 @@ impl<'a> Failing<'a> {
 }
 
 impl Read for Failing<'_> {
+    /// Returns the next bytes, or fails once after the first ones.
     fn read(&mut self, buf: &mut [u8]) -> io::Result<usize> {
         if self.before.is_empty() {
             if let Some(kind) = self.fault.take() {
@@ -43,8 +43,8 @@ impl Read for Failing<'_> {
     }
 }
 
-/// A writer that takes seven bytes at most at a call, `room` in total. The next call fails, or
-/// takes no byte if there is no error; all later calls succeed.
+/// A writer that accepts at most seven bytes at a call, and `room` in total. The call after that
+/// fails with `error`, or accepts no byte without `error`; all later calls succeed.
 #[derive(Drop)]
 pub struct Narrow {
     pub taken: Vec<u8>,
@@ -53,7 +53,8 @@ pub struct Narrow {
 }
 
 impl Narrow {
-    /// Returns a writer with room for `room` bytes.
+    /// Returns a writer with room for `room` bytes, which then fails once with `error`, or accepts
+    /// no byte once without `error`.
     pub fn new(alloc: Global, room: usize, error: Option<ErrorKind>) -> Narrow {
         Narrow {
             taken: Vec::new(alloc),
@@ -64,6 +65,7 @@ impl Narrow {
 }
 
 impl Write for Narrow {
+    /// Appends at most seven bytes, or fails or accepts none once if there is no room.
     fn write(&mut self, buf: &[u8]) -> io::Result<usize> {
         let left = self.room.saturating_sub(self.taken.len());
         if left == 0 {
@@ -78,6 +80,7 @@ impl Write for Narrow {
         Ok(size)
     }
 
+    /// Does nothing.
     fn flush(&mut self) -> io::Result<()> {
         Ok(())
     }

@@ -3,13 +3,13 @@ use brk_money::{Condition, Fault};
 use sqlite::{Connection, MemStore};
 use std::test::Fail;
 
-// Creates a store over a connection.
+// Creates the tables of a store in the database of a connection.
 fn create_store(conn: Connection<MemStore>) -> Result<Store<MemStore>, Fail> {
     Ok(Store::create(conn).map_err(|_| "no store")?)
 }
 
-// Checks that creating a store over the tables of another one fails with `NotEmpty` and leaves no
-// transaction open.
+// Checks that creating a store in a database that has one already fails with `NotEmpty`, and that
+// no transaction is open after it.
 #[test]
 fn a_second_creation_is_refused(rt: HostRuntime) -> Result<(), Fail> {
     let conn = create_store(Connection::open_in_memory(rt.alloc())?)?.into_conn();
@@ -23,7 +23,7 @@ fn a_second_creation_is_refused(rt: HostRuntime) -> Result<(), Fail> {
     Ok(())
 }
 
-// Checks that creating a store changes no other table.
+// Checks that creating a store does not change another table of the database.
 #[test]
 fn creation_preserves_other_tables(rt: HostRuntime) -> Result<(), Fail> {
     let mut conn = Connection::open_in_memory(rt.alloc())?;
@@ -38,8 +38,8 @@ fn creation_preserves_other_tables(rt: HostRuntime) -> Result<(), Fail> {
     Ok(())
 }
 
-// Checks that creating a store beside a table with the name of a desk's table fails with
-// `NotEmpty`.
+// Checks that creating a store in a database that has a table with the name of a desk's table, in
+// other case, fails with `NotEmpty`.
 #[test]
 fn creation_beside_a_desk_table_is_refused(rt: HostRuntime) -> Result<(), Fail> {
     let mut conn = Connection::open_in_memory(rt.alloc())?;

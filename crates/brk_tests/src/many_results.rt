@@ -11,22 +11,23 @@ use std::alloc::Global;
 use std::process::Abort;
 use std::test::Fail;
 
+// The number of trades of the batch.
 const TRADES: u64 = 500;
 
-// Returns the row of an order of `n` shares: every third is a sale, every second closes the last
-// lots first.
+// Returns the row of order `n`, of `n` shares: every third order is a sale, and every second one
+// closes the last lots first.
 fn order_row(alloc: Global, n: u64) -> Result<String, Fail> {
     let kind = if n % 3 == 0 { "TMS" } else { "TMB" };
     let end = if n % 2 == 0 { "lifo" } else { "fifo" };
     Ok(format!(in alloc; "order,100,{kind},ABC,{n},,cash,{end},Ann,Lee,T10")?)
 }
 
-// Returns the row of the result of trade `n`, at 10.00.
+// Returns the row of the result of the trade with the id `n`, at 10.00.
 fn result_row(alloc: Global, n: u64) -> Result<String, Fail> {
     Ok(format!(in alloc; "result,{n},10.00")?)
 }
 
-// Returns the rows of all trades, each order followed by its result.
+// Returns the rows of all 500 trades, each order followed by its result.
 fn rows_of_all_trades(alloc: Global) -> Result<Vec<String>, Fail> {
     let mut rows = Vec::new(alloc);
     for n in 1..=TRADES {
@@ -36,7 +37,7 @@ fn rows_of_all_trades(alloc: Global) -> Result<Vec<String>, Fail> {
     Ok(rows)
 }
 
-// Returns the text of a batch L with these rows.
+// Returns the text of a batch with the name L and these rows.
 fn format_batch_of_rows(alloc: Global, rows: &[String]) -> Result<String, Fail> {
     let mut batch = String::from_str(alloc, "batch,L\n")?;
     for row in rows {
@@ -46,8 +47,8 @@ fn format_batch_of_rows(alloc: Global, rows: &[String]) -> Result<String, Fail> 
     Ok(batch)
 }
 
-// Checks the holding and the broker totals after all trades, of which 83,667 shares were bought and
-// 41,583 sold, and that the audit passes.
+// Checks the shares held and the broker totals after all trades, by which 83,667 shares were bought
+// and 41,583 sold, and that the audit passes.
 fn expect_totals_after_trades(
     rt: &impl Abort,
     alloc: Global,
@@ -69,8 +70,8 @@ fn expect_totals_after_trades(
     Ok(())
 }
 
-// Runs the rows as one batch. Checks that every row is accepted, the last line and the totals, and
-// returns the lines.
+// Executes the rows as one batch on a new desk. Checks that every row is accepted, the last lines
+// and the totals. Returns the lines.
 fn run_and_check_batch(rt: &impl Abort, alloc: Global, rows: &[String]) -> Result<Vec<u8>, Fail> {
     let batch = format_batch_of_rows(alloc, rows)?;
     let mut desk = desk_with_reference_data(alloc)?;
@@ -90,7 +91,7 @@ fn run_and_check_batch(rt: &impl Abort, alloc: Global, rows: &[String]) -> Resul
     Ok(lines)
 }
 
-// Returns the calls of all rows, each under its key.
+// Returns the calls of all rows at 2024-03-01 00:00 UTC, each under its key in batch L.
 fn keyed_calls_of_rows(alloc: Global, rows: &[String]) -> Result<Vec<(Stamp, Call)>, Fail> {
     let mut calls = Vec::new(alloc);
     for (row, n) in rows.iter().zip(1..=2 * TRADES) {
@@ -99,7 +100,7 @@ fn keyed_calls_of_rows(alloc: Global, rows: &[String]) -> Result<Vec<(Stamp, Cal
     Ok(calls)
 }
 
-// Executes the calls of all rows in one run of the desk, and returns their outcomes.
+// Executes the calls of all rows as one run of the desk, and returns their outcomes.
 fn run_calls_of_rows(
     alloc: Global,
     desk: &mut Desk<MemStore>,
@@ -111,7 +112,8 @@ fn run_calls_of_rows(
     Ok(out)
 }
 
-// Appends the line of an accepted row, as a batch writes it. Fails if the row was not accepted.
+// Appends the line of the accepted row `n` with this outcome, as a batch writes it. Fails if the
+// row was not accepted.
 fn append_accepted_line(
     alloc: Global,
     lines: &mut String,
@@ -126,7 +128,8 @@ fn append_accepted_line(
     Ok(())
 }
 
-// Returns the lines of the rows with these outcomes.
+// Returns the lines of accepted rows with these outcomes, as a batch writes them. Fails if a row
+// was not accepted.
 fn lines_of_outcomes(alloc: Global, outcomes: &[Outcome]) -> Result<String, Fail> {
     let mut lines = String::new(alloc);
     for (outcome, n) in outcomes.iter().zip(1..=2 * TRADES) {
@@ -135,7 +138,8 @@ fn lines_of_outcomes(alloc: Global, outcomes: &[Outcome]) -> Result<String, Fail
     Ok(lines)
 }
 
-// Executes the calls of all rows in one run, checks the totals, and returns the lines of the rows.
+// Executes the calls of all rows as one run on a new desk, checks the totals, and returns the lines
+// of the rows.
 fn run_rows_and_check_totals(
     rt: &impl Abort,
     alloc: Global,
@@ -147,7 +151,8 @@ fn run_rows_and_check_totals(
     Ok(lines)
 }
 
-// Checks that a batch of five hundred trades and one run of its calls have equal lines.
+// Checks that a batch of 500 orders and their results and one run of the same calls have equal
+// lines.
 #[test]
 fn a_batch_equals_one_run_of_its_calls(rt: HostRuntime) -> Result<(), Fail> {
     let alloc = rt.alloc();

@@ -8,14 +8,16 @@ use brk_ref::{BatchName, Key, RowNumber};
 use std::alloc::Global;
 use std::test::Fail;
 
-// Returns the key of row `row` of this batch.
+// Returns the key of the row with the number `row` of the batch with the name `batch`. Fails if one
+// of them is malformed.
 fn key_of_row(alloc: Global, batch: &[u8], row: u64) -> Result<Key, Fail> {
     let row = RowNumber::new(row).ok_or("a row's number")?;
     let batch = BatchName::parse(alloc, batch)?.ok_or("a batch's name")?;
     Ok(Key { batch, row })
 }
 
-/// Parses a row and returns its call at 2024-03-01 00:00 UTC, with this key or none.
+/// Parses a row and returns its call at 2024-03-01 00:00 UTC, under the key `key` or without one.
+/// Fails if the row is malformed.
 pub fn parse_row_call(alloc: Global, row: &str, key: Option<Key>) -> Result<(Stamp, Call), Fail> {
     let fields = split_fields(alloc, row)?;
     match parse_row(alloc, &fields)? {
@@ -24,7 +26,8 @@ pub fn parse_row_call(alloc: Global, row: &str, key: Option<Key>) -> Result<(Sta
     }
 }
 
-/// Parses row `n` of a batch and returns its call at 2024-03-01 00:00 UTC, under its key.
+/// Parses row `n` of the batch `batch` and returns its call at 2024-03-01 00:00 UTC, under its key.
+/// Fails if the row is malformed.
 pub fn parse_keyed_row_call(
     alloc: Global,
     batch: &[u8],
@@ -35,8 +38,8 @@ pub fn parse_keyed_row_call(
     parse_row_call(alloc, row, Some(key))
 }
 
-/// Parses a query from a view's name and its arguments, and returns its call at 2024-03-01 00:00
-/// UTC.
+/// Parses a query from the name of a view and its arguments, and returns its call at 2024-03-01
+/// 00:00 UTC. Fails if the query is malformed.
 pub fn parse_query_call(
     alloc: Global,
     view: &str,

@@ -11,9 +11,11 @@ use sqlite::Options;
 use std::alloc::Global;
 use std::test::Fail;
 
+// The number of lots of account 100.
 const LOTS: u64 = 100;
 
-// Returns a batch of purchases of two shares each: `LOTS` for account 100, and one for account 101.
+// Returns the text of a batch that adds account 101, and buys two shares `LOTS` times for account
+// 100 and once for account 101.
 fn batch_of_two_share_purchases(alloc: Global) -> Result<String, Fail> {
     let mut batch = String::from_str(alloc, "batch,P\naccount,101,10,1,Side,1,10000.00\n")?;
     for n in 1..=LOTS {
@@ -26,7 +28,8 @@ fn batch_of_two_share_purchases(alloc: Global) -> Result<String, Fail> {
     Ok(batch)
 }
 
-// Returns the files of a desk with `LOTS` lots of account 100 and one of account 101.
+// Returns the files of a desk on which account 100 has `LOTS` lots of two shares and account 101
+// has one.
 fn files_with_hundred_lots(alloc: Global) -> Result<Held, Fail> {
     let set = files_with_reference_data(alloc)?;
     let batch = batch_of_two_share_purchases(alloc)?;
@@ -42,7 +45,8 @@ fn files_with_hundred_lots(alloc: Global) -> Result<Held, Fail> {
     Ok(held)
 }
 
-// Returns a batch with the order and the result of a sale.
+// Returns the text of a batch with the order and the result of a sale of `shares` shares of an
+// account.
 fn batch_of_one_sale(alloc: Global, account: u64, shares: u64) -> Result<String, Fail> {
     let trade = LOTS + 2;
     Ok(format!(in alloc;
@@ -50,8 +54,8 @@ fn batch_of_one_sale(alloc: Global, account: u64, shares: u64) -> Result<String,
     )?)
 }
 
-// Returns true if a desk completes a sale when its database file accepts this number of calls. The
-// desk caches one page of the file, so it reads each page anew.
+// Returns true if a desk completes a sale when its database file accepts `calls` calls and fails at
+// each later one. The desk caches one page of the file, so it reads each other page anew.
 fn sale_completes_within_calls(
     alloc: Global,
     held: &Held,
@@ -76,7 +80,8 @@ fn sale_completes_within_calls(
     Ok(lines.ends_with(b"end,2,0,0\n"))
 }
 
-// Returns the least number of calls of the database file that suffice for the sale of one share.
+// Returns the least number of calls of the database file with which the sale of one share of an
+// account completes, at most 8,192.
 fn least_calls_of_sale(alloc: Global, held: &Held, account: u64) -> Result<u64, Fail> {
     let mut most = 0u64;
     for bit in [4_096, 2_048, 1_024, 512, 256, 128, 64, 32, 16, 8, 4, 2, 1] {
@@ -88,8 +93,8 @@ fn least_calls_of_sale(alloc: Global, held: &Held, account: u64) -> Result<u64, 
     Ok(most.saturating_add(1))
 }
 
-// Checks that the sale of a share needs no more calls with 100 lots than with one, and that a sale
-// of 33 shares needs more.
+// Checks that the sale of one share needs no more calls of the database file with 100 lots than
+// with one lot, and that a sale of 33 shares needs more.
 #[test]
 fn calls_of_a_sale_do_not_grow_with_lots(rt: HostRuntime) -> Result<(), Fail> {
     let alloc = rt.alloc();

@@ -10,9 +10,11 @@ use sqlite::MemStore;
 use std::alloc::Global;
 use std::test::Fail;
 
+// The number of lots of account 100.
 const LOTS: u64 = 40;
 
-// Returns a batch of the orders and results of forty purchases of one share each.
+// Returns the text of a batch with the orders and the results of `LOTS` purchases of one share
+// each.
 fn batch_of_one_share_purchases(alloc: Global) -> Result<String, Fail> {
     let mut batch = String::from_str(alloc, "batch,P\n")?;
     for n in 1..=LOTS {
@@ -23,7 +25,7 @@ fn batch_of_one_share_purchases(alloc: Global) -> Result<String, Fail> {
     Ok(batch)
 }
 
-// Returns a store whose account 100 has forty lots of one share each.
+// Returns a store on which account 100 has `LOTS` lots of one share each.
 fn store_with_forty_lots(alloc: Global) -> Result<Store<MemStore>, Fail> {
     let batch = batch_of_one_share_purchases(alloc)?;
     let mut desk = desk_with_reference_data(alloc)?;
@@ -34,8 +36,8 @@ fn store_with_forty_lots(alloc: Global) -> Result<Store<MemStore>, Fail> {
     }
 }
 
-// Closes lots of account 100 with a sale of this quantity. Returns the number of touched lots and
-// of rows read.
+// Computes the closing of lots of account 100 by a sale of `count` shares, the last lots first if
+// `lifo` is true. Returns the number of touched lots and the number of rows that were read.
 fn lots_touched_and_rows_read(
     alloc: Global,
     store: &mut Store<MemStore>,
@@ -60,8 +62,8 @@ fn lots_touched_and_rows_read(
     Ok((closing.touched.len(), lots.rows_read()))
 }
 
-// The shares that are sold, the number of lots that the sale touches, and the number of rows that
-// it reads.
+// Sales: the number of shares, the number of lots that the sale touches, and the number of rows
+// that it reads.
 const SALES: [(u32, usize, u64); 5] = [
     (1, 1, 16),
     (16, 16, 16),
@@ -70,7 +72,8 @@ const SALES: [(u32, usize, u64); 5] = [
     (41, 40, 40),
 ];
 
-// Checks that a sale reads only the pages of 16 rows that its lots are on, from both ends.
+// Checks that a sale reads only the pages of 16 rows that contain the lots that it closes, whether
+// it closes the first or the last lots first.
 #[test]
 fn a_sale_reads_only_the_pages_it_needs(rt: HostRuntime) -> Result<(), Fail> {
     let alloc = rt.alloc();

@@ -6,7 +6,7 @@ use sqlite::{Alter, Connection, MemStore, Row};
 use std::alloc::Global;
 use std::test::Fail;
 
-// The tables that no trade changes, and the stored requests of the batch `SET`.
+// The tables that no trade of the tests changes, and the stored requests of the batch `SET`.
 const REFERENCE: [&str; 8] = [
     "CUSTOMER",
     "ACCOUNT_PERMISSION",
@@ -18,7 +18,7 @@ const REFERENCE: [&str; 8] = [
     "KEPT WHERE K_BATCH = 'SET'",
 ];
 
-// The other tables, and the other stored requests.
+// The tables that trades change, and the stored requests of other batches than `SET`.
 const TRADING: [&str; 15] = [
     "DESK",
     "BROKER",
@@ -57,12 +57,12 @@ const SET_TABLES: &str =
     SET,14,band\x1f1\x1fTLB\x1fNYSE\x1f1\x1f999999\x1f100,1709251200013\n\
     SET,15,taxrate\x1f1\x1fState\x1f20000,1709251200014\nSET,16,custtax\x1f10\x1f1,1709251200015\n";
 
-/// The error of tables that could not be read or printed.
+/// The error that tables could not be read or printed.
 #[derive(Clone, Copy, Debug, PartialEq, Eq)]
 pub struct Unread;
 
-// Appends the value of a cell; a null is an empty text. Fails for any value that is neither a whole
-// number nor UTF-8 text.
+// Appends the value of a cell as text; a null is an empty text. Fails for a value that is neither a
+// null, nor a whole number, nor UTF-8 text.
 fn append_cell(lines: &mut String, value: ValueRef<'_>) -> Result<(), Unread> {
     match value {
         ValueRef::Null => Ok(()),
@@ -75,7 +75,7 @@ fn append_cell(lines: &mut String, value: ValueRef<'_>) -> Result<(), Unread> {
     }
 }
 
-// Appends the line of a row: its values, separated by commas.
+// Appends the values of a row, separated by commas, as a line.
 fn append_row(lines: &mut String, row: &Row) -> Result<(), Unread> {
     for at in 0..row.column_count() {
         if at > 0 {
@@ -87,7 +87,8 @@ fn append_row(lines: &mut String, row: &Row) -> Result<(), Unread> {
     lines.push_str("\n").map_err(|_| Unread)
 }
 
-// Appends the name of a table and its rows, sorted by their first two columns.
+// Appends the name of a table and its rows, sorted by their first two columns, as lines. Fails if
+// they cannot be read.
 fn append_table<S: Alter>(
     alloc: Global,
     lines: &mut String,
@@ -103,7 +104,7 @@ fn append_table<S: Alter>(
     Ok(())
 }
 
-// Appends the names and the rows of these tables.
+// Appends the names and the rows of these tables as lines. Fails if they cannot be read.
 fn append_tables<S: Alter>(
     alloc: Global,
     lines: &mut String,
@@ -116,7 +117,7 @@ fn append_tables<S: Alter>(
     Ok(())
 }
 
-/// Returns the names and the rows of all tables.
+/// Returns the names and the rows of all tables of a desk as lines. Fails if they cannot be read.
 pub fn read_all_tables<S: Alter>(
     alloc: Global,
     conn: &mut Connection<S>,
@@ -127,7 +128,8 @@ pub fn read_all_tables<S: Alter>(
     Ok(lines)
 }
 
-// Checks the names and the rows of these tables.
+// Checks that the names and the rows of these tables are the wanted lines. Fails with `name` and
+// the number of the first other line.
 fn expect_rows_of_tables(
     alloc: Global,
     conn: &mut Connection<MemStore>,
@@ -150,8 +152,8 @@ fn expect_rows_of_tables(
     Ok(())
 }
 
-/// Checks all tables of a store: the reference tables as after the batch `SET`, and the other
-/// tables as wanted.
+/// Checks all tables of a store: the reference tables equal those after the batch `SET`, and the
+/// names and rows of the other tables are the wanted lines.
 pub fn expect_all_tables(
     alloc: Global,
     store: Store<MemStore>,

@@ -3,7 +3,7 @@
 use std::alloc::Global;
 use std::test::Fail;
 
-/// 2024-03-01 00:00 UTC.
+/// 2024-03-01 00:00 UTC, in milliseconds since 1970-01-01 UTC.
 pub const FIRST_MOMENT: i64 = 1_709_251_200_000;
 
 /// A batch that sets a desk up: a broker, a customer, an account, a security, charges, bands and a
@@ -68,7 +68,8 @@ pub const LINES: [&str; 12] = [
     "1709251200027,5.50,0.00,539.50,2024-03-03,550.00,550.00,10617.90",
 ];
 
-/// The rows of the first three trades of `ROWS`, of which the sale closes the last lot first.
+/// The rows of three trades: the first two purchases of `ROWS`, and their first sale, which closes
+/// the last lot first.
 pub const LAST_FIRST_ROWS: [&str; 6] = [
     "order,100,TMB,ABC,100,,cash,fifo,Ann,Lee,T10",
     "result,1,10.10",
@@ -88,7 +89,7 @@ pub const LAST_FIRST_LINES: [&str; 6] = [
     "1709251200021,19.50,30.00,1895.50,2024-03-03,1800.00,1950.00,8441.40",
 ];
 
-/// Returns the text of a batch T with these rows.
+/// Returns the text of a batch with the name T and these rows.
 pub fn format_batch(alloc: Global, rows: &[&str]) -> Result<String, Fail> {
     let mut batch = String::from_str(alloc, "batch,T\n")?;
     for row in rows {
@@ -98,8 +99,8 @@ pub fn format_batch(alloc: Global, rows: &[&str]) -> Result<String, Fail> {
     Ok(batch)
 }
 
-/// Appends a line for each reply: its number, counted from the given first one, the word, and the
-/// reply.
+/// Appends a line for each reply, as a batch writes it: the number of its row, counted from
+/// `first`, the word `word`, and the reply.
 pub fn append_reply_lines(
     told: &mut String,
     first: u64,
@@ -114,7 +115,7 @@ pub fn append_reply_lines(
     Ok(())
 }
 
-/// Returns the lines of a batch with these replies if all its rows are accepted.
+/// Returns the lines of a batch all of whose rows are accepted with these replies.
 pub fn lines_if_all_accepted(alloc: Global, lines: &[&str]) -> Result<String, Fail> {
     let mut told = String::new(alloc);
     append_reply_lines(&mut told, 1, "ok", lines)?;
@@ -122,7 +123,7 @@ pub fn lines_if_all_accepted(alloc: Global, lines: &[&str]) -> Result<String, Fa
     Ok(told)
 }
 
-/// Returns the lines of a batch with these replies if all its rows were accepted before.
+/// Returns the lines of a batch all of whose rows were accepted before with these replies.
 pub fn lines_if_all_repeated(alloc: Global, lines: &[&str]) -> Result<String, Fail> {
     let mut told = String::new(alloc);
     append_reply_lines(&mut told, 1, "again", lines)?;

@@ -1,4 +1,4 @@
-//! The commands of transcripts over files, each of which appends its output lines.
+//! The commands of transcripts over files, each of which appends its output lines to the replay.
 
 use crate::failed::Failed;
 use crate::folder;
@@ -6,7 +6,8 @@ use brk_exit::end_with;
 use brk_jobs::execute_arguments;
 use std::alloc::{AllocError, Global};
 
-// Returns the command-line arguments of a command, split at spaces, the program's own name first.
+// Returns the command-line arguments in a text, split at its spaces, with the name of the program
+// first. Fails only if memory runs out.
 fn split_command_line(alloc: Global, text: &str) -> Result<Vec<String>, AllocError> {
     let mut words = Vec::new(alloc);
     words.push(String::from_str(alloc, "brk")?)?;
@@ -16,8 +17,8 @@ fn split_command_line(alloc: Global, text: &str) -> Result<Vec<String>, AllocErr
     Ok(words)
 }
 
-// Appends the lines that were written to a stream, each after the mark of the stream. A last line
-// without a line feed ends in a backslash.
+// Appends the lines that were written to a stream, each after the mark of the stream, `mark`, and a
+// space. A last line without a line feed ends in a backslash.
 fn append_marked_lines(out: &mut String, mark: char, bytes: &[u8]) -> Result<(), Failed> {
     let text = str::from_utf8(bytes).unwrap_or("not UTF-8");
     for line in text.split_inclusive('\n') {
@@ -29,8 +30,8 @@ fn append_marked_lines(out: &mut String, mark: char, bytes: &[u8]) -> Result<(),
     Ok(())
 }
 
-// Runs the program with these arguments and this input, and appends its output, its errors and its
-// exit status.
+// Executes the program with these command-line arguments and this input, and appends its output,
+// its error text and its exit status.
 fn run_program_and_append_output(
     rt: &HostRuntime,
     out: &mut String,
@@ -48,7 +49,8 @@ fn run_program_and_append_output(
     Ok(())
 }
 
-// Changes a file without the program, and appends whether that succeeded.
+// Writes, copies or cuts a file, or executes SQL in it, as another program would (`verb`), and
+// appends `done`, or `failed`.
 fn change_file_and_append_result(
     rt: &HostRuntime,
     out: &mut String,
@@ -67,7 +69,8 @@ fn change_file_and_append_result(
     Ok(())
 }
 
-/// Executes a command with its input, and appends its output lines.
+/// Executes a command of a transcript with its input, `$` for the program and otherwise a change of
+/// a file, and appends its output lines.
 pub fn execute_transcript_command(
     rt: &HostRuntime,
     out: &mut String,

@@ -13,7 +13,7 @@ pub enum Failed {
 }
 
 impl Failed {
-    /// Returns the line for standard error.
+    /// Returns the line that the program writes to standard error for this failure.
     pub fn stderr_line(self) -> &'static str {
         match self {
             Failed::Input => "brk_tests_files: input\n",
@@ -24,6 +24,7 @@ impl Failed {
 }
 
 impl From<AllocError> for Failed {
+    /// Returns `Memory`: an allocation was refused.
     fn from(_: AllocError) -> Failed {
         Failed::Memory
     }
@@ -31,6 +32,7 @@ impl From<AllocError> for Failed {
 
 // Text is formatted only into memory, so a failure to format is a refused allocation.
 impl From<fmt::Error> for Failed {
+    /// Returns `Memory`.
     fn from(_: fmt::Error) -> Failed {
         Failed::Memory
     }

@@ -1,9 +1,9 @@
-//! Changes of files by another program. Each function returns true if it changed the file.
+//! Changes of files by another program. Each function returns true if it succeeds.
 
 use sqlite::Connection;
 use std::fs;
 
-/// Writes these bytes as the file at a path. Returns true if that succeeds.
+/// Writes the bytes `bytes` as the whole file at a path. Returns true if that succeeds.
 pub fn write_file(rt: &HostRuntime, path: &str, bytes: &[u8]) -> bool {
     fs::write(rt, path, bytes).is_ok()
 }
@@ -24,7 +24,8 @@ pub fn remove_second_half_of_file(rt: &HostRuntime, path: &str) -> bool {
     }
 }
 
-/// Executes an SQL statement on the database in a file. Returns true if that and closing succeed.
+/// Executes an SQL statement on the database in a file, and closes the database. Returns true if
+/// both succeed.
 pub fn execute_sql_in_file(rt: &HostRuntime, path: &str, sql: &[u8]) -> bool {
     let Ok(sql) = str::from_utf8(sql) else {
         return false;

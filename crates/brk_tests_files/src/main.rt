@@ -1,6 +1,6 @@
-//! Replays transcripts of the program over files: reads them from standard input, executes their
-//! commands in the folder that it runs in, and prints them again with its own output lines in place
-//! of those that it read.
+//! Replays transcripts of the program over files: reads one from standard input, executes its
+//! commands in the current folder, and prints it again with new output lines in place of the old
+//! ones.
 #![tactic(auto)]
 
 mod commands;
@@ -12,7 +12,8 @@ use failed::Failed;
 use std::io;
 use std::process::ExitCode;
 
-// Reads a transcript from standard input and writes its replay to standard output.
+// Reads a transcript from standard input, executes its commands over files, and writes its replay
+// to standard output. Fails with the reason why the replay ended early.
 fn replay_input_on_files(rt: &HostRuntime) -> Result<(), Failed> {
     let Ok(text) = io::read_to_string(rt.alloc(), rt.reader()) else {
         return Err(Failed::Input);
@@ -24,8 +25,8 @@ fn replay_input_on_files(rt: &HostRuntime) -> Result<(), Failed> {
     }
 }
 
-// Replays the transcript. Writes the reason of a failure to standard error and returns the exit
-// status.
+// Runs the program: replays the transcript, writes the reason of a failure to standard error, and
+// returns the exit status, 0 without a failure.
 fn main(rt: HostRuntime) -> ExitCode {
     match replay_input_on_files(&rt) {
         Ok(()) => ExitCode::SUCCESS,

@@ -4,7 +4,8 @@ use crate::commands::execute_transcript_command;
 use crate::failed::Failed;
 use std::alloc::{AllocError, Global};
 
-// A command and its input so far, which is executed at its next other line.
+// The pending command of a replay with its input so far. It is executed when the replay reaches the
+// next line that is neither input nor output.
 #[derive(Drop)]
 struct Due<'a> {
     command: &'a str,
@@ -23,12 +24,14 @@ fn execute_pending_file_command(
     }
 }
 
-// Returns true if a line is an output line.
+// Returns true if a line of a transcript is an output line, which begins with `>`, `!` or `=` and a
+// space.
 fn is_output_line(line: &str) -> bool {
     line.starts_with("> ") || line.starts_with("! ") || line.starts_with("= ")
 }
 
-// Returns the command that a line begins, or `None` if it is a comment or empty.
+// Returns the command that a line begins, without input, or `None` if the line is a comment or
+// empty.
 fn command_begun_by_line(alloc: Global, line: &str) -> Option<Due<'_>> {
     if line.is_empty() || line.starts_with('#') {
         return None;
@@ -39,7 +42,8 @@ fn command_begun_by_line(alloc: Global, line: &str) -> Option<Due<'_>> {
     })
 }
 
-// Adds an input line to the pending command, if there is one.
+// Adds an input line to the pending command, and returns this command, or `None` if there is none.
+// Fails only if memory runs out.
 fn add_input_to_pending_command<'a>(
     due: Option<Due<'a>>,
     text: &str,
@@ -52,7 +56,8 @@ fn add_input_to_pending_command<'a>(
     Ok(Some(due))
 }
 
-// Processes a line that is no output line, and returns the command that is pending after it.
+// Processes a line that is no output line: adds an input line to the pending command, or executes
+// the pending command. Returns the command that is pending after the line.
 fn process_transcript_line<'a>(
     rt: &HostRuntime,
     out: &mut String,
@@ -72,8 +77,8 @@ fn process_transcript_line<'a>(
     }
 }
 
-/// Executes the commands of a transcript, and returns it with their output lines in place of the
-/// old ones.
+/// Executes the commands of a transcript, and returns the transcript with their output lines in
+/// place of the old ones. Fails only if memory runs out.
 pub fn replay_file_transcript(rt: &HostRuntime, text: &str) -> Result<String, Failed> {
     let mut out = String::new(rt.alloc());
     let mut due = None;

@@ -25,22 +25,27 @@ struct Fixed {
 impl Clock for Fixed {
     ghost gives = { λ old moment new. (moment ≡ old.at) × (new ≡ old) };
 
+    // Returns the fixed timestamp.
     fn now(&mut self) -> Stamp {
         self.at
     }
 }
 
-// The command of a row of the test desk below.
+// A command of the test desk below, which determines the answer to it.
 #[derive(Clone, Copy, Debug, PartialEq, Eq)]
 enum Asked {
+    // It is accepted, and the desk stores its timestamp.
     Put,
+    // It has the stored reply `5,CNCL`.
     Repeat,
+    // It is refused with 14, `accounts`.
     Refuse,
+    // It fails with `Store`.
     Break,
 }
 
-// A desk that stores the timestamp of its last command. The number of a row's fields determines its
-// command.
+// A desk for tests of batches, which stores the timestamp of its last accepted command. The number
+// of fields of a row determines its command.
 #[derive(Drop)]
 struct Last {
     moment: u64,
@@ -84,6 +89,8 @@ impl Rows for Last {
       | asks.Break ↦ (Again (codes ""), base)
     ] };
 
+    // Returns the command for 3, 4, 5 or 6 fields. Refuses 7 fields with 8 (`BadQty`), fails at 9
+    // fields with `Memory`, and refuses any other number with 18 (`BadText`).
     fn parse(_alloc: Global, row: &[&[u8]]) -> Planned<Asked> {
         match row.len() {
             3 => Ok(Ok(Asked::Put)),
@@ -96,6 +103,7 @@ impl Rows for Last {
         }
     }
 
+    // Returns the answer that the command names, and stores the timestamp of an accepted one.
     fn call(
         desk: &mut Last,
         alloc: Global,
@@ -117,13 +125,15 @@ impl Rows for Last {
         }
     }
 
+    // Returns the timestamp of an accepted command in decimal digits.
     #[tactic(auto, unfolding(brk_model::specs::Rows::reply_fields))]
     fn reply_line(alloc: Global, reply: &u64) -> Result<String, AllocError> {
         format!(in alloc; "{reply}")
     }
 }
 
-// A reader that returns its text byte by byte, and fails once, in place of the byte at `cut`.
+// A reader that returns its text byte by byte, and fails once, with an error of the kind `kind`, in
+// place of the byte at the position `cut`.
 #[derive(Drop)]
 struct Flaky<'a> {
     text: &'a [u8],
@@ -133,6 +143,8 @@ struct Flaky<'a> {
 }
 
 impl<'a> Read for Flaky<'a> {
+    // Returns the next byte of the text, fails once at the position `cut`, or returns no byte at
+    // the end.
     fn read(&mut self, buf: &mut [u8]) -> io::Result<usize> {
         if self.cut == self.at {
             self.cut = usize::MAX;
@@ -149,8 +161,8 @@ impl<'a> Read for Flaky<'a> {
     }
 }
 
-// A reader of a header, then of empty lines up to the limit of an input, which ends with `tail`. A
-// read beyond the limit fails.
+// A reader of a header, and then of empty lines up to the limit of an input, which ends with
+// `tail`. A read beyond the limit fails.
 #[derive(Drop)]
 struct Long {
     at: u64,
@@ -158,7 +170,8 @@ struct Long {
 }
 
 impl Long {
-    // Returns the byte at position `at`.
+    // Returns the byte at the position `at` of the input: of the header, of the empty lines, or of
+    // the tail.
     fn byte_at_position(&self, at: u64) -> u8 {
         let header = b"batch,A\n";
         if at < 8 {
@@ -176,6 +189,7 @@ impl Long {
 }
 
 impl Read for Long {
+    // Fills the buffer with the next bytes, or fails beyond the limit.
     fn read(&mut self, buf: &mut [u8]) -> io::Result<usize> {
         if self.at >= MAXIMUM_INPUT_BYTES {
             return Err(io::Error::from(io::ErrorKind::Other));
@@ -193,7 +207,8 @@ impl Read for Long {
     }
 }
 
-// A writer that takes three bytes at a time, at most `most` in total, and then fails or takes none.
+// A writer that accepts at most three bytes at a call, and `most` in total. Each later call fails
+// with `error`, or accepts no byte without `error`.
 #[derive(Drop)]
 struct Choppy {
     got: Vec<u8>,
@@ -202,6 +217,7 @@ struct Choppy {
 }
 
 impl Write for Choppy {
+    // Appends at most three bytes, or fails or accepts none if there is no room.
     fn write(&mut self, buf: &[u8]) -> io::Result<usize> {
         let room = self.most.saturating_sub(self.got.len());
         if room == 0 {
@@ -215,12 +231,14 @@ impl Write for Choppy {
         Ok(n)
     }
 
+    // Does nothing.
     fn flush(&mut self) -> io::Result<()> {
         Ok(())
     }
 }
 
-// Runs a batch on a new test desk at timestamp 7. Returns the result and the output.
+// Executes a batch on a new test desk, at the timestamp 7. Returns its result and the bytes that it
+// wrote.
 fn run_batch_on_new_desk<R: Read + Drop>(
     alloc: Global,
     reader: R,
@@ -236,17 +254,21 @@ fn run_batch_on_new_desk<R: Read + Drop>(
     Ok((done, out))
 }
 
-// Returns the result of a batch that failed with this fault after `rows` decided rows.
+// Returns the result of a batch that failed with the fault `kind` after `rows` decided rows.
 fn batch_fault_result(rows: u64, kind: FaultKind) -> Result<Counts, BatchFault> {
     Err(BatchFault { rows, kind })
 }
 
+// A batch with rows of 3, 4, 5, 1 and 7 fields: an accepted one, a repeated one and three refused
+// ones.
 const WHOLE: &[u8] =
     b"\xef\xbb\xbfbatch,A\r\nput,1,\"a, b\"\r\n\r\nput,1,2,3\nrefuse,,,,\n\"\"\r\nqty,,,,,,\nend,5\r\nput,2,c\n";
 
+// The lines of the batch `WHOLE`.
 const LINES: &[u8] = b"1,ok,7\n2,again,5,CNCL\n3,no,14,accounts\n4,no,18\n5,no,8\nend,1,1,3\n";
 
-// Checks the lines of a batch with every kind of answer, read at once and byte by byte.
+// Checks the result and the lines of a batch with every kind of answer, read whole and byte by
+// byte.
 #[test]
 fn each_row_of_a_batch_gets_a_line(rt: HostRuntime) -> Result<(), Fail> {
     let (done, out) = run_batch_on_new_desk(rt.alloc(), WHOLE)?;
@@ -270,7 +292,7 @@ fn each_row_of_a_batch_gets_a_line(rt: HostRuntime) -> Result<(), Fail> {
     Ok(())
 }
 
-// Checks that a batch without rows gets the end line alone.
+// Checks that a batch without rows writes only its end line.
 #[test]
 fn an_empty_batch_gets_an_end_line(rt: HostRuntime) -> Result<(), Fail> {
     let (done, out) = run_batch_on_new_desk(rt.alloc(), b"batch,Z\nend,0".as_slice())?;
@@ -285,7 +307,8 @@ fn an_empty_batch_gets_an_end_line(rt: HostRuntime) -> Result<(), Fail> {
     Ok(())
 }
 
-// Checks that a row without a record after it is refused and not executed.
+// Checks that a row without a record after it is refused with 18, and that the batch fails with
+// `NoEnd`.
 #[test]
 fn the_last_row_of_a_cut_input_is_refused(rt: HostRuntime) -> Result<(), Fail> {
     let cut = b"batch,C\nbroker,2,Cy\nbroker,3\nbroker,4,D".as_slice();
@@ -298,7 +321,8 @@ fn the_last_row_of_a_cut_input_is_refused(rt: HostRuntime) -> Result<(), Fail> {
     Ok(())
 }
 
-// Checks that a batch without a correct header fails with `BadHeader` and writes nothing.
+// Checks that a batch with a missing or malformed header fails with `BadHeader` and writes nothing,
+// and that two correct headers are accepted.
 #[test]
 fn a_batch_with_a_wrong_header_is_refused(rt: HostRuntime) -> Result<(), Fail> {
     let bad: [&[u8]; 13] = [
@@ -332,7 +356,7 @@ fn a_batch_with_a_wrong_header_is_refused(rt: HostRuntime) -> Result<(), Fail> {
     Ok(())
 }
 
-// Checks that a wrong end record fails with `BadEnd`, after the lines of the rows.
+// Checks that a batch with a wrong end record fails with `BadEnd`, after the lines of its rows.
 #[test]
 fn a_wrong_end_record_is_a_fault(rt: HostRuntime) -> Result<(), Fail> {
     let bad: [&[u8]; 5] = [
@@ -350,7 +374,8 @@ fn a_wrong_end_record_is_a_fault(rt: HostRuntime) -> Result<(), Fail> {
     Ok(())
 }
 
-// Checks the decided rows and the lines if the reader fails at several positions.
+// Checks the number of decided rows and the lines of a batch whose reader fails at several
+// positions.
 #[test]
 fn a_failed_read_ends_the_batch(rt: HostRuntime) -> Result<(), Fail> {
     let text = b"batch,A\nput,1,2\nput,3,4\nend,2\n".as_slice();
@@ -375,7 +400,8 @@ fn a_failed_read_ends_the_batch(rt: HostRuntime) -> Result<(), Fail> {
     Ok(())
 }
 
-// Checks the decided rows and the lines if the writer fails at several positions.
+// Checks the number of decided rows and the written bytes of a batch whose writer fails at several
+// positions.
 #[test]
 fn a_failed_write_ends_the_batch(rt: HostRuntime) -> Result<(), Fail> {
     let cuts: [(usize, u64, Option<io::ErrorKind>); 6] = [
@@ -409,8 +435,8 @@ fn a_failed_write_ends_the_batch(rt: HostRuntime) -> Result<(), Fail> {
     Ok(())
 }
 
-// Checks that a fault of the desk, in a call or in parsing, ends the batch after the lines of the
-// rows before.
+// Checks that a fault of the desk, in a call or while a row is parsed, ends the batch after the
+// lines of the rows before.
 #[test]
 fn a_fault_of_the_desk_ends_the_batch(rt: HostRuntime) -> Result<(), Fail> {
     let called = b"batch,A\nput,1,2\nbreak,,,,,\nput,3,4\nend,3\n".as_slice();

@@ -7,21 +7,24 @@ use std::io::{self, ErrorKind};
 use std::rt;
 use std::time::Duration;
 
-// A machine's clock that always returns one time, or that cannot be read.
+// A machine's clock that always returns the same time since 1970-01-01 UTC, or that cannot be read
+// (`None`).
 #[derive(Drop)]
 struct Stopped(Option<Duration>);
 
 impl rt::Clock for Stopped {
+    // Returns 7 seconds.
     fn monotonic(&self) -> io::Result<Duration> {
         Ok(Duration::from_secs(7))
     }
 
+    // Returns the fixed time, or fails if there is none.
     fn since_1970(&self) -> io::Result<Duration> {
         self.0.ok_or(io::Error::from(ErrorKind::Unsupported))
     }
 }
 
-// The milliseconds of 2024-03-01 00:00 UTC.
+// 2024-03-01 00:00 UTC, in milliseconds since 1970-01-01 UTC.
 const PAST: i64 = 1_709_251_200_000;
 
 // Checks that a clock with a fixed timestamp returns it at every reading.
@@ -32,7 +35,7 @@ fn a_fixed_clock_returns_its_timestamp(rt: HostRuntime) {
     assert_eq!(rt; clock.now().get(), PAST);
 }
 
-// Checks that a reading of the machine's clock drops the part below a millisecond.
+// Checks that a reading of the machine's clock drops the fraction of a millisecond.
 #[test]
 fn clock_readings_are_whole_milliseconds(rt: HostRuntime) {
     let machine = Stopped(Some(Duration::new(1_709_251_200, 123_999_999)));
@@ -41,8 +44,8 @@ fn clock_readings_are_whole_milliseconds(rt: HostRuntime) {
     assert_eq!(rt; clock.now().get(), PAST + 123);
 }
 
-// Checks that a time after the last stamp is read as the last stamp. 10000-01-01 00:00 UTC is in
-// second 253_402_300_800.
+// Checks that the reading is the greatest stamp if the machine's time is later. 10000-01-01 00:00
+// UTC is second 253,402,300,800.
 #[test]
 fn clock_readings_end_at_the_last_stamp(rt: HostRuntime) {
     let last = Stopped(Some(Duration::new(253_402_300_799, 999_000_000)));
@@ -51,7 +54,7 @@ fn clock_readings_end_at_the_last_stamp(rt: HostRuntime) {
     assert_eq!(rt; Moments::new(&late, None).now().get(), Stamp::GREATEST);
 }
 
-// Checks that the reading is 0 if the machine's clock cannot be read.
+// Checks that the reading is the timestamp 0 if the machine's clock cannot be read.
 #[test]
 fn an_unreadable_clock_reads_as_zero(rt: HostRuntime) {
     let machine = Stopped(None);

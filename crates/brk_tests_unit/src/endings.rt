@@ -10,18 +10,19 @@ use std::io::Write;
 use std::process::Abort;
 use std::test::Fail;
 
-// Returns the ending of a batch that failed with this fault.
+// Returns the ending of the program after a batch that failed with this fault after 3 rows.
 fn ending_of_batch_fault(kind: FaultKind) -> Ending {
     Ending::Batch(BatchFault { rows: 3, kind })
 }
 
-// Checks the exit status of an ending and the text that it writes.
+// Checks the exit status of an ending and the text that it writes to standard error.
 fn expect_status_and_line(rt: &impl Abort, alloc: Global, ending: &Ending, status: u8, text: &str) {
     let mut errors = Vec::new(alloc);
     assert!(rt; end_with(ending, &mut errors) == status, "{text}");
     assert!(rt; errors.as_slice() == text.as_bytes(), "{text}");
 }
 
+// Faults of a batch, each with its exit status and its error line.
 const BATCHES: [(FaultKind, u8, &str); 7] = [
     (FaultKind::BadHeader, 1, "brk: batch: bad header\n"),
     (FaultKind::NoEnd, 1, "brk: batch: no end\n"),
@@ -32,7 +33,7 @@ const BATCHES: [(FaultKind, u8, &str); 7] = [
     (FaultKind::Desk(Fault::Memory), 3, "brk: fault: memory\n"),
 ];
 
-// Checks the exit status and the line of each fault of a batch.
+// Checks the exit status and the error line of each fault of a batch.
 #[test]
 fn exit_status_and_line_of_batch_faults(rt: HostRuntime) {
     for (kind, status, text) in BATCHES {
@@ -40,7 +41,7 @@ fn exit_status_and_line_of_batch_faults(rt: HostRuntime) {
     }
 }
 
-// Checks the exit status and the line of refusals and faults of a statement.
+// Checks the exit status and the error line of a report that is refused or fails.
 #[test]
 fn exit_status_and_line_of_report_faults(rt: HostRuntime) {
     let alloc = rt.alloc();
@@ -54,6 +55,7 @@ fn exit_status_and_line_of_report_faults(rt: HostRuntime) {
     expect_status_and_line(&rt, alloc, &writer, 3, "brk: fault: write\n");
 }
 
+// Faults of opening a desk, each with its exit status and its error line.
 const OPENS: [(Fault, u8, &str); 3] = [
     (Fault::Memory, 3, "brk: fault: memory\n"),
     (Fault::Store, 3, "brk: fault: store\n"),
@@ -64,7 +66,7 @@ const OPENS: [(Fault, u8, &str); 3] = [
     ),
 ];
 
-// Checks the exit status and the line of each fault of opening a desk.
+// Checks the exit status and the error line of each fault of opening a desk.
 #[test]
 fn exit_status_and_line_of_open_faults(rt: HostRuntime) {
     for (fault, status, text) in OPENS {
@@ -72,7 +74,7 @@ fn exit_status_and_line_of_open_faults(rt: HostRuntime) {
     }
 }
 
-// Checks the exit status and the text of each usage fault.
+// Checks the exit status and the error text of each usage fault.
 #[test]
 fn exit_status_and_line_of_usage_faults(rt: HostRuntime) -> Result<(), Fail> {
     let alloc = rt.alloc();
@@ -87,7 +89,8 @@ fn exit_status_and_line_of_usage_faults(rt: HostRuntime) -> Result<(), Fail> {
     Ok(())
 }
 
-// Checks the exit status and the line of the remaining endings.
+// Checks the exit status and the error line of the other endings: a job that is done, output or a
+// port that failed, and a stream that ended early.
 #[test]
 fn exit_status_and_line_of_other_endings(rt: HostRuntime) {
     let unserved = ServeFault {
@@ -106,21 +109,23 @@ fn exit_status_and_line_of_other_endings(rt: HostRuntime) {
     );
 }
 
-// A writer that takes no byte.
+// A writer that accepts no byte.
 #[derive(Drop)]
 struct Closed;
 
 impl Write for Closed {
+    // Accepts no byte.
     fn write(&mut self, _bytes: &[u8]) -> io::Result<usize> {
         Ok(0)
     }
 
+    // Does nothing.
     fn flush(&mut self) -> io::Result<()> {
         Ok(())
     }
 }
 
-// Checks that the exit status does not depend on a failed write of the line.
+// Checks that the exit status does not change if the error line cannot be written.
 #[test]
 fn exit_status_with_a_closed_error_stream(rt: HostRuntime) {
     assert_eq!(rt;

@@ -7,7 +7,9 @@ use std::alloc::Global;
 use std::process::Abort;
 use std::test::Fail;
 
-// A movement of account 100, and the balance and the number of movements before it.
+// A movement of account 100: its direction, its amount in cents, the balance before it in cents
+// (`None` without the account), whether the limit of movements is reached, and the number that it
+// would have.
 #[derive(Clone, Copy)]
 struct Case {
     direction: Direction,
@@ -17,7 +19,7 @@ struct Case {
     next: u64,
 }
 
-// Returns the facts that the tables hold for the movement of a case.
+// Returns the facts of the tables on which the plan for the movement of a case depends.
 fn movement_facts(case: Case) -> Result<MovementPlanFacts, Fail> {
     let balance = match case.balance {
         Some(balance) => Some(Cents::new(balance).ok_or("balance")?),
@@ -30,7 +32,8 @@ fn movement_facts(case: Case) -> Result<MovementPlanFacts, Fail> {
     })
 }
 
-// Checks the reply to the movement of a case, at the stamp after @21.
+// Checks the reply to the movement of a case, or its refusal, if the last stamp is 1709251200021
+// ms.
 fn expect_movement_reply(
     rt: &impl Abort,
     alloc: Global,
@@ -51,7 +54,8 @@ fn expect_movement_reply(
     Ok(())
 }
 
-// Checks the replies to movements, with number and balance, and their refusals.
+// Checks the replies to a deposit and a withdrawal, with their number and the new balance, and the
+// refusals of movements.
 #[test]
 fn movement_replies_and_refusals(rt: HostRuntime) -> Result<(), Fail> {
     let alloc = rt.alloc();
@@ -93,8 +97,8 @@ fn movement_replies_and_refusals(rt: HostRuntime) -> Result<(), Fail> {
     Ok(())
 }
 
-// Checks the reply to a settlement day at the first midnight of 2024-03-01, on a desk that has the
-// settlement day `rule` or none.
+// Checks the reply to setting the settlement day `days` (days since 1970-01-01), or its refusal, at
+// 2024-03-01 00:00 UTC, on a desk whose settlement day is `rule`, or that has none.
 fn expect_settlement_day_reply(
     rt: &impl Abort,
     alloc: Global,
@@ -115,7 +119,7 @@ fn expect_settlement_day_reply(
     Ok(())
 }
 
-// Checks that a settlement day is accepted only after the day of its stamp, and only once.
+// Checks that a settlement day is accepted only if it is after the day of its stamp, and only once.
 #[test]
 fn a_settlement_day_must_be_in_the_future(rt: HostRuntime) -> Result<(), Fail> {
     let alloc = rt.alloc();

@@ -11,7 +11,8 @@ use std::alloc::Global;
 use std::process::Abort;
 use std::test::Fail;
 
-// Returns the quote of ABC, of which 100 more shares may be traded until the volume limit.
+// Returns the quote of ABC, at 10.00, of which 100 more shares may be traded up to the limit of the
+// volume.
 fn quote_with_100_shares_left(alloc: Global) -> Result<Vec<Quote>, Fail> {
     let price = Price::new(1_000).ok_or("price")?;
     let volume = Volume::new(99_999_999_999_999_900).ok_or("volume")?;
@@ -25,7 +26,8 @@ fn quote_with_100_shares_left(alloc: Global) -> Result<Vec<Quote>, Fail> {
     Ok(vec![in alloc; Quote { last, requests }]?)
 }
 
-// Returns the reply to a feed of these ticks, or its refusal.
+// Returns the text of the reply to a feed of these ticks over `quote_with_100_shares_left`, or
+// `no,` and its refusal.
 fn reply_to_feed(alloc: Global, ticks: &[&[u8]]) -> Result<String, Fail> {
     let now = Stamp::nearest(1_709_251_200_019);
     let quotes = quote_with_100_shares_left(alloc)?;
@@ -36,7 +38,7 @@ fn reply_to_feed(alloc: Global, ticks: &[&[u8]]) -> Result<String, Fail> {
     Ok(format_planned_reply(alloc, planned?)?)
 }
 
-// The fields of a feed, and the reply to it.
+// Feeds, each with its fields and the text of its reply.
 const FEEDS: [(&[&[u8]], &str); 4] = [
     (&[b"ABC", b"9.50", b"100"], "1709251200019"),
     (&[b"ABC", b"9.50", b"101"], "no,14,volume"),
@@ -47,8 +49,8 @@ const FEEDS: [(&[&[u8]], &str); 4] = [
     (&[b"ABC", b"9.50", b"101", b"QQQ", b"1.00", b"1"], "no,4"),
 ];
 
-// Checks the replies to four feeds: one up to the volume limit is accepted, one and two ticks
-// beyond it are refused with `volume`, and an unknown symbol is refused first, with 4.
+// Checks that a feed up to the limit of the volume is accepted, that one and two ticks beyond it
+// are refused with 14, `volume`, and that a feed with an unknown symbol is refused first, with 4.
 #[test]
 fn a_feed_beyond_volume_limit_is_refused(rt: HostRuntime) -> Result<(), Fail> {
     for (ticks, wanted) in FEEDS {
@@ -58,8 +60,8 @@ fn a_feed_beyond_volume_limit_is_refused(rt: HostRuntime) -> Result<(), Fail> {
     Ok(())
 }
 
-// Returns the facts for a purchase while ABC is at 10.00, after `trades` trades: a commission rate
-// of one percent and a charge of 5.00.
+// Returns the facts of the tables on which the plan for a purchase of ABC at 10.00 depends, after
+// `trades` trades: a commission rate of one percent and a charge of 5.00.
 fn purchase_facts(trades: u64) -> Result<OrderPlanFacts, Fail> {
     let broker = Id::new(1).ok_or("broker")?;
     let rates = TaxRate::new(20_000).ok_or("rates")?;
@@ -80,11 +82,12 @@ fn purchase_facts(trades: u64) -> Result<OrderPlanFacts, Fail> {
     })
 }
 
+// The fields of an order for 100 shares of ABC at the market.
 const PURCHASE: [&[u8]; 10] = [
     b"100", b"TMB", b"ABC", b"100", b"", b"cash", b"fifo", b"Ann", b"Lee", b"T10",
 ];
 
-// Returns the reply to a purchase with these facts, or its refusal.
+// Returns the text of the reply to the order `PURCHASE` with these facts, or `no,` and its refusal.
 fn reply_to_purchase(alloc: Global, found: &OrderPlanFacts) -> Result<String, Fail> {
     let order = match parse_trade_order(alloc, &PURCHASE)? {
         Ok(order) => order,
@@ -97,7 +100,7 @@ fn reply_to_purchase(alloc: Global, found: &OrderPlanFacts) -> Result<String, Fa
     Ok(format_planned_reply(alloc, planned)?)
 }
 
-// Checks the reply to a purchase after `trades` trades.
+// Checks the reply to the order `PURCHASE` after `trades` trades, or its refusal.
 fn expect_purchase_reply(
     rt: &impl Abort,
     alloc: Global,
@@ -110,7 +113,8 @@ fn expect_purchase_reply(
     Ok(())
 }
 
-// Checks that no order is accepted after the last number of a trade.
+// Checks that the last trade id is given to an order, and that the next order is refused with 14,
+// `trades`.
 #[test]
 fn an_order_beyond_last_trade_is_refused(rt: HostRuntime) -> Result<(), Fail> {
     let alloc = rt.alloc();
@@ -119,7 +123,7 @@ fn an_order_beyond_last_trade_is_refused(rt: HostRuntime) -> Result<(), Fail> {
     expect_purchase_reply(&rt, alloc, 1_000_000_000_000, "no,14,trades")
 }
 
-// Checks, for each type of order, whether a price below, at and above its bid triggers it.
+// Checks, for each type of order, whether a last price below, at and above its bid triggers it.
 #[test]
 fn prices_trigger_pending_trades(rt: HostRuntime) -> Result<(), Fail> {
     let below = Price::new(999).ok_or("price")?;

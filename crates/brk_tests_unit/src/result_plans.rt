@@ -11,7 +11,9 @@ use std::alloc::Global;
 use std::process::Abort;
 use std::test::Fail;
 
-// A submitted trade of ABC, and the values of the tables before its result.
+// A trade of ABC before its result: its type, quantity, cash or margin, status and commission rate,
+// the shares held, the balance and the broker's commissions in cents, and the last stamp in
+// milliseconds.
 #[derive(Clone, Copy)]
 struct Case {
     kind: TradeType,
@@ -25,8 +27,8 @@ struct Case {
     last: i64,
 }
 
-// Returns the case of a cash purchase of 100 shares at a balance of 10000.00, with a commission
-// rate of one percent.
+// Returns the case of a submitted cash purchase of 100 shares at a balance of 10000.00, with a
+// commission rate of one percent.
 fn submitted_cash_purchase() -> Case {
     Case {
         kind: TradeType::MarketBuy,
@@ -41,7 +43,7 @@ fn submitted_cash_purchase() -> Case {
     }
 }
 
-// Returns the trade row of a case.
+// Returns the TRADE row of the trade of a case.
 fn trade_row_of_case(alloc: Global, case: Case) -> Result<TradeRow, Fail> {
     let id = Id::new(1).ok_or("trade")?;
     let qty = Qty::new(case.qty).ok_or("quantity")?;
@@ -71,7 +73,7 @@ fn trade_row_of_case(alloc: Global, case: Case) -> Result<TradeRow, Fail> {
     })
 }
 
-// Returns the account of a case.
+// Returns the account of the trade of a case, with its broker, tax status and balance.
 fn account_of_case(case: Case) -> Result<ResultAccount, Fail> {
     Ok(ResultAccount {
         broker: Id::new(1).ok_or("broker")?,
@@ -80,7 +82,7 @@ fn account_of_case(case: Case) -> Result<ResultAccount, Fail> {
     })
 }
 
-// Returns the broker totals of a case.
+// Returns the broker totals before the result of a case.
 fn broker_totals_of_case(case: Case) -> Result<BrokerTotals, Fail> {
     Ok(BrokerTotals {
         trades: TradeCount::new(0).ok_or("trades")?,
@@ -88,7 +90,7 @@ fn broker_totals_of_case(case: Case) -> Result<BrokerTotals, Fail> {
     })
 }
 
-// Returns the facts that the tables hold for the result of a case.
+// Returns the facts of the tables on which the plan for the result of a case depends.
 fn result_facts(alloc: Global, case: Case) -> Result<ResultPlanFacts, Fail> {
     let account = account_of_case(case)?;
     let broker = broker_totals_of_case(case)?;
@@ -109,8 +111,8 @@ fn result_facts(alloc: Global, case: Case) -> Result<ResultPlanFacts, Fail> {
     })
 }
 
-// Returns the reply to a result at 10.10 with these facts, on a position without lots, or its
-// refusal.
+// Returns the text of the reply to a result at 10.10 with these facts, on a position without lots,
+// or `no,` and its refusal. Without `found` the trade does not exist.
 fn reply_to_result(
     alloc: Global,
     found: Option<&ResultPlanFacts>,
@@ -129,7 +131,7 @@ fn reply_to_result(
     Ok(format_planned_reply(alloc, planned)?)
 }
 
-// Checks the reply to the result of a case.
+// Checks the reply to the result of the trade of a case, or its refusal.
 fn expect_result_reply(
     rt: &impl Abort,
     alloc: Global,
@@ -151,8 +153,8 @@ fn a_result_without_a_trade_is_refused(rt: HostRuntime) -> Result<(), Fail> {
     Ok(())
 }
 
-// Returns the purchase with no later stamp left. Each of the next cases has one more cause to be
-// refused.
+// Returns the case of `submitted_cash_purchase` on a desk whose last stamp is the greatest one.
+// Each of the next cases has one more cause to be refused.
 fn case_without_later_stamp() -> Case {
     Case {
         last: Stamp::GREATEST,
@@ -160,7 +162,7 @@ fn case_without_later_stamp() -> Case {
     }
 }
 
-// Returns `case_without_later_stamp`, with the broker's commissions at their limit as well.
+// Returns `case_without_later_stamp`, and the broker's commissions are at their limit too.
 fn case_beyond_broker_limit() -> Case {
     Case {
         commissions: 100_000_000_000_000_000,
@@ -168,7 +170,7 @@ fn case_beyond_broker_limit() -> Case {
     }
 }
 
-// Returns `case_beyond_broker_limit`, with the balance at its lower limit as well.
+// Returns `case_beyond_broker_limit`, and the balance is at its lower limit too.
 fn case_beyond_balance_limit() -> Case {
     Case {
         held: Some(9_999_999_899),
@@ -177,7 +179,8 @@ fn case_beyond_balance_limit() -> Case {
     }
 }
 
-// Returns `case_beyond_balance_limit`, with a holding of 99 shares below its limit as well.
+// Returns `case_beyond_balance_limit`, and the shares held are 99 below their limit, so that 100
+// more exceed it.
 fn case_beyond_summary_limit() -> Case {
     Case {
         held: Some(9_999_999_900),
@@ -185,7 +188,7 @@ fn case_beyond_summary_limit() -> Case {
     }
 }
 
-// Returns `case_beyond_summary_limit`, with no commission band as well.
+// Returns `case_beyond_summary_limit`, and there is no commission band for the trade either.
 fn case_without_commission_band() -> Case {
     Case {
         rate: None,
@@ -193,7 +196,7 @@ fn case_without_commission_band() -> Case {
     }
 }
 
-// Returns `case_without_commission_band`, with a trade of this status as well.
+// Returns `case_without_commission_band`, and the trade has this status.
 fn case_of_wrong_status(status: Status) -> Case {
     Case {
         status,
@@ -201,9 +204,10 @@ fn case_of_wrong_status(status: Status) -> Case {
     }
 }
 
+// The text of the reply to the result of `submitted_cash_purchase`.
 const TOLD: &str = "1709251200017,10.10,0.00,-1025.10,2024-03-03,0.00,0.00,8974.90";
 
-// Checks that a result is refused by the first cause that applies.
+// Checks that a result with several causes to be refused is refused by the first one that applies.
 #[test]
 fn results_are_refused_by_the_first_cause(rt: HostRuntime) -> Result<(), Fail> {
     for (case, wanted) in [
@@ -224,7 +228,8 @@ fn results_are_refused_by_the_first_cause(rt: HostRuntime) -> Result<(), Fail> {
 }
 
 // Checks that a result is accepted up to the limit of the broker's commissions and refused beyond
-// it. A margin trade does not change the balance, so its limit does not apply.
+// it with 14, `broker`. A margin trade does not change the balance, so the limit of the balance
+// does not apply to it.
 #[test]
 fn broker_and_balance_limits_of_results(rt: HostRuntime) -> Result<(), Fail> {
     let last_cent = Case {
@@ -252,8 +257,8 @@ fn broker_and_balance_limits_of_results(rt: HostRuntime) -> Result<(), Fail> {
     Ok(())
 }
 
-// Checks that a result is accepted up to the limits of a holding, long and short, and refused
-// beyond them.
+// Checks that a result is accepted up to the limit of the shares held, bought or sold short, and
+// refused beyond it with 14, `summary`.
 #[test]
 fn summary_limits_of_results(rt: HostRuntime) -> Result<(), Fail> {
     let alloc = rt.alloc();

@@ -3,7 +3,7 @@ use brk_money::{Fault, Refusal};
 use brk_trade::Plan;
 use std::alloc::Global;
 
-/// Returns the line of the reply of a plan, or `no,` with its refusal.
+/// Returns the text of the reply of a plan, or `no,` and the refusal. Fails with a fault.
 pub fn format_planned_reply(
     alloc: Global,
     planned: Result<Plan, Refusal>,

@@ -4,7 +4,7 @@ use std::alloc::{AllocError, Global};
 use std::process::Abort;
 use std::test::Fail;
 
-// Returns the path, or `-` if there is none.
+// Returns the path of a file, or `-` if there is none.
 fn path_or_hyphen(db: &Option<String>) -> &str {
     match db {
         Some(path) => path.as_str(),
@@ -20,7 +20,8 @@ fn millis_or_minus_one(at: Option<Stamp>) -> i64 {
     }
 }
 
-// Appends each word to the text, after a space.
+// Appends a space and a word to the text, for each word, and returns the text. Fails only if memory
+// runs out.
 fn append_words(mut text: String, words: &[String]) -> Result<String, AllocError> {
     for word in words {
         text.push_str(" ")?;
@@ -29,7 +30,8 @@ fn append_words(mut text: String, words: &[String]) -> Result<String, AllocError
     Ok(text)
 }
 
-// Returns the text of a job: its name and its values, separated by spaces.
+// Returns the name of a job and its values as text, separated by spaces: a path or `-`, timestamps
+// in milliseconds or -1, days since 1970-01-01. Fails only if memory runs out.
 fn format_job(alloc: Global, job: &Job) -> Result<String, AllocError> {
     match job {
         Job::Batch { db, at } => format!(in alloc;
@@ -73,8 +75,8 @@ fn format_job(alloc: Global, job: &Job) -> Result<String, AllocError> {
     }
 }
 
-// Returns the text of the job that these arguments, after the program's name, give, or the text of
-// their usage fault.
+// Parses these arguments, after the name of the program. Returns the text of the job that they
+// request, or of their usage fault.
 fn format_parsed_arguments(alloc: Global, words: &[&str]) -> Result<String, Fail> {
     let mut all = Vec::new(alloc);
     all.push(String::from_str(alloc, "brk")?)?;
@@ -90,7 +92,7 @@ fn format_parsed_arguments(alloc: Global, words: &[&str]) -> Result<String, Fail
     }
 }
 
-// Arguments, and the text of their job: a file or `-`, milliseconds or -1, days since 1970-01-01.
+// Arguments, each with the text of the job that they request, or with `day`.
 const JOBS: [(&[&str], &str); 17] = [
     (&["batch"], "batch - -1"),
     (&["batch", "--db", "a b.db"], "batch a b.db -1"),
@@ -204,7 +206,8 @@ const JOBS: [(&[&str], &str); 17] = [
     ),
 ];
 
-// Checks the job of the arguments of each subcommand.
+// Checks the jobs that correct arguments of each subcommand request, and that a malformed day is
+// reported.
 #[test]
 fn parses_the_arguments_of_each_job(rt: HostRuntime) -> Result<(), Fail> {
     for (words, job) in JOBS {
@@ -214,16 +217,20 @@ fn parses_the_arguments_of_each_job(rt: HostRuntime) -> Result<(), Fail> {
     Ok(())
 }
 
+// The usage of a batch in an error text.
 const BATCH: &str = "Usage: brk batch [OPTIONS]\n\n";
 
+// The usage of a statement in an error text.
 const STATEMENT: &str =
     "Usage: brk statement --db <FILE> --account <ID> --from <DAY> --to <DAY>\n\n";
 
+// The usage of an audit in an error text.
 const AUDIT: &str = "Usage: brk audit --db <FILE>\n\n";
 
+// The usage of serving in an error text.
 const SERVE: &str = "Usage: brk serve --port <P>\n\n";
 
-// Wrong arguments of a batch, the cause that clap reports for them, and the usage that it adds.
+// Wrong arguments of a batch, with the cause that clap reports for them and the usage that it adds.
 const WRONG_BATCHES: [(&[&str], &str, &str); 10] = [
     (
         &["batch", "first.csv"],
@@ -277,6 +284,8 @@ const WRONG_BATCHES: [(&[&str], &str, &str); 10] = [
     ),
 ];
 
+// Wrong arguments of a statement, with the cause that clap reports for them and the usage that it
+// adds.
 const WRONG_STATEMENTS: [(&[&str], &str, &str); 6] = [
     (
         &[
@@ -352,6 +361,8 @@ const WRONG_STATEMENTS: [(&[&str], &str, &str); 6] = [
     ),
 ];
 
+// Wrong arguments of an audit, with the cause that clap reports for them and the usage that it
+// adds.
 const WRONG_AUDITS: [(&[&str], &str, &str); 3] = [
     (
         &["audit"],
@@ -370,6 +381,7 @@ const WRONG_AUDITS: [(&[&str], &str, &str); 3] = [
     ),
 ];
 
+// Wrong arguments of serving, with the cause that clap reports for them and the usage that it adds.
 const WRONG_SERVES: [(&[&str], &str, &str); 6] = [
     (
         &["serve"],
@@ -403,7 +415,8 @@ const WRONG_SERVES: [(&[&str], &str, &str); 6] = [
     ),
 ];
 
-// Checks the whole text of each usage fault.
+// Checks the whole error text of each of these wrong arguments: the cause, the usage, and a line
+// about help.
 fn expect_usage_faults(
     rt: &impl Abort,
     alloc: Global,
@@ -419,7 +432,7 @@ fn expect_usage_faults(
     Ok(())
 }
 
-// Checks the error text of wrong arguments of each subcommand.
+// Checks the error texts of wrong arguments of a batch, a statement, an audit and serving.
 #[test]
 fn refuses_wrong_arguments(rt: HostRuntime) -> Result<(), Fail> {
     expect_usage_faults(&rt, rt.alloc(), &WRONG_BATCHES)?;
@@ -428,6 +441,7 @@ fn refuses_wrong_arguments(rt: HostRuntime) -> Result<(), Fail> {
     expect_usage_faults(&rt, rt.alloc(), &WRONG_SERVES)
 }
 
+// The help of the program.
 const HELP: &str = "A brokerage back office\n\nUsage: brk <COMMAND>\n\nCommands:\n\
     \x20 batch      Reads a batch from standard input and writes a line for each row\n\
     \x20 statement  Prints the statement of an account: its cash, day by day, and its lots\n\
@@ -438,13 +452,14 @@ const HELP: &str = "A brokerage back office\n\nUsage: brk <COMMAND>\n\nCommands:
     \x20 help       Print this message or the help of the given subcommand(s)\n\nOptions:\n\
     \x20 -h, --help     Print help\n\x20 -V, --version  Print version\n";
 
+// The help of the subcommand `batch`.
 const BATCH_HELP: &str = "Reads a batch from standard input and writes a line for each row\n\n\
     Usage: brk batch [OPTIONS]\n\nOptions:\n\
     \x20     --db <FILE>  The file of the desk, created if it is missing or empty; without it the desk is in memory\n\
     \x20     --at <MS>    The time of every command, in milliseconds since 1970-01-01 UTC; without it the clock is read\n\
     \x20 -h, --help       Print help\n\nExample:\n\x20 brk batch --db desk.db < examples/setting.csv\n";
 
-// Arguments, and the text that is printed for them.
+// Arguments, each with the text that is printed for them.
 const TEXTS: [(&[&str], &str); 3] = [
     (&["--version"], "help: brk 0.1.0 (schema 3, kit 13f)\n"),
     (
@@ -460,7 +475,7 @@ const TEXTS: [(&[&str], &str); 3] = [
     ),
 ];
 
-// Checks the texts that are printed for the version, for an unknown subcommand and for the help of
+// Checks the texts that are printed for the version, for an unknown subcommand, and for the help of
 // `audit`.
 #[test]
 fn prints_version_help_and_errors(rt: HostRuntime) -> Result<(), Fail> {
@@ -471,6 +486,7 @@ fn prints_version_help_and_errors(rt: HostRuntime) -> Result<(), Fail> {
     Ok(())
 }
 
+// Arguments that request help, with the help that is printed.
 const HELPS: [(&[&str], &str); 4] = [
     (&["help", "batch"], BATCH_HELP),
     (&["batch", "--help"], BATCH_HELP),
@@ -478,7 +494,8 @@ const HELPS: [(&[&str], &str); 4] = [
     (&["--help"], HELP),
 ];
 
-// Checks the help of the program and of the subcommand for a batch.
+// Checks the help of the program and of `batch`, and that arguments without a subcommand print the
+// help of the program as an error.
 #[test]
 fn prints_help_of_commands(rt: HostRuntime) -> Result<(), Fail> {
     for (words, text) in HELPS {

@@ -59,7 +59,7 @@ const TABLES: &str = "DESK\n1,3,1709251200021\n\
     T,5,result\x1f2\x1f12.10,1709251200020,6.05,20.00,573.95,2024-03-03,505.00,605.00,9548.85\n\
     T,6,upname\x1f1,1709251200021,1\n";
 
-/// Returns the lines of the given number of first rows of the batch, on a desk after the batch
+/// Returns the lines of the first `rows` rows of the batch, at most six, on a desk after the batch
 /// `SET`.
 pub fn first_lines_of_batch(alloc: Global, rows: usize) -> Result<String, Fail> {
     let (first, _) = LINES.split_at(rows.min(6));
@@ -68,7 +68,8 @@ pub fn first_lines_of_batch(alloc: Global, rows: usize) -> Result<String, Fail> 
     Ok(told)
 }
 
-/// Returns all lines of the batch on a desk that has accepted its first `booked` rows before.
+/// Returns all lines of the batch on a desk that has accepted its first `booked` rows, at most six,
+/// before.
 pub fn all_lines_of_retry(alloc: Global, booked: usize) -> Result<String, Fail> {
     let booked = booked.min(6);
     let (again, rest) = LINES.split_at(booked);
@@ -79,7 +80,7 @@ pub fn all_lines_of_retry(alloc: Global, booked: usize) -> Result<String, Fail> 
     Ok(told)
 }
 
-/// Checks the fault that ended a batch, and the written lines.
+/// Checks that a batch ended with the fault `wanted`, and that it wrote exactly the lines `lines`.
 pub fn expect_batch_fault(
     name: &str,
     ended: Result<Counts, BatchFault>,
@@ -94,8 +95,8 @@ pub fn expect_batch_fault(
     }
 }
 
-/// Runs the whole batch on a desk that has accepted its first rows before. Checks its lines and all
-/// tables after it.
+/// Executes the whole batch on a desk that has accepted its first `booked` rows before. Checks its
+/// lines and all tables after it.
 pub fn expect_completed_batch(
     alloc: Global,
     mut desk: Desk<MemStore>,

@@ -9,8 +9,8 @@ use std::alloc::Global;
 use std::io::ErrorKind;
 use std::test::Fail;
 
-// Runs a batch with a reader that fails after `len` bytes, on a new desk, and then retries it.
-// Checks the fault and the lines, and that the retry completes: a row is decided once the record
+// Executes a batch on a new desk with a reader that fails after `len` bytes, and then retries it.
+// Checks the fault and the lines, and that the retry completes: a row is decided if the record
 // after it was read.
 fn expect_batch_read_fault(
     alloc: Global,
@@ -40,7 +40,8 @@ fn expect_batch_read_fault(
     expect_batch_fault(name.as_str(), ended, wanted, &told, lines.as_str())
 }
 
-// Checks a batch whose reader fails, or is interrupted, at each byte.
+// Checks, for each byte of a batch, the fault, the lines and the retry of a batch whose reader
+// fails or is interrupted before this byte.
 #[test]
 fn batch_readers_failing_at_each_byte(rt: HostRuntime) -> Result<(), Fail> {
     let batch = format_batch(rt.alloc(), &ROWS)?;

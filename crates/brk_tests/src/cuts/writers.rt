@@ -9,7 +9,7 @@ use std::alloc::Global;
 use std::io::ErrorKind;
 use std::test::Fail;
 
-// Runs a batch with a writer that fails after `room` bytes, on a new desk, and then retries it.
+// Executes a batch on a new desk with a writer that fails after `room` bytes, and then retries it.
 // Checks the fault and the written bytes, and that the retry completes: a row whose line was not
 // written remains committed.
 fn expect_batch_write_fault(
@@ -39,7 +39,8 @@ fn expect_batch_write_fault(
     expect_batch_fault(name.as_str(), ended, fault, &writer.taken, wanted)
 }
 
-// Checks a batch whose writer takes no byte, fails or is interrupted at each byte.
+// Checks, for each byte of the lines of a batch, the fault, the written bytes and the retry of a
+// batch whose writer fails, is interrupted or accepts no byte there.
 #[test]
 fn batch_writers_failing_at_each_byte(rt: HostRuntime) -> Result<(), Fail> {
     let batch = format_batch(rt.alloc(), &ROWS)?;

@@ -8,8 +8,8 @@ use crate::worked::{
 use std::alloc::Global;
 use std::test::Fail;
 
-// Runs a batch on the desk in these files. Checks its lines and that the audit passes, and returns
-// the files after it.
+// Executes a batch on the desk in these files. Checks its lines and that the audit passes, and
+// returns the files after it.
 fn expect_batch_in_files(
     alloc: Global,
     held: &Held,
@@ -30,8 +30,8 @@ fn expect_batch_in_files(
     }
 }
 
-// Runs these trades on a desk in files, and then again on the desk that is opened from these files.
-// Checks the lines of both runs.
+// Executes the rows as a batch on a desk in files, opens the files again and retries the batch.
+// Checks that the first run accepts all rows with these replies, and that the retry repeats them.
 fn expect_trades_stored_and_repeated(
     alloc: Global,
     name: &str,
@@ -49,7 +49,8 @@ fn expect_trades_stored_and_repeated(
     Ok(())
 }
 
-// Checks that a desk that is opened from its files repeats the replies of its trades.
+// Checks that a desk that is opened again from its files repeats the replies of its trades, for
+// batches of one to six trades.
 #[test]
 fn desks_in_files_can_be_reopened(rt: HostRuntime) -> Result<(), Fail> {
     for (name, count) in [

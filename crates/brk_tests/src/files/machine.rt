@@ -13,15 +13,17 @@ use sqlite_disk::{Crash, Disk, Fuse, Memory};
 use std::alloc::{AllocError, Global};
 use std::test::Fail;
 
-/// A file of a desk.
+/// One of the two files of a desk.
 #[derive(Clone, Copy)]
 pub enum File {
+    /// The log, which has the commits that are not yet in the database file.
     Log,
+    /// The database file.
     Database,
 }
 
-/// A crash: one file accepts the given number of calls and fails at each later call. Bytes that
-/// were not synced are lost if `loses` is true, and otherwise stored.
+/// A crash of the machine: the file `file` accepts `calls` calls and fails at each later call.
+/// Bytes that were not synced are lost if `loses` is true, and otherwise stored.
 #[derive(Clone, Copy)]
 pub struct Stop {
     pub name: &'static str,
@@ -31,7 +33,7 @@ pub struct Stop {
 }
 
 impl Stop {
-    /// A machine that does not crash.
+    /// No crash: each file accepts all calls.
     pub const NEVER: Stop = Stop {
         name: "no stop",
         file: File::Log,
@@ -40,7 +42,7 @@ impl Stop {
     };
 }
 
-/// The bytes of the two files of a desk.
+/// The bytes of the two files of a desk, the log and the database file.
 #[derive(Drop)]
 pub struct Held {
     pub log: Vec<u8>,
@@ -48,7 +50,7 @@ pub struct Held {
 }
 
 impl Held {
-    /// Returns empty files.
+    /// Returns two empty files.
     pub fn empty_files(alloc: Global) -> Held {
         Held {
             log: Vec::new(alloc),
@@ -57,8 +59,8 @@ impl Held {
     }
 }
 
-/// The observation of a batch on a desk: all tables before and after it, or an empty text if they
-/// could not be read, its lines, and whether an audit passed after it.
+/// The observation of a batch on a desk: all tables before and after it as text, empty if they
+/// could not be read, the lines of the batch, and true if an audit passed after it.
 #[derive(Drop)]
 pub struct Seen {
     pub before: String,
@@ -68,7 +70,7 @@ pub struct Seen {
 }
 
 impl Seen {
-    /// Returns the empty observation, before a batch is executed.
+    /// Returns an empty observation, for a batch that is not yet executed.
     pub fn before_batch(alloc: Global) -> Seen {
         Seen {
             before: String::new(alloc),
@@ -79,8 +81,8 @@ impl Seen {
     }
 }
 
-// Creates a desk in the database of a connection, or opens the desk that the database has, if it
-// passes its audit. Returns the connection if both fail.
+// Creates a desk in the database of a connection, or adopts the desk that the database has. Returns
+// the connection if both fail.
 fn create_or_adopt_desk<S: Alter + Drop>(
     alloc: Global,
     conn: Connection<S>,
@@ -95,8 +97,8 @@ fn create_or_adopt_desk<S: Alter + Drop>(
     }
 }
 
-/// Creates or opens the desk in files. Returns `None` if the files cannot be opened, or the desk
-/// can be neither created nor adopted.
+/// Creates a desk in these files or adopts the desk that they have. Returns `None` if the files
+/// cannot be opened, or the desk can be neither created nor adopted.
 pub fn open_desk_in_files(
     alloc: Global,
     files: Files<Fuse<Memory>>,
@@ -111,8 +113,8 @@ pub fn open_desk_in_files(
     create_or_adopt_desk(alloc, conn).ok()
 }
 
-/// Runs a batch on the desk of a connection, as far as possible, and records its observation in
-/// `seen`.
+/// Executes a batch on the desk of a connection, as far as possible, records the observation in
+/// `seen`, and returns the connection.
 pub fn run_batch_on_connection<S: Alter + Drop>(
     alloc: Global,
     mut conn: Connection<S>,
@@ -142,8 +144,8 @@ pub fn run_batch_on_connection<S: Alter + Drop>(
     }
 }
 
-// Opens these files, runs a batch on the desk in them, and closes them, as far as possible. Records
-// the observation in `seen`.
+// Opens these files, executes a batch on the desk in them, and closes them, as far as possible.
+// Records the observation in `seen`, and returns the files.
 fn run_batch_in_files(
     alloc: Global,
     files: Files<Fuse<Memory>>,
@@ -162,7 +164,7 @@ fn run_batch_in_files(
     }
 }
 
-// Returns a file with these bytes, which accepts the given number of calls and fails at each later
+// Returns a file in memory with these bytes, which accepts `calls` calls and fails at each later
 // call.
 fn failing_file_with_bytes(alloc: Global, bytes: &[u8], calls: u64) -> Result<Fuse<Memory>, Fail> {
     let mut file = Memory::new(alloc);
@@ -172,8 +174,8 @@ fn failing_file_with_bytes(alloc: Global, bytes: &[u8], calls: u64) -> Result<Fu
     Ok(Fuse::new(file, calls))
 }
 
-/// Returns the two files with these bytes. Each accepts its number of calls and fails at each later
-/// call.
+/// Returns the two files of a desk in memory, with the bytes `held`. The log accepts `log_calls`
+/// calls, the database file `db_calls`; each fails at each later call.
 pub fn failing_files_with_bytes(
     alloc: Global,
     held: &Held,
@@ -185,8 +187,8 @@ pub fn failing_files_with_bytes(
     Ok(Files { log, db })
 }
 
-// Appends the bytes that a file has after the restart. Returns true if the file had failed, or
-// would fail at its next call.
+// Appends to `bytes` the bytes that a file has after the restart: without those that were not
+// synced if `loses` is true. Returns true if the file had failed, or would fail at its next call.
 fn append_bytes_after_crash(
     file: &mut Fuse<Memory>,
     loses: bool,
@@ -200,7 +202,7 @@ fn append_bytes_after_crash(
     Ok(was_stopped)
 }
 
-// Returns the bytes of the files after the restart, and true if one of them had failed.
+// Returns the bytes of the files after the restart, and true if one of the files had failed.
 fn files_after_crash(
     alloc: Global,
     files: Files<Fuse<Memory>>,
@@ -213,8 +215,8 @@ fn files_after_crash(
     Ok((left, is_log || is_db))
 }
 
-/// A batch that was run on the desk in files: its observation, the files after it, and whether the
-/// machine crashed.
+/// A batch that was executed on the desk in files: its observation, the files after it, and true if
+/// the machine crashed.
 #[derive(Drop)]
 pub struct Sent {
     pub seen: Seen,
@@ -222,7 +224,7 @@ pub struct Sent {
     pub was_stopped: bool,
 }
 
-/// Runs a batch on the desk in these files until the machine crashes.
+/// Executes a batch on the desk in these files until the machine crashes, if it does.
 pub fn run_batch_until_crash(
     alloc: Global,
     held: &Held,
@@ -244,7 +246,7 @@ pub fn run_batch_until_crash(
     })
 }
 
-/// Returns the files of a desk after the batch `SET`.
+/// Returns the files of a new desk after the batch `SET`.
 pub fn files_with_reference_data(alloc: Global) -> Result<Held, Fail> {
     let Sent { held, .. } = run_batch_until_crash(
         alloc,
@@ -255,7 +257,8 @@ pub fn files_with_reference_data(alloc: Global) -> Result<Held, Fail> {
     Ok(held)
 }
 
-// Executes SQL statements on a database, and stores whether they succeed.
+// Executes SQL statements on a database, stores in `is_done` whether they succeed, and returns the
+// connection.
 fn execute_sql<S: Alter + Drop>(
     mut conn: Connection<S>,
     text: &str,
@@ -265,8 +268,8 @@ fn execute_sql<S: Alter + Drop>(
     conn
 }
 
-// Opens these files, executes SQL statements on the database in them, and closes them. Stores
-// whether the statements succeed.
+// Opens these files, executes SQL statements on the database in them, and closes them. Stores in
+// `is_done` whether the statements succeed, and returns the files.
 fn execute_sql_in_files(
     alloc: Global,
     files: Files<Fuse<Memory>>,
@@ -285,7 +288,8 @@ fn execute_sql_in_files(
     }
 }
 
-/// Returns these files after another program executed SQL statements on them.
+/// Returns these files after SQL statements of another program were executed on them. Fails if the
+/// statements fail.
 pub fn files_after_sql(alloc: Global, held: &Held, text: &str) -> Result<Held, Fail> {
     let mut is_done = false;
     let files = failing_files_with_bytes(alloc, held, u64::MAX, u64::MAX)?;

@@ -10,7 +10,7 @@ use sqlite::Options;
 use std::alloc::Global;
 use std::test::Fail;
 
-// The batch that sets a desk up, and two purchases and a sale of an account.
+// A batch that sets up a desk, with two purchases and a sale of an account.
 const BATCH: &[u8] = b"batch,S\n\
     broker,1,Bo\n\
     customer,10,1,T10,Lee,Ann\n\
@@ -28,7 +28,7 @@ const BATCH: &[u8] = b"batch,S\n\
     result,3,13.00\n\
     end,14\n";
 
-// The statement of the month.
+// The statement of account 100 for March 2024 after the batch.
 const WANTED: &[u8] = b"Statement of account 100\n\
     Main\n\
     From 2024-03-01 to 2024-03-31\n\
@@ -41,8 +41,8 @@ const WANTED: &[u8] = b"Statement of account 100\n\
     Holdings                  1500.00\n\
     Cash rows 3, lots 1\n";
 
-// Writes the statement of the month over a disk that accepts the given number of calls, and returns
-// its result, or `None` if the desk cannot be opened.
+// Writes the statement of March 2024 to `text`, over a database file that accepts `calls` calls and
+// fails at each later call. Returns the result, or `None` if the desk cannot be opened.
 fn write_statement_over_failing_disk(
     alloc: Global,
     held: &Held,
@@ -62,13 +62,15 @@ fn write_statement_over_failing_disk(
     Ok(Some(write_statement(alloc, &mut desk, account, from, to, text)))
 }
 
-// Returns true if a text consists of whole first lines of the statement, without the last one.
+// Returns true if a text consists of whole first lines of the statement, perhaps none, without the
+// last one.
 fn is_proper_prefix_of_statement(text: &[u8]) -> bool {
     let is_whole = text.is_empty() || text.ends_with(b"\n");
     is_whole && text.len() < WANTED.len() && WANTED.starts_with(text)
 }
 
-// Checks, for a disk that fails at each of its calls, that only whole first lines are written.
+// Checks, for a database file that fails at each of its calls, that the statement fails with
+// `Store` after whole first lines, or is complete.
 #[test]
 fn statements_over_a_failing_disk(rt: HostRuntime) -> Result<(), Fail> {
     let alloc = rt.alloc();

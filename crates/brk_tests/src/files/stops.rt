@@ -12,7 +12,7 @@ use crate::worked::{SET, SET_LINES, format_batch};
 use std::alloc::Global;
 use std::test::Fail;
 
-// A number of calls that no file receives in any run.
+// A number of calls that is greater than that of each file in each run.
 const MOST_CALLS: u64 = 10_000;
 
 // A batch without rows.
@@ -27,7 +27,8 @@ const FIRST: &str = "UPDATE DESK SET D_SCHEMA = 1; DROP TABLE SETTLE_RULE; DROP 
 // Converts a desk to schema 2.
 const SECOND: &str = "UPDATE DESK SET D_SCHEMA = 2; DROP TABLE SETTLE_RULE";
 
-// Crashes at a call of each file, with the bytes that were not synced lost or stored.
+// Crashes at a call of each file, with the bytes that were not synced lost or stored. The tests
+// replace the number of calls.
 const STOPS: [Stop; 4] = [
     Stop {
         name: "the log, losing",
@@ -55,7 +56,7 @@ const STOPS: [Stop; 4] = [
     },
 ];
 
-// Fails with the crash and `what` if `is_so` is false.
+// Fails with the name of the crash, its call and `what` if `is_so` is false.
 fn fail_unless(is_so: bool, stop: Stop, what: &str) -> Result<(), Fail> {
     if is_so {
         Ok(())
@@ -65,7 +66,7 @@ fn fail_unless(is_so: bool, stop: Stop, what: &str) -> Result<(), Fail> {
     }
 }
 
-// Returns all tables of a desk in memory after the batch `SET` and the given number of first rows
+// Returns all tables of a desk in memory, as text, after the batch `SET` and the first `rows` rows
 // of the batch, at most six.
 fn tables_after_rows(alloc: Global, rows: usize) -> Result<String, Fail> {
     let batch = format_batch(alloc, &ROWS[..rows.min(6)])?;
@@ -79,14 +80,15 @@ fn tables_after_rows(alloc: Global, rows: usize) -> Result<String, Fail> {
     Ok(after)
 }
 
-// Returns true if a batch had these lines, its desk passed the audit, and the tables after it are
-// these.
+// Returns true if a batch wrote exactly these lines, its desk passed the audit, and the tables
+// after it are these.
 fn has_lines_audit_and_tables(seen: &Seen, lines: &str, tables: &str) -> bool {
     seen.is_sound && seen.lines.as_slice() == lines.as_bytes() && seen.after.as_str() == tables
 }
 
-// Creates a desk until a crash, and then runs the batch `SET` on the desk that is opened or
-// created. Returns two flags: its tables are these, and there was a crash.
+// Creates a desk until a crash, and then executes the batch `SET` on the desk that is opened or
+// created from the files. Returns two flags: the lines, the audit and the tables are as wanted; and
+// there was a crash.
 fn set_up_desk_after_creation_crash(
     alloc: Global,
     stop: Stop,
@@ -100,15 +102,16 @@ fn set_up_desk_after_creation_crash(
     ))
 }
 
-// Creates a desk until a crash, and checks that it can then be set up. Returns true if there was a
-// crash.
+// Creates a desk until a crash, and checks that the batch `SET` then completes on the desk in the
+// files. Returns true if there was a crash.
 fn expect_creation_crash_recovered(alloc: Global, stop: Stop, tables: &str) -> Result<bool, Fail> {
     let (is_set, was_stopped) = set_up_desk_after_creation_crash(alloc, stop, tables)?;
     fail_unless(is_set, stop, "it is not set up")?;
     Ok(was_stopped)
 }
 
-// Checks that a desk can be created after a crash at each call of its creation.
+// Checks that a desk can be created and set up after a crash at each call of the log or the
+// database file during its creation.
 #[test]
 fn crashes_while_a_store_is_created(rt: HostRuntime) -> Result<(), Fail> {
     let tables = tables_after_rows(rt.alloc(), 0)?;
@@ -129,8 +132,9 @@ fn crashes_while_a_store_is_created(rt: HostRuntime) -> Result<(), Fail> {
     Ok(())
 }
 
-// Returns the number of rows of the batch that are committed after a crash: those with a written
-// line, or one more; `None` if the tables are neither.
+// Returns the number of rows of the batch that are committed after a crash: the number of the
+// written lines `told`, or one more, by the tables `found`. `tables` are the tables after each
+// number of rows. Returns `None` if `found` are the tables of neither number.
 fn committed_rows_after_crash(told: &[u8], found: &str, tables: &[String]) -> Option<usize> {
     let settled = told
         .split(|byte| *byte == b'\n')
@@ -145,7 +149,8 @@ fn committed_rows_after_crash(told: &[u8], found: &str, tables: &[String]) -> Op
     None
 }
 
-/// A batch until a crash, and its retry on the desk that is opened after the crash.
+/// The observations of a batch until a crash and of its retry on the desk that is opened after it,
+/// and true if there was a crash.
 #[derive(Drop)]
 struct Twice {
     first: Seen,
@@ -153,7 +158,8 @@ struct Twice {
     again: Seen,
 }
 
-// Runs the batch until a crash, and retries it on the desk that is opened after the crash.
+// Executes the batch until a crash, retries it on the desk that is opened after the crash, and
+// returns both observations.
 fn crash_and_retry_batch(
     alloc: Global,
     stop: Stop,
@@ -174,8 +180,8 @@ fn crash_and_retry_batch(
     })
 }
 
-// Checks that the lines until the crash are a prefix of the lines `whole` of the batch, and that
-// the retry has the lines `rest` and the tables `last`.
+// Checks that the lines until the crash are a prefix of the lines `whole` of the batch, that a run
+// without a crash is complete, and that the retry has the lines `rest` and the tables `last`.
 fn expect_lines_and_tables(
     stop: Stop,
     twice: &Twice,
@@ -199,7 +205,7 @@ fn expect_lines_and_tables(
 }
 
 // Checks that the tables after the crash contain the rows with a written line, or one row more, and
-// that the retry completes the batch.
+// that the retry completes the batch. `tables` are the tables after each number of rows.
 fn expect_retry_completes(
     alloc: Global,
     stop: Stop,
@@ -214,7 +220,7 @@ fn expect_retry_completes(
     expect_lines_and_tables(stop, twice, whole.as_str(), rest.as_str(), last)
 }
 
-// Runs the batch until a crash, retries it, and checks both. Returns true if there was a crash.
+// Executes the batch until a crash, retries it, and checks both. Returns true if there was a crash.
 fn expect_batch_crash_recovered(
     alloc: Global,
     stop: Stop,
@@ -227,7 +233,8 @@ fn expect_batch_crash_recovered(
     Ok(twice.was_stopped)
 }
 
-// Checks that a batch can be retried and completed after a crash at each of its calls.
+// Checks that a batch can be retried and completed after a crash at each call of the log or the
+// database file during the batch.
 #[test]
 fn crashes_while_a_batch_is_executed(rt: HostRuntime) -> Result<(), Fail> {
     let batch = format_batch(rt.alloc(), &ROWS)?;
@@ -257,15 +264,15 @@ fn crashes_while_a_batch_is_executed(rt: HostRuntime) -> Result<(), Fail> {
     Ok(())
 }
 
-// Runs three trades on a desk in files, and returns it.
+// Executes three trades on a desk in files. Returns the observation and the files after them.
 fn files_after_trades(alloc: Global) -> Result<Sent, Fail> {
     let batch = format_batch(alloc, &worked::ROWS[..6])?;
     let set = files_with_reference_data(alloc)?;
     run_batch_until_crash(alloc, &set, Stop::NEVER, batch.as_bytes())
 }
 
-// Returns the files of a desk of an older schema after three trades, and its tables after an
-// upgrade.
+// Returns the files of a desk that has three trades and that the SQL statements `change` convert to
+// an older schema, and the text of its tables in schema 3.
 fn files_of_older_schema(alloc: Global, change: &str) -> Result<(Held, String), Fail> {
     let Sent { seen, held, .. } = files_after_trades(alloc)?;
     let Seen { after, .. } = seen;
@@ -276,16 +283,18 @@ fn files_of_older_schema(alloc: Global, change: &str) -> Result<(Held, String), 
     Ok((held, after))
 }
 
-// The result of an upgrade until a crash and of its retry: whether it was not begun or complete
-// after the crash, whether it is complete after the retry, and whether there was a crash.
+// The result of an upgrade until a crash, and of its retry.
 #[derive(Clone, Copy)]
 struct MoveSeen {
+    // True if the upgrade was not begun or was complete after the crash.
     is_whole: bool,
+    // True if the upgrade is complete after the retry.
     is_done: bool,
     was_stopped: bool,
 }
 
-// Upgrades an older desk until a crash, and then again, and returns the result.
+// Upgrades an older desk until a crash, and then again, and returns the result of both. `tables`
+// are its tables in schema 3.
 fn crash_and_retry_upgrade(
     alloc: Global,
     stop: Stop,
@@ -317,8 +326,8 @@ fn expect_upgrade_crash_recovered(
     Ok(moved.was_stopped)
 }
 
-// Upgrades an older desk with a crash at each call of each file. Returns true if for each file a
-// run without a crash was reached.
+// Upgrades an older desk with a crash at each call of each file, and checks each recovery. Returns
+// true if a run without a crash was reached for each file.
 fn upgrade_with_crash_at_each_call(alloc: Global, change: &str) -> Result<bool, Fail> {
     let (start, tables) = files_of_older_schema(alloc, change)?;
     let mut is_always = false;
@@ -336,8 +345,8 @@ fn upgrade_with_crash_at_each_call(alloc: Global, change: &str) -> Result<bool, 
     Ok(!is_always)
 }
 
-// Checks that the upgrade from schema 1 is atomic if it crashes at any call of the log or the
-// database file, and that a retry completes it.
+// Checks that the upgrade from schema 1 is atomic if the machine crashes at any call of the log or
+// the database file, and that a retry completes it.
 #[test]
 fn crashes_while_schema_1_is_upgraded(rt: HostRuntime) -> Result<(), Fail> {
     let is_ended = upgrade_with_crash_at_each_call(rt.alloc(), FIRST)?;
@@ -345,8 +354,8 @@ fn crashes_while_schema_1_is_upgraded(rt: HostRuntime) -> Result<(), Fail> {
     Ok(())
 }
 
-// Checks that the upgrade from schema 2 is atomic if it crashes at any call of the log or the
-// database file, and that a retry completes it.
+// Checks that the upgrade from schema 2 is atomic if the machine crashes at any call of the log or
+// the database file, and that a retry completes it.
 #[test]
 fn crashes_while_schema_2_is_upgraded(rt: HostRuntime) -> Result<(), Fail> {
     let is_ended = upgrade_with_crash_at_each_call(rt.alloc(), SECOND)?;

@@ -24,7 +24,7 @@ const TABLES: &str = "DESK\n1,3,1709251200016\n\
     SETTLEMENT\nCASH_TRANSACTION\nCASH_MOVE\nSETTLE_RULE\n\
     KEPT WHERE K_BATCH <> 'SET'\nC,1,broker\x1f2\x1fCy,1709251200016\n";
 
-// Three requests, the position at which each ends, and their replies.
+// A stream of three requests, the positions at which they end, and their replies.
 #[derive(Drop)]
 struct Three {
     input: String,
@@ -32,7 +32,8 @@ struct Three {
     replies: [String; 3],
 }
 
-// Returns the text of three requests, and the position at which each ends.
+// Returns the text of three requests, a row, the same row again and a query, and the positions at
+// which they end. Fails only if memory runs out.
 fn three_requests_with_ends(alloc: Global) -> Result<(String, [usize; 3]), AllocError> {
     let mut input = format_post_request(alloc, "/rows/C/1", "[\"broker\",\"2\",\"Cy\"]")?;
     let one = input.len();
@@ -43,7 +44,8 @@ fn three_requests_with_ends(alloc: Global) -> Result<(String, [usize; 3]), Alloc
     Ok((input, ends))
 }
 
-// Returns the replies to the three requests on a desk that has executed none of them.
+// Returns the replies to the three requests on a desk that has executed none of them. Fails only if
+// memory runs out.
 fn replies_to_three_requests(alloc: Global) -> Result<[String; 3], AllocError> {
     let first = format_wanted_reply(alloc, Told::Open("200 OK", "{\"ok\":[\"1709251200016\"]}"))?;
     let second = format_wanted_reply(
@@ -54,7 +56,8 @@ fn replies_to_three_requests(alloc: Global) -> Result<[String; 3], AllocError> {
     Ok([first, second, third])
 }
 
-// Returns the three requests with their replies.
+// Returns the three requests with the positions at which they end and their replies. Fails only if
+// memory runs out.
 fn three_requests_and_replies(alloc: Global) -> Result<Three, AllocError> {
     let (input, ends) = three_requests_with_ends(alloc)?;
     let replies = replies_to_three_requests(alloc)?;
@@ -65,8 +68,8 @@ fn three_requests_and_replies(alloc: Global) -> Result<Three, AllocError> {
     })
 }
 
-// Returns the replies to the requests that end within the first `len` bytes, their number, and true
-// if a part of another request follows them.
+// Returns the replies to the requests that end within the first `len` bytes, the number of these
+// replies, and true if a part of another request follows them. Fails only if memory runs out.
 fn replies_within_length(
     alloc: Global,
     all: &Three,
@@ -85,7 +88,8 @@ fn replies_within_length(
     Ok((text, done, start < len))
 }
 
-// Checks the replies to a stream that is cut at each byte: a request that is cut gets 400.
+// Checks the replies to a stream that ends at each of its bytes: each whole request has its reply,
+// and a request that is cut has the reply 400.
 #[test]
 fn streams_cut_at_each_byte(rt: HostRuntime) -> Result<(), Fail> {
     let alloc = rt.alloc();
@@ -110,7 +114,8 @@ fn streams_cut_at_each_byte(rt: HostRuntime) -> Result<(), Fail> {
     Ok(())
 }
 
-// Returns the replies to all requests on a desk that has executed the first one, or none.
+// Returns the replies to all requests on a desk that has executed the first one before, if
+// `executed` is true, or none. Fails only if memory runs out.
 fn all_replies_of_retry(alloc: Global, all: &Three, executed: bool) -> Result<String, AllocError> {
     let first = if executed { 1 } else { 0 };
     let mut wanted = String::from_str(alloc, all.replies[first].as_str())?;
@@ -119,8 +124,8 @@ fn all_replies_of_retry(alloc: Global, all: &Three, executed: bool) -> Result<St
     Ok(wanted)
 }
 
-// Sends all requests to a desk that has executed the first one, or none. Checks the replies and all
-// tables.
+// Serves the whole stream on a desk that has executed the first request before, if `executed` is
+// true, or none. Checks the replies and all tables.
 fn expect_completed_stream(
     alloc: Global,
     mut desk: Desk<MemStore>,
@@ -136,8 +141,8 @@ fn expect_completed_stream(
     expect_all_tables(alloc, desk.into_store(), name, TABLES)
 }
 
-// Serves the requests with a reader that fails after `len` bytes. Checks the fault and the replies,
-// and that a retry completes: no request is executed that was not read whole.
+// Serves the stream with a reader that fails after `len` bytes. Checks the fault and the replies,
+// and that a retry completes: only requests that were read whole were executed.
 fn expect_stream_read_fault(
     alloc: Global,
     all: &Three,
@@ -163,7 +168,8 @@ fn expect_stream_read_fault(
     expect_completed_stream(alloc, desk, name.as_str(), all, done > 0)
 }
 
-// Checks a stream whose reader fails, or is interrupted, at each byte.
+// Checks, for each byte of a stream, the fault, the replies and the retry of a stream whose reader
+// fails or is interrupted there.
 #[test]
 fn stream_readers_failing_at_each_byte(rt: HostRuntime) -> Result<(), Fail> {
     let all = three_requests_and_replies(rt.alloc())?;
@@ -174,7 +180,7 @@ fn stream_readers_failing_at_each_byte(rt: HostRuntime) -> Result<(), Fail> {
     Ok(())
 }
 
-// Serves the requests with a writer that fails after `room` bytes. Checks the fault and the written
+// Serves the stream with a writer that fails after `room` bytes. Checks the fault and the written
 // bytes, and that a retry completes: a request is executed before its reply is written.
 fn expect_stream_write_fault(
     alloc: Global,
@@ -204,7 +210,8 @@ fn expect_stream_write_fault(
     expect_completed_stream(alloc, desk, name.as_str(), all, true)
 }
 
-// Checks a stream whose writer takes no byte, fails or is interrupted at each byte.
+// Checks, for each byte of the replies of a stream, the fault, the written bytes and the retry of a
+// stream whose writer fails, is interrupted or accepts no byte there.
 #[test]
 fn stream_writers_failing_at_each_byte(rt: HostRuntime) -> Result<(), Fail> {
     let all = three_requests_and_replies(rt.alloc())?;

@@ -10,8 +10,8 @@ use sqlite_disk::{Fuse, Memory};
 use std::alloc::Global;
 use std::test::Fail;
 
-// Returns a new desk over files in memory, or `None` if it cannot be created. The log accepts the
-// given number of calls and fails at each later call.
+// Returns a new desk over files in memory whose log accepts `calls` calls and fails at each later
+// call, or `None` if the desk cannot be created.
 fn open_desk_with_failing_log(alloc: Global, calls: u64) -> Option<Desk<FileStore<Fuse<Memory>>>> {
     let files = Files {
         log: Fuse::new(Memory::new(alloc), calls),
@@ -20,7 +20,8 @@ fn open_desk_with_failing_log(alloc: Global, calls: u64) -> Option<Desk<FileStor
     open_desk_in_files(alloc, files, Options::new(1))
 }
 
-// Checks, for a log that fails at each of its calls, that the reply is 503 and ends the stream.
+// Checks, for a log that fails at each of its calls, that the reply to a row is 503 and the last of
+// its stream.
 #[test]
 fn a_store_fault_is_the_last_reply(rt: HostRuntime) -> Result<(), Fail> {
     let alloc = rt.alloc();

@@ -9,9 +9,9 @@ use std::net::{Shutdown, TcpListener, TcpStream};
 use std::process::Abort;
 use std::test::Fail;
 
-// The bytes that each peer sends, in the order of their streams, and its wanted replies. A peer
-// without replies breaks its stream off: the first such peer within its second request, the other
-// one before the reply to its first.
+// The bytes that each peer sends, in the order of their streams, and the wanted replies. A peer
+// without replies (`None`) breaks its stream off: the first such peer within its second request,
+// the other one before the reply to its first request.
 const PEERS: [(&str, Option<&str>); 6] = [
     (
         "POST /rows/S/1 HTTP/1.1\r\nContent-Length: 19\r\n\r\n[\"broker\",\"1\",\"Bo\"]\
@@ -47,8 +47,8 @@ const PEERS: [(&str, Option<&str>); 6] = [
     ),
 ];
 
-// Connects a peer to the listener and sends its bytes. A peer that waits for replies ends its
-// writing side.
+// Connects a peer to the listener and sends its bytes. If `waits` is true, the peer then shuts down
+// its writing side, and waits for replies.
 fn connect_peer(
     rt: &HostRuntime,
     listener: &TcpListener,
@@ -63,8 +63,8 @@ fn connect_peer(
     Ok(peer)
 }
 
-// Connects all peers. Returns those that wait for replies, with the wanted replies; the others
-// break their streams off.
+// Connects all peers in order. Returns those that wait for replies, with the wanted replies; the
+// others break their streams off.
 fn connect_all_peers(
     rt: &HostRuntime,
     listener: &TcpListener,
@@ -79,7 +79,7 @@ fn connect_all_peers(
     Ok(waiting)
 }
 
-// Checks the replies that the peers receive.
+// Checks that each peer receives exactly the wanted replies.
 fn expect_peer_replies(
     rt: &impl Abort,
     alloc: Global,
@@ -92,8 +92,8 @@ fn expect_peer_replies(
     Ok(())
 }
 
-// Checks the replies of six streams, served in sequence on one desk, and that an accept that fails
-// ends serving with `Net`.
+// Checks the replies of six streams over sockets, served in sequence on one desk, and that a failed
+// accept ends the serving with `Net`.
 #[test]
 fn socket_streams_share_one_desk(rt: HostRuntime) -> Result<(), Fail> {
     let mut listener = TcpListener::bind(&rt, ("127.0.0.1", 0))?;

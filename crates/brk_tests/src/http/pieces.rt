@@ -1,19 +1,23 @@
-//! Tests of streams whose bytes arrive in large pieces, in pieces of seven, and one by one: line
-//! ends and bodies that are split, bytes behind a request, and the longest head.
+//! Tests of streams whose bytes arrive in pieces of 4,096, of seven and of one: line ends and
+//! bodies that are split, bytes after a request, and the longest head.
 
 use crate::http::streams::{Told, has_wanted_replies_in_all_pieces};
 use std::alloc::{AllocError, Global};
 use std::test::Fail;
 
+// The reply to a request that is too large.
 const LARGE: Told = Told::Last("413 Payload Too Large", "{\"error\":\"too large\"}");
 
+// The reply to a malformed request, which ends its stream.
 const CLOSED: Told = Told::Last("400 Bad Request", "{\"error\":\"bad request\"}");
 
+// The reply to a query for submitted trades on a desk without trades.
 const EMPTY: Told = Told::Open("200 OK", "{\"view\":[]}");
 
+// The reply to this query in a request of version 1.0, which ends its stream.
 const SAID: Told = Told::Last("200 OK", "{\"view\":[]}");
 
-// A stream and its replies. Bytes after a reply that ends a stream are not read.
+// Streams, each with its replies. Bytes after a reply that ends its stream are not read.
 const STREAMS: [(&str, &[Told]); 7] = [
     (
         "POST /rows/H/1 HTTP/1.1\r\nContent-Length: 19\r\n\r\n[\"broker\",\"2\",\"Cy\"]\
@@ -48,7 +52,8 @@ const STREAMS: [(&str, &[Told]); 7] = [
     ),
 ];
 
-// Checks that the replies to a stream do not depend on the sizes of its pieces.
+// Checks that the replies to a stream do not depend on the size of the pieces in which its bytes
+// arrive.
 #[test]
 fn streams_in_pieces_get_the_same_replies(rt: HostRuntime) -> Result<(), Fail> {
     for (input, wanted) in STREAMS {
@@ -60,7 +65,8 @@ fn streams_in_pieces_get_the_same_replies(rt: HostRuntime) -> Result<(), Fail> {
     Ok(())
 }
 
-// Returns a request whose head has `len` bytes, with one long field.
+// Returns a request whose head has `len` bytes, because one field is long. Fails only if memory
+// runs out.
 fn request_with_head_of_length(alloc: Global, len: usize) -> Result<String, AllocError> {
     let front = "POST /ask/submitted HTTP/1.1\r\nContent-Length: 2\r\nX: ";
     let mut head = String::from_str(alloc, front)?;
@@ -71,8 +77,8 @@ fn request_with_head_of_length(alloc: Global, len: usize) -> Result<String, Allo
     Ok(head)
 }
 
-// Checks that a head of 16,384 bytes is accepted and a longer one is refused, for every size of
-// pieces.
+// Checks that a head of 16,384 bytes is accepted and a longer one is refused with 413, for each
+// size of pieces.
 #[test]
 fn a_head_has_at_most_16_384_bytes(rt: HostRuntime) -> Result<(), Fail> {
     for (len, wanted) in [(16_384, EMPTY), (16_385, LARGE)] {

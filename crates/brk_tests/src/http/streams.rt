@@ -1,4 +1,4 @@
-//! Streams that are served by a desk, and their wanted replies.
+//! Streams that tests serve on a desk, and their wanted replies.
 
 use crate::desks::{Still, desk_with_reference_data};
 use brk_http::{ServeFault, serve_stream};
@@ -17,6 +17,7 @@ pub struct Pieces<'a> {
 }
 
 impl Read for Pieces<'_> {
+    /// Returns the next bytes, at most `size`.
     fn read(&mut self, buf: &mut [u8]) -> io::Result<usize> {
         let count = self.size.min(buf.len()).min(self.bytes.len());
         let (front, rest) = self.bytes.split_at(count);
@@ -26,7 +27,7 @@ impl Read for Pieces<'_> {
     }
 }
 
-/// A wanted reply, with its status and its body.
+/// A wanted reply: the digits and the phrase of its status, and its body.
 #[derive(Clone, Copy)]
 pub enum Told {
     /// The stream continues after the reply.
@@ -35,8 +36,8 @@ pub enum Told {
     Last(&'static str, &'static str),
 }
 
-/// Serves a stream whose bytes arrive in pieces of `size` bytes. Returns the written bytes and the
-/// result.
+/// Serves a stream on a desk, whose bytes arrive in pieces of `size` bytes. Returns the bytes that
+/// it wrote and its result.
 pub fn serve_stream_in_pieces<S: Alter>(
     alloc: Global,
     desk: &mut Desk<S>,
@@ -54,13 +55,14 @@ pub fn serve_stream_in_pieces<S: Alter>(
     (out, ended)
 }
 
-/// Returns the text of a POST request with this target and body.
+/// Returns the text of a POST request with this target and this body. Fails only if memory runs
+/// out.
 pub fn format_post_request(alloc: Global, target: &str, body: &str) -> Result<String, AllocError> {
     let len = body.len();
     format!(in alloc; "POST {target} HTTP/1.1\r\nHost: desk\r\nContent-Length: {len}\r\n\r\n{body}")
 }
 
-/// Returns the bytes of a wanted reply.
+/// Returns the text of a wanted reply. Fails only if memory runs out.
 pub fn format_wanted_reply(alloc: Global, wanted: Told) -> Result<String, AllocError> {
     let (status, body, close) = match wanted {
         Told::Open(status, body) => (status, body, ""),
@@ -77,7 +79,8 @@ pub fn format_wanted_reply(alloc: Global, wanted: Told) -> Result<String, AllocE
     )
 }
 
-// Returns true if a stream wrote exactly these replies and completed.
+// Returns true if a stream wrote exactly the wanted replies and completed with their number. Fails
+// only if memory runs out.
 fn has_wanted_replies(
     alloc: Global,
     out: &[u8],
@@ -91,8 +94,8 @@ fn has_wanted_replies(
     Ok(out == bytes.as_bytes() && ended == Ok(wanted.len() as u64))
 }
 
-/// Serves bytes in pieces of 4,096, of seven and of one, each time on a new desk after the batch
-/// `SET`. Returns true if the replies are always as wanted.
+/// Serves a stream in pieces of 4,096, of seven and of one byte, each time on a new desk after the
+/// batch `SET`. Returns true if each time the replies are the wanted ones.
 pub fn has_wanted_replies_in_all_pieces(
     alloc: Global,
     bytes: &[u8],

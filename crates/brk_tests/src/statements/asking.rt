@@ -3,7 +3,7 @@
 use brk_money::{Day, Id, parse_day};
 use std::test::Fail;
 
-/// An account and the days of its statement, both included.
+/// An account and the first and the last day of its statement, both included.
 #[derive(Clone, Copy)]
 pub struct Asked {
     pub account: Id,
@@ -11,8 +11,8 @@ pub struct Asked {
     pub to: Day,
 }
 
-/// Returns the account and the days of a statement from the account's number and the texts of the
-/// days.
+/// Returns the account and the days of a statement from the number of the account and the texts of
+/// the days. Fails if one of them is malformed.
 pub fn account_and_days(account: u64, from: &str, to: &str) -> Result<Asked, Fail> {
     let account = Id::new(account).ok_or("an account")?;
     let from = parse_day(from.as_bytes()).ok_or("a first day")?;

@@ -4,7 +4,7 @@ use brk_money::Wide;
 use brk_report_lines::amount_line;
 use std::test::Fail;
 
-// A word, an amount in cents, and the line of both.
+// Words and amounts in cents, each with the line of both.
 const AMOUNTS: [(&str, i128, &str); 6] = [
     ("Opening", 0, "Opening                      0.00\n"),
     ("Closing", -1, "Closing                     -0.01\n"),
@@ -30,7 +30,7 @@ const AMOUNTS: [(&str, i128, &str); 6] = [
     ),
 ];
 
-// Checks that an amount wider than its column is printed whole.
+// Checks the lines of amounts, and that an amount wider than its column is printed whole.
 #[test]
 fn wide_amounts_are_printed_whole(rt: HostRuntime) -> Result<(), Fail> {
     for (word, cents, wanted) in AMOUNTS {

@@ -34,28 +34,31 @@ const TRADES: Step = Step {
         10,ok,1709251200025,4,8442.40\nend,10,0,0\n",
 };
 
-// The error that ended a walk: a fault, or the trade at whose row the closure stopped.
+// The error that ended a walk.
 #[derive(Debug, PartialEq, Eq, Clone, Copy)]
 enum Ended {
+    // The desk failed.
     Fault(Fault),
+    // The closure stopped at the row of this trade; 0 for the row of a movement.
     At(u64),
 }
 
 impl From<Fault> for Ended {
+    // Returns the error that the desk failed.
     fn from(fault: Fault) -> Ended {
         Ended::Fault(fault)
     }
 }
 
-// The rows that a walk passed, and the number of rows that it may still pass.
+// The rows that a walk passed, as text, and the number of rows that it may still pass.
 #[derive(Drop)]
 struct Seen {
     rows: String,
     left: u64,
 }
 
-// Counts a row of a trade, or stops the walk there if no more rows may be passed. A movement has
-// trade 0.
+// Counts a row of the trade `trade` (0 for a movement), or fails with `At` if no more rows may be
+// passed, which stops the walk.
 fn count_row(seen: &mut Seen, trade: u64) -> Result<(), Ended> {
     if seen.left == 0 {
         return Err(Ended::At(trade));
@@ -64,7 +67,8 @@ fn count_row(seen: &mut Seen, trade: u64) -> Result<(), Ended> {
     Ok(())
 }
 
-// Counts and records a cash row.
+// Counts a cash row and appends its number, trade, stamp, amount and text to the rows. Fails with
+// `At` if no more rows may be passed.
 fn record_cash_row(seen: &mut Seen, row: &MoveRow) -> Result<(), Ended> {
     let trade = row.trade.map_or(0, Id::get);
     count_row(seen, trade)?;
@@ -75,7 +79,8 @@ fn record_cash_row(seen: &mut Seen, row: &MoveRow) -> Result<(), Ended> {
     }
 }
 
-// Counts and records a lot.
+// Counts a lot and appends its trade, stamp, quantity, symbol and price to the rows. Fails with
+// `At` if no more rows may be passed.
 fn record_lot(seen: &mut Seen, symbol: &str, lot: &Lot) -> Result<(), Ended> {
     count_row(seen, lot.trade.get())?;
     let (trade, stamp, price) = (lot.trade.get(), lot.stamp.get(), lot.price.get());
@@ -85,8 +90,8 @@ fn record_lot(seen: &mut Seen, symbol: &str, lot: &Lot) -> Result<(), Ended> {
     }
 }
 
-// The first and the last stamp, the number of rows that a walk may pass, the rows that it passes,
-// and its result.
+// Walks over cash rows: the first and the last stamp, the number of rows that the walk may pass,
+// the rows that it passes, and its result.
 const CASH: [(i64, i64, u64, &str, Result<(), Ended>); 10] = [
     (
         0,
@@ -148,7 +153,8 @@ const CASH: [(i64, i64, u64, &str, Result<(), Ended>); 10] = [
     ),
 ];
 
-// Checks the cash rows that a walk passes, by stamp, and its result.
+// Checks the cash rows that walks over spans of stamps pass, sorted by stamp, and the results of
+// the walks.
 #[test]
 fn walks_cash_rows_in_order_of_stamps(rt: HostRuntime) -> Result<(), Fail> {
     let alloc = rt.alloc();
@@ -172,7 +178,8 @@ fn walks_cash_rows_in_order_of_stamps(rt: HostRuntime) -> Result<(), Fail> {
     Ok(())
 }
 
-// An account, the number of lots that a walk may pass, the lots that it passes, and its result.
+// Walks over lots: the account, the number of lots that the walk may pass, the lots that it passes,
+// and its result.
 const LOTS: [(u64, u64, &str, Result<(), Ended>); 5] = [
     (
         100,
@@ -192,7 +199,7 @@ const LOTS: [(u64, u64, &str, Result<(), Ended>); 5] = [
     (101, 9, "", Ok(())),
 ];
 
-// Checks the lots that a walk passes, by symbol, and its result.
+// Checks the lots that walks over accounts pass, sorted by symbol, and the results of the walks.
 #[test]
 fn walks_lots_in_order_of_symbols(rt: HostRuntime) -> Result<(), Fail> {
     let alloc = rt.alloc();

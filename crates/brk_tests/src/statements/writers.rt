@@ -31,7 +31,7 @@ const BOUGHT: Step = Step {
         end,6,0,0\n",
 };
 
-// The statement of their month.
+// The statement of account 100 for March 2024 after these trades.
 const WANTED: &str = "Statement of account 100\n\
     Main\n\
     From 2024-03-01 to 2024-03-31\n\
@@ -44,8 +44,8 @@ const WANTED: &str = "Statement of account 100\n\
     Holdings                  1500.00\n\
     Cash rows 3, lots 1\n";
 
-// Returns how a writer with room for `room` bytes fails: it takes no byte (`None`), fails, or is
-// interrupted.
+// Returns the error of a writer with room for `room` bytes: none, so that it accepts no byte,
+// another error, or an interruption, in turn.
 fn write_error_for_room(room: usize) -> Option<ErrorKind> {
     match room % 3 {
         0 => None,
@@ -54,8 +54,8 @@ fn write_error_for_room(room: usize) -> Option<ErrorKind> {
     }
 }
 
-// Writes the statement with a writer that has room for `room` bytes. Checks the result and the
-// written bytes.
+// Writes the statement with a writer that has room for `room` bytes. Checks that it fails with
+// `Write`, or completes if there is room for all, and the written bytes.
 fn expect_statement_write_fault(
     rt: &impl Abort,
     alloc: Global,
@@ -89,7 +89,8 @@ fn expect_statement_write_fault(
     Ok(())
 }
 
-// Checks a statement whose writer takes no byte, fails or is interrupted at each byte.
+// Checks, for each byte of a statement, the result and the written bytes of a statement whose
+// writer fails, is interrupted or accepts no byte there.
 #[test]
 fn statement_writers_failing_at_each_byte(rt: HostRuntime) -> Result<(), Fail> {
     let alloc = rt.alloc();
