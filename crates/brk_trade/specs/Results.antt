@@ -201,7 +201,7 @@ pub record IsRefusalOfExistingTrade (found : ResultPlanFacts) (price : ℕ) (giv
   -- that the trade would close.
   pub late : (ls : List Lot) (stamp : ℕ) → AreLotsBeforeTrade given found ls
       → first_refusal
-        (result_checks found price (closing_values_of_deal (deal_of_trade_row found.trade price stamp) (shares_of_lots ls)) (stamp_after last now))
+      (result_checks found price (closing_values_of_deal (deal_of_trade_row found.trade price stamp) (shares_of_lots ls)) (stamp_after last now))
       ≡ Some refusal
 
 -- `refusal` is the refusal of a result: `NoTrade` if there is no such trade, and otherwise the
