@@ -5,31 +5,16 @@
 -- one of these two bases; `acts old now call outcome new`, a call turns the desk `old` into `new`;
 -- `form`, the parser of a row; `step`, the model's step for a row; `gives clock moment later`, a
 -- reading of the clock.
-use Rattle.std.specs.Prelude.{◌≡◌, ◌⊎◌, ℕ, Bool, true, false, Result, Ok, Err, string_bytes}
+use Rattle.std.specs.Prelude.{◌≡◌, ◌⊎◌, ℕ, Bool, true, false, Ok, Err}
 use Rattle.brk_money.specs.Spelling.{Text}
 use Rattle.brk_money.specs.declared.fault.Fault.{Fault}
 use Rattle.brk_money.specs.declared.fault.Fault.TheVariants.{Memory}
 use Rattle.brk_model.specs.Answers.{RowStep}
-use Rattle.brk_model.specs.Commands.{Again, Answer, Done, Refused, Reply}
+use Rattle.brk_model.specs.Commands.{Answer, Refused}
 use Rattle.brk_model.specs.Forms.{ReadResult}
 use Rattle.brk_model.specs.Records.{Key}
-use Rattle.brk_model.specs.Run.{Did, Failed, Outcome}
+use Rattle.brk_model.specs.Run.{Did, Failed}
 use Rattle.brk_batch_engine.specs.Script.{RowCallRelation}
-use Rattle.brk_batch_engine.specs.declared.answer.RowAnswer.{RowAnswer}
-use Rattle.brk_batch_engine.specs.declared.answer.RowAnswer.TheVariants as given
-
--- The model's answer that the answer to a row represents; `reply` maps a reply to the model's
--- reply.
-abbrev pub answer_in_model : {R : Type 0} → (R → Reply) → RowAnswer R → Answer
-answer_in_model reply (given.Done told) = Done (reply told)
-answer_in_model reply (given.Again line) = Again (string_bytes line)
-answer_in_model reply (given.Refused refusal) = Refused refusal
-
--- The model's outcome that the result of a row's call represents: `Did` with its answer, or
--- `Failed` with its fault; `reply` maps a reply to the model's reply.
-abbrev pub outcome_in_model : {R : Type 0} → (R → Reply) → Result (RowAnswer R) Fault → Outcome
-outcome_in_model reply (Ok answer) = Did (answer_in_model reply answer)
-outcome_in_model reply (Err fault) = Failed fault
 
 -- The call with `command` under `key` at the clock reading `now` refines `step`: for every base
 -- that the desk represented before, `step` from this base has this answer, and the desk represents

@@ -2,27 +2,17 @@ ghost use Rattle.std.specs.Prelude.{◌≡◌, ◌≤◌, Err, IfErr, IfOk, OnEr
 ghost use Rattle.csv.specs.Records.{fields_of};
 ghost use Rattle.brk_money.specs.declared.fault.Fault.TheVariants.{Memory};
 ghost use Rattle.brk_model.specs.Run.{IsCallFault};
+ghost use Rattle.brk_ref.specs.Answers.{abstract_answer};
 ghost use Rattle.brk_ref.specs.Records.{abstract_key};
-ghost use Rattle.brk_batch_engine.specs.Answers.{RowHasAnswer, RowFailsWith, PreservesRepresentedBases, RepresentsDurably, answer_in_model};
+ghost use Rattle.brk_batch_engine.specs.Answers.{RowHasAnswer, RowFailsWith, PreservesRepresentedBases, RepresentsDurably};
 
 use crate::records::record_fields;
 use crate::rows::Rows;
 use brk_io::Clock;
-use brk_money::{Fault, Refusal};
-use brk_ref::{BatchName, Key, RowNumber};
+use brk_money::Fault;
+use brk_ref::{Answer, BatchName, Key, RowNumber};
 use csv::ByteRecord;
 use std::alloc::Global;
-
-/// The answer to a row of a batch.
-#[derive(Debug, Drop)]
-pub enum RowAnswer<R> {
-    /// The row was accepted and committed, with this reply.
-    Done(R),
-    /// The row was accepted before, with this stored reply.
-    Again(String),
-    /// The row was refused with this refusal.
-    Refused(Refusal),
-}
 
 // Returns the key of row `n` of a batch: the name of the batch and `n`. Fails with `Memory` only.
 fn row_key(batch: &BatchName, n: u64) -> Result<Key, Fault>
@@ -50,13 +40,13 @@ pub fn execute_row<C: Clock, D: Rows>(
     batch: &BatchName,
     n: u64,
     row: &ByteRecord,
-) -> Result<RowAnswer<D::Reply>, Fault>
+) -> Result<Answer<D::Reply>, Fault>
     requires first { 1 ≤ n }
     requires last { n ≤ 67108864 }
     ensures disk_was_clean { D.honest desk.new → D.honest desk.old }
     ensures ok { IfOk result (λ answer. RowHasAnswer D.honest (RepresentsDurably D.stands D.leaves) D.acts D.step C.gives
         (D.form (fields_of row.now)) batch.now n
-        (answer_in_model D.told answer) desk.old desk.new clock.old clock.new) }
+        (abstract_answer D.told answer) desk.old desk.new clock.old clock.new) }
     ensures represented_at_error { OnErr result (PreservesRepresentedBases D.honest D.stands desk.old desk.new) }
     ensures failed { IfErr result (λ fault. RowFailsWith D.honest D.stands D.leaves D.acts D.step C.gives (D.form (fields_of row.now)) batch.now n fault
         desk.old desk.new clock.old clock.new) }
@@ -71,6 +61,6 @@ pub fn execute_row<C: Clock, D: Rows>(
             let now = clock.now();
             D::call(desk, alloc, now, &command, &key)
         }
-        Err(refusal) => Ok(RowAnswer::Refused(refusal)),
+        Err(refusal) => Ok(Answer::Refused(refusal)),
     }
 }

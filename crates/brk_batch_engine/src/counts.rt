@@ -1,9 +1,9 @@
 ghost use Rattle.std.specs.Prelude.{◌≡◌, ◌+◌, ◌<◌, ◌^◌};
 ghost use Rattle.brk_model.specs.Commands.{Reply};
-ghost use Rattle.brk_batch_engine.specs.Answers.{answer_in_model};
+ghost use Rattle.brk_ref.specs.Answers.{abstract_answer};
 ghost use Rattle.brk_batch_engine.specs.Counts.{counts_with_answer};
 
-use crate::answer::RowAnswer;
+use brk_ref::Answer;
 
 /// The number of answered rows of a batch, by kind of answer.
 #[derive(Clone, Copy, Debug, PartialEq, Eq)]
@@ -26,17 +26,17 @@ impl Counts {
 
     // Returns the counts with 1 added to the number of accepted, repeated or refused rows, by the
     // kind of the answer.
-    pub(crate) fn with_answer<R>(self, answer: &RowAnswer<R>) -> Counts
+    pub(crate) fn with_answer<R>(self, answer: &Answer<R>) -> Counts
         requires ok { self.ok + 1 < 2 ^ 64 }
         requires again { self.again + 1 < 2 ^ 64 }
         requires no { self.no + 1 < 2 ^ 64 }
-        ensures { (reply : R → Reply) → result ≡ counts_with_answer self (answer_in_model reply answer.now) }
+        ensures { (reply : R → Reply) → result ≡ counts_with_answer self (abstract_answer reply answer.now) }
     {
         let mut counts = self;
         match answer {
-            RowAnswer::Done(_) => counts.ok += 1,
-            RowAnswer::Again(_) => counts.again += 1,
-            RowAnswer::Refused(_) => counts.no += 1,
+            Answer::Done(_) => counts.ok += 1,
+            Answer::Again(_) => counts.again += 1,
+            Answer::Refused(_) => counts.no += 1,
         }
         counts
     }

@@ -6,13 +6,13 @@ ghost use Rattle.brk_money.specs.declared.refusal.Refusal.TheVariants.{BadText};
 ghost use Rattle.brk_model.specs.Commands.{Refused};
 ghost use Rattle.brk_model.specs.Input.{IsBatchName, correct_end_record, batch_header, input_text};
 ghost use Rattle.brk_model.specs.Lines.{answer_line};
-ghost use Rattle.brk_batch_engine.specs.Answers.{answer_in_model};
+ghost use Rattle.brk_ref.specs.Answers.{abstract_answer};
 ghost use Rattle.brk_batch_engine.specs.Batch.{BatchPost, BatchRefinesModel, IsBatchCrashSafe, ChangesOnlyByRowCalls};
 ghost use Rattle.brk_batch_engine.specs.Counts.{end_line_with_counts};
 ghost use Rattle.brk_batch_engine.specs.Parts.{CutRowEndsBatchWith, EndRecordFailsWith, HeaderReadFailsWith, LineWriteFailsWith};
 ghost use Rattle.brk_batch_engine.specs.Reading.{IsBatchReader, ReaderIsAfterRecords};
 
-use crate::answer::{RowAnswer, execute_row};
+use crate::answer::execute_row;
 use crate::counts::Counts;
 use crate::lines::{end_line_of_counts, row_answer_line};
 use crate::records::{
@@ -22,7 +22,7 @@ use crate::records::{
 use crate::rows::Rows;
 use brk_io::{BatchFault, Clock, FaultKind, write_all_bytes};
 use brk_money::{Fault, Refusal};
-use brk_ref::BatchName;
+use brk_ref::{Answer, BatchName};
 use csv::{ByteRecord, Reader};
 use std::alloc::Global;
 use std::io::{Read, Take, Write};
@@ -35,11 +35,11 @@ fn write_answer_line<W: Write, D: Rows>(
     alloc: Global,
     writer: &mut W,
     n: u64,
-    answer: &RowAnswer<D::Reply>,
+    answer: &Answer<D::Reply>,
 ) -> Result<(), FaultKind>
-    ensures ok { OnOk result (Appends (W.contents writer.old) (W.contents writer.new) (answer_line n (answer_in_model D.told answer.now))) }
+    ensures ok { OnOk result (Appends (W.contents writer.old) (W.contents writer.new) (answer_line n (abstract_answer D.told answer.now))) }
     ensures err { IfErr result (λ kind. LineWriteFailsWith (W.contents writer.old) (W.contents writer.new)
-        (answer_line n (answer_in_model D.told answer.now)) kind) }
+        (answer_line n (abstract_answer D.told answer.now)) kind) }
 {
     let Ok(text) = row_answer_line::<D>(alloc, n, answer) else {
         return Err(FaultKind::Desk(Fault::Memory));
@@ -55,7 +55,7 @@ fn write_answer_line<W: Write, D: Rows>(
 fn write_refusal_of_cut_row<W: Write, D: Rows>(alloc: Global, writer: &mut W, n: u64) -> FaultKind
     ensures { CutRowEndsBatchWith (W.contents writer.old) (W.contents writer.new) (answer_line n (Refused BadText)) result }
 {
-    match write_answer_line::<W, D>(alloc, writer, n, &RowAnswer::Refused(Refusal::BadText)) {
+    match write_answer_line::<W, D>(alloc, writer, n, &Answer::Refused(Refusal::BadText)) {
         Ok(()) => FaultKind::NoEnd,
         Err(kind) => kind,
     }

@@ -11,7 +11,6 @@ mod lines;
 mod records;
 mod rows;
 
-pub use answer::RowAnswer;
 pub use brk_io::{BatchFault, Clock, FaultKind};
 pub use counts::Counts;
 pub use engine::execute_batch_on_desk;

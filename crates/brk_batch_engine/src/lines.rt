@@ -1,27 +1,27 @@
 ghost use Rattle.std.specs.Prelude.{◌≡◌, IfOk, string_bytes};
 ghost use Rattle.brk_model.specs.Commands.{Reply};
 ghost use Rattle.brk_model.specs.Lines.{answer_line, answer_text};
-ghost use Rattle.brk_batch_engine.specs.Answers.{answer_in_model};
+ghost use Rattle.brk_ref.specs.Answers.{abstract_answer};
 ghost use Rattle.brk_batch_engine.specs.Counts.{end_line_with_counts};
 
-use crate::answer::RowAnswer;
 use crate::counts::Counts;
 use crate::rows::Rows;
+use brk_ref::Answer;
 use itoa::Buffer;
 use std::alloc::{AllocError, Global};
 
 // Returns the text of an answer: `ok`, `again` or `no`, a comma, and the fields of the reply, of
 // the stored reply or of the refusal. Fails only if memory runs out.
-fn answer_text<D: Rows>(alloc: Global, answer: &RowAnswer<D::Reply>) -> Result<String, AllocError>
-    ensures { IfOk result (λ text. string_bytes text ≡ answer_text (answer_in_model D.told answer.now)) }
+fn answer_text<D: Rows>(alloc: Global, answer: &Answer<D::Reply>) -> Result<String, AllocError>
+    ensures { IfOk result (λ text. string_bytes text ≡ answer_text (abstract_answer D.told answer.now)) }
 {
     match answer {
-        RowAnswer::Done(reply) => {
+        Answer::Done(reply) => {
             let fields = D::reply_line(alloc, reply)?;
             format!(in alloc; "ok,{fields}")
         }
-        RowAnswer::Again(line) => format!(in alloc; "again,{line}"),
-        RowAnswer::Refused(refusal) => format!(in alloc; "no,{refusal}"),
+        Answer::Again(line) => format!(in alloc; "again,{line}"),
+        Answer::Refused(refusal) => format!(in alloc; "no,{refusal}"),
     }
 }
 
@@ -30,9 +30,9 @@ fn answer_text<D: Rows>(alloc: Global, answer: &RowAnswer<D::Reply>) -> Result<S
 pub fn row_answer_line<D: Rows>(
     alloc: Global,
     n: u64,
-    answer: &RowAnswer<D::Reply>,
+    answer: &Answer<D::Reply>,
 ) -> Result<Vec<u8>, AllocError>
-    ensures { IfOk result (λ line. line.items ≡ answer_line n (answer_in_model D.told answer.now)) }
+    ensures { IfOk result (λ line. line.items ≡ answer_line n (abstract_answer D.told answer.now)) }
 {
     let text = answer_text::<D>(alloc, answer)?;
     let mut buffer = Buffer::new();

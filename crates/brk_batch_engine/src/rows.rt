@@ -5,15 +5,14 @@ ghost use Rattle.brk_model.specs.Commands.{Reply};
 ghost use Rattle.brk_model.specs.Forms.{ReadResult};
 ghost use Rattle.brk_model.specs.Rows.{line_text};
 ghost use Rattle.brk_model.specs.Run.{IsCallFault};
+ghost use Rattle.brk_ref.specs.Answers.{abstract_answer, abstract_command_outcome};
 ghost use Rattle.brk_ref.specs.Fields.{ParsesAs, texts_of_fields};
 ghost use Rattle.brk_ref.specs.Records.{abstract_key};
-ghost use Rattle.brk_batch_engine.specs.Answers.{CallRefinesStep, PreservesRepresentedBases, IsFailedCallCrashSafe};
-ghost use Rattle.brk_batch_engine.specs.Answers.{RepresentsDurably, answer_in_model, outcome_in_model};
+ghost use Rattle.brk_batch_engine.specs.Answers.{CallRefinesStep, PreservesRepresentedBases, IsFailedCallCrashSafe, RepresentsDurably};
 ghost use Rattle.brk_batch_engine.specs.Script.{RowCallRelation};
 
-use crate::answer::RowAnswer;
 use brk_money::{Fault, Planned, Stamp};
-use brk_ref::Key;
+use brk_ref::{Answer, Key};
 use std::alloc::{AllocError, Global};
 
 /// The operations of a desk that executes the rows of a batch.
@@ -75,13 +74,13 @@ pub trait Rows {
         now: Stamp,
         command: &Self::Command,
         key: &Key,
-    ) -> Result<RowAnswer<Self::Reply>, Fault>
-        ensures called { acts desk.old now (asked command.now, abstract_key key.now) (outcome_in_model told result) desk.new }
+    ) -> Result<Answer<Self::Reply>, Fault>
+        ensures called { acts desk.old now (asked command.now, abstract_key key.now) (abstract_command_outcome told result) desk.new }
         // If the disk assumption holds after the call, it held before.
         ensures earlier { honest desk.new → honest desk.old }
         ensures ok { IfOk result (λ answer. (sure : Bool) →
             CallRefinesStep honest (RepresentsDurably stands leaves sure) step desk.old desk.new now
-            (asked command.now) (abstract_key key.now) (answer_in_model told answer)) }
+            (asked command.now) (abstract_key key.now) (abstract_answer told answer)) }
         ensures err { OnErr result (PreservesRepresentedBases honest stands desk.old desk.new) }
         // After a failed call, a crash exposes only the base before or the base after the command.
         ensures stop { OnErr result (IsFailedCallCrashSafe honest stands leaves step desk.old desk.new now (asked command.now) (abstract_key key.now)) }

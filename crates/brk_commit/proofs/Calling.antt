@@ -36,12 +36,11 @@ use Rattle.brk_invariant_theorems.proofs.SoundSteps.{keyed_sound}
 use Rattle.brk_store.specs.Holds.{IsDiskContentOfRows, HoldsRows, ApplyPost, ReadPost}
 use Rattle.brk_decisions.specs.Decisions.{DecidesCommand}
 use Rattle.brk_decisions.proofs.Looking.{none_then, same_then}
-use Rattle.brk_commit.specs.Answers.{IsDoneResult, model_answer}
+use Rattle.brk_commit.specs.Answers.{CommandAnswer, IsDoneResult, model_answer}
 use Rattle.brk_commit.specs.Booked.{CallPost, IsDiskContentAfterCommand, base_after_call}
 use Rattle.brk_store.specs.Audited.{Represents}
 use Rattle.brk_commit.specs.Keys.{ReadStoredReplyPost, stored_reply_under_key, with_stored_command}
-use Rattle.brk_commit.specs.declared.answer.Answer as booked
-use Rattle.brk_commit.specs.declared.answer.Answer.TheVariants as given
+use Rattle.brk_ref.specs.declared.answer.Answer.TheVariants as given
 use Rattle.brk_commit.proofs.Kept.{rows_with_key, steps_again, steps_anew}
 use Rattle.brk_commit.proofs.RowTexts.{changes_keep_texts}
 use Rattle.brk_commit.proofs.Seen.{still_kept, HoldsWithoutChange, seen, seen_both, sought_none}
@@ -64,7 +63,7 @@ not_done true line reply e = absurd (let f = e in cc)
 not_done false line reply e = absurd (let f = e in cc)
 
 -- what a kept key is answered with is never that it was done now
-never_done : (base : Base) (command : Command) (k : Kept) (answer : booked.Answer) → answer_to_repeated_row base command k ≡ (model_answer answer, base) → IsDoneResult (Ok answer) → ⊥
+never_done : (base : Base) (command : Command) (k : Kept) (answer : CommandAnswer) → answer_to_repeated_row base command k ≡ (model_answer answer, base) → IsDoneResult (Ok answer) → ⊥
 never_done base command k (given.Done reply) e done = not_done (bytes_eq k.row_text (row_text command)) k.line (abstract_reply reply) (ap (λ (x : Answer × Base). x.0) e)
 never_done base command k (given.Again line) e done = done
 never_done base command k (given.Refused refusal) e done = done
@@ -89,7 +88,7 @@ module _ {S : Type 0} (g : Ghosts S) (old mid : Held S) (now : ℕ) (command : C
   }
 
   -- its key is kept
-  pub repeats : (k : Kept) (answer : booked.Answer) → ((base : Base) → answer_to_repeated_row base command k ≡ (model_answer answer, base)) → HoldsWithoutChange g old mid (λ t. Some k ≡ stored_reply_under_key t key)
+  pub repeats : (k : Kept) (answer : CommandAnswer) → ((base : Base) → answer_to_repeated_row base command k ≡ (model_answer answer, base)) → HoldsWithoutChange g old mid (λ t. Some k ≡ stored_reply_under_key t key)
       → CallPost g old mid now command key (Ok answer)
   repeats k answer told seen = record {
     answered = λ clean base keeps. (
@@ -108,7 +107,7 @@ module _ {S : Type 0} (g : Ghosts S) (old mid : Held S) (now : ℕ) (command : C
   }
 
   -- its key is kept, and the answer may find no memory
-  pub repeats_or_fails : (k : Kept) (result : Result booked.Answer Fault) → IfOk result (λ answer. (base : Base) → answer_to_repeated_row base command k ≡ (model_answer answer, base))
+  pub repeats_or_fails : (k : Kept) (result : Result CommandAnswer Fault) → IfOk result (λ answer. (base : Base) → answer_to_repeated_row base command k ≡ (model_answer answer, base))
       → OnErr result (result ≡ Err Memory) → HoldsWithoutChange g old mid (λ t. Some k ≡ stored_reply_under_key t key) → CallPost g old mid now command key result
   repeats_or_fails k (Ok answer) told none seen = repeats k answer told seen
   repeats_or_fails k (Err fault) none e seen = fails (λ t. Some k ≡ stored_reply_under_key t key) seen fault (inl (same_fault fault Memory (Err fault) refl e))

@@ -1,28 +1,32 @@
 -- The answer of the model that the answer of a call represents, and the results of a call by which
 -- it commits a command or nothing.
-use Rattle.std.specs.Prelude.{Result, Ok, Err, string_bytes}
+use Rattle.std.specs.Prelude.{Result, Ok, Err}
 use Rattle.brk_money.specs.declared.fault.Fault.{Fault}
-use Rattle.brk_model.specs.Commands.{Answer, Done, Again, Refused}
+use Rattle.brk_model.specs.Commands.{Answer}
 use Rattle.brk_plans.specs.Replies.{abstract_reply}
-use Rattle.brk_commit.specs.declared.answer.Answer as booked
-use Rattle.brk_commit.specs.declared.answer.Answer.TheVariants as given
+use Rattle.brk_plans.specs.declared.reply.Reply.{Reply}
+use Rattle.brk_ref.specs.Answers.{abstract_answer}
+use Rattle.brk_ref.specs.declared.answer.Answer as code
+use Rattle.brk_ref.specs.declared.answer.Answer.TheVariants as given
+
+-- The type of the answer to a command of a desk.
+abbrev pub CommandAnswer : Type 0
+CommandAnswer = code.Answer Reply
 
 -- The answer of the model that the answer of a call represents: `Done` with the reply, `Again` with
 -- the bytes of the stored reply, or `Refused` with the refusal.
-abbrev pub model_answer : booked.Answer → Answer
-model_answer (given.Done reply) = Done (abstract_reply reply)
-model_answer (given.Again line) = Again (string_bytes line)
-model_answer (given.Refused refusal) = Refused refusal
+abbrev pub model_answer : CommandAnswer → Answer
+model_answer answer = abstract_answer abstract_reply answer
 
 -- The result is a refusal, a stored reply or a fault: any result but `Done`.
-abbrev pub IsNotDoneResult : Result booked.Answer Fault → Type 0
+abbrev pub IsNotDoneResult : Result CommandAnswer Fault → Type 0
 IsNotDoneResult (Ok (given.Done reply)) = ⊥
 IsNotDoneResult (Ok (given.Again line)) = Unit {0}
 IsNotDoneResult (Ok (given.Refused refusal)) = Unit {0}
 IsNotDoneResult (Err fault) = Unit {0}
 
 -- The result is `Done`: the call accepted the command and committed it.
-abbrev pub IsDoneResult : Result booked.Answer Fault → Type 0
+abbrev pub IsDoneResult : Result CommandAnswer Fault → Type 0
 IsDoneResult (Ok (given.Done reply)) = Unit {0}
 IsDoneResult (Ok (given.Again line)) = ⊥
 IsDoneResult (Ok (given.Refused refusal)) = ⊥

@@ -15,13 +15,12 @@ use Rattle.brk_model.specs.Run.{IsCallFault}
 use Rattle.brk_invariant_theorems.specs.InForm.{MeetsAuditFormats, IsWellFormedKey}
 use Rattle.brk_store.specs.Audited.{Represents}
 use Rattle.brk_store.specs.Holds.{IsDiskContentOfRows, WasOpenAndIsUnchanged, CrashStatesSatisfy}
-use Rattle.brk_commit.specs.Answers.{IsNotDoneResult, IsDoneResult, model_answer}
-use Rattle.brk_commit.specs.declared.answer.Answer as booked
+use Rattle.brk_commit.specs.Answers.{CommandAnswer, IsNotDoneResult, IsDoneResult, model_answer}
 
 -- For every base that the store represented before the call (in the state `old`), `answer` is the
 -- answer of the model's step for the command (`keyed_step`) at the clock reading `now`, under `key`
 -- or without one, and the store represents the base after this step in the state `new`.
-abbrev pub RefinesStep : {S : Type 0} → Ghosts S → Held S → Held S → ℕ → Command → Option Key → booked.Answer → Type 0
+abbrev pub RefinesStep : {S : Type 0} → Ghosts S → Held S → Held S → ℕ → Command → Option Key → CommandAnswer → Type 0
 RefinesStep g old new now command key answer =
     (base : Base) → Represents g old base → (after : Base) × Represents g new after × (keyed_step base now command key ≡ (model_answer answer, after))
 
@@ -47,7 +46,7 @@ IsDiskContentAfterCommand g old now command key trees =
 -- unchanged, although a crash may expose the command as committed. `brk_store/specs/Holds.antt`
 -- explains the terms of the clauses; `g` are the ghosts of the storage `S`.
 pub record CallPost {S : Type 0} (g : Ghosts S) (old new : Held S) (now : ℕ) (command : Command) (key : Option Key)
-    (result : Result booked.Answer Fault) : Type 0 where
+    (result : Result CommandAnswer Fault) : Type 0 where
   -- At `Ok` the call refines the model's step. Vacuous if the disk assumption fails.
   pub answered : HasCleanDisk (state g new) → IfOk result (RefinesStep g old new now command key)
   -- At an error the store represents every base that it represented before the call.

@@ -8,16 +8,19 @@ ghost use Rattle.brk_commit.specs.Keys.{optional_model_key};
 ghost use Rattle.brk_commit.specs.Booked.{CallPost};
 ghost use Rattle.brk_invariant_theorems.specs.InForm.{MeetsAuditFormats, IsWellFormedKey};
 
-use crate::answer::Answer;
 use crate::deciding::decide_command;
 use crate::in_form::{prove_command_is_well_formed, prove_key_is_well_formed};
 use crate::keeping::{answer_retry, plan_with_stored_reply, read_stored_reply};
 use brk_commands::Command;
 use brk_money::{Fault, Stamp};
-use brk_ref::Key;
+use brk_ref::{Answer, Key};
 use brk_store::Store;
+use brk_trade::Reply;
 use sqlite::Alter;
 use std::alloc::Global;
+
+/// The answer to a command of a desk.
+pub type CommandAnswer = Answer<Reply>;
 
 // Proves that a command is well-formed, and its key if it has one. Does nothing at run time.
 fn prove_command_and_key_are_well_formed(command: &Command, key: Option<&Key>)
@@ -53,7 +56,7 @@ pub fn execute_and_commit_command<S: Alter>(
     now: Stamp,
     command: &Command,
     key: Option<&Key>,
-) -> Result<Answer, Fault>
+) -> Result<CommandAnswer, Fault>
     ensures called { CallPost S.Store store.old store.new now (abstract_command command.now) (optional_model_key (option_copied key.entry)) result }
 {
     prove_command_and_key_are_well_formed(command, key);

@@ -2,12 +2,11 @@
 //! commit. Under each key a command is accepted at most once.
 #![tactic(auto)]
 
-pub mod answer;
 pub mod booking;
 mod deciding;
 pub mod in_form;
 mod keeping;
 
-pub use answer::Answer;
-pub use booking::execute_and_commit_command;
+pub use booking::{CommandAnswer, execute_and_commit_command};
+pub use brk_ref::Answer;
 pub use in_form::{prove_command_is_well_formed, prove_key_is_well_formed};

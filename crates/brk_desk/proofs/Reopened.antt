@@ -26,7 +26,7 @@ use Rattle.brk_commit.specs.Booked.{CallPost, IsDiskContentAfterCommand, base_af
 use Rattle.brk_desk.specs.CallPosts.{RunPost}
 use Rattle.brk_desk.specs.Reopening.{IsNewConnectionToDiskContent, IsNewConnectionAfterCrash, IsRecovered, RepresentsDurableBase}
 use Rattle.brk_desk.specs.CrashBases.{CrashMayExposeBase}
-use Rattle.brk_commit.specs.declared.answer.Answer.{Answer}
+use Rattle.brk_commit.specs.Answers.{CommandAnswer}
 use Rattle.brk_desk.specs.declared.call.Call.{Call}
 use Rattle.brk_desk.specs.declared.call.Outcome.{Outcome}
 use Rattle.brk_desk.proofs.AtFirst.{made_keeps, stands}
@@ -44,7 +44,7 @@ pub kept_can_be : {S : Type 0} (g : Ghosts S) (store : Held S) (base : Base) →
 kept_can_be g store base keeps = keeps.consistent
 
 -- what may come of a call can be kept too
-pub booked_can_be : {S : Type 0} (g : Ghosts S) (old new : Held S) (base : Base) (now : ℕ) (command : Command) (key : Option Key) (answer : Result Answer Fault) (trees : Trees)
+pub booked_can_be : {S : Type 0} (g : Ghosts S) (old new : Held S) (base : Base) (now : ℕ) (command : Command) (key : Option Key) (answer : Result CommandAnswer Fault) (trees : Trees)
     → CallPost g old new now command key answer → Represents g old base → IsDiskContentAfterCommand g old now command key trees → IsConsistent (base_after_call base now command key)
 booked_can_be g old new base now command key answer trees called keeps come =
     let both = keyed_both base now command key (keeps.books, keeps.sound) called.in_form.0 called.in_form.1 in
@@ -114,7 +114,7 @@ module _ {S : Type 0} (g : Ghosts S) (settled : RecoversOnlyLastCommit g) where
   module _ (first left conn store : Held S) (base : Base) (result : Result (Unit {0}) Fault) (at : RepresentsDurableBase g first base) (clean : HasCleanDisk (state g left)) (again : IsNewConnectionAfterCrash g left conn)
       (adopted : AdoptPost g conn store result) (after : HasCleanDisk (state g store)) where
     -- a stop within a call
-    pub call_taken_over : (now : ℕ) (command : Command) (key : Option Key) (answer : Result Answer Fault) → CallPost g first left now command key answer
+    pub call_taken_over : (now : ℕ) (command : Command) (key : Option Key) (answer : Result CommandAnswer Fault) → CallPost g first left now command key answer
         → IsRecovered g store result (λ stood. (stood ≡ base) ⊎ (stood ≡ base_after_call base now command key))
     call_taken_over now command key answer called =
         elim (called.survives.crash clean again.0 again.1) [

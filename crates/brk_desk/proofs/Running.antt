@@ -13,7 +13,7 @@ use Rattle.brk_decisions.proofs.Looking.{same_then}
 use Rattle.brk_desk.specs.CrashBases.{AcknowledgesNothing, CrashMayExposeBase}
 use Rattle.brk_commit.proofs.Seen.{still}
 use Rattle.brk_desk.proofs.Stopping.{may_be_there, quiet_leaves, stands_still}
-use Rattle.brk_commit.specs.declared.answer.Answer.TheVariants as given
+use Rattle.brk_ref.specs.declared.answer.Answer.TheVariants as given
 use Rattle.sqlite_trees.specs.declared.store.Store.{Ghosts}
 use Rattle.sqlite.specs.Held.{Held, state}
 use Rattle.sqlite.specs.State.{HasCleanDisk, State, Survives}
@@ -25,7 +25,7 @@ use Rattle.brk_model.specs.Queries as model
 use Rattle.brk_model.specs.Run.{IsOutcomeOfCall, Ask, IsCallFault, Run}
 use Rattle.brk_view.specs.Queries.{abstract_query}
 use Rattle.brk_view.specs.declared.view.View.{View}
-use Rattle.brk_commit.specs.Answers.{IsNotDoneResult, model_answer}
+use Rattle.brk_commit.specs.Answers.{CommandAnswer, IsNotDoneResult, model_answer}
 use Rattle.brk_desk.specs.Answers.{outcome_of_command, model_outcome, outcome_of_query}
 use Rattle.brk_commands.specs.Commands.{abstract_command}
 use Rattle.brk_commit.specs.Keys.{optional_model_key}
@@ -33,7 +33,6 @@ use Rattle.brk_desk.specs.Commands.{model_call}
 use Rattle.brk_commit.specs.Booked.{CallPost, IsDiskContentAfterCommand, base_after_call}
 use Rattle.brk_store.specs.Audited.{Represents}
 use Rattle.brk_desk.specs.CallPosts.{OutcomesAcknowledgeNothing, IsRecoverableDiskContent, AskPost, FailsOnlyWithMemoryOrStore, CrashMayExposeDiskContent, OutcomePost, RunPost}
-use Rattle.brk_commit.specs.declared.answer.Answer as desk
 use Rattle.brk_desk.specs.declared.call.Call.{Call}
 use Rattle.brk_desk.specs.declared.call.Call.TheVariants as call
 use Rattle.brk_desk.specs.declared.call.Outcome.{Outcome}
@@ -66,7 +65,7 @@ quiet_before : (outcomes : List Outcome) (o : Outcome) → OutcomesAcknowledgeNo
 quiet_before [] o all = (tt, all.0)
 quiet_before (p ∷ ps) o all = let more = quiet_before ps o all.1 in ((all.0, more.0), more.1)
 
-known_answer : (result : Result desk.Answer Fault) → IfErr result IsCallFault → FailsOnlyWithMemoryOrStore (outcome_of_command result)
+known_answer : (result : Result CommandAnswer Fault) → IfErr result IsCallFault → FailsOnlyWithMemoryOrStore (outcome_of_command result)
 known_answer (Ok answer) h = tt
 known_answer (Err fault) h = h
 
@@ -188,14 +187,14 @@ module _ {S : Type 0} (g : Ghosts S) where
     }
 
     -- one command more that is answered without a change
-    quiet_told : (command : _) (key : _) (answer : desk.Answer) → AcknowledgesNothing (model_outcome (outcome_of_command (Ok answer))) → CallPost g b c now (abstract_command command) (optional_model_key key) (Ok answer) → HasCleanDisk (state g c)
+    quiet_told : (command : _) (key : _) (answer : CommandAnswer) → AcknowledgesNothing (model_outcome (outcome_of_command (Ok answer))) → CallPost g b c now (abstract_command command) (optional_model_key key) (Ok answer) → HasCleanDisk (state g c)
         → (mid : Base) → Represents g b mid → Represents g c mid × (keyed_step mid now (abstract_command command) (optional_model_key key) ≡ (model_answer answer, mid))
     quiet_told command key answer quiet called k mid keeps =
         let s = called.answered k mid keeps in
         let same : s.0 ≡ mid = quiet_leaves mid now (abstract_command command) (optional_model_key key) (model_answer answer) s.0 s.2 quiet in
         (subst (Represents g c) same s.1, subst (λ x. keyed_step mid now (abstract_command command) (optional_model_key key) ≡ (model_answer answer, x)) same s.2)
 
-    by_quiet : (command : _) (key : _) (answer : desk.Answer) → AcknowledgesNothing (model_outcome (outcome_of_command (Ok answer))) → IsNotDoneResult (Ok answer) → CallPost g b c now (abstract_command command) (optional_model_key key) (Ok answer)
+    by_quiet : (command : _) (key : _) (answer : CommandAnswer) → AcknowledgesNothing (model_outcome (outcome_of_command (Ok answer))) → IsNotDoneResult (Ok answer) → CallPost g b c now (abstract_command command) (optional_model_key key) (Ok answer)
         → RunPost g a c (calls ++ (now, call.Do command key) ∷ []) (outcomes ++ outcome_of_command (Ok answer) ∷ [])
     by_quiet command key answer quiet booked called =
         quiet_step (call.Do command key) (outcome_of_command (Ok answer)) quiet tt called.in_form called.clean (λ k up. called.same k up booked) (quiet_told command key answer quiet called) (IsDiskContentAfterCommand g b now (abstract_command command) (optional_model_key key))
@@ -224,7 +223,7 @@ module _ {S : Type 0} (g : Ghosts S) where
         ))
         called.survives
 
-    by_result : (command : _) (key : _) (result : Result desk.Answer Fault) → CallPost g b c now (abstract_command command) (optional_model_key key) result
+    by_result : (command : _) (key : _) (result : Result CommandAnswer Fault) → CallPost g b c now (abstract_command command) (optional_model_key key) result
         → RunPost g a c (calls ++ (now, call.Do command key) ∷ []) (outcomes ++ outcome_of_command result ∷ [])
     by_result command key (Ok (given.Done reply)) called = by_done command key reply called
     by_result command key (Ok (given.Again line)) called = by_quiet command key (given.Again line) tt tt called

@@ -6,8 +6,7 @@ use Rattle.brk_money.specs.declared.refusal.Refusal.{Refusal}
 use Rattle.brk_model.specs.Run as run
 use Rattle.brk_view.specs.Views.{records_of_view}
 use Rattle.brk_view.specs.declared.view.View.{View}
-use Rattle.brk_commit.specs.Answers.{model_answer}
-use Rattle.brk_commit.specs.declared.answer.Answer as desk
+use Rattle.brk_commit.specs.Answers.{CommandAnswer, model_answer}
 use Rattle.brk_desk.specs.declared.call.Outcome.{Outcome}
 use Rattle.brk_desk.specs.declared.call.Outcome.TheVariants as came
 
@@ -21,7 +20,7 @@ model_outcome (came.Failed fault) = run.Failed fault
 
 -- The outcome of a desk's call that executed a command and returned this result: `Did` with its
 -- answer, or `Failed` with its fault.
-abbrev pub outcome_of_command : Result desk.Answer Fault → Outcome
+abbrev pub outcome_of_command : Result CommandAnswer Fault → Outcome
 outcome_of_command (Ok answer) = came.Did answer
 outcome_of_command (Err fault) = came.Failed fault
 

@@ -39,7 +39,7 @@ use Rattle.brk_commands.specs.Commands.{abstract_command}
 use Rattle.brk_commit.specs.Keys.{optional_model_key}
 use Rattle.brk_desk.specs.Commands.{model_call}
 use Rattle.brk_desk.specs.CrashBases.{AcknowledgesNothing, CrashMayExposeBase}
-use Rattle.brk_commit.specs.declared.answer.Answer as desk
+use Rattle.brk_commit.specs.Answers.{CommandAnswer}
 use Rattle.brk_desk.specs.declared.call.Call.{Call}
 use Rattle.brk_desk.specs.declared.call.Call.TheVariants as call
 use Rattle.brk_desk.specs.declared.call.Outcome.{Outcome}
@@ -73,7 +73,7 @@ pub record AskPost {S : Type 0} (g : Ghosts S) (old new : Held S) (query : Query
 -- the postcondition of the call, `CallPost` for a command and `AskPost` for a query.
 abbrev pub OutcomePost : {S : Type 0} → Ghosts S → Held S → Held S → ℕ → Call → Outcome → Type 0
 OutcomePost g old new now (call.Do command key) outcome =
-    (result : Result desk.Answer Fault) × (outcome ≡ outcome_of_command result)
+    (result : Result CommandAnswer Fault) × (outcome ≡ outcome_of_command result)
     × CallPost g old new now (abstract_command command) (optional_model_key key) result
 OutcomePost g old new now (call.Ask query) outcome =
     (result : Result (Result View Refusal) Fault) × (outcome ≡ outcome_of_query result) × AskPost g old new (abstract_query query) result

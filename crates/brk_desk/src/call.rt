@@ -2,7 +2,7 @@ ghost use Rattle.std.specs.Prelude.{◌≡◌};
 ghost use Rattle.brk_desk.specs.Answers.{outcome_of_command, outcome_of_query};
 
 use brk_commands::Command;
-use brk_commit::Answer;
+use brk_commit::CommandAnswer;
 use brk_money::{Fault, Planned, Refusal};
 use brk_ref::Key;
 use brk_view::{Query, View};
@@ -21,7 +21,7 @@ pub enum Call {
 #[derive(Drop)]
 pub enum Outcome {
     /// The answer of the command: `Done`, `Again` or `Refused`.
-    Did(Answer),
+    Did(CommandAnswer),
     /// The view of the query.
     Saw(View),
     /// The refusal of the query.
@@ -34,7 +34,7 @@ pub enum Outcome {
 impl Outcome {
     // Returns the outcome of a command with this result: `Did` with its answer, or `Failed` with
     // its fault.
-    pub(crate) fn of_command(answered: Result<Answer, Fault>) -> Outcome
+    pub(crate) fn of_command(answered: Result<CommandAnswer, Fault>) -> Outcome
         ensures { result ≡ outcome_of_command answered }
     {
         match answered {

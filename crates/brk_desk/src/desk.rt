@@ -2,7 +2,7 @@ use crate::asking::answer_query;
 use crate::call::{Call, Outcome};
 use brk_changes::{HoldingRow, MoveRow, TradeRow};
 use brk_commands::Command;
-use brk_commit::{Answer, execute_and_commit_command};
+use brk_commit::{CommandAnswer, execute_and_commit_command};
 use brk_explain_reads::{
     read_account_story, read_broker_story, read_holding_story, read_trade_story,
     visit_completed_trades,
@@ -99,7 +99,7 @@ impl<S: Alter> Desk<S> {
         now: Stamp,
         command: &Command,
         key: Option<&Key>,
-    ) -> Result<Answer, Fault>
+    ) -> Result<CommandAnswer, Fault>
         ensures called { CallPost S.Store self.old self.new now (abstract_command command.now) (optional_model_key (option_copied key.entry)) result }
     {
         execute_and_commit_command(alloc, &mut self.store, now, command, key)

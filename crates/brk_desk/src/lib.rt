@@ -10,7 +10,7 @@ pub mod in_order;
 pub mod reopening;
 
 pub use brk_commands::{Command, line_text, parse_row, row_text};
-pub use brk_commit::Answer;
+pub use brk_commit::{Answer, CommandAnswer};
 pub use brk_money::{Fault, Planned, Refusal, Stamp};
 pub use brk_queries::StatementHead;
 pub use brk_ref::Key;

@@ -12,7 +12,7 @@ ghost use Rattle.brk_desk.specs.CallPosts.{RunPost};
 ghost use Rattle.brk_desk.specs.Reopening.{RepresentsPassingRowsDurably, IsNewConnectionToDiskContent, AdoptsBaseWithoutDamage};
 ghost use Rattle.brk_desk.specs.Reopening.{IsNewConnectionAfterCrash, IsRecovered, RepresentsDurableBase};
 ghost use Rattle.brk_desk.specs.CrashBases.{CrashMayExposeBase};
-ghost use Rattle.brk_commit.specs.declared.answer.Answer as given;
+ghost use Rattle.brk_commit.specs.Answers.{CommandAnswer};
 ghost use Rattle.brk_desk.specs.declared.call.Call as made;
 ghost use Rattle.brk_desk.specs.declared.call.Outcome as came;
 ghost use Rattle.brk_model.specs.Adopted.{base_of_tables};
@@ -64,7 +64,7 @@ pub fn recovery_never_reports_damage<S: Alter>()
     // and the next one apply again after each further crash.
     ensures crash_after_call { (first left conn store : Held S) (base : Base) (result : Result (Unit {0}) faults.Fault)
         (now : ℕ) (command : Command) (key : Option Key)
-        (answer : Result given.Answer faults.Fault) → RepresentsDurableBase S.Store first base → CallPost S.Store first left now command key answer
+        (answer : Result CommandAnswer faults.Fault) → RepresentsDurableBase S.Store first base → CallPost S.Store first left now command key answer
         → HasCleanDisk (state S.Store left)
         → IsNewConnectionAfterCrash S.Store left conn → AdoptPost S.Store conn store result → HasCleanDisk (state S.Store store)
         → IsRecovered S.Store store result (λ stood. (stood ≡ base) ⊎ (stood ≡ base_after_call base now command key)) }

@@ -9,11 +9,12 @@ use Rattle.brk_money.specs.declared.refusal.Refusal.{Refusal}
 use Rattle.brk_model.specs.Base.{Base}
 use Rattle.brk_model.specs.Run.{IsOutcomeOfCall, Ask, Call, Did, Do, Failed, Outcome}
 use Rattle.brk_ref.specs.declared.key.Key.{Key}
-use Rattle.brk_commit.specs.Answers.{model_answer}
+use Rattle.brk_commit.specs.Answers.{CommandAnswer, model_answer}
 use Rattle.brk_commit.specs.Booked.{CallPost}
 use Rattle.brk_store.specs.Audited.{Represents}
 use Rattle.brk_commit.specs.Keys.{optional_model_key}
-use Rattle.brk_commit.specs.declared.answer.Answer.{Answer}
+use Rattle.brk_plans.specs.Replies.{abstract_reply}
+use Rattle.brk_ref.specs.Answers.{abstract_command_outcome}
 use Rattle.brk_commands.specs.Commands.{abstract_command}
 use Rattle.brk_commands.specs.declared.command.Command.{Command}
 use Rattle.brk_desk.proofs.Running.{runs_more, runs_none}
@@ -35,13 +36,18 @@ seen_is (Ok (Err refusal)) = refl
 seen_is (Err fault) = refl
 
 module _ {S : Type 0} (g : Ghosts S) (old new : Held S) (now : ℕ) where
-  pub did : (command : Command) (key : Option Key) (answer : Answer) → CallPost g old new now (abstract_command command) (optional_model_key key) (Ok answer)
+  did : (command : Command) (key : Option Key) (answer : CommandAnswer) → CallPost g old new now (abstract_command command) (optional_model_key key) (Ok answer)
       → DeskCallHasOutcome g old now (Do (abstract_command command) (optional_model_key key)) (Did (model_answer answer)) new
   did command key answer h = record { made = made.Do command key; came = came.Did answer; call_is = refl; outcome_is = refl; is_made = (Ok answer, refl, h) }
 
-  pub failed : (command : Command) (key : Option Key) (fault : Fault) → CallPost g old new now (abstract_command command) (optional_model_key key) (Err fault)
+  failed : (command : Command) (key : Option Key) (fault : Fault) → CallPost g old new now (abstract_command command) (optional_model_key key) (Err fault)
       → DeskCallHasOutcome g old now (Do (abstract_command command) (optional_model_key key)) (Failed fault) new
   failed command key fault h = record { made = made.Do command key; came = came.Failed fault; call_is = refl; outcome_is = refl; is_made = (Err fault, refl, h) }
+
+  pub has_outcome : (command : Command) (key : Option Key) (result : Result CommandAnswer Fault) → CallPost g old new now (abstract_command command) (optional_model_key key) result
+      → DeskCallHasOutcome g old now (Do (abstract_command command) (optional_model_key key)) (abstract_command_outcome abstract_reply result) new
+  has_outcome command key (Ok answer) h = did command key answer h
+  has_outcome command key (Err fault) h = failed command key fault h
 
   pub asked : (query : Query) (result : Result (Result View Refusal) Fault) → AskPost g old new (abstract_query query) result → DeskCallHasOutcome g old now (Ask (abstract_query query)) (query_outcome_in_model records_of_view result) new
   asked query result h = record { made = made.Ask query; came = outcome_of_query result; call_is = refl; outcome_is = seen_is result; is_made = (result, refl, h) }

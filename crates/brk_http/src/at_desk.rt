@@ -1,35 +1,20 @@
-ghost use Rattle.std.specs.Prelude.{◌≡◌, Ok};
 ghost use Rattle.brk_commands.specs.Commands.{abstract_command};
-ghost use Rattle.brk_commit.specs.Answers.{model_answer};
 ghost use Rattle.brk_http.specs.CallOutcomes.{DeskCallHasOutcome};
 ghost use Rattle.brk_http_model.specs.Asked.{model_parsers};
-ghost use Rattle.brk_model.specs.Run.{Did};
 ghost use Rattle.brk_plans.specs.Replies.{abstract_reply};
-ghost use Rattle.brk_http_engine.specs.Codes.{row_outcome_in_model};
 ghost use Rattle.brk_view.specs.Queries.{abstract_query};
 ghost use Rattle.brk_view.specs.Views.{records_of_view};
 
 use brk_desk::{
-    Answer, Command, Desk, Query, View, line_text, parse_query, parse_row, view_fields,
+    Command, CommandAnswer, Desk, Query, View, line_text, parse_query, parse_row, view_fields,
 };
-use brk_http_engine::{RowAnswer, Service, fields_between_commas};
+use brk_http_engine::{Service, fields_between_commas};
 use brk_money::{Fault, Planned, Stamp};
 use brk_ref::Key;
 use brk_trade::Reply;
 use sqlite::Alter;
 use std::alloc::{AllocError, Global};
 use std::marker::PhantomData;
-
-// Converts an answer of the desk into the equal answer of the HTTP engine.
-fn http_answer_of_desk(answer: Answer) -> RowAnswer<Reply>
-    ensures { row_outcome_in_model abstract_reply (Ok result) ≡ Did (model_answer answer) }
-{
-    match answer {
-        Answer::Done(reply) => RowAnswer::Done(reply),
-        Answer::Again(line) => RowAnswer::Again(line),
-        Answer::Refused(refusal) => RowAnswer::Refused(refusal),
-    }
-}
 
 /// The operations of a desk over a store that the HTTP engine uses.
 pub struct DeskService<S> {
@@ -98,11 +83,8 @@ impl<S: Alter> Service for DeskService<S> {
         now: Stamp,
         command: &Command,
         key: Option<&Key>,
-    ) -> Result<RowAnswer<Reply>, Fault> {
-        match desk.call(alloc, now, command, key) {
-            Ok(answer) => Ok(http_answer_of_desk(answer)),
-            Err(fault) => Err(fault),
-        }
+    ) -> Result<CommandAnswer, Fault> {
+        desk.call(alloc, now, command, key)
     }
 
     /// Executes a query by `Desk::ask`, and returns its view or its refusal. Fails with the fault

@@ -13,8 +13,6 @@ use Rattle.brk_ref.specs.declared.key.Key as ref
 use Rattle.brk_http_model.specs.Asked as asked
 use Rattle.brk_http_model.specs.Replies.{Response, FromProblem, FromOutcome}
 use Rattle.brk_http_model.specs.Routes as routes
-use Rattle.brk_http_engine.specs.declared.service.RowAnswer.{RowAnswer}
-use Rattle.brk_http_engine.specs.declared.service.RowAnswer.TheVariants as given
 use Rattle.brk_http_engine.specs.declared.routes.Route.{Route}
 use Rattle.brk_http_engine.specs.declared.routes.Route.TheVariants as route
 use Rattle.brk_http_engine.specs.declared.asking.RequestedCall.{RequestedCall}
@@ -25,14 +23,6 @@ use Rattle.brk_http_engine.specs.declared.acting.ServiceAnswer.TheVariants as to
 -- The model's key that the key of a row represents, or `None` if the row has no key.
 abbrev pub key_in_model : Option ref.Key → Option records.Key
 key_in_model key = option_map abstract_key key
-
--- The model's outcome that the result of a row's call represents: `Did` with its answer, or
--- `Failed` with its fault; `reply` maps a reply to the model's reply.
-abbrev pub row_outcome_in_model : {R : Type 0} → (R → model.Reply) → Result (RowAnswer R) Fault → run.Outcome
-row_outcome_in_model reply (Ok (given.Done r)) = run.Did (model.Done (reply r))
-row_outcome_in_model reply (Ok (given.Again line)) = run.Did (model.Again (string_bytes line))
-row_outcome_in_model reply (Ok (given.Refused refusal)) = run.Did (model.Refused refusal)
-row_outcome_in_model reply (Err fault) = run.Failed fault
 
 -- The model's outcome that the result of a query represents: `Saw` with its view, `NoView` with its
 -- refusal, or `Failed` with its fault; `shown` maps a view to the model's view.

@@ -6,11 +6,11 @@ ghost use Rattle.brk_http_model.specs.Stream.{IsResponseToDemand};
 ghost use Rattle.brk_http_engine.specs.Codes.{call_in_model, key_in_model, response_in_model};
 
 use crate::asking::RequestedCall;
-use crate::service::{RowAnswer, Service};
+use crate::service::Service;
 use brk_http_model::Problem;
 use brk_io::Clock;
 use brk_money::{Fault, Refusal, Stamp};
-use brk_ref::Key;
+use brk_ref::{Answer, Key};
 use std::alloc::Global;
 
 /// The response to a request, which its reply reports.
@@ -45,9 +45,9 @@ fn execute_row_command<D: Service>(
         × D.acts desk.old now (Do (D.command_of command.now) (key_in_model key.now)) outcome desk.new }
 {
     match D::call(desk, alloc, now, command, key.as_ref()) {
-        Ok(RowAnswer::Done(reply)) => ServiceAnswer::Done(reply),
-        Ok(RowAnswer::Again(line)) => ServiceAnswer::Again(line),
-        Ok(RowAnswer::Refused(refusal)) => ServiceAnswer::NoRow(refusal),
+        Ok(Answer::Done(reply)) => ServiceAnswer::Done(reply),
+        Ok(Answer::Again(line)) => ServiceAnswer::Again(line),
+        Ok(Answer::Refused(refusal)) => ServiceAnswer::NoRow(refusal),
         Err(fault) => ServiceAnswer::Failed(fault),
     }
 }

@@ -15,6 +15,6 @@ mod turning;
 
 pub use bodies::json_text_of_view;
 pub use replying::fields_between_commas;
-pub use service::{RowAnswer, Service};
+pub use service::Service;
 pub use stream::{ServeFault, serve_requests};
 pub use turning::FaultKind;

@@ -5,24 +5,14 @@ ghost use Rattle.brk_model.specs.Commands as model;
 ghost use Rattle.brk_model.specs.Queries as queries;
 ghost use Rattle.brk_model.specs.Rows.{reply_fields};
 ghost use Rattle.brk_model.specs.Run.{Ask, Call, Do, Outcome};
+ghost use Rattle.brk_ref.specs.Answers.{abstract_command_outcome};
 ghost use Rattle.brk_ref.specs.Fields.{ParsesAs, texts_of_fields};
 ghost use Rattle.brk_http_model.specs.Asked.{RequestParsers};
-ghost use Rattle.brk_http_engine.specs.Codes.{key_in_model, bytes_of_texts, query_outcome_in_model, bytes_of_records, row_outcome_in_model};
+ghost use Rattle.brk_http_engine.specs.Codes.{key_in_model, bytes_of_texts, query_outcome_in_model, bytes_of_records};
 
-use brk_money::{Fault, Planned, Refusal, Stamp};
-use brk_ref::Key;
+use brk_money::{Fault, Planned, Stamp};
+use brk_ref::{Answer, Key};
 use std::alloc::{AllocError, Global};
-
-/// The answer to a row that an HTTP request sends.
-#[derive(Debug, Drop)]
-pub enum RowAnswer<R> {
-    /// The row was accepted and committed, with this reply.
-    Done(R),
-    /// The row was accepted before, with this stored reply.
-    Again(String),
-    /// The row was refused with this refusal.
-    Refused(Refusal),
-}
 
 /// The operations of a desk that serves HTTP requests.
 pub trait Service {
@@ -85,8 +75,8 @@ pub trait Service {
         now: Stamp,
         command: &Self::Command,
         key: Option<&Key>,
-    ) -> Result<RowAnswer<Self::Reply>, Fault>
-        ensures { acts desk.old now (Do (command_of command.now) (key_in_model (option_copied key.entry))) (row_outcome_in_model told result) desk.new };
+    ) -> Result<Answer<Self::Reply>, Fault>
+        ensures { acts desk.old now (Do (command_of command.now) (key_in_model (option_copied key.entry))) (abstract_command_outcome told result) desk.new };
 
     /// Executes a query and returns its view or its refusal. Fails with a fault of the desk.
     fn ask(desk: &mut Self::Desk, alloc: Global, query: &Self::Query) -> Planned<Self::View>

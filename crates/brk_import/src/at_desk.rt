@@ -1,11 +1,8 @@
-ghost use Rattle.std.specs.Prelude.{◌≡◌};
 ghost use Rattle.brk_model.specs.Base.{Base};
 ghost use Rattle.brk_model.specs.Batch.{step_of_row};
 ghost use Rattle.brk_model.specs.Commands as model;
 ghost use Rattle.brk_model.specs.Parse.{parse_by_first_field, row_parsers};
-ghost use Rattle.brk_batch_engine.specs.Answers as engine;
 ghost use Rattle.brk_commands.specs.Commands.{abstract_command};
-ghost use Rattle.brk_commit.specs.Answers.{model_answer};
 ghost use Rattle.brk_plans.specs.Replies.{abstract_reply};
 ghost use Rattle.brk_store.specs.Audited.{Represents};
 ghost use Rattle.brk_import.specs.CrashTables.{CrashExposesOnlyOneOf};
@@ -13,25 +10,14 @@ ghost use Rattle.brk_import.specs.Rows.{RowCallHasOutcome};
 ghost use Rattle.sqlite.specs.Held.{state};
 ghost use Rattle.sqlite.specs.State.{HasCleanDisk};
 
-use brk_batch_engine::{RowAnswer, Rows};
-use brk_desk::{Answer, Command, Desk, line_text, parse_row};
+use brk_batch_engine::Rows;
+use brk_desk::{Command, CommandAnswer, Desk, line_text, parse_row};
 use brk_money::{Fault, Planned, Stamp};
 use brk_ref::Key;
 use brk_trade::Reply;
 use sqlite::Alter;
 use std::alloc::{AllocError, Global};
 use std::marker::PhantomData;
-
-// Converts an answer of the desk into the equal answer of the batch engine.
-fn batch_answer_of_desk(answer: Answer) -> RowAnswer<Reply>
-    ensures { engine.answer_in_model abstract_reply result ≡ model_answer answer }
-{
-    match answer {
-        Answer::Done(reply) => RowAnswer::Done(reply),
-        Answer::Again(line) => RowAnswer::Again(line),
-        Answer::Refused(refusal) => RowAnswer::Refused(refusal),
-    }
-}
 
 /// The operations of a desk over a store that the batch engine uses.
 pub struct DeskRows<S> {
@@ -79,11 +65,8 @@ impl<S: Alter> Rows for DeskRows<S> {
         now: Stamp,
         command: &Command,
         key: &Key,
-    ) -> Result<RowAnswer<Reply>, Fault> {
-        match desk.call(alloc, now, command, Some(key)) {
-            Ok(answer) => Ok(batch_answer_of_desk(answer)),
-            Err(fault) => Err(fault),
-        }
+    ) -> Result<CommandAnswer, Fault> {
+        desk.call(alloc, now, command, Some(key))
     }
 
     /// Returns the fields of a reply, joined by commas. Fails only if memory runs out.

@@ -3,6 +3,7 @@
 
 pub mod account;
 pub mod acl;
+pub mod answer;
 pub mod band;
 pub mod batch_name;
 pub mod broker;
@@ -32,6 +33,7 @@ pub mod volume;
 
 pub use account::{Account, AccountRow, check_account};
 pub use acl::Acl;
+pub use answer::Answer;
 pub use band::{Band, band_for, bands_share_quantity, check_band, overlaps};
 pub use batch_name::BatchName;
 pub use broker::{Broker, BrokerRow, check_broker};

@@ -46,6 +46,8 @@ pub struct Pages<'a, S: Alter, P> {
     // The number of rows that were read, and true if no more rows exist.
     read: u32,
     ended: bool,
+    // The number of calls of `next` that failed; it stops at the greatest `u64`.
+    faults: u64,
 }
 
 impl<S: Alter, P: Drop> Drop for Pages<'_, S, P> {
@@ -64,6 +66,7 @@ impl<S: Alter, P: Drop> Drop for Pages<'_, S, P> {
             page: _,
             read: _,
             ended: _,
+            faults: _,
         } = self;
     }
 }
@@ -176,6 +179,7 @@ impl<S: Alter> Store<S> {
             page,
             read: 0,
             ended: false,
+            faults: 0,
         }
     }
 }
@@ -248,6 +252,7 @@ impl<S: Alter> Pages<'_, S, Page> {
         ensures some_shares { IfOk result (λ given. IfSome given (λ lot. lot.qty ≢ pos 0)) }
         ensures remaining_at_error { IfErr result (λ _. (ls : List TheLot) → AreRemainingLots S.Store self.old ls → AreRemainingLots S.Store self.new ls) }
         ensures asked { self.new.read - (length self.new.page.rows.items - self.new.page.returned) ≤ self.old.read + 1 }
+        ensures faults { self.new.faults ≡ self.old.faults }
         ensures fault { IfErr result IsCallFault }
     {
         if self.ended {
@@ -284,7 +289,7 @@ impl<S: Alter> LotSource for Pages<'_, S, Page> {
 
     ghost asked = { λ p. p.read - (length p.page.rows.items - p.page.returned) };
 
-    ghost faulted = { λ _. 0 };
+    ghost faulted = { λ p. p.faults };
 
     ghost fails = { λ _ fault _. IsCallFault fault };
 
@@ -298,7 +303,13 @@ impl<S: Alter> LotSource for Pages<'_, S, Page> {
                 self.page.returned += 1;
                 Ok(Some(lot))
             }
-            None => self.read_first_lot_of_next_page(),
+            None => {
+                let given = self.read_first_lot_of_next_page();
+                if given.is_err() {
+                    self.faults = self.faults.saturating_add(1);
+                }
+                given
+            }
         }
     }
 

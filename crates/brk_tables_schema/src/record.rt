@@ -59,7 +59,7 @@ pub fn decode_records<T: Record>(alloc: Global, rows: &[Row]) -> Result<Vec<T>, 
     ensures value { IfOk result (λ all. map T.cells all.items ≡ rows.now) }
     ensures form { result ≡ Err Formless → list_all (passes_all_cell_checks T.forms) rows.now ≡ false }
 {
-    let mut all = Vec::new(alloc);
+    let mut all = Vec::with_capacity(alloc, rows.len())?;
     for row in rows {
         all.push(T::from_row(row)?)?;
     }

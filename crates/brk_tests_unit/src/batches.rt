@@ -6,11 +6,10 @@ ghost use Rattle.brk_tests_unit.specs.declared.batches.Asked.{Asked};
 ghost use Rattle.brk_tests_unit.specs.declared.batches.Asked.TheVariants as asks;
 
 use brk_batch_engine::{
-    BatchFault, Clock, Counts, FaultKind, MAXIMUM_INPUT_BYTES, RowAnswer, Rows,
-    execute_batch_on_desk,
+    BatchFault, Clock, Counts, FaultKind, MAXIMUM_INPUT_BYTES, Rows, execute_batch_on_desk,
 };
 use brk_money::{Fault, Limit, Planned, Refusal, Stamp};
-use brk_ref::Key;
+use brk_ref::{Answer, Key};
 use std::alloc::{AllocError, Global};
 use std::io;
 use std::io::{Read, Write};
@@ -110,17 +109,17 @@ impl Rows for Last {
         now: Stamp,
         command: &Asked,
         _key: &Key,
-    ) -> Result<RowAnswer<u64>, Fault> {
+    ) -> Result<Answer<u64>, Fault> {
         match *command {
             Asked::Put => {
                 desk.moment = now.get() as u64;
-                Ok(RowAnswer::Done(desk.moment))
+                Ok(Answer::Done(desk.moment))
             }
             Asked::Repeat => {
                 let line = String::from_str(alloc, "5,CNCL")?;
-                Ok(RowAnswer::Again(line))
+                Ok(Answer::Again(line))
             }
-            Asked::Refuse => Ok(RowAnswer::Refused(Refusal::Range(Limit::Accounts))),
+            Asked::Refuse => Ok(Answer::Refused(Refusal::Range(Limit::Accounts))),
             Asked::Break => Err(Fault::Store),
         }
     }
