@@ -9,7 +9,8 @@ use Rattle.brk_model.specs.Lists.{total_by}
 use Rattle.brk_model.specs.Rows.{nonnegative_cents_text}
 use Rattle.brk_model.specs.Tables.{Tables, AccountRow, HoldingRow, MoveRow, SummaryRow}
 use Rattle.brk_model.specs.Joins.{last_price_in_tables}
-use Rattle.brk_model.specs.Statement.{left_aligned_text, right_aligned_text, cash_move_rows_of_account, cash_move_rows_within_days, lot_line, holding_rows_of_account}
+use Rattle.brk_model.specs.Statement.{left_aligned_text, right_aligned_text, cash_move_rows_of_account, cash_move_rows_within_days, lot_line}
+use Rattle.brk_model.specs.Statement.{holding_rows_of_account}
 use Rattle.brk_explain_model.specs.Texts.{amount_column, labeled_number, timestamp_text, labeled_amount, labeled_text}
 use Rattle.brk_explain_model.specs.Running.{lines_with_running_total}
 
@@ -31,7 +32,7 @@ account_header_lines a =
 abbrev pub account_cash_rows_by_stamp : Tables → ℕ → List MoveRow
 account_cash_rows_by_stamp tables account = cash_move_rows_within_days 0 greatest_day (cash_move_rows_of_account tables account)
 
--- The id of `trade` in decimal digits, or a hyphen if there is none.
+-- The optional id `trade` in decimal digits, or a hyphen if there is none.
 abbrev pub trade_id_or_hyphen : Option ℕ → Text
 trade_id_or_hyphen trade = option_map_or decimal trade (codes "-")
 
@@ -43,8 +44,8 @@ cash_posting_line row balance =
     ∷ right_aligned_text 13 (trade_id_or_hyphen row.trade)
     ++ amount_column row.amount ++ amount_column balance ++ 32 ∷ row.name
 
--- One line for each of `rows`, with the running balance: `opening` plus the amounts of the rows up
--- to and including this one.
+-- One line for each of `rows`, with the balance after it: `opening`, in cents, plus the amounts of
+-- the rows up to and including this one.
 abbrev pub cash_posting_lines : ℤ → List MoveRow → List Text
 cash_posting_lines opening rows = lines_with_running_total (λ row. row.amount) cash_posting_line opening rows
 
@@ -76,7 +77,8 @@ market_value_of_holdings all = total_by market_value_of_holding all
 unfoldable pub holding_line_start : Text → Text
 holding_line_start symbol = left_aligned_text 6 (codes "Held") ++ 32 ∷ left_aligned_text 15 symbol ++ 32 ∷ right_aligned_text 13 []
 
--- The columns of the quantity `qty` and of the last price `price`, each after a space.
+-- The columns of the quantity `qty` and of the last price `price`, which is given in cents, each
+-- after a space.
 unfoldable pub quantity_and_price_columns : ℤ → ℕ → Text
 quantity_and_price_columns qty price = 32 ∷ right_aligned_text 11 (signed_decimal qty) ++ 32 ∷ right_aligned_text 10 (nonnegative_cents_text price)
 
@@ -100,8 +102,9 @@ priced_holdings_of_account tables account = map (priced_holding tables) (filter 
 abbrev pub account_counts_line : ℕ → ℕ → ℕ → Text
 account_counts_line cash lots symbols = codes "Cash rows " ++ decimal cash ++ codes ", lots " ++ decimal lots ++ codes ", symbols " ++ decimal symbols
 
--- The last lines of the explanation of an account: the market value of its holdings, its assets
--- (`balance` plus `holdings`), and the line of the counts.
+-- The last lines of the explanation of an account, from its balance and the market value `holdings`
+-- of its holdings, both given in cents: the market value, the assets, which are the sum of both,
+-- and the line of the counts.
 unfoldable pub account_total_lines : ℤ → ℤ → ℕ → ℕ → ℕ → List Text
 account_total_lines balance holdings cash lots symbols =
     labeled_amount (codes "Holdings") holdings
@@ -122,4 +125,5 @@ account_explanation_lines tables a =
     ++ cash_posting_lines a.opening (account_cash_rows_by_stamp tables a.id)
     ++ balance_header_lines a
     ++ map open_lot_line (holding_rows_of_account tables a.id)
-    ++ holding_and_total_lines a (priced_holdings_of_account tables a.id) (length (account_cash_rows_by_stamp tables a.id)) (length (holding_rows_of_account tables a.id))
+    ++ holding_and_total_lines a (priced_holdings_of_account tables a.id) (length (account_cash_rows_by_stamp tables a.id))
+    (length (holding_rows_of_account tables a.id))

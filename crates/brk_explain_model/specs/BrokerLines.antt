@@ -19,7 +19,7 @@ broker_row_with_id tables broker = find (λ b. b.id == broker) tables.brokers
 abbrev pub accounts_with_broker : Tables → ℕ → List AccountRow
 accounts_with_broker tables broker = filter (λ a. a.broker == broker) tables.accounts
 
--- The broker of `account`, or 0 if the account does not exist.
+-- The id of the broker of the account with the id `account`, or 0 if the account does not exist.
 abbrev pub broker_of_account_or_zero : Tables → ℕ → ℕ
 broker_of_account_or_zero tables account = option_map_or (λ a. a.broker) (account_row_with_id tables account) 0
 
@@ -29,7 +29,7 @@ completed_trades_of_broker tables broker =
     sort_by_key (λ u. u.stamp) (filter (λ u. has_completed_status u && (broker_of_account_or_zero tables u.account == broker)) tables.trades)
 
 -- The line of the completed trade `u`: the word `Trade`, its timestamp, id, account and commission,
--- and `total`.
+-- and `total`, the sum of the commissions up to and including it.
 unfoldable pub trade_commission_line : TradeRow → ℤ → Text
 trade_commission_line u total =
     left_aligned_text 6 (codes "Trade") ++ 32 ∷ timestamp_text u.stamp ++ 32 ∷ right_aligned_text 13 (decimal u.id) ++ 32
@@ -60,8 +60,9 @@ broker_total_lines b accounts trades =
     labeled_amount (codes "Commissions") (pos b.commissions) ∷ labeled_value (codes "Trades") (signed_decimal b.trades) ∷ broker_counts_line accounts trades
     ∷ []
 
--- All lines of the explanation of the broker `b` with the number of its accounts and its completed
--- trades `done`.
+-- All lines of the explanation of the broker `b`: the title, its name, a line for each of its
+-- completed trades `done` with the running total of commissions, the totals that the row `b`
+-- records, and the number of its accounts (`accounts`) and of its trades.
 unfoldable pub broker_story_lines : BrokerRow → ℕ → List TradeRow → List Text
 broker_story_lines b accounts done = broker_header_lines b ++ trade_commission_lines done ++ broker_total_lines b accounts (length done)
 

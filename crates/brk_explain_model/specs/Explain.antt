@@ -1,4 +1,4 @@
--- The requests for explanations, their words, and the explanation of each.
+-- The requests for explanations, their arguments, and the explanation of each.
 use Rattle.std.specs.Prelude.{ℕ, List, [], ◌∷◌, Option, Some, None, Result, Ok, Err, codes}
 use Rattle.brk_money.specs.Spelling.{Text}
 use Rattle.brk_money.specs.declared.refusal.Refusal.{Refusal}
@@ -14,26 +14,27 @@ use Rattle.brk_explain_model.specs.HoldingLines.{holding_explanation_lines}
 use Rattle.brk_explain_model.specs.BrokerLines.{broker_row_with_id, broker_explanation_lines}
 
 -- A request for an explanation: of a trade, of an account, of the holding of an account in a
--- symbol, or of a broker.
+-- symbol, or of a broker. Trades, accounts and brokers are given by their ids.
 pub data ExplainRequest : Type 0 where
   TradeOf : (trade : ℕ) → ExplainRequest
   AccountOf : (account : ℕ) → ExplainRequest
   HoldingOf : (account : ℕ) → (symbol : Text) → ExplainRequest
   BrokerOf : (broker : ℕ) → ExplainRequest
 
--- The id that the only word parses as, or `BadText` if there is not exactly one word or if it is
--- malformed.
+-- The id that the only argument parses as, or the refusal `BadText` if there is not exactly one
+-- argument or if it is malformed.
 abbrev pub read_single_id : List Text → ReadResult ℕ
 read_single_id (id ∷ []) = read_id id
 read_single_id _ = Err BadText
 
--- The request for a holding that exactly two words parse as, the id of an account and a symbol, or
--- `BadText` if there are not exactly two words or if one is malformed.
+-- The request for a holding that exactly two arguments parse as, the id of an account and a symbol,
+-- or the refusal `BadText` if there are not exactly two arguments or if one is malformed.
 abbrev pub read_holding_request : List Text → ReadResult ExplainRequest
 read_holding_request (account ∷ symbol ∷ []) = Ok (λ a s. HoldingOf a s) ⊛ read_id account ⊛ read_symbol symbol
 read_holding_request _ = Err BadText
 
--- The parsers of the four forms of a request, each with the first word of its form.
+-- The parsers of the four kinds of requests, each with the first argument of its kind: `trade`,
+-- `account`, `holding` or `broker`.
 abbrev pub explain_request_readers : List (NamedParser ExplainRequest)
 explain_request_readers =
     (codes "trade", read_and_wrap TradeOf read_single_id)
@@ -42,11 +43,11 @@ explain_request_readers =
     ∷ (codes "broker", read_and_wrap BrokerOf read_single_id)
     ∷ []
 
--- The request that `words` parse as, or `BadText` if they are malformed.
+-- The request that the arguments `words` parse as, or the refusal `BadText` if they are malformed.
 unfoldable pub read_explain_request : List Text → ReadResult ExplainRequest
 read_explain_request words = parse_by_first_field explain_request_readers words
 
--- The lines of the row, or `refusal` if there is no row.
+-- The lines that `lines` returns for the row, or the error `refusal` if there is no row.
 abbrev pub lines_or_refusal : {Row : Type 0} → Refusal → (Row → List Text) → Option Row → Result (List Text) Refusal
 lines_or_refusal refusal lines None = Err refusal
 lines_or_refusal refusal lines (Some row) = Ok (lines row)
@@ -58,8 +59,8 @@ abbrev pub holding_lines_or_refusal : Tables → Text → Option AccountRow → 
 holding_lines_or_refusal tables symbol None = Err NoAccount
 holding_lines_or_refusal tables symbol (Some a) = lines_or_refusal NoSecurity (holding_explanation_lines tables a) (security_row_with_symbol tables symbol)
 
--- The lines of an explanation. It is refused with `NoTrade`, `NoAccount`, `NoSecurity` or
--- `NoBroker` if there is no such trade, account, security or broker.
+-- The lines of the explanation that is requested. It is refused with `NoTrade`, `NoAccount`,
+-- `NoSecurity` or `NoBroker` if there is no such trade, account, security or broker.
 unfoldable pub explanation : Tables → ExplainRequest → Result (List Text) Refusal
 explanation tables (TradeOf trade) = lines_or_refusal NoTrade (λ u. trade_explanation_lines (details_of_trade tables u)) (trade_row_with_id tables trade)
 explanation tables (AccountOf account) = lines_or_refusal NoAccount (account_explanation_lines tables) (account_row_with_id tables account)

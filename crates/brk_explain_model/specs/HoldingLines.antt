@@ -4,10 +4,14 @@ use Rattle.brk_money.specs.Spelling.{Text}
 use Rattle.brk_money.specs.Kinds.{trade_type_code}
 use Rattle.brk_model.specs.Tables.{Tables, AccountRow, SecurityRow, TradeRow}
 use Rattle.brk_model.specs.Joins.{last_price_in_tables}
-use Rattle.brk_explain_model.specs.Texts.{labeled_value, timestamp_text, labeled_amount, blank_timestamp_text, leading_row_columns, shares_column, value_column, labeled_text}
+use Rattle.brk_explain_model.specs.Texts.{labeled_value, timestamp_text, labeled_amount, blank_timestamp_text, leading_row_columns, shares_column, value_column}
+use Rattle.brk_explain_model.specs.Texts.{labeled_text}
 use Rattle.brk_explain_model.specs.Running.{lines_with_running_total}
 use Rattle.brk_explain_model.specs.Trades.{completion_price_or_zero}
-use Rattle.brk_explain_model.specs.Holdings.{LotChange, LotStory, realised_gain_of_change, count_of_lot_changes, remaining_cost_of_lot, remaining_cost_of_lots, completed_trades_in_symbol, realised_gain_of_lots, remaining_quantity_of_lot, lots_opened_in_symbol, lots_not_fully_closed, total_purchase_value, total_sale_value, signed_qty, signed_value, summary_quantity_in_symbol}
+use Rattle.brk_explain_model.specs.Holdings.{LotChange, LotStory, realised_gain_of_change, count_of_lot_changes, remaining_cost_of_lot, remaining_cost_of_lots}
+use Rattle.brk_explain_model.specs.Holdings.{completed_trades_in_symbol, realised_gain_of_lots, remaining_quantity_of_lot, lots_opened_in_symbol}
+use Rattle.brk_explain_model.specs.Holdings.{lots_not_fully_closed, total_purchase_value, total_sale_value, signed_qty, signed_value}
+use Rattle.brk_explain_model.specs.Holdings.{summary_quantity_in_symbol}
 use Rattle.std.specs.Fmt.{signed_decimal}
 
 -- The title of the explanation of the holding of `account` in the security `symbol`.
@@ -25,8 +29,7 @@ holding_header_lines a s =
     ∷ []
 
 -- The line of the completed trade `u`: the word `Trade`, its timestamp, id, signed quantity, price
--- and signed value, `held`, and the code of its type. `held` is the quantity of the holding after
--- it.
+-- and signed value, `held`, the quantity of the holding after it, and the code of its type.
 unfoldable pub holding_trade_line : TradeRow → ℤ → Text
 holding_trade_line u held =
     leading_row_columns (codes "Trade") (timestamp_text u.stamp) u.id (signed_qty u) (completion_price_or_zero u) ++ value_column (signed_value u)
@@ -106,8 +109,9 @@ holding_total_lines done lots shares price =
 abbrev pub holding_trade_lines : List TradeRow → List Text
 holding_trade_lines done = lines_with_running_total signed_qty holding_trade_line (pos 0) done
 
--- All lines of the explanation of the holding of the account `a` in the security `s`, from its
--- completed trades `done`, its `lots`, its quantity `shares` and the last price `price`.
+-- All lines of the explanation of the holding of the account `a` in the security `s`: the first
+-- lines, a line for each of its completed trades `done`, the lines of its `lots`, and the last
+-- lines, from its quantity `shares` and the last price `price`, which is given in cents.
 unfoldable pub holding_story_lines : AccountRow → SecurityRow → List TradeRow → List LotStory → ℤ → ℕ → List Text
 holding_story_lines a s done lots shares price =
     holding_header_lines a s ++ holding_trade_lines done ++ lot_columns_header ∷ flat_map lot_history_lines lots ++ holding_total_lines done lots shares price
@@ -116,4 +120,5 @@ holding_story_lines a s done lots shares price =
 -- lines, its completed trades, its lots with their changes, and the last lines.
 unfoldable pub holding_explanation_lines : Tables → AccountRow → SecurityRow → List Text
 holding_explanation_lines tables a s =
-    holding_story_lines a s (completed_trades_in_symbol tables a.id s.symbol) (lots_opened_in_symbol tables a.id s.symbol) (summary_quantity_in_symbol tables a.id s.symbol) (last_price_in_tables tables s.symbol)
+    holding_story_lines a s (completed_trades_in_symbol tables a.id s.symbol) (lots_opened_in_symbol tables a.id s.symbol)
+    (summary_quantity_in_symbol tables a.id s.symbol) (last_price_in_tables tables s.symbol)

@@ -1,6 +1,7 @@
 -- The facts that the explanation of a holding reads from the tables, and the amounts that follow
 -- from them.
-use Rattle.std.specs.Prelude.{ℕ, Bool, not, ◌&&◌, ◌==◌, List, map, filter, find, flat_map, length, None, is_some, unwrap_or, ℤ, pos, ◌-ℤ◌, ◌*ℤ◌, int_lt, bytes_eq}
+use Rattle.std.specs.Prelude.{ℕ, Bool, not, ◌&&◌, ◌==◌, List, map, filter, find, flat_map, length, None, is_some, unwrap_or, ℤ, pos, ◌-ℤ◌, ◌*ℤ◌, int_lt}
+use Rattle.std.specs.Prelude.{bytes_eq}
 use Rattle.std.specs.List.{last_or}
 use Rattle.std.specs.Option.{option_map_or}
 use Rattle.brk_money.specs.Spelling.{Text}
@@ -24,8 +25,8 @@ signed_qty u = signed_by_side (side_of_trade_type u.kind) u.qty
 abbrev pub signed_value : TradeRow → ℤ
 signed_value u = signed_qty u *ℤ pos (completion_price_or_zero u)
 
--- A change of a lot by a later trade: that trade, with its stamp and price, and the lot's quantity
--- before and after the change.
+-- A change of a lot by a later trade: the id of that trade, with its stamp and its price, in cents,
+-- and the lot's quantity before and after the change, below 0 if it was sold short.
 pub record LotChange : Type 0 where
   pub trade : ℕ
   pub stamp : ℕ
@@ -36,8 +37,13 @@ pub record LotChange : Type 0 where
 -- The change of a lot that the HOLDING_HISTORY row `row` records, with the stamp and the price of
 -- the trade that made it; each is 0 if this trade does not exist.
 abbrev pub recorded_lot_change : Tables → HoldingHistoryRow → LotChange
-recorded_lot_change tables row =
-    record { trade = row.trade; stamp = trade_stamp_or_zero tables row.trade; price = trade_price_or_zero tables row.trade; before = row.before; after = row.after }
+recorded_lot_change tables row = record {
+  trade = row.trade;
+  stamp = trade_stamp_or_zero tables row.trade;
+  price = trade_price_or_zero tables row.trade;
+  before = row.before;
+  after = row.after;
+}
 
 -- True if `row` records a change of `lot` by another trade than the one that opened it.
 abbrev pub is_later_change_of_lot : ℕ → HoldingHistoryRow → Bool
@@ -101,7 +107,7 @@ realised_gain_in_symbol tables account symbol = realised_gain_of_lots (lots_open
 abbrev pub remaining_cost_of_lots : List LotStory → ℤ
 remaining_cost_of_lots lots = total_by remaining_cost_of_lot lots
 
--- The number of the changes of all `lots`.
+-- The number of the changes of all `lots` by later trades.
 abbrev pub count_of_lot_changes : List LotStory → ℕ
 count_of_lot_changes lots = length (flat_map (λ lot. lot.changes) lots)
 

@@ -1,4 +1,4 @@
--- Running totals over a list, and the lines that tell them.
+-- Running totals over a list, and lines that contain them.
 use Rattle.std.specs.Prelude.{List, [], ◌∷◌, ℤ, ◌+ℤ◌}
 use Rattle.brk_money.specs.Spelling.{Text}
 

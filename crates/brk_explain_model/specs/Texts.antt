@@ -1,4 +1,4 @@
--- The texts of moments, and the kinds of lines of which an explanation consists.
+-- The texts of timestamps, and the kinds of lines of which an explanation consists.
 use Rattle.std.specs.Prelude.{ℕ, ◌/◌, ◌%◌, ◌∷◌, ◌++◌, ℤ, decimal, replicate}
 use Rattle.std.specs.Fmt.{signed_decimal}
 use Rattle.brk_money.specs.Spelling.{Text, cents_text, day_text, padded_decimal}
@@ -6,12 +6,12 @@ use Rattle.brk_money.specs.Moments.{day_of}
 use Rattle.brk_model.specs.Rows.{nonnegative_cents_text}
 use Rattle.brk_model.specs.Statement.{left_aligned_text, right_aligned_text}
 
--- The time of day `n` milliseconds after midnight, such as 09:05:00.021.
+-- The text of the time of day `n` milliseconds after midnight, such as 09:05:00.021.
 unfoldable pub time_of_day_text : ℕ → Text
 time_of_day_text n =
     padded_decimal 2 (n / 3600000) ++ 58 ∷ padded_decimal 2 (n / 60000 % 60) ++ 58 ∷ padded_decimal 2 (n / 1000 % 60) ++ 46 ∷ padded_decimal 3 (n % 1000)
 
--- The timestamp of `stamp` in UTC, such as 2024-03-01 09:05:00.021.
+-- The text of the stamp `stamp` in UTC, such as 2024-03-01 09:05:00.021.
 unfoldable pub timestamp_text : ℕ → Text
 timestamp_text stamp = day_text (day_of stamp) ++ 32 ∷ time_of_day_text (stamp % 86400000)
 
@@ -35,8 +35,9 @@ labeled_number label n = labeled_value label (decimal n)
 unfoldable pub labeled_amount : Text → ℤ → Text
 labeled_amount label amount = labeled_value label (cents_text amount)
 
--- The first columns of a row about a trade or a lot: `word` in 6 places, `moment` as it is, and,
--- right-aligned, `id` in 13, `shares` in 11, and `price` in 10 places.
+-- The first columns of a row about a trade or a lot: `word`, left-aligned in 6 places, `moment`,
+-- the text of a timestamp, and, right-aligned, `id` in 13, `shares` in 11, and `price`, which is
+-- given in cents, in 10 places.
 unfoldable pub leading_row_columns : Text → Text → ℕ → ℤ → ℕ → Text
 leading_row_columns word moment id shares price =
     left_aligned_text 6 word ++ 32 ∷ moment ++ 32 ∷ right_aligned_text 13 (decimal id) ++ 32 ∷ right_aligned_text 11 (signed_decimal shares) ++ 32

@@ -13,13 +13,17 @@ use Rattle.brk_model.specs.Records.{Band, TaxRate}
 use Rattle.brk_model.specs.Rows.{cash_or_margin_word, nonnegative_cents_text}
 use Rattle.brk_model.specs.Tables.{HistoryRow, HoldingHistoryRow, MoveRow, TradeRow}
 use Rattle.brk_model.specs.Statement.{left_aligned_text, right_aligned_text}
-use Rattle.brk_explain_model.specs.Texts.{labeled_number, labeled_value, timestamp_text, labeled_amount, leading_row_columns, shares_column, value_column, labeled_text}
-use Rattle.brk_explain_model.specs.Trades.{Closing, OrderStory, ResultStory, TradeStory, balance_after_trade, balance_before_trade, buy_value_of_closing, buy_value_of_closings, balance_change_of_trade, commission_in_current_band, days_to_settle, realised_gain_of_closings, opened_quantity, sum_of_tax_rates, sell_value_of_closings, sell_value_of_closing, shares_of_closing, total_closed_shares, tax_at_current_rates, signed_trade_value, withheld_tax_of_trade}
+use Rattle.brk_explain_model.specs.Texts.{labeled_number, labeled_value, timestamp_text, labeled_amount, leading_row_columns, shares_column, value_column}
+use Rattle.brk_explain_model.specs.Texts.{labeled_text}
+use Rattle.brk_explain_model.specs.Trades.{Closing, OrderStory, ResultStory, TradeStory, balance_after_trade, balance_before_trade, buy_value_of_closing}
+use Rattle.brk_explain_model.specs.Trades.{buy_value_of_closings, balance_change_of_trade, commission_in_current_band, days_to_settle}
+use Rattle.brk_explain_model.specs.Trades.{realised_gain_of_closings, opened_quantity, sum_of_tax_rates, sell_value_of_closings, sell_value_of_closing}
+use Rattle.brk_explain_model.specs.Trades.{shares_of_closing, total_closed_shares, tax_at_current_rates, signed_trade_value, withheld_tax_of_trade}
 
 -- ---- the order
 
--- The words for the order in which a trade closes lots: last in first out if `is_lifo`, otherwise
--- first in first out.
+-- The text for the order in which a trade closes lots: `last in first out` if `is_lifo`, otherwise
+-- `first in first out`.
 abbrev pub closing_order_words : Bool → Text
 closing_order_words is_lifo = if is_lifo then codes "last in first out" else codes "first in first out"
 
@@ -55,8 +59,8 @@ trade_type_line o = labeled_text (codes "Type") (trade_type_code o.trade.kind) +
 abbrev pub trade_security_line : OrderStory → Text
 trade_security_line o = labeled_text (codes "Security") (left_aligned_text 15 o.trade.symbol) ++ 32 ∷ o.security_name
 
--- The lines of the terms of the order: its type, security, quantity and price, whether it settles
--- in cash or on margin, and the order in which it closes lots.
+-- The lines of the terms of the order: its type, security, quantity and price, `cash` or `margin`,
+-- and the order in which it closes lots.
 unfoldable pub order_terms_lines : OrderStory → List Text
 order_terms_lines o =
     trade_type_line o
@@ -86,7 +90,8 @@ commission_remark Canceled = codes "never charged"
 commission_remark _ = codes "estimated"
 
 -- The event that a pending trade waits for, by its type: a tick at or below `price` for a stop loss
--- or a limit buy, a tick at or above it for a limit sell, and a cancel for a market type.
+-- or a limit buy, a tick at or above it for a limit sell, and a cancel for a market type. `price`
+-- is given in cents.
 abbrev pub trigger_condition_text : TradeType → ℕ → Text
 trigger_condition_text StopLoss price = codes "a tick at or below " ++ nonnegative_cents_text price
 trigger_condition_text LimitBuy price = codes "a tick at or below " ++ nonnegative_cents_text price
@@ -171,7 +176,7 @@ unfoldable pub tax_rate_line : TaxRate → Text
 tax_rate_line rate =
     left_aligned_text 6 (codes "Rate") ++ 32 ∷ right_aligned_text 13 (decimal rate.id) ++ 32 ∷ right_aligned_text 11 (decimal rate.rate) ++ 32 ∷ rate.name
 
--- The line of the number of the account's tax status.
+-- The line of the number of the account's tax status, 0 to 2, as a list of one.
 unfoldable pub account_tax_status_lines : OrderStory → List Text
 account_tax_status_lines o = labeled_number (codes "Tax status") (tax_status_number o.tax_status) ∷ []
 
@@ -189,12 +194,12 @@ current_and_recorded_tax_lines o r =
 unfoldable pub trade_tax_lines : OrderStory → ResultStory → List Text
 trade_tax_lines o r = account_tax_status_lines o ++ map tax_rate_line r.rates ++ current_and_recorded_tax_lines o r
 
--- The words after the rate of the commission band `b`: of 10000, for the quantities from the first
--- bound to the last.
+-- The text after the rate of the commission band `b`: that the rate is of 10000, and the first and
+-- the last quantity of the band.
 unfoldable pub band_bounds_text : Band → Text
 band_bounds_text b = codes " of 10000 for " ++ decimal b.from_qty ++ codes " to " ++ decimal b.to_qty
 
--- The words after the quantities of the commission band `b`: its tier and its exchange.
+-- The text after the quantities of the commission band `b`: its tier and its exchange.
 unfoldable pub band_tier_and_exchange_text : Band → Text
 band_tier_and_exchange_text b = codes ", tier " ++ decimal b.tier ++ codes ", " ++ b.exchange
 
@@ -204,8 +209,8 @@ unfoldable pub commission_band_line : Option Band → Text
 commission_band_line None = labeled_value (codes "Band now") (codes "none")
 commission_band_line (Some b) = labeled_number (codes "Band now") b.rate ++ band_bounds_text b ++ band_tier_and_exchange_text b
 
--- The line of the commission at the rate of the current band, or of `none` if there
--- is no band.
+-- The line of the commission at the rate of the current band, which is given in cents, or of `none`
+-- if there is no band.
 unfoldable pub current_commission_line : Option ℕ → Text
 current_commission_line None = labeled_value (codes "Commission now") (codes "none")
 current_commission_line (Some amount) = labeled_amount (codes "Commission now") (pos amount)
@@ -254,13 +259,15 @@ trade_balance_lines o r =
     ∷ labeled_amount (codes "Balance after") (balance_after_trade o r)
     ∷ []
 
--- The last line of the explanation of a completed trade, with the numbers of `statuses`, of closed
--- `lots` and of earlier cash rows (`cash`).
+-- The last line of the explanation of a completed trade, with the number of its status changes
+-- (`statuses`), of the lots of which it closed shares (`lots`), and of the earlier cash rows of its
+-- account (`cash`).
 abbrev pub trade_counts_line : ℕ → ℕ → ℕ → Text
 trade_counts_line statuses lots cash =
     codes "Statuses " ++ decimal statuses ++ codes ", lots closed " ++ decimal lots ++ codes ", cash rows before " ++ decimal cash
 
--- The last line of the explanation of a completed trade, with its counts.
+-- The last line of the explanation of a completed trade, as a list of one: the numbers of its
+-- status changes, of the lots of which it closed shares, and of the account's earlier cash rows.
 unfoldable pub trade_counts_lines : OrderStory → ResultStory → List Text
 trade_counts_lines o r = trade_counts_line (length o.statuses) (length r.closings) r.cash_rows ∷ []
 

@@ -1,6 +1,7 @@
 -- The facts that the explanation of a trade reads from the tables, and the amounts that follow from
 -- them. The tables are read in the order of their keys.
-use Rattle.std.specs.Prelude.{ℕ, ◌*◌, Bool, not, ◌&&◌, ◌==◌, nat_le, nat_lt, if◌then◌else◌, List, [], map, filter, find, flat_map, reverse, sum_by, length, Option, Some, None, unwrap_or, option_to_list, ℤ, pos, nat_abs, ◌+ℤ◌, ◌-ℤ◌, bytes_eq}
+use Rattle.std.specs.Prelude.{ℕ, ◌*◌, Bool, not, ◌&&◌, ◌==◌, nat_le, nat_lt, if◌then◌else◌, List, [], map, filter, find, flat_map, reverse, sum_by, length}
+use Rattle.std.specs.Prelude.{Option, Some, None, unwrap_or, option_to_list, ℤ, pos, nat_abs, ◌+ℤ◌, ◌-ℤ◌, bytes_eq}
 use Rattle.std.specs.Option.{option_map, option_map_or}
 use Rattle.brk_money.specs.Spelling.{Text}
 use Rattle.brk_money.specs.Amounts.{commission, tax}
@@ -22,8 +23,9 @@ use Rattle.brk_model.specs.Statement.{cash_move_rows_of_account, cash_row_total}
 
 -- ---- facts
 
--- A trade as ordered, with the name, the parties, the tax status and the opening balance of its
--- account, the name of its security, and its status changes, the oldest first.
+-- A trade as ordered, with the name, the customer, the broker, the tax status and the opening
+-- balance, in cents, of its account, the name of its security, and its status changes, the oldest
+-- first.
 pub record OrderStory : Type 0 where
   pub trade : TradeRow
   pub account_name : Text
@@ -34,8 +36,9 @@ pub record OrderStory : Type 0 where
   pub security_name : Text
   pub statuses : List HistoryRow
 
--- A lot of which a trade closed shares: the trade that opened the lot, with its stamp and price,
--- and the lot's quantity before and after the closing.
+-- A lot of which a trade closed shares: the id of the trade that opened the lot (`lot`), with its
+-- stamp and its price, in cents, and the lot's quantity before and after the closing, below 0 if it
+-- was sold short.
 pub record Closing : Type 0 where
   pub lot : ℕ
   pub stamp : ℕ
@@ -43,10 +46,11 @@ pub record Closing : Type 0 where
   pub before : ℤ
   pub after : ℤ
 
--- The results of a completed trade: its price; its closings, in the order of closing; the lot that
--- it opened, if any; its customer's tax rates and its commission band, as they are now; its
--- settlement; its cash row, if any; the sum and the number of the account's cash rows before its
--- completion; and the settlement day as it is now (`rule`).
+-- The results of a completed trade: its price, in cents; its closings, in the order of closing; the
+-- HOLDING_HISTORY row of the lot that it opened, if any; its customer's tax rates and its
+-- commission band, as they are now; its settlement; its cash row, if any; the sum, in cents, and
+-- the number of the account's cash rows before its completion; and the settlement day as it is now
+-- (`rule`).
 pub record ResultStory : Type 0 where
   pub price : ℕ
   pub closings : List Closing
@@ -65,7 +69,7 @@ pub record TradeStory : Type 0 where
   pub order : OrderStory
   pub result : Option ResultStory
 
--- The price of the trade `u`, in cents, or 0 if it has none.
+-- The completion price of the trade `u`, in cents, or 0 if it has none.
 abbrev pub completion_price_or_zero : TradeRow → ℕ
 completion_price_or_zero u = unwrap_or u.price 0
 
@@ -91,12 +95,13 @@ order_details_of_trade tables u = record {
   statuses = sorted_statuses_of_trade tables u.id;
 }
 
--- The price of the trade with id `lot`, in cents; 0 if it does not exist or has no price.
+-- The completion price of the trade with the id `lot`, in cents; 0 if it does not exist or has no
+-- price.
 abbrev pub trade_price_or_zero : Tables → ℕ → ℕ
 trade_price_or_zero tables lot = option_map_or completion_price_or_zero (trade_row_with_id tables lot) 0
 
--- The stamp of the trade with id `lot`, which is that of its completion if it opened a lot; 0 if
--- the trade does not exist.
+-- The stamp of the last status change of the trade with the id `lot`, which is that of its
+-- completion if it opened a lot; 0 if the trade does not exist.
 abbrev pub trade_stamp_or_zero : Tables → ℕ → ℕ
 trade_stamp_or_zero tables lot = option_map_or (λ t. t.stamp) (trade_row_with_id tables lot) 0
 
@@ -124,8 +129,8 @@ closings_of_trade tables u =
 abbrev pub opened_lot_row : Tables → ℕ → Option HoldingHistoryRow
 opened_lot_row tables trade = find (λ row. (row.trade == trade) && (row.lot == trade)) tables.holding_history
 
--- The tax rates of `customer`, in the order of the table CUSTOMER_TAXRATE, without those that do
--- not exist.
+-- The tax rates of the customer with the id `customer`, in the order of the table CUSTOMER_TAXRATE;
+-- a tax whose TAXRATE row does not exist is left out.
 abbrev pub tax_rates_of_customer : Tables → ℕ → List TaxRate
 tax_rates_of_customer tables customer =
     flat_map (λ x. option_to_list (find (λ r. r.id == x.tax) tables.tax_rates)) (filter (λ x. x.customer == customer) tables.customer_taxes)
@@ -147,7 +152,8 @@ band_for_customer_and_security tables u (Some c) (Some s) = band_for_tier_and_ex
 -- The commission band of the trade `u` for its customer and its security, or none.
 abbrev pub band_of_trade : Tables → TradeRow → Option Band
 band_of_trade tables u =
-    band_for_customer_and_security tables u (find (λ c. c.id == (order_details_of_trade tables u).customer) tables.customers) (security_row_with_symbol tables u.symbol)
+    band_for_customer_and_security tables u (find (λ c. c.id == (order_details_of_trade tables u).customer) tables.customers)
+    (security_row_with_symbol tables u.symbol)
 
 -- A SETTLEMENT row whose numbers are 0 and whose cash type is empty.
 abbrev pub zero_settlement_row : SettlementRow
@@ -229,7 +235,9 @@ sum_of_tax_rates rates = sum_by (λ rate. rate.rate) rates
 -- account is not taxable.
 abbrev pub tax_at_current_rates : OrderStory → ResultStory → ℕ
 tax_at_current_rates o r =
-    if is_taxable_status o.tax_status then tax (realised_gain_of_closings (side_of_trade_type o.trade.kind) r.price r.closings) (sum_of_tax_rates r.rates) else 0
+    if is_taxable_status o.tax_status
+    then tax (realised_gain_of_closings (side_of_trade_type o.trade.kind) r.price r.closings) (sum_of_tax_rates r.rates)
+    else 0
 
 -- The commission of the trade at the rate of its current band, in cents; none if there is no band.
 abbrev pub commission_in_current_band : OrderStory → ResultStory → Option ℕ

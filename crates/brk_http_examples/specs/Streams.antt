@@ -5,7 +5,7 @@ use Rattle.brk_model_examples.specs.Setting.{setting_base}
 use Rattle.brk_http_model.specs.Computed.{replies_to_requests}
 use Rattle.brk_http_model.specs.Found.{Request}
 
--- Twenty clock readings, all of them the start of 2024-03-01.
+-- Twenty clock readings, all of them the start of 2024-03-01, in milliseconds since 1970-01-01 UTC.
 abbrev pub clock_readings : List ℕ
 clock_readings = replicate 20 1709251200000
 
@@ -19,20 +19,22 @@ post_request target body = record { method = codes "POST"; target = target; clos
 abbrev pub get_request : Text → Request
 get_request target = record { method = codes "GET"; target = target; closes = false; body = [] }
 
--- The request `request`, which asks to close the stream (`Connection: close`).
+-- The request `request`, changed so that it asks to close the stream (`Connection: close`).
 abbrev pub closing_request : Request → Request
 closing_request request = record request { closes = true }
 
--- The bytes of a reply: the status `status`, the further fields `fields`, the length `len` and the
--- body `body`.
+-- The bytes of a reply: the status `status`, the further fields of the head `fields`, the length
+-- `len` of the body in digits, and the body `body`.
 abbrev pub expected_reply_bytes : Text → List Text → Text → Text → Text
 expected_reply_bytes status fields len body =
     codes "HTTP/1.1 " ++ status ++ codes "\r\nContent-Type: application/json\r\nContent-Length: " ++ len ++ codes "\r\n" ++ lines fields ++ codes "\r\n" ++ body
   where
+    -- The texts, each ended by CR LF.
     lines : List Text → Text
     lines [] = []
     lines (f ∷ fs) = f ++ codes "\r\n" ++ lines fs
 
--- The requests, executed from the setting on, have exactly these replies.
+-- The requests of one stream, executed in sequence from `setting_base` on, have exactly these
+-- replies.
 abbrev pub HasRepliesInSetting : List Request → List Text → Type 0
 HasRepliesInSetting requests replies = replies_to_requests 0 setting_base clock_readings requests ≡ replies

@@ -13,7 +13,8 @@ ghost use Rattle.brk_http_model.specs.declared.head_end.HeadEnd.TheVariants.{At,
 ghost use Rattle.brk_http_model.specs.declared.problem.Problem.TheVariants.{BadRequest, NotAllowed, NotFound, NotImplemented, TooLarge};
 ghost use Rattle.brk_http_examples.specs.Streams.{get_request, post_request};
 
-/// Shows that a head ends with its first empty line, which must end within the limit.
+/// Shows that a head ends with its first empty line, which must end within the limit, and the
+/// result for inputs without one.
 pub fn head_ends_at_first_empty_line()
     ensures first { head_end (codes "GET / HTTP/1.1\r\n\r\nGET") ≡ At 18 }
     ensures line_feeds { head_end (codes "a\n\nb\r\n\r\n") ≡ At 3 }
@@ -40,11 +41,13 @@ pub fn content_length_gives_body_length()
     ensures transfer_encoding { body_length_of_fields ((codes "Content-Length", codes "x") ∷ (codes "Transfer-Encoding", []) ∷ []) ≡ Err NotImplemented }
 {}
 
-/// Shows the routes of some targets, targets without a route, and a text that is split at its
-/// commas.
+/// Shows that `/rows`, `/rows/BATCH/N` and `/ask/VIEW` have routes, and that targets with an
+/// unknown view, a malformed row number, an encoded byte, an empty batch name, a query string or a
+/// host have none. Shows also a text that is split at its commas.
 pub fn routes_of_request_targets()
     ensures row_without_key { route_of_target model_parsers.views (codes "/rows") ≡ Some (ToRow None) }
-    ensures row_with_key { route_of_target model_parsers.views (codes "/rows/A.b-c_1/1000000000000") ≡ Some (ToRow (Some (record { batch = codes "A.b-c_1"; row = 1000000000000 }))) }
+    ensures row_with_key { route_of_target model_parsers.views (codes "/rows/A.b-c_1/1000000000000")
+        ≡ Some (ToRow (Some (record { batch = codes "A.b-c_1"; row = 1000000000000 }))) }
     ensures view { route_of_target model_parsers.views (codes "/ask/lots") ≡ Some (ToView (codes "lots")) }
     ensures unknown_view { route_of_target model_parsers.views (codes "/ask/nope") ≡ None }
     ensures row_number_zero { route_of_target model_parsers.views (codes "/rows/A/0") ≡ None }
@@ -57,7 +60,9 @@ pub fn routes_of_request_targets()
     ensures split_text { split_at_byte 44 (codes "1,SBMT,,") ≡ codes "1" ∷ codes "SBMT" ∷ [] ∷ [] ∷ [] }
 {}
 
-/// Shows bodies that are JSON lists of texts, and bodies that are not.
+/// Shows that JSON lists of texts are read, with white space and escaped characters, and that no
+/// other body is: no bytes, a list with a number or a list in it, an object, a lone surrogate,
+/// bytes that are not UTF-8, and a byte order mark.
 pub fn json_lists_of_texts_are_read()
     ensures empty_list { texts_of_body (codes " [ ] ") ≡ Some [] }
     ensures escaped_characters { texts_of_body (codes "[\"\\u0041\\n\",\"\"]") ≡ Some ((65 ∷ 10 ∷ []) ∷ [] ∷ []) }

@@ -16,7 +16,8 @@ pub fn row_is_accepted_once_per_key()
         ∷ expected_reply_bytes (codes "409 Conflict") [] (codes "13") (codes "{\"no\":[\"15\"]}") ∷ []) }
 {}
 
-/// Shows the replies to five requests that leave the stream open.
+/// Shows that a stream continues after a view, a refusal, an unknown target, a wrong method and a
+/// malformed body: each of the five requests has its reply.
 pub fn stream_continues_after_refusals()
     ensures { HasRepliesInSetting
         (post_request (codes "/ask/submitted") (codes "[]")
@@ -31,7 +32,8 @@ pub fn stream_continues_after_refusals()
         ∷ expected_reply_bytes (codes "400 Bad Request") [] (codes "23") (codes "{\"error\":\"bad request\"}") ∷ []) }
 {}
 
-/// Shows that a request that asks to close its stream has the last reply.
+/// Shows that a request that asks to close its stream has the last reply: the next request has
+/// none.
 pub fn stream_ends_after_close_request()
     ensures { HasRepliesInSetting
         (closing_request (get_request (codes "/rows")) ∷ post_request (codes "/rows") (codes "[]") ∷ [])
@@ -46,8 +48,10 @@ pub fn replies_to_order_over_http()
         ∷ post_request (codes "/rows/H/1") (codes "[\"order\",\"100\",\"TMB\",\"ABC\",\"100\",\"\",\"cash\",\"fifo\",\"Ann\",\"Lee\",\"T10\"]")
         ∷ post_request (codes "/ask/submitted") (codes " [ ] ")
         ∷ post_request (codes "/rows") (codes "[\"cancel\",\"1\"]") ∷ [])
-        (expected_reply_bytes (codes "200 OK") [] (codes "90") (codes "{\"ok\":[\"1709251200016\",\"1\",\"SBMT\",\"10.00\",\"0.00\",\"0.00\",\"0.00\",\"10.00\",\"5.00\",\"10000.00\"]}")
-        ∷ expected_reply_bytes (codes "200 OK") [] (codes "93") (codes "{\"again\":[\"1709251200016\",\"1\",\"SBMT\",\"10.00\",\"0.00\",\"0.00\",\"0.00\",\"10.00\",\"5.00\",\"10000.00\"]}")
+        (expected_reply_bytes (codes "200 OK") [] (codes "90")
+        (codes "{\"ok\":[\"1709251200016\",\"1\",\"SBMT\",\"10.00\",\"0.00\",\"0.00\",\"0.00\",\"10.00\",\"5.00\",\"10000.00\"]}")
+        ∷ expected_reply_bytes (codes "200 OK") [] (codes "93")
+        (codes "{\"again\":[\"1709251200016\",\"1\",\"SBMT\",\"10.00\",\"0.00\",\"0.00\",\"0.00\",\"10.00\",\"5.00\",\"10000.00\"]}")
         ∷ expected_reply_bytes (codes "200 OK") [] (codes "42") (codes "{\"view\":[[\"1\",\"TMB\",\"ABC\",\"100\",\"10.00\"]]}")
         ∷ expected_reply_bytes (codes "409 Conflict") [] (codes "20") (codes "{\"no\":[\"13\",\"SBMT\"]}") ∷ []) }
 {}

@@ -16,7 +16,8 @@ use Rattle.brk_http_model.specs.Replies.{Response, FromProblem, FromOutcome}
 use Rattle.brk_http_model.specs.Routes.{Route, ToRow, ToView, route_of_target}
 use Rattle.brk_http_model.specs.declared.problem.Problem.TheVariants.{NotFound, NotAllowed, BadRequest}
 
--- The parsers of rows and of queries, and the names of the known views.
+-- The parser of rows (`row`), the names of the known views (`views`), and the parser of queries
+-- (`query`), from the name of a view and its arguments.
 pub record RequestParsers : Type 0 where
   pub row : Fields → ReadResult Command
   pub views : List Text

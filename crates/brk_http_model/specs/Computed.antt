@@ -14,7 +14,7 @@ use Rattle.brk_http_model.specs.Found.{Request}
 use Rattle.brk_http_model.specs.Replies.{Response, FromOutcome, is_fault_response, reply_text}
 use Rattle.brk_http_model.specs.Stream.{most_requests_per_stream}
 
--- A response, the clock readings that remain, and the base after it.
+-- The response to a request, the clock readings that remain after it, and the base after it.
 pub record ResponseAndBase : Type 0 where
   pub response : Response
   pub moments : List ℕ

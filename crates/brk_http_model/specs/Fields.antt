@@ -42,23 +42,25 @@ has_only_digits value = nat_lt 0 (length value) && list_all is_ascii_digit value
 abbrev pub body_length_within_limit : ℕ → Result ℕ Problem
 body_length_within_limit n = if nat_lt most_body_bytes n then Err TooLarge else Ok n
 
--- The length of a body that the value of a Content-Length states; the problem `BadRequest` if it is
--- not all digits, and `TooLarge` if it has more than nine digits or is above `most_body_bytes`.
+-- The length of a body, in bytes, that the value of a Content-Length states; the problem
+-- `BadRequest` if the value is not all digits, and `TooLarge` if it has more than nine digits or is
+-- above `most_body_bytes`.
 abbrev pub body_length_of_value : Text → Result ℕ Problem
 body_length_of_value value =
     if has_only_digits value
     then (if nat_lt 9 (length value) then Err TooLarge else body_length_within_limit (digits_value 10 value))
     else Err BadRequest
 
--- The length of a body by the values of all Content-Length fields: 0 if there is none, and the
--- problem `BadRequest` if there are two or more.
+-- The length of a body, in bytes, by the values of all Content-Length fields: 0 if there is none,
+-- the length that a single value states, or its problem, and the problem `BadRequest` if there are
+-- two or more.
 abbrev pub body_length_of_values : List Text → Result ℕ Problem
 body_length_of_values [] = Ok 0
 body_length_of_values (value ∷ []) = body_length_of_value value
 body_length_of_values (value ∷ other ∷ more) = Err BadRequest
 
--- The length of a body by the fields of its head; the problem `NotImplemented` if there is a
--- Transfer-Encoding, which is checked first.
+-- The length of a body, in bytes, by the fields of its head. The problem `NotImplemented` if there
+-- is a Transfer-Encoding, which is checked first; otherwise by the Content-Length fields.
 abbrev pub body_length_of_fields : List HeadField → Result ℕ Problem
 body_length_of_fields pairs =
     if has_field_named (codes "transfer-encoding") pairs then Err NotImplemented else body_length_of_values (values_of_field (codes "content-length") pairs)

@@ -10,7 +10,8 @@ use Rattle.brk_http_model.specs.declared.problem.Problem.TheVariants.{TooLarge, 
 use Rattle.brk_http_model.specs.declared.head_end.HeadEnd.{HeadEnd}
 use Rattle.brk_http_model.specs.declared.head_end.HeadEnd.TheVariants.{Nothing, TooLong, Cut, At}
 
--- A request that was read; `closes` is true if it asks to close the stream.
+-- A request: its method, its target and its body, and `closes`, which is true if the request asks
+-- to close the stream.
 pub record Request : Type 0 where
   pub method : Text
   pub target : Text
@@ -61,8 +62,9 @@ ReadsHeadAndBody front rest found =
     ((h : RequestHead) × IsRequestHead front h × (found ≡ reading_after_head h rest))
     ⊎ (((h : RequestHead) → ¬ (IsRequestHead front h)) × (found ≡ Unreadable BadRequest))
 
--- Reading a request at the front of `input` results in `found`, if the end of its head is as the
--- first parameter states.
+-- Reading a request at the front of `input`, whose head ends as the first parameter states, results
+-- in `found`: no bytes left for `Nothing`, the problem `TooLarge` for `TooLong`, `BadRequest` for
+-- `Cut`, and for `At n` the result of reading a head of `n` bytes and its body.
 abbrev pub ReadsByHeadEnd : HeadEnd → Text → RequestReading → Type 0
 ReadsByHeadEnd Nothing input found = found ≡ NoBytesLeft
 ReadsByHeadEnd TooLong input found = found ≡ Unreadable TooLarge

@@ -33,8 +33,8 @@ text_of_problem NotImplemented = codes "not implemented"
 text_of_problem NotFound = codes "not found"
 text_of_problem NotAllowed = codes "method not allowed"
 
--- The word of a fault of the desk. `Damaged`, which no call of a desk returns, has the word of the
--- store.
+-- The word of a fault in the body of a reply: `memory` or `store`. `Damaged`, which no call of a
+-- desk returns, has the word of the store.
 abbrev pub fault_word : Fault → Text
 fault_word fault.Memory = codes "memory"
 fault_word fault.Store = codes "store"
@@ -58,21 +58,23 @@ abbrev pub http_status_of_response : Response → Text
 http_status_of_response (FromProblem problem) = http_status_of_problem problem
 http_status_of_response (FromOutcome outcome) = http_status_of_outcome outcome
 
--- The body of the reply for an answer: its word and its fields; a stored line is split at its
--- commas.
+-- The body of the reply for an answer, {"WORD":["FIELD",..]}: its word (`ok`, `again` or `no`) and
+-- its fields; a stored line is split at its commas.
 abbrev pub answer_body : Answer → Text
 answer_body (Done reply) = json_texts_object (codes "ok") (reply_fields reply)
 answer_body (Again line) = json_texts_object (codes "again") (split_at_byte 44 line)
 answer_body (Refused refusal) = json_texts_object (codes "no") (refusal_fields refusal)
 
--- The body of the reply for the outcome of a call.
+-- The body of the reply for the outcome of a call: the JSON object of an answer, of the records of
+-- a view, of the refusal of a query, or of the word of a fault.
 abbrev pub outcome_body : Outcome → Text
 outcome_body (Did answer) = answer_body answer
 outcome_body (Saw view) = json_records_object (codes "view") view
 outcome_body (NoView refusal) = json_texts_object (codes "no") (refusal_fields refusal)
 outcome_body (Failed fault) = json_error_object (fault_word fault)
 
--- The body of the reply for a response.
+-- The body of the reply for a response: the JSON object of an error for a problem, and of the
+-- outcome for a call.
 abbrev pub response_body : Response → Text
 response_body (FromProblem problem) = json_error_object (text_of_problem problem)
 response_body (FromOutcome outcome) = outcome_body outcome
@@ -98,7 +100,8 @@ is_fault_response (FromProblem problem) = false
 abbrev pub head_line : Text → Text
 head_line text = text ++ 13 ∷ 10 ∷ []
 
--- The line of a head with the text `text` if `is_there` is true, otherwise no bytes.
+-- The line of a head with the text `text`, ended by CR LF, if `is_there` is true, otherwise no
+-- bytes.
 abbrev pub head_line_if : Bool → Text → Text
 head_line_if is_there text = if is_there then head_line text else []
 

@@ -41,9 +41,10 @@ abbrev pub stream_after_reply : Bool → Text → StreamState
 stream_after_reply true rest = Finished
 stream_after_reply false rest = Continues rest
 
--- The bytes `reply` are the reply to `request`, after `n` earlier requests. The stream ends
--- with it if the request is number `most_requests_per_stream` or asks to close the stream, or if
--- the response is a fault; otherwise it continues with the bytes `rest`.
+-- The bytes `reply` are the reply to `request`, after `n` earlier requests. It takes the clock
+-- readings `taken` and leads from `base` to `after`. The stream ends with it if the request is
+-- number `most_requests_per_stream` or asks to close the stream, or if the response is a fault;
+-- otherwise it continues with the bytes `rest`.
 pub record IsReplyToRequest {B : Type 0} (forms : RequestParsers) (does : CallRelation B) (n : ℕ) (request : Request) (rest : Text)
     (base : B) (taken : List ℕ) (reply : Text) (next : StreamState) (after : B) : Type 0 where
   pub response : Response
@@ -63,9 +64,9 @@ IsReplyToReading forms does n (Unreadable problem) base taken reply next after =
 IsReplyToReading forms does n (CompleteRequest request rest) base taken reply next after =
     IsReplyToRequest forms does n request rest base taken reply next after
 
--- The bytes `reply` are the first reply to `input`, after `n` earlier requests of the stream. It
--- takes the clock readings `taken`, `next` is the state of the stream after it, and it leads from
--- `base` to `after`.
+-- The bytes `reply` are the first reply to `input`, the bytes that remain on a stream, after `n`
+-- earlier requests of it. The reply takes the clock readings `taken` and leads from `base` to
+-- `after`, and `next` is the state of the stream after it.
 pub record One {B : Type 0} (forms : RequestParsers) (does : CallRelation B) (n : ℕ) (input : Text)
     (base : B) (taken : List ℕ) (reply : Text) (next : StreamState) (after : B) : Type 0 where
   pub found : RequestReading

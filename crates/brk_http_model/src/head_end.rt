@@ -1,4 +1,4 @@
-/// The end of the head at the front of an input.
+/// The end of the request head with which an input begins, or the reason why there is none.
 #[derive(Clone, Copy, Debug, PartialEq, Eq)]
 pub enum HeadEnd {
     /// No byte is left.

@@ -17,10 +17,10 @@ pub enum FaultKind {
     Desk(Fault),
 }
 
-/// A batch that ended early. The changes of its accepted rows remain.
+/// The error of a batch that ended early. The changes of its accepted rows remain.
 #[derive(Clone, Copy, Debug, PartialEq, Eq)]
 pub struct BatchFault {
-    /// The number of rows whose outcome was decided, rows that were refused as malformed included.
+    /// The number of rows whose outcome was decided, including rows that were refused as malformed.
     pub rows: u64,
     /// The reason why the batch ended early.
     pub kind: FaultKind,

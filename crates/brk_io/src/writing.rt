@@ -7,7 +7,7 @@ use std::io::Write;
 #[derive(Clone, Copy, Debug, PartialEq, Eq)]
 pub struct NotWritten;
 
-/// Writes all bytes by calls of `write`.
+/// Writes all of `bytes` to `writer`, by as many calls of its `write` as it takes.
 ///
 /// Fails at the first call that returns an error or a count of 0; an interrupted write is an error
 /// too. A prefix of the bytes, perhaps all of them, is then written.

@@ -15,13 +15,13 @@ Fields = List Text
 abbrev pub RowStep : Type 0 → Type 0 → Type 0
 RowStep B C = B → ℕ → C → Key → Answer × B
 
--- The call of a well-formed row: its key, the clock reading and its command.
+-- The call that a well-formed row makes: its key, the clock reading (`now`) and its command.
 pub record RowCall (C : Type 0) : Type 0 where
   pub key : Key
   pub now : ℕ
   pub command : C
 
--- The answer of `step` to the call on `base`, and the base after it.
+-- The answer of `step` to the call of a row on `base`, and the base after it.
 abbrev pub answer_to_row_call : {B C : Type 0} → RowStep B C → B → RowCall C → Answer × B
 answer_to_row_call step base call = step base call.now call.command call.key
 
@@ -34,8 +34,8 @@ CallsHaveAnswers step base (call ∷ calls) (answer ∷ answers) after =
 CallsHaveAnswers step base [] (answer ∷ answers) after = ⊥
 CallsHaveAnswers step base (call ∷ calls) [] after = ⊥
 
--- The list `rest` with the row number `n` and the command in front; `rest` alone if the row was
--- refused.
+-- The list `rest` with the row number `n` and the command of the row in front; `rest` alone if the
+-- row was refused as malformed.
 abbrev pub with_well_formed_row : {C : Type 0} → ReadResult C → ℕ → List (ℕ × C) → List (ℕ × C)
 with_well_formed_row (Ok command) n rest = (n, command) ∷ rest
 with_well_formed_row (Err refusal) n rest = rest
@@ -45,8 +45,8 @@ abbrev pub well_formed_rows_from : {C : Type 0} → (Fields → ReadResult C) �
 well_formed_rows_from form n [] = []
 well_formed_rows_from form n (row ∷ rows) = with_well_formed_row (form row) n (well_formed_rows_from form (n + 1) rows)
 
--- The calls of the well-formed rows of a batch, one clock reading each; surplus readings or rows
--- are dropped.
+-- The calls of the well-formed rows of the batch `batch`, each with its row number and the next of
+-- the clock readings. Readings or rows that are left over are dropped.
 abbrev pub calls_of_rows : {C : Type 0} → Text → List ℕ → List (ℕ × C) → List (RowCall C)
 calls_of_rows batch (moment ∷ moments) (row ∷ rows) =
     record { key = record { batch = batch; row = row.0 }; now = moment; command = row.1 } ∷ calls_of_rows batch moments rows

@@ -9,14 +9,18 @@ use Rattle.brk_model.specs.Base.{Base, trade_with_id}
 use Rattle.brk_model.specs.Tables.{tables_of_base}
 use Rattle.brk_model.specs.Orders.{estimate}
 use Rattle.brk_model.specs.Tests.{RefusalCheck, first_refusal, account_exists_check, customer_exists_check, security_exists_check, checks_of_order}
-use Rattle.brk_model.specs.Forms.{ReadResult, ◌⊛◌, read_id, read_stamp, read_distinct_ids, read_name, read_symbol, read_tax_id, read_each_text, one_to_twenty_elements, check_read_value}
+use Rattle.brk_model.specs.Forms.{ReadResult, ◌⊛◌, read_id, read_stamp, read_distinct_ids, read_name, read_symbol, read_tax_id, read_each_text}
+use Rattle.brk_model.specs.Forms.{one_to_twenty_elements, check_read_value}
 use Rattle.brk_model.specs.Parse.{NamedParser, read_and_wrap, parse_by_first_field, read_order}
-use Rattle.brk_model.specs.Queries.{View, Query, PositionOf, PositionOfTaxId, RecentOf, StatusOf, SubmittedTrades, EstimateOf, TradesWith, TradesOfAccount, TradesOfSymbol, LotsTouched, VolumeOf}
+use Rattle.brk_model.specs.Queries.{View, Query, PositionOf, PositionOfTaxId, RecentOf, StatusOf, SubmittedTrades, EstimateOf, TradesWith, TradesOfAccount}
+use Rattle.brk_model.specs.Queries.{TradesOfSymbol, LotsTouched, VolumeOf}
 use Rattle.brk_model.specs.Views.{view_of_tables}
 use Rattle.brk_model.specs.Rows.{estimate_fields}
 use Rattle.brk_model.specs.Step.{value_unless_refused}
 
--- The checks of a query on `base`, in the sequence in which they are made.
+-- The checks of a query on `base`, in the sequence in which they are made: that the account, the
+-- customer, the security or the trades of the query exist, or the checks of the order of an
+-- estimate. The queries for submitted trades and for broker volumes have none.
 unfoldable pub checks_of_query : Base → Query → List RefusalCheck
 checks_of_query base (PositionOf customer) = customer_exists_check base customer ∷ []
 checks_of_query base (PositionOfTaxId tax_id) = (is_none (find (λ c. bytes_eq c.tax_id tax_id) base.customers), NoCustomer) ∷ []
@@ -67,12 +71,13 @@ read_lots_query (account ∷ first ∷ []) = Ok (λ a f. LotsTouched a f) ⊛ re
 read_lots_query _ = Err BadText
 
 -- The distinct broker names that the arguments parse as, 1 to 20 of them after duplicates are
--- removed, or a refusal.
+-- removed; otherwise a refusal, `BadText` if a name is malformed or there is none, and `TooMany` if
+-- there are more than 20.
 abbrev pub read_broker_names : List Text → ReadResult (List Text)
 read_broker_names names = check_read_value (λ ns. one_to_twenty_elements (distinct_texts ns)) (read_each_text read_name names)
 
--- The query for broker volumes that the arguments parse as, a sector and 1 to 20 broker names, or a
--- refusal.
+-- The query for broker volumes that the arguments parse as, a sector and 1 to 20 broker names,
+-- duplicates removed; otherwise a refusal, `BadText` or, for more than 20 names, `TooMany`.
 abbrev pub read_volume_query : List Text → ReadResult Query
 read_volume_query [] = Err BadText
 read_volume_query (sector ∷ names) = Ok (λ s ns. VolumeOf s ns) ⊛ read_name sector ⊛ read_broker_names names

@@ -12,7 +12,8 @@ use Rattle.brk_money.specs.declared.status.Status.{Status}
 use Rattle.brk_money.specs.declared.status.Status.TheVariants.{Completed}
 use Rattle.brk_money.specs.declared.tax_status.TaxStatus.{TaxStatus}
 use Rattle.brk_money.specs.declared.tax_status.TaxStatus.TheVariants.{Untaxed, Withheld, Reported}
-use Rattle.brk_model.specs.Records.{Broker, Customer, Account, Permission, Security, Charge, Band, TaxRate, CustomerTax, StatusChange, Trade, Movement, SettleRule, Kept}
+use Rattle.brk_model.specs.Records.{Broker, Customer, Account, Permission, Security, Charge, Band, TaxRate, CustomerTax, StatusChange, Trade, Movement}
+use Rattle.brk_model.specs.Records.{SettleRule, Kept}
 use Rattle.brk_model.specs.Lists.{update_where}
 
 -- The base (abstract state): a list for each kind of record, the settlement rule, the stored

@@ -14,8 +14,8 @@ use Rattle.brk_model.specs.Answers.{Fields, RowStep, RowsAreAnswered}
 use Rattle.brk_model.specs.Input.{input_text, BeginsWithRecords, HasExactlyRecords, IsBatchName, IsEndRecord, batch_header, correct_end_record}
 use Rattle.brk_model.specs.Lines.{answer_lines_from, batch_end_line}
 
--- The ways in which a batch ends: complete, without a header, without an end record, or with a
--- wrong end record.
+-- The ways in which a batch ends: complete (`CorrectEnd`), without a header (`BadHeader`), without
+-- an end record (`NoEnd`), or with a wrong end record (`BadEnd`).
 pub data BatchEnding : Type 0 where
   CorrectEnd : BatchEnding
   BadHeader : BatchEnding
@@ -31,7 +31,8 @@ pub record BatchResult (B : Type 0) : Type 0 where
   pub rows : ℕ
 
 -- The batch name is well-formed, none of the rows is an end record, and the rows have exactly these
--- answers, one each, and lead from `base` to `after`.
+-- answers, one each, and lead from `base` to `after`. Malformed rows are refused; the others are
+-- executed in sequence by `step`, at the clock readings `moments`, one each.
 pub record BatchRowsAreDecided {B C : Type 0} (form : Fields → ReadResult C) (step : RowStep B C) (name : Text) (base : B) (moments : List ℕ)
     (rows : List Fields) (answers : List Answer) (after : B) : Type 0 where
   pub named : IsBatchName name
@@ -59,8 +60,10 @@ abbrev pub EndsWithWrongEndRecord : Option Text → Text → List Fields → Typ
 EndsWithWrongEndRecord text name rows =
     (last : Fields) × IsEndRecord last × (last ≡ correct_end_record (length rows) → ⊥) × BeginsWithRecords text (batch_header name ∷ (rows ++ (last ∷ [])))
 
--- The records of the text, the answers `told` of the rows and the output `out` are those of a
--- batch with a header and this ending. It is false for `BadHeader`.
+-- The text has the header of the batch `name`, then the records `rows`, and then the end that the
+-- ending requires. The answers `told` are those that are printed: `answers`, and for `NoEnd` also
+-- the refusal of the last record if there is one. The output `out` has one line for each of them,
+-- and the `end` line for `CorrectEnd` only. It is false for `BadHeader`.
 abbrev pub MatchesEnding : Option Text → BatchEnding → Text → List Fields → List Answer → List Answer → Text → Type 0
 MatchesEnding text CorrectEnd name rows answers told out =
     BeginsWithRecords text (batch_header name ∷ (rows ++ (correct_end_record (length rows) ∷ []))) × (told ≡ answers)

@@ -6,7 +6,7 @@ use Rattle.brk_money.specs.declared.status.Status.{Status}
 use Rattle.brk_money.specs.declared.refusal.Refusal.{Refusal}
 use Rattle.brk_model.specs.Records.{Broker, Customer, Account, Permission, Charge, Band, TaxRate, CustomerTax, Executor}
 
--- A security to be listed, with its first price in cents.
+-- A security to be listed: its symbol, name, exchange and sector, and its first price, in cents.
 pub record Listing : Type 0 where
   pub symbol : Text
   pub name : Text
@@ -14,7 +14,9 @@ pub record Listing : Type 0 where
   pub sector : Text
   pub price : ℕ
 
--- An order; its type has a price unless it is a market type.
+-- An order of `qty` shares of `symbol` for `account`, placed by `executor`. Its type has a price
+-- unless it is a market type. It is a cash trade if `is_cash` is true, otherwise a margin trade,
+-- and closes the last shares first if `is_lifo` is true, otherwise the first ones.
 pub record Order : Type 0 where
   pub account : ℕ
   pub order_type : OrderType
@@ -24,7 +26,7 @@ pub record Order : Type 0 where
   pub is_lifo : Bool
   pub executor : Executor
 
--- A tick: the price in cents and the quantity of a trade on the market.
+-- A tick: the price in cents and the quantity in shares of a trade of `symbol` on the market.
 pub record Tick : Type 0 where
   pub symbol : Text
   pub price : ℕ
@@ -55,7 +57,9 @@ pub data Command : Type 0 where
   WithdrawCash : (account amount : ℕ) → Command
   SetOneDay : (day : ℕ) → Command
 
--- The figures of an order, all in cents.
+-- The estimate of an order, in cents: the price of a share, the buy value and the sell value of the
+-- shares that it would close, the tax on their gain, the commission, the charge, and the assets of
+-- the account before it.
 pub record Estimate : Type 0 where
   pub price : ℕ
   pub buy_value : ℕ
@@ -65,7 +69,9 @@ pub record Estimate : Type 0 where
   pub charge : ℕ
   pub assets : ℤ
 
--- The figures of a completed trade: amounts in cents, and the day on which it settles.
+-- The figures of a completed trade. `commission`, `tax`, the settlement amount (`amount`), the buy
+-- value and the sell value of the closed shares, and the balance of the account after it are in
+-- cents; `due_day` is in days since 1970-01-01.
 pub record Completion : Type 0 where
   pub commission : ℕ
   pub tax : ℕ

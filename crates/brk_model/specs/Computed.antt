@@ -35,8 +35,9 @@ answers_and_base_of_calls step base (call ∷ calls) = answer_followed_by_more (
 abbrev pub run_interleaved_with_refusals : {B C : Type 0} → (Fields → ReadResult C) → List Fields → AnswersAndBase B → AnswersAndBase B
 run_interleaved_with_refusals form rows run = (answers_interleaved_with_refusals form rows run.0, run.1)
 
--- The answers to the rows of the batch `name`, executed in sequence from `base` on and numbered
--- from 1, and the base after the last.
+-- The answers to the rows of the batch `name`, numbered from 1 and executed in sequence from `base`
+-- on, and the base after the last. Each well-formed row takes the next of the clock readings
+-- `moments`; malformed rows are refused.
 abbrev pub answers_and_base_of_rows : {B C : Type 0} → (Fields → ReadResult C) → RowStep B C → Text → B → List ℕ → List Fields → AnswersAndBase B
 answers_and_base_of_rows form step name base moments rows =
     run_interleaved_with_refusals form rows (answers_and_base_of_calls step base (calls_of_rows name moments (well_formed_rows_from form 1 rows)))
@@ -99,7 +100,8 @@ batch_without_end_record form step name base moments [] = batch_without_end_line
 batch_without_end_record form step name base moments (row ∷ rows) =
     batch_with_refused_last_row (answers_and_base_of_rows form step name base moments (take (length rows) (row ∷ rows)))
 
--- The result of a batch with these rows, with or without an end record.
+-- The result of a batch that has these rows after its header, and then the end record if there is
+-- one.
 abbrev pub batch_of_rows : {B C : Type 0} → (Fields → ReadResult C) → RowStep B C → Text → B → List ℕ → RowsAndEndRecord → BatchResult B
 batch_of_rows form step name base moments (rows, Some last) = batch_with_end_record form step name base moments rows last
 batch_of_rows form step name base moments (rows, None) = batch_without_end_record form step name base moments rows
@@ -110,7 +112,8 @@ abbrev pub batch_with_optional_name : {B C : Type 0} → (Fields → ReadResult 
 batch_with_optional_name form step None base moments rows = record { text = []; base = base; ending = BadHeader; rows = 0 }
 batch_with_optional_name form step (Some name) base moments rows = batch_of_rows form step name base moments (split_at_end_record rows)
 
--- The result of a batch with these records, of which the first must be a header.
+-- The result of a batch with these records. The first must be a header; otherwise nothing is
+-- executed and the ending is `BadHeader`.
 abbrev pub batch_of_records : {B C : Type 0} → (Fields → ReadResult C) → RowStep B C → B → List ℕ → List Fields → BatchResult B
 batch_of_records form step base moments [] = batch_with_optional_name form step None base moments []
 batch_of_records form step base moments (header ∷ rows) = batch_with_optional_name form step (batch_name_of_header header) base moments rows

@@ -2,7 +2,8 @@
 -- broker totals, of its completed trades, movements, accounts and settlement rule; the market value
 -- of holdings, which needs its securities too; and the pending trades. Each definition takes the
 -- lists that it reads; `done` are the completed trades.
-use Rattle.std.specs.Prelude.{ℕ, ◌+◌, ◌*◌, false, nat_le, ◌==◌, if◌then◌else◌, List, ◌++◌, length, map, filter, sum_by, Option, Some, None, ℤ, pos, ◌+ℤ◌, ◌-ℤ◌, ◌*ℤ◌, neg_ℤ, bytes_eq}
+use Rattle.std.specs.Prelude.{ℕ, ◌+◌, ◌*◌, false, nat_le, ◌==◌, if◌then◌else◌, List, ◌++◌, length, map, filter, sum_by, Option, Some, None, ℤ, pos, ◌+ℤ◌, ◌-ℤ◌}
+use Rattle.std.specs.Prelude.{◌*ℤ◌, neg_ℤ, bytes_eq}
 use Rattle.std.specs.Option.{option_map_or}
 use Rattle.brk_money.specs.Spelling.{Text}
 use Rattle.brk_money.specs.Moments.{day_of}
@@ -12,13 +13,20 @@ use Rattle.brk_money.specs.declared.side.Side.TheVariants.{Buy, Sell}
 use Rattle.brk_money.specs.declared.status.Status.TheVariants.{Pending}
 use Rattle.brk_model.specs.Lists.{sort_by_key, total_by}
 use Rattle.brk_model.specs.Records.{Account, Security, Trade, Movement, SettleRule}
-use Rattle.brk_model.specs.Base.{Base, completed_trades, tax_status_in_accounts, opening_balance_in_accounts, broker_id_in_accounts, is_withholding_status, has_status, last_status_stamp_of_trade, completion_price}
+use Rattle.brk_model.specs.Base.{Base, completed_trades, tax_status_in_accounts, opening_balance_in_accounts, broker_id_in_accounts, is_withholding_status}
+use Rattle.brk_model.specs.Base.{has_status, last_status_stamp_of_trade, completion_price}
 use Rattle.brk_model.specs.Shares.{Share, Deal, replay, signed_by_side}
 
 -- The deal of the completed trade `t` with its position, at its completion price and stamp.
 abbrev pub deal_of_trade : Trade → Deal
-deal_of_trade t =
-    record { trade = t.id; side = side_of_trade_type t.kind; qty = t.qty; price = completion_price t; stamp = last_status_stamp_of_trade t; is_lifo = t.is_lifo }
+deal_of_trade t = record {
+  trade = t.id;
+  side = side_of_trade_type t.kind;
+  qty = t.qty;
+  price = completion_price t;
+  stamp = last_status_stamp_of_trade t;
+  is_lifo = t.is_lifo;
+}
 
 -- The trades of the list `done` that belong to the account `account`.
 abbrev pub trades_of_account : List Trade → ℕ → List Trade
@@ -60,15 +68,16 @@ settlement_amount accounts t =
     signed_proceeds (side_of_trade_type t.kind) (t.qty * completion_price t) -ℤ pos (t.charge + t.commission + withheld_tax accounts t)
 
 -- The number of days from a completion on the day `day` to its settlement: 1 if `rule` has a
--- settlement day and `day` is not before it, otherwise 2.
+-- settlement day and `day` is not before it, otherwise 2. Days are counted from 1970-01-01.
 abbrev pub days_to_settlement : SettleRule → ℕ → ℕ
 days_to_settlement rule day = if option_map_or (λ first. nat_le first day) rule false then 1 else 2
 
--- The day on which a completion at the stamp `stamp` settles.
+-- The day on which a completion at the stamp `stamp` settles, in days since 1970-01-01.
 abbrev pub due_day_of_completion_stamp : SettleRule → ℕ → ℕ
 due_day_of_completion_stamp rule stamp = day_of stamp + days_to_settlement rule (day_of stamp)
 
--- The day on which the completed trade `t` settles (SE_CASH_DUE_DATE, Trade-Result).
+-- The day on which the completed trade `t` settles, in days since 1970-01-01 (SE_CASH_DUE_DATE,
+-- Trade-Result).
 abbrev pub due_day : SettleRule → Trade → ℕ
 due_day rule t = due_day_of_completion_stamp rule (last_status_stamp_of_trade t)
 
@@ -76,7 +85,8 @@ due_day rule t = due_day_of_completion_stamp rule (last_status_stamp_of_trade t)
 abbrev pub cash_trades : List Trade → List Trade
 cash_trades done = filter (λ t. t.is_cash) done
 
--- An amount that is posted to an account's cash, by a trade or without one.
+-- An amount, in cents, that is posted to an account's cash at a stamp: by a trade, or by a movement
+-- if `trade` is none. `name` is the text of its cash row.
 pub record Posting : Type 0 where
   pub account : ℕ
   pub trade : Option ℕ

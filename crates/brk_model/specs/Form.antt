@@ -1,5 +1,6 @@
 -- The audit condition `Form`: formats, limits, references and keys of the rows of a database.
-use Rattle.std.specs.Prelude.{ℕ, Bool, true, false, not, ◌&&◌, ◌||◌, ◌==◌, nat_le, if◌then◌else◌, List, [], ◌∷◌, map, filter, find, length, Option, is_some, is_none, ℤ, pos, nat_abs, int_lt, codes, bytes_eq, flat_map, option_to_list}
+use Rattle.std.specs.Prelude.{ℕ, Bool, true, false, not, ◌&&◌, ◌||◌, ◌==◌, nat_le, if◌then◌else◌, List, [], ◌∷◌, map, filter, find, length, Option, is_some}
+use Rattle.std.specs.Prelude.{is_none, ℤ, pos, nat_abs, int_lt, codes, bytes_eq, flat_map, option_to_list}
 use Rattle.std.specs.List.{list_any, list_all, range_with_len}
 use Rattle.std.specs.Option.{option_map_or}
 use Rattle.std.specs.Str.{is_utf8}
@@ -8,19 +9,23 @@ use Rattle.brk_money.specs.Moments.{greatest_day, greatest_stamp}
 use Rattle.brk_money.specs.Kinds.{is_same_trade_status}
 use Rattle.brk_money.specs.declared.status.Status.{Status}
 use Rattle.brk_money.specs.declared.status.Status.TheVariants.{Completed}
-use Rattle.brk_model.specs.Limits.{greatest_price, greatest_charge, greatest_commission_rate, greatest_tax_rate, greatest_amount, greatest_id, greatest_cash_row_number, most_accounts_per_customer, is_in_range}
+use Rattle.brk_model.specs.Limits.{greatest_price, greatest_charge, greatest_commission_rate, greatest_tax_rate, greatest_amount, greatest_id}
+use Rattle.brk_model.specs.Limits.{greatest_cash_row_number, most_accounts_per_customer, is_in_range}
 use Rattle.brk_model.specs.Lists.{all_distinct}
 use Rattle.brk_model.specs.Schemas.{Schema}
 use Rattle.brk_model.specs.Records.{Customer, Permission, Charge, Band, TaxRate, CustomerTax, Key, Kept, SettleRule}
 use Rattle.brk_model.specs.Base.{tax_rate_sum_of_customer, customer_with_id_in_list}
-use Rattle.brk_model.specs.Tables.{Tables, BrokerRow, AccountRow, SecurityRow, LastTradeRow, TradeRow, HistoryRow, RequestRow, HoldingRow, SummaryRow, HoldingHistoryRow, SettlementRow, CashRow, MoveRow}
+use Rattle.brk_model.specs.Tables.{Tables, BrokerRow, AccountRow, SecurityRow, LastTradeRow, TradeRow, HistoryRow, RequestRow, HoldingRow, SummaryRow}
+use Rattle.brk_model.specs.Tables.{HoldingHistoryRow, SettlementRow, CashRow, MoveRow}
 use Rattle.brk_model.specs.Derived.{due_day_of_completion_stamp}
 use Rattle.brk_model.specs.Results.{cash_row_name}
 use Rattle.brk_model.specs.Tests.{bands_overlap}
 use Rattle.brk_model.specs.Forms.{is_name, is_tax_id, is_symbol, is_exchange, is_acl, is_batch_name}
 use Rattle.brk_model.specs.Joins.{history_rows_with_trade_id, trade_row_with_id, security_row_with_symbol, account_row_with_id}
 use Rattle.brk_model.specs.Adopted.{base_of_tables, trade_of_row}
-use Rattle.brk_model.specs.Keys.{KeyPart, is_key_less, kept_key, broker_key, customer_key, account_key, permission_key, security_key, last_trade_key, charge_key, band_key, tax_rate_key, customer_tax_key, trade_key, history_key, request_key, holding_key, summary_key, holding_history_key, settlement_key, cash_key, move_key}
+use Rattle.brk_model.specs.Keys.{KeyPart, is_key_less, kept_key, broker_key, customer_key, account_key, permission_key, security_key, last_trade_key}
+use Rattle.brk_model.specs.Keys.{charge_key, band_key, tax_rate_key, customer_tax_key, trade_key, history_key, request_key, holding_key, summary_key}
+use Rattle.brk_model.specs.Keys.{holding_history_key, settlement_key, cash_key, move_key}
 
 -- True if `n` is an id: from 1 to the greatest id.
 abbrev pub is_id : ℕ → Bool
@@ -119,8 +124,8 @@ is_well_formed_account_row t a =
     && has_customer t a.customer
     && has_broker t a.broker
 
--- True if the ACL, the tax id and both names of a permission are well-formed; whether its account
--- exists is not checked.
+-- True if the ACL, the tax id and both names of a permission are well-formed. It does not check
+-- that the account exists.
 abbrev pub has_well_formed_permission_texts : Permission → Bool
 has_well_formed_permission_texts p =
     is_acl p.acl
@@ -182,12 +187,13 @@ is_well_formed_tax_rate_row r = are_well_formed_id_and_name r.id r.name && nat_l
 abbrev pub is_well_formed_customer_tax_row : Tables → CustomerTax → Bool
 is_well_formed_customer_tax_row t x = has_customer t x.customer && list_any (λ r. r.id == x.tax) t.tax_rates
 
--- True if `is_done` is true and the price is valid, or `is_done` is false and there is no price.
+-- True if `is_done` is true and there is a price within its limits, or `is_done` is false and there
+-- is no price.
 abbrev pub has_price_exactly_if : Bool → Option ℕ → Bool
 has_price_exactly_if is_done price = if is_done then option_map_or is_price price false else is_none price
 
--- True if the TRADE row has a valid price and its trade has a TRADE_HISTORY row with the status
--- `Completed`, or it has no price and its trade has no such row.
+-- True if the TRADE row has a price within its limits and its trade has a TRADE_HISTORY row with
+-- the status `Completed`, or it has no price and its trade has no such row.
 abbrev pub price_matches_completion : Tables → TradeRow → Bool
 price_matches_completion t row = has_price_exactly_if (list_any (λ h. is_same_trade_status h.status Completed) (history_rows_with_trade_id t row.id)) row.price
 
@@ -213,8 +219,8 @@ is_well_formed_trade_row schema t row =
     && has_account t row.account
     && price_matches_completion t row
 
--- True if the status is not `Completed`, or the due day of a completion with this stamp is within
--- the calendar.
+-- True if the status is not `Completed`, or a completion with this stamp settles at the latest on
+-- the greatest day, 9999-12-31.
 abbrev pub is_due_within_calendar : SettleRule → Status → ℕ → Bool
 is_due_within_calendar rule status stamp = not (is_same_trade_status status Completed) || nat_le (due_day_of_completion_stamp rule stamp) greatest_day
 

@@ -1,6 +1,7 @@
 -- The formats of fields. A malformed field is refused; of several refusals the first in the
 -- sequence of the format checks is returned.
-use Rattle.std.specs.Prelude.{ℕ, Bool, not, ◌&&◌, ◌||◌, ◌==◌, nat_le, if◌then◌else◌, List, [], ◌∷◌, length, find, Option, Some, None, Result, Ok, Err, ℤ, pos, negsuc, codes, bytes_eq, chars}
+use Rattle.std.specs.Prelude.{ℕ, Bool, not, ◌&&◌, ◌||◌, ◌==◌, nat_le, if◌then◌else◌, List, [], ◌∷◌, length, find, Option, Some, None, Result, Ok, Err, ℤ, pos}
+use Rattle.std.specs.Prelude.{negsuc, codes, bytes_eq, chars}
 use Rattle.std.specs.List.{list_all}
 use Rattle.std.specs.Option.{option_and_then}
 use Rattle.std.specs.Str.{is_utf8}
@@ -15,7 +16,8 @@ use Rattle.brk_money.specs.declared.trade_type.TradeType.TheVariants.{MarketBuy,
 use Rattle.brk_money.specs.declared.tax_status.TaxStatus.{TaxStatus}
 use Rattle.brk_money.specs.declared.refusal.Refusal.{Refusal}
 use Rattle.brk_money.specs.declared.refusal.Refusal.TheVariants.{BadText, BadQty, BadPrice, BadType, TooMany}
-use Rattle.brk_model.specs.Limits.{greatest_qty, greatest_price, greatest_charge, greatest_commission_rate, greatest_tax_rate, greatest_amount, greatest_id, is_in_range}
+use Rattle.brk_model.specs.Limits.{greatest_qty, greatest_price, greatest_charge, greatest_commission_rate, greatest_tax_rate, greatest_amount, greatest_id}
+use Rattle.brk_model.specs.Limits.{is_in_range}
 use Rattle.brk_model.specs.Lists.{all_distinct}
 
 -- The type of the result of reading fields: a value, or the refusal of a malformed field.
@@ -102,7 +104,8 @@ read_charge_amount text = value_if_valid (λ n. nat_le n greatest_charge) BadTex
 abbrev pub read_movement_amount : Text → ReadResult ℕ
 read_movement_amount text = value_if_valid (λ n. is_in_range 1 greatest_amount n) BadText (nonnegative_amount (cents_of_text text))
 
--- The day that a text parses as, at most `greatest_day`; otherwise the refusal `BadText`.
+-- The day that a text parses as, in days since 1970-01-01, at most `greatest_day`; otherwise the
+-- refusal `BadText`.
 abbrev pub read_day : Text → ReadResult ℕ
 read_day text = value_if_valid (λ day. nat_le day greatest_day) BadText (day_of_text text)
 
@@ -199,15 +202,15 @@ market_order_type order_type _ = Err BadPrice
 abbrev pub priced_order_type : (ℕ → OrderType) → Text → ReadResult OrderType
 priced_order_type order_type text = Ok order_type ⊛ read_price text
 
--- The refusal of an unknown order type: `BadPrice` if the text of the price is malformed and not
--- empty, otherwise `BadType`.
+-- The refusal of an order whose type is unknown, by the text of its price: `BadPrice` if this text
+-- is malformed and not empty, otherwise `BadType`.
 abbrev pub refusal_of_unknown_type_by_price_text : Text → ReadResult OrderType
 refusal_of_unknown_type_by_price_text [] = Err BadType
 refusal_of_unknown_type_by_price_text (c ∷ text) = Err BadType ⊛ read_price (c ∷ text)
 
--- The order type of a trade type with the price that a text parses as. The text must be empty for a
--- market type and well-formed for any other; without a trade type, `BadType` or `BadPrice` refuses
--- it.
+-- The order type of a trade type, with the price that a text parses as. The text must be empty for
+-- a market type and a well-formed price for any other type; otherwise it is the refusal `BadPrice`.
+-- Without a trade type it is the refusal `BadPrice` or `BadType`.
 abbrev pub order_type_with_price : Option TradeType → Text → ReadResult OrderType
 order_type_with_price None = refusal_of_unknown_type_by_price_text
 order_type_with_price (Some MarketBuy) = market_order_type asked.MarketBuy
@@ -233,7 +236,7 @@ abbrev pub one_to_twenty_elements : {A : Type 0} → List A → ReadResult (List
 one_to_twenty_elements [] = Err BadText
 one_to_twenty_elements (x ∷ xs) = if nat_le (length (x ∷ xs)) 20 then Ok (x ∷ xs) else Err TooMany
 
--- The result of `check` on the value if one was read, otherwise the refusal of the reading.
+-- The result of `check` on the value that was read, or the refusal if none was read.
 abbrev pub check_read_value : {A B : Type 0} → (A → ReadResult B) → ReadResult A → ReadResult B
 check_read_value check (Ok x) = check x
 check_read_value check (Err refusal) = Err refusal
@@ -243,6 +246,7 @@ check_read_value check (Err refusal) = Err refusal
 abbrev pub one_to_twenty_distinct_ids : List ℕ → ReadResult (List ℕ)
 one_to_twenty_distinct_ids ids = if all_distinct ids then one_to_twenty_elements ids else Err BadText
 
--- The ids that the texts parse as, one each, distinct and 1 to 20 in number, or a refusal.
+-- The ids that the texts parse as, one each, if they are distinct and 1 to 20 in number; otherwise
+-- a refusal, `TooMany` if there are more than 20 distinct ids, and `BadText` in any other case.
 abbrev pub read_distinct_ids : List Text → ReadResult (List ℕ)
 read_distinct_ids texts = check_read_value one_to_twenty_distinct_ids (read_each_text read_id texts)

@@ -8,7 +8,7 @@ use Rattle.brk_model.specs.Commands.{Command, Reply, Answer, Done, Again, Refuse
 use Rattle.brk_model.specs.Rows.{row_text, line_text}
 use Rattle.brk_model.specs.Step.{step}
 
--- The stored row and reply of `base` under the key `key`; none if the key was not recorded.
+-- The row and the reply that `base` stores under the key `key`; none if the key was not recorded.
 abbrev pub stored_row_with_key : Base → Key → Option Kept
 stored_row_with_key base key = find (λ k. bytes_eq k.key.batch key.batch && (k.key.row == key.row)) base.kept
 

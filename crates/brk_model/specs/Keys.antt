@@ -5,7 +5,8 @@ use Rattle.brk_money.specs.Spelling.{Text}
 use Rattle.brk_money.specs.Kinds.{trade_type_code, trade_status_code}
 use Rattle.brk_model.specs.Lists.{insert_by, sort_by, is_text_less}
 use Rattle.brk_model.specs.Records.{Customer, Permission, Charge, Band, TaxRate, CustomerTax, Kept}
-use Rattle.brk_model.specs.Tables.{BrokerRow, AccountRow, SecurityRow, LastTradeRow, TradeRow, HistoryRow, RequestRow, HoldingRow, SummaryRow, HoldingHistoryRow, SettlementRow, CashRow, MoveRow}
+use Rattle.brk_model.specs.Tables.{BrokerRow, AccountRow, SecurityRow, LastTradeRow, TradeRow, HistoryRow, RequestRow, HoldingRow, SummaryRow}
+use Rattle.brk_model.specs.Tables.{HoldingHistoryRow, SettlementRow, CashRow, MoveRow}
 
 -- A part of a key: a number or a text.
 pub data KeyPart : Type 0 where

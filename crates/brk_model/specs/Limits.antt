@@ -12,7 +12,7 @@ use Rattle.brk_money.specs.declared.move_id.TheConstants.MoveId
 abbrev pub is_in_range : ℕ → ℕ → ℕ → Bool
 is_in_range least greatest n = nat_le least n && nat_le n greatest
 
--- The greatest quantity, in shares.
+-- The greatest quantity of an order, a commission band or a tick, in shares.
 abbrev pub greatest_qty : ℕ
 greatest_qty = Qty.GREATEST
 
@@ -39,7 +39,7 @@ greatest_tax_rate = TaxRate.GREATEST
 abbrev pub greatest_amount : ℕ
 greatest_amount = Cents.GREATEST
 
--- The greatest holding summary (either way), in shares.
+-- The greatest absolute value of a holding summary, in shares.
 abbrev pub greatest_summary : ℕ
 greatest_summary = 9999999999
 

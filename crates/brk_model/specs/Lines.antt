@@ -5,8 +5,7 @@ use Rattle.brk_money.specs.Kinds.{refusal_text}
 use Rattle.brk_model.specs.Commands.{Answer, Done, Again, Refused}
 use Rattle.brk_model.specs.Rows.{comma_separated_text, line_text}
 
--- The text of an answer: its word (`ok`, `again` or `no`), a comma and its fields, joined by
--- commas.
+-- The text of an answer: its word (`ok`, `again` or `no`) and its fields, separated by commas.
 abbrev pub answer_text : Answer → Text
 answer_text (Done reply) = codes "ok," ++ line_text reply
 answer_text (Again line) = codes "again," ++ line
@@ -52,7 +51,7 @@ abbrev pub refused_answer_count : List Answer → ℕ
 refused_answer_count answers = count_by is_refused_answer answers
 
 -- The last output line of a complete batch: `end`, and the numbers of `Done`, `Again` and `Refused`
--- answers.
+-- answers, separated by commas, and a line feed.
 abbrev pub batch_end_line : List Answer → Text
 batch_end_line answers =
     comma_separated_text (codes "end" ∷ decimal (done_answer_count answers) ∷ decimal (repeated_answer_count answers) ∷ decimal (refused_answer_count answers)

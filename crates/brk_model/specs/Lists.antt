@@ -1,6 +1,7 @@
 -- Functions on lists that std lacks: a sort, a signed sum, an update of some elements, and
 -- replacement in texts.
-use Rattle.std.specs.Prelude.{ℕ, zero, suc, ◌-◌, Bool, true, false, not, ◌&&◌, ◌||◌, ◌==◌, nat_eq, nat_lt, if◌then◌else◌, List, [], ◌∷◌, ◌++◌, length, map, filter, ℤ, pos, negsuc, ◌+ℤ◌, bytes_eq}
+use Rattle.std.specs.Prelude.{ℕ, zero, suc, ◌-◌, Bool, true, false, not, ◌&&◌, ◌||◌, ◌==◌, nat_eq, nat_lt, if◌then◌else◌, List, [], ◌∷◌, ◌++◌, length, map}
+use Rattle.std.specs.Prelude.{filter, ℤ, pos, negsuc, ◌+ℤ◌, bytes_eq}
 use Rattle.std.specs.List.{starts_with, list_any}
 
 -- The list with `x` inserted before the first element `y` for which `before y x` is false, or at

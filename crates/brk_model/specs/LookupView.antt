@@ -20,8 +20,9 @@ settlement_record s = codes "settlement" ∷ s.cash_type ∷ day_text s.due_day 
 abbrev pub cash_record : MoveRow → List Text
 cash_record c = codes "cash" ∷ decimal c.stamp ∷ cents_text c.amount ∷ c.name ∷ []
 
--- The record of a trade, with 15 fields, of which the first is the word `trade`. The field of the
--- price is empty if the trade has none.
+-- The record of a trade, with 15 fields: the word `trade`, id, stamp, status, type, symbol,
+-- quantity, bid, executor, price, charge, commission, tax, `cash` or `margin`, and `lifo` or
+-- `fifo`. The field of the price is empty if the trade has none.
 abbrev pub trade_record : TradeRow → List Text
 trade_record t =
     codes "trade" ∷ decimal t.id ∷ decimal t.stamp ∷ trade_status_code t.status ∷ trade_type_code t.kind
@@ -59,7 +60,8 @@ trade_touches_lot tables trade lot = list_any (λ row. (row.trade == trade) && (
 abbrev pub stamp_of_touching_trade : Tables → HoldingHistoryRow → ℕ
 stamp_of_touching_trade tables row = option_map_or (λ t. t.stamp) (trade_row_with_id tables row.trade) 0
 
--- The id of the trade, then the first 20 HOLDING_HISTORY rows of the lots that the trade touched,
+-- One record with the id of the trade, then one (lot, trade that changed it, quantity before,
+-- quantity after) for each of the first 20 HOLDING_HISTORY rows of the lots that the trade touched,
 -- sorted by the stamp of the trade that changed the lot, then by lot, both ascending.
 abbrev pub touched_lots_view : Tables → TradeRow → View
 touched_lots_view tables t =
@@ -68,8 +70,9 @@ touched_lots_view tables t =
     (take 20 (sort_by (λ a b. is_pair_less (stamp_of_touching_trade tables a) (stamp_of_touching_trade tables b) a.lot b.lot)
     (filter (λ row. trade_touches_lot tables t.id row.lot) tables.holding_history)))
 
--- The lots that the oldest trade of the account `account` with a stamp of at least `first` touched,
--- and their changes; empty if there is no such trade.
+-- The view of the lots that the oldest trade of the account `account` with a stamp of at least
+-- `first` touched: the id of this trade, and the first 20 changes of these lots. Empty if there is
+-- no such trade.
 unfoldable pub touched_lots_of_oldest_trade : Tables → ℕ → ℕ → View
 touched_lots_of_oldest_trade tables account first =
     flat_map (touched_lots_view tables) (take 1 (trade_rows_oldest_first (filter (λ t. nat_le first t.stamp) (trade_rows_of_account tables account))))

@@ -1,5 +1,6 @@
 -- Trade-Order: permission to order, the estimate of an order, and the trade that an order creates.
-use Rattle.std.specs.Prelude.{ℕ, ◌+◌, Bool, true, ◌&&◌, ◌||◌, ◌==◌, if◌then◌else◌, List, [], ◌∷◌, ◌++◌, length, filter, Option, None, unwrap_or, option_map, ℤ, ◌+ℤ◌, bytes_eq}
+use Rattle.std.specs.Prelude.{ℕ, ◌+◌, Bool, true, ◌&&◌, ◌||◌, ◌==◌, if◌then◌else◌, List, [], ◌∷◌, ◌++◌, length, filter, Option, None, unwrap_or, option_map, ℤ}
+use Rattle.std.specs.Prelude.{◌+ℤ◌, bytes_eq}
 use Rattle.std.specs.List.{list_any}
 use Rattle.std.specs.Option.{option_map_or}
 use Rattle.brk_money.specs.Spelling.{Text}
@@ -10,7 +11,8 @@ use Rattle.brk_money.specs.declared.status.Status.{Status}
 use Rattle.brk_money.specs.declared.status.Status.TheVariants.{Submitted, Pending}
 use Rattle.brk_money.specs.declared.trade_type.TradeType.{TradeType}
 use Rattle.brk_model.specs.Records.{Customer, Permission, Executor, Trade}
-use Rattle.brk_model.specs.Base.{Base, completed_trades, customer_with_id, charge_for_type_and_tier, commission_band_for_quantity, customer_id_of_account, tier_of_account, exchange_of_security, last_price, tax_rate_sum_of_customer, is_taxable_account}
+use Rattle.brk_model.specs.Base.{Base, completed_trades, customer_with_id, charge_for_type_and_tier, commission_band_for_quantity, customer_id_of_account}
+use Rattle.brk_model.specs.Base.{tier_of_account, exchange_of_security, last_price, tax_rate_sum_of_customer, is_taxable_account}
 use Rattle.brk_model.specs.Shares.{Share, Deal, buy_value, sell_value, realised_gain}
 use Rattle.brk_model.specs.Derived.{shares_of_position, postings_of_base, balance_of_account, holdings_market_value}
 use Rattle.brk_model.specs.Commands.{Order, Estimate, Reply, Ordered}
@@ -30,7 +32,8 @@ is_customer_or_has_permission c permissions e =
 -- also true if the customer does not exist.
 abbrev pub may_order_for_account : Base → ℕ → Executor → Bool
 may_order_for_account base account e =
-    option_map_or (λ c. is_customer_or_has_permission c (filter (λ p. p.account == account) base.permissions) e) (customer_with_id base (customer_id_of_account base account)) true
+    option_map_or (λ c. is_customer_or_has_permission c (filter (λ p. p.account == account) base.permissions) e)
+    (customer_with_id base (customer_id_of_account base account)) true
 
 -- The price, in cents, that the order `o` asks for, or the last price of its security if its type
 -- has no price (Trade-Order, frame 3); 0 if that security does not exist.
@@ -51,8 +54,14 @@ tax_on_deal base account d shares =
 
 -- The deal of the order `o` at its requested price, with the id of the next trade and the stamp 0.
 abbrev pub deal_of_order : Base → Order → Deal
-deal_of_order base o =
-    record { trade = length base.trades + 1; side = side_of_trade_type (trade_type_of_order o.order_type); qty = o.qty; price = requested_price base o; stamp = 0; is_lifo = o.is_lifo }
+deal_of_order base o = record {
+  trade = length base.trades + 1;
+  side = side_of_trade_type (trade_type_of_order o.order_type);
+  qty = o.qty;
+  price = requested_price base o;
+  stamp = 0;
+  is_lifo = o.is_lifo;
+}
 
 -- The balance of the account `account` plus the market value of its holdings at last prices, in
 -- cents.

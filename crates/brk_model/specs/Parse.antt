@@ -3,18 +3,24 @@ use Rattle.std.specs.Prelude.{ℕ, nat_le, if◌then◌else◌, List, [], ◌∷
 use Rattle.brk_money.specs.Spelling.{Text}
 use Rattle.brk_money.specs.declared.refusal.Refusal.TheVariants.{BadText, BadQty}
 use Rattle.brk_model.specs.Records.{Broker, Customer, Account, Permission, Charge, Band, TaxRate, CustomerTax, Executor}
-use Rattle.brk_model.specs.Forms.{ReadResult, ◌⊛◌, read_id, read_stamp, read_quantity, read_price, read_charge_amount, read_movement_amount, read_day, read_opening_balance, read_tax_status, read_trade_type, read_cash_or_margin, read_lifo_or_fifo, read_order_type, read_distinct_ids, one_to_twenty_elements, check_read_value, read_name, read_tax_id, read_symbol, read_exchange, read_acl, read_tier, read_commission_rate, read_tax_rate_number}
-use Rattle.brk_model.specs.Commands.{Command, Listing, Order, Tick, AddBroker, AddCustomer, AddAccount, AddPermission, AddSecurity, AddCharge, AddBand, AddTaxRate, AddCustomerTax, PlaceOrder, FeedTicks, CancelTrade, CompleteTrade, ChangeExecutors, ChangeCashTypes, ChangeCashNames, DepositCash, WithdrawCash, SetOneDay}
+use Rattle.brk_model.specs.Forms.{ReadResult, ◌⊛◌, read_id, read_stamp, read_quantity, read_price, read_charge_amount, read_movement_amount, read_day}
+use Rattle.brk_model.specs.Forms.{read_opening_balance, read_tax_status, read_trade_type, read_cash_or_margin, read_lifo_or_fifo, read_order_type}
+use Rattle.brk_model.specs.Forms.{read_distinct_ids, one_to_twenty_elements, check_read_value, read_name, read_tax_id, read_symbol, read_exchange, read_acl}
+use Rattle.brk_model.specs.Forms.{read_tier, read_commission_rate, read_tax_rate_number}
+use Rattle.brk_model.specs.Commands.{Command, Listing, Order, Tick, AddBroker, AddCustomer, AddAccount, AddPermission, AddSecurity, AddCharge, AddBand}
+use Rattle.brk_model.specs.Commands.{AddTaxRate, AddCustomerTax, PlaceOrder, FeedTicks, CancelTrade, CompleteTrade, ChangeExecutors, ChangeCashTypes}
+use Rattle.brk_model.specs.Commands.{ChangeCashNames, DepositCash, WithdrawCash, SetOneDay}
 
 -- ---- the fields after each kind
 
--- The broker that two fields parse as (id, name), or the refusal of a malformed field.
+-- The broker that two fields parse as (id, name), or the refusal of a malformed field; the refusal
+-- `BadText` if there are fewer or more fields.
 abbrev pub read_broker : List Text → ReadResult Broker
 read_broker (id ∷ name ∷ []) = Ok (λ i n. record { id = i; name = n }) ⊛ read_id id ⊛ read_name name
 read_broker _ = Err BadText
 
 -- The customer that five fields parse as (id, tier, tax id, last name, first name), or the refusal
--- of a malformed field.
+-- of a malformed field; the refusal `BadText` if there are fewer or more fields.
 abbrev pub read_customer : List Text → ReadResult Customer
 read_customer (id ∷ tier ∷ tax_id ∷ last ∷ first ∷ []) =
     Ok (λ i t x l f. record { id = i; tier = t; tax_id = x; last_name = l; first_name = f })
@@ -22,7 +28,7 @@ read_customer (id ∷ tier ∷ tax_id ∷ last ∷ first ∷ []) =
 read_customer _ = Err BadText
 
 -- The account that six fields parse as (id, customer, broker, name, tax status, opening balance),
--- or the refusal of a malformed field.
+-- or the refusal of a malformed field; the refusal `BadText` if there are fewer or more fields.
 abbrev pub read_account : List Text → ReadResult Account
 read_account (id ∷ customer ∷ broker ∷ name ∷ tax_status ∷ opening ∷ []) =
     Ok (λ i c b n t o. record { id = i; customer = c; broker = b; name = n; tax_status = t; opening = o })
@@ -30,7 +36,7 @@ read_account (id ∷ customer ∷ broker ∷ name ∷ tax_status ∷ opening ∷
 read_account _ = Err BadText
 
 -- The permission that five fields parse as (account, ACL, tax id, last name, first name), or the
--- refusal of a malformed field.
+-- refusal of a malformed field; the refusal `BadText` if there are fewer or more fields.
 abbrev pub read_permission : List Text → ReadResult Permission
 read_permission (account ∷ acl ∷ tax_id ∷ last ∷ first ∷ []) =
     Ok (λ a c x l f. record { account = a; acl = c; tax_id = x; last_name = l; first_name = f })
@@ -38,14 +44,15 @@ read_permission (account ∷ acl ∷ tax_id ∷ last ∷ first ∷ []) =
 read_permission _ = Err BadText
 
 -- The listing of a security that five fields parse as (symbol, name, exchange, sector, price), or
--- the refusal of a malformed field.
+-- the refusal of a malformed field; the refusal `BadText` if there are fewer or more fields.
 abbrev pub read_listing : List Text → ReadResult Listing
 read_listing (symbol ∷ name ∷ exchange ∷ sector ∷ price ∷ []) =
     Ok (λ s n e c p. record { symbol = s; name = n; exchange = e; sector = c; price = p })
     ⊛ read_symbol symbol ⊛ read_name name ⊛ read_exchange exchange ⊛ read_name sector ⊛ read_price price
 read_listing _ = Err BadText
 
--- The charge that three fields parse as (type, tier, amount), or the refusal of a malformed field.
+-- The charge that three fields parse as (type, tier, amount), or the refusal of a malformed field;
+-- the refusal `BadText` if there are fewer or more fields.
 abbrev pub read_charge : List Text → ReadResult Charge
 read_charge (kind ∷ tier ∷ amount ∷ []) =
     Ok (λ k t a. record { kind = k; tier = t; amount = a }) ⊛ read_trade_type kind ⊛ read_tier tier ⊛ read_charge_amount amount
@@ -61,21 +68,23 @@ abbrev pub read_quantity_bounds : Text → Text → ReadResult (ℕ × ℕ)
 read_quantity_bounds low high = check_read_value bounds_if_ascending (Ok (λ a b. (a, b)) ⊛ read_quantity low ⊛ read_quantity high)
 
 -- The commission band that six fields parse as (tier, type, exchange, least quantity, greatest
--- quantity, rate), or the refusal of a malformed field.
+-- quantity, rate), or the refusal of a malformed field; the refusal `BadText` if there are fewer or
+-- more fields.
 abbrev pub read_commission_band : List Text → ReadResult Band
 read_commission_band (tier ∷ kind ∷ exchange ∷ low ∷ high ∷ rate ∷ []) =
     Ok (λ t k e b r. record { tier = t; kind = k; exchange = e; from_qty = b.0; to_qty = b.1; rate = r })
     ⊛ read_tier tier ⊛ read_trade_type kind ⊛ read_exchange exchange ⊛ read_quantity_bounds low high ⊛ read_commission_rate rate
 read_commission_band _ = Err BadText
 
--- The tax rate that three fields parse as (id, name, rate), or the refusal of a malformed field.
+-- The tax rate that three fields parse as (id, name, rate), or the refusal of a malformed field;
+-- the refusal `BadText` if there are fewer or more fields.
 abbrev pub read_tax_rate : List Text → ReadResult TaxRate
 read_tax_rate (id ∷ name ∷ rate ∷ []) =
     Ok (λ i n r. record { id = i; name = n; rate = r }) ⊛ read_id id ⊛ read_name name ⊛ read_tax_rate_number rate
 read_tax_rate _ = Err BadText
 
 -- The tax of a customer that two fields parse as (customer, tax rate), or the refusal of a
--- malformed field.
+-- malformed field; the refusal `BadText` if there are fewer or more fields.
 abbrev pub read_customer_tax : List Text → ReadResult CustomerTax
 read_customer_tax (customer ∷ tax ∷ []) = Ok (λ c t. record { customer = c; tax = t }) ⊛ read_id customer ⊛ read_id tax
 read_customer_tax _ = Err BadText
@@ -86,8 +95,8 @@ abbrev pub read_executor : Text → Text → Text → ReadResult Executor
 read_executor first last tax_id = Ok (λ f l x. record { first_name = f; last_name = l; tax_id = x }) ⊛ read_name first ⊛ read_name last ⊛ read_tax_id tax_id
 
 -- The order that ten fields parse as (account, type, symbol, quantity, price, `cash` or `margin`,
--- `lifo` or `fifo`, first name, last name, tax id), or the refusal of a malformed field. An
--- estimate has the same ten fields.
+-- `lifo` or `fifo`, first name, last name, tax id), or the refusal of a malformed field; the
+-- refusal `BadText` if there are fewer or more fields. An estimate has the same ten fields.
 abbrev pub read_order : List Text → ReadResult Order
 read_order (account ∷ kind ∷ symbol ∷ qty ∷ price ∷ cash ∷ end ∷ first ∷ last ∷ tax_id ∷ []) =
     Ok (λ a s q t c l e. record { account = a; order_type = t; symbol = s; qty = q; is_cash = c; is_lifo = l; executor = e })
@@ -96,48 +105,50 @@ read_order (account ∷ kind ∷ symbol ∷ qty ∷ price ∷ cash ∷ end ∷ f
 read_order _ = Err BadText
 
 -- The ticks that the fields parse as, three fields each (symbol, price, quantity), or the refusal
--- of a malformed field.
+-- of a malformed field; the refusal `BadText` if one or two fields are left over.
 abbrev pub read_ticks : List Text → ReadResult (List Tick)
 read_ticks [] = Ok []
 read_ticks (symbol ∷ price ∷ qty ∷ fields) =
     Ok (λ s p q ticks. record { symbol = s; price = p; qty = q } ∷ ticks) ⊛ read_symbol symbol ⊛ read_price price ⊛ read_quantity qty ⊛ read_ticks fields
 read_ticks _ = Err BadText
 
--- The 1 to 20 ticks of a feed that the fields parse as, or a refusal: `BadText` if there are none,
--- `TooMany` if there are more than 20.
+-- The 1 to 20 ticks of a feed that the fields parse as, three fields each, or the refusal of
+-- malformed fields; the refusal `BadText` if there are no ticks, and `TooMany` if there are more
+-- than 20.
 abbrev pub read_feed : List Text → ReadResult (List Tick)
 read_feed fields = check_read_value one_to_twenty_elements (read_ticks fields)
 
--- The id of the trade to cancel that one field parses as, or the refusal `BadText`.
+-- The id of the trade to cancel that exactly one field parses as, otherwise the refusal `BadText`.
 abbrev pub read_canceled_trade_id : List Text → ReadResult ℕ
 read_canceled_trade_id (trade ∷ []) = read_id trade
 read_canceled_trade_id _ = Err BadText
 
 -- The command `CompleteTrade` that two fields parse as (trade, price), or the refusal of a
--- malformed field.
+-- malformed field; the refusal `BadText` if there are fewer or more fields.
 abbrev pub read_result_command : List Text → ReadResult Command
 read_result_command (trade ∷ price ∷ []) = Ok (λ t p. CompleteTrade t p) ⊛ read_id trade ⊛ read_price price
 read_result_command _ = Err BadText
 
--- The command `ChangeCashTypes` that three fields parse as (account, first stamp, last stamp), or
--- the refusal `BadText`.
+-- The command `ChangeCashTypes` that exactly three fields parse as (account, first stamp, last
+-- stamp), otherwise the refusal `BadText`.
 abbrev pub read_cash_type_update : List Text → ReadResult Command
 read_cash_type_update (account ∷ first ∷ last ∷ []) = Ok (λ a f l. ChangeCashTypes a f l) ⊛ read_id account ⊛ read_stamp first ⊛ read_stamp last
 read_cash_type_update _ = Err BadText
 
--- The command `ChangeCashNames` that three fields parse as (symbol, first stamp, last stamp), or
--- the refusal `BadText`.
+-- The command `ChangeCashNames` that exactly three fields parse as (symbol, first stamp, last
+-- stamp), otherwise the refusal `BadText`.
 abbrev pub read_cash_name_update : List Text → ReadResult Command
 read_cash_name_update (symbol ∷ first ∷ last ∷ []) = Ok (λ s f l. ChangeCashNames s f l) ⊛ read_symbol symbol ⊛ read_stamp first ⊛ read_stamp last
 read_cash_name_update _ = Err BadText
 
--- The command that `moved` forms from the account and the amount that two fields parse as, or the
--- refusal `BadText`.
+-- The command that `moved` returns for the account and the amount in cents that exactly two fields
+-- parse as, otherwise the refusal `BadText`.
 abbrev pub read_movement_command : (ℕ → ℕ → Command) → List Text → ReadResult Command
 read_movement_command moved (account ∷ amount ∷ []) = Ok (λ a n. moved a n) ⊛ read_id account ⊛ read_movement_amount amount
 read_movement_command moved _ = Err BadText
 
--- The settlement day that one field parses as, or the refusal `BadText`.
+-- The settlement day, in days since 1970-01-01, that exactly one field parses as, otherwise the
+-- refusal `BadText`.
 abbrev pub read_settlement_day : List Text → ReadResult ℕ
 read_settlement_day (day ∷ []) = read_day day
 read_settlement_day _ = Err BadText
@@ -219,6 +230,7 @@ abbrev pub parse_by_first_field : {A : Type 0} → List (NamedParser A) → List
 parse_by_first_field table [] = Err BadText
 parse_by_first_field table (kind ∷ fields) = read_with_parser (find (λ reader. bytes_eq reader.0 kind) table) fields
 
--- The command that the fields of a row parse as, or the refusal of a malformed row.
+-- The command that the fields of a row parse as, or the refusal of a malformed row: `BadText` if
+-- there is no field or the first is no row kind, otherwise that of the parser of the kind.
 unfoldable pub parse_row : List Text → ReadResult Command
 parse_row fields = parse_by_first_field row_parsers fields

@@ -35,10 +35,12 @@ customer_position_view tables test =
 abbrev pub last_ten_trade_rows : Tables → ℕ → List TradeRow
 last_ten_trade_rows tables account = take 10 (trade_rows_recent_first (trade_rows_of_account tables account))
 
--- One record for each of the 10 most recent trades of the account `account`, then one for each
--- TRADE_HISTORY row of these trades, both sorted by stamp, then by trade, descending.
+-- One record (`trade`, id, symbol, quantity) for each of the 10 most recent trades of the account
+-- `account`, then one (`history`, trade, status name, stamp) for each TRADE_HISTORY row of these
+-- trades. Both are sorted by stamp, then by trade, descending.
 unfoldable pub recent_trades_view : Tables → ℕ → View
 recent_trades_view tables account =
     map (λ t. codes "trade" ∷ decimal t.id ∷ t.symbol ∷ decimal t.qty ∷ []) (last_ten_trade_rows tables account)
     ++ map (λ h. codes "history" ∷ decimal h.trade ∷ trade_status_name h.status ∷ decimal h.stamp ∷ [])
-    (sort_by (λ a b. is_pair_less b.stamp a.stamp b.trade a.trade) (flat_map (λ t. history_rows_with_trade_id tables t.id) (last_ten_trade_rows tables account)))
+    (sort_by (λ a b. is_pair_less b.stamp a.stamp b.trade a.trade)
+    (flat_map (λ t. history_rows_with_trade_id tables t.id) (last_ten_trade_rows tables account)))

@@ -11,7 +11,8 @@ pub record Broker : Type 0 where
   pub id : ℕ
   pub name : Text
 
--- A customer, whose tier selects the charges and commission rates.
+-- A customer: its id, tax id and names, and its tier, 1 to 3, which selects the charges and
+-- commission rates.
 pub record Customer : Type 0 where
   pub id : ℕ
   pub tier : ℕ
@@ -28,7 +29,8 @@ pub record Account : Type 0 where
   pub tax_status : TaxStatus
   pub opening : ℤ
 
--- A person who may order for an account in addition to its customer.
+-- A permission to order for an account, for a person with this tax id and these names in addition
+-- to the customer. `acl` is recorded and has no effect.
 pub record Permission : Type 0 where
   pub account : ℕ
   pub acl : Text
@@ -47,7 +49,7 @@ pub record Security : Type 0 where
   pub volume : ℕ
   pub moment : ℕ
 
--- The charge of an order, by trade type and customer tier, in cents.
+-- The charge of an order, in cents, for a trade type and a customer tier.
 pub record Charge : Type 0 where
   pub kind : TradeType
   pub tier : ℕ
@@ -63,7 +65,7 @@ pub record Band : Type 0 where
   pub to_qty : ℕ
   pub rate : ℕ
 
--- A tax rate, in hundred-thousandths.
+-- A tax rate: its id, its name, and `rate`, in hundred-thousandths.
 pub record TaxRate : Type 0 where
   pub id : ℕ
   pub name : Text
@@ -81,8 +83,9 @@ pub record StatusChange : Type 0 where
 
 -- A trade as ordered, with its status changes (`marks`) and the values that its completion
 -- recorded. `bid` is the requested price, `price` the price at completion, and `charge`,
--- `commission` and `tax` are amounts, all in cents. `cash_type` is empty without a settlement, and
--- `cash_name` without a cash row.
+-- `commission` and `tax` are amounts, all in cents. It is a cash trade if `is_cash` is true,
+-- otherwise a margin trade, and closes the last shares first if `is_lifo` is true. `cash_type` is
+-- empty without a settlement, and `cash_name` without a cash row.
 pub record Trade : Type 0 where
   pub id : ℕ
   pub account : ℕ
@@ -101,16 +104,16 @@ pub record Trade : Type 0 where
   pub cash_type : Text
   pub cash_name : Text
 
--- Cash that was paid into an account or out of it without a trade; `amount` is in cents, and below
--- 0 if it was paid out.
+-- A movement: cash that was paid into an account or out of it without a trade. `amount` is in
+-- cents, and below 0 if it was paid out; `name` is the text of its cash row.
 pub record Movement : Type 0 where
   pub account : ℕ
   pub stamp : ℕ
   pub amount : ℤ
   pub name : Text
 
--- The type of the settlement day: the first day whose completions settle after one day, or none if
--- no such day is set.
+-- The type of the settlement day: the first day, in days since 1970-01-01, whose completions settle
+-- after one day, or none if no such day is set.
 abbrev pub SettleRule : Type 0
 SettleRule = Option ℕ
 
@@ -119,7 +122,7 @@ pub record Key : Type 0 where
   pub batch : Text
   pub row : ℕ
 
--- An accepted row: its key, its text and the stored line of its reply.
+-- An accepted row: its key, its text, and the line of its reply, which a retry returns.
 pub record Kept : Type 0 where
   pub key : Key
   pub row_text : Text

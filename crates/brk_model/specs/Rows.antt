@@ -5,7 +5,10 @@ use Rattle.std.specs.Option.{option_map_or}
 use Rattle.brk_money.specs.Spelling.{Text, cents_text, day_text}
 use Rattle.brk_money.specs.Kinds.{trade_type_code, trade_status_code, tax_status_number}
 use Rattle.brk_money.specs.OrderTypes.{trade_type_of_order, price_of_order}
-use Rattle.brk_model.specs.Commands.{Command, Order, Tick, Estimate, Completion, Reply, Booked, Ordered, Ticked, CanceledTrade, CompletedTrade, Changed, MovedCash, AddBroker, AddCustomer, AddAccount, AddPermission, AddSecurity, AddCharge, AddBand, AddTaxRate, AddCustomerTax, PlaceOrder, FeedTicks, CancelTrade, CompleteTrade, ChangeExecutors, ChangeCashTypes, ChangeCashNames, DepositCash, WithdrawCash, SetOneDay}
+use Rattle.brk_model.specs.Commands.{Command, Order, Tick, Estimate, Completion, Reply, Booked, Ordered, Ticked, CanceledTrade, CompletedTrade, Changed}
+use Rattle.brk_model.specs.Commands.{MovedCash, AddBroker, AddCustomer, AddAccount, AddPermission, AddSecurity, AddCharge, AddBand, AddTaxRate, AddCustomerTax}
+use Rattle.brk_model.specs.Commands.{PlaceOrder, FeedTicks, CancelTrade, CompleteTrade, ChangeExecutors, ChangeCashTypes, ChangeCashNames, DepositCash}
+use Rattle.brk_model.specs.Commands.{WithdrawCash, SetOneDay}
 
 -- The canonical text of an amount of `n` cents, which is never negative.
 abbrev pub nonnegative_cents_text : ℕ → Text

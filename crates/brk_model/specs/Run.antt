@@ -10,12 +10,13 @@ use Rattle.brk_model.specs.Keyed.{keyed_step}
 use Rattle.brk_model.specs.Queries.{View, Query}
 use Rattle.brk_model.specs.Ask.{ask}
 
--- A call: a command, with or without a key, or a query.
+-- A call: a command with or without a key (`Do`), or a query (`Ask`).
 pub data Call : Type 0 where
   Do : Command → Option Key → Call
   Ask : Query → Call
 
--- The outcome of a call: the answer to a command, the view or the refusal of a query, or a fault.
+-- The outcome of a call: the answer to a command (`Did`), the view (`Saw`) or the refusal
+-- (`NoView`) of a query, or the fault of a call that failed (`Failed`).
 pub data Outcome : Type 0 where
   Did : Answer → Outcome
   Saw : View → Outcome

@@ -3,7 +3,7 @@
 use Rattle.std.specs.Prelude.{ℕ, Bool, true, false}
 use Rattle.brk_model.specs.Limits.{greatest_qty, greatest_summary}
 
--- A schema of a database.
+-- A schema of a database: its number, the tables that it has, and the limits of its quantities.
 pub record Schema : Type 0 where
   -- The number that DESK contains (D_SCHEMA).
   pub number : ℕ
@@ -15,7 +15,7 @@ pub record Schema : Type 0 where
   -- The greatest quantity of a trade, a request and a commission band, in shares (T_QTY, TR_QTY,
   -- CR_FROM_QTY, CR_TO_QTY).
   pub greatest_qty : ℕ
-  -- The greatest holding summary (either way), in shares (HS_QTY).
+  -- The greatest absolute value of a holding summary, in shares (HS_QTY).
   pub greatest_summary : ℕ
 
 -- The first schema: cash rows of trades only, no settlement day, quantities of at most 999,999

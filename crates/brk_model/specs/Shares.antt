@@ -1,21 +1,22 @@
 -- A position as a list of single shares, and the shares that a deal closes and opens (Trade-Result,
 -- the holdings of an account in a security).
-use Rattle.std.specs.Prelude.{ℕ, ◌-◌, ◌*◌, min, Bool, false, not, ◌==◌, if◌then◌else◌, List, [], ◌∷◌, ◌++◌, length, map, filter, fold, take, drop, replicate, sum_by, ℤ, pos, neg_ℤ, ◌-ℤ◌}
+use Rattle.std.specs.Prelude.{ℕ, ◌-◌, ◌*◌, min, Bool, false, not, ◌==◌, if◌then◌else◌, List, [], ◌∷◌, ◌++◌, length, map, filter, fold, take, drop, replicate}
+use Rattle.std.specs.Prelude.{sum_by, ℤ, pos, neg_ℤ, ◌-ℤ◌}
 use Rattle.brk_money.specs.Kinds.{is_same_side}
 use Rattle.brk_model.specs.Lists.{total_by, is_zero}
 use Rattle.brk_money.specs.declared.side.Side.{Side}
 use Rattle.brk_money.specs.declared.side.Side.TheVariants.{Buy, Sell}
 
--- One share of a position: its side (bought or sold short), and the id, price and stamp of the
--- trade that opened it.
+-- One share of a position: its side (bought or sold short), and the id, the price in cents and the
+-- stamp of the trade that opened it.
 pub record Share : Type 0 where
   pub side : Side
   pub trade : ℕ
   pub price : ℕ
   pub stamp : ℕ
 
--- The effect of a trade on a position: it buys or sells `qty` shares at `price`. It closes the last
--- shares first if `is_lifo`, otherwise the first ones.
+-- The effect of a trade on a position: it buys or sells `qty` shares at `price`, in cents. It
+-- closes the last shares first if `is_lifo`, otherwise the first ones.
 pub record Deal : Type 0 where
   pub trade : ℕ
   pub side : Side
@@ -122,7 +123,8 @@ first_shares_of_lots [] = []
 first_shares_of_lots (share ∷ shares) = share ∷ filter (λ other. not (other.trade == share.trade)) (first_shares_of_lots shares)
 
 -- A lot: the shares of a position that one trade opened and that are not closed. `trade` is the id
--- of that trade; `qty` is below 0 if the shares were sold short.
+-- of that trade, `price` its price in cents, and `stamp` its stamp; `qty` is below 0 if the shares
+-- were sold short.
 pub record Lot : Type 0 where
   pub trade : ℕ
   pub price : ℕ

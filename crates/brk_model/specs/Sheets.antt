@@ -2,7 +2,9 @@
 use Rattle.brk_model.specs.Base.{Base}
 use Rattle.brk_model.specs.Schemas.{Schema}
 use Rattle.brk_model.specs.Tables.{Tables, tables_of_base_in_schema, tables_of_base}
-use Rattle.brk_model.specs.Keys.{rows_sorted_by_key, kept_key, broker_key, customer_key, account_key, permission_key, security_key, last_trade_key, charge_key, band_key, tax_rate_key, customer_tax_key, trade_key, history_key, request_key, holding_key, summary_key, holding_history_key, settlement_key, cash_key, move_key}
+use Rattle.brk_model.specs.Keys.{rows_sorted_by_key, kept_key, broker_key, customer_key, account_key, permission_key, security_key, last_trade_key, charge_key}
+use Rattle.brk_model.specs.Keys.{band_key, tax_rate_key, customer_tax_key, trade_key, history_key, request_key, holding_key, summary_key, holding_history_key}
+use Rattle.brk_model.specs.Keys.{settlement_key, cash_key, move_key}
 
 -- The tables `t`, each sorted by key, ascending; two rows with one key keep their sequence.
 unfoldable pub tables_sorted_by_key : Tables → Tables

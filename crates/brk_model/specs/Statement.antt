@@ -1,5 +1,6 @@
 -- The text of an account's statement, computed from the tables.
-use Rattle.std.specs.Prelude.{ℕ, ◌-◌, ◌&&◌, ◌||◌, ◌==◌, nat_lt, if◌then◌else◌, List, [], ◌∷◌, ◌++◌, map, flat_map, filter, length, replicate, Option, Some, None, Result, Ok, Err, ℤ, ◌+ℤ◌, codes, decimal, bytes_eq}
+use Rattle.std.specs.Prelude.{ℕ, ◌-◌, ◌&&◌, ◌||◌, ◌==◌, nat_lt, if◌then◌else◌, List, [], ◌∷◌, ◌++◌, map, flat_map, filter, length, replicate, Option, Some}
+use Rattle.std.specs.Prelude.{None, Result, Ok, Err, ℤ, ◌+ℤ◌, codes, decimal, bytes_eq}
 use Rattle.std.specs.Fmt.{signed_decimal}
 use Rattle.brk_money.specs.Spelling.{Text, cents_text, day_text}
 use Rattle.brk_money.specs.Moments.{day_of}
@@ -20,8 +21,8 @@ left_aligned_text places text = text ++ replicate (places - length text) 32
 abbrev pub right_aligned_text : ℕ → Text → Text
 right_aligned_text places text = replicate (places - length text) 32 ++ text
 
--- The word `word`, padded on its right to 10 places, a space, and the text of the amount, padded on
--- its left to 22 places.
+-- The statement line of an amount, which is given in cents: the word `word`, padded on its right to
+-- 10 places, a space, and the text of the amount, padded on its left to 22 places.
 abbrev pub amount_line : Text → ℤ → Text
 amount_line word amount = left_aligned_text 10 word ++ 32 ∷ right_aligned_text 22 (cents_text amount)
 
@@ -51,7 +52,8 @@ holding_rows_of_account tables account =
 abbrev pub cash_row_line : MoveRow → Text
 cash_row_line row = day_text (day_of row.stamp) ++ 32 ∷ right_aligned_text 22 (cents_text row.amount) ++ 32 ∷ row.name
 
--- The statement line of a lot: its symbol, the trade that opened it, its quantity and its price.
+-- The statement line of a lot: its symbol, the id of the trade that opened it, its quantity and its
+-- price.
 abbrev pub lot_line : HoldingRow → Text
 lot_line row =
     left_aligned_text 15 row.symbol ++ 32 ∷ right_aligned_text 13 (decimal row.trade) ++ 32 ∷ right_aligned_text 11 (signed_decimal row.qty) ++ 32

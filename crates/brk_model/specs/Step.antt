@@ -8,10 +8,13 @@ use Rattle.brk_model.specs.Base.{Base, trade_with_id, trade_with_status_change, 
 use Rattle.brk_model.specs.Orders.{base_after_order, reply_to_order}
 use Rattle.brk_model.specs.Feed.{base_after_ticks, triggered_trade_ids}
 use Rattle.brk_model.specs.Results.{base_after_result, completion_of_trade}
-use Rattle.brk_model.specs.Updates.{selected_ids_of_account, selected_ids_of_symbol, base_with_updated_executors, base_with_updated_cash_types, base_with_updated_cash_names}
+use Rattle.brk_model.specs.Updates.{selected_ids_of_account, selected_ids_of_symbol, base_with_updated_executors, base_with_updated_cash_types}
+use Rattle.brk_model.specs.Updates.{base_with_updated_cash_names}
 use Rattle.brk_model.specs.Movements.{deposit_movement, withdrawal_movement, base_after_movement, base_with_settlement_day, reply_to_movement}
 use Rattle.brk_model.specs.Tests.{stamp_of_next_command, refusal_of_command}
-use Rattle.brk_model.specs.Commands.{Command, Listing, Reply, Booked, Ticked, CanceledTrade, CompletedTrade, Changed, AddBroker, AddCustomer, AddAccount, AddPermission, AddSecurity, AddCharge, AddBand, AddTaxRate, AddCustomerTax, PlaceOrder, FeedTicks, CancelTrade, CompleteTrade, ChangeExecutors, ChangeCashTypes, ChangeCashNames, DepositCash, WithdrawCash, SetOneDay}
+use Rattle.brk_model.specs.Commands.{Command, Listing, Reply, Booked, Ticked, CanceledTrade, CompletedTrade, Changed, AddBroker, AddCustomer, AddAccount}
+use Rattle.brk_model.specs.Commands.{AddPermission, AddSecurity, AddCharge, AddBand, AddTaxRate, AddCustomerTax, PlaceOrder, FeedTicks, CancelTrade}
+use Rattle.brk_model.specs.Commands.{CompleteTrade, ChangeExecutors, ChangeCashTypes, ChangeCashNames, DepositCash, WithdrawCash, SetOneDay}
 
 -- The security of the listing `l`, with its first price as the last price, the volume 0 and the
 -- stamp `stamp`.
@@ -85,4 +88,5 @@ value_unless_refused (Some refusal) value = Err refusal
 -- base after it.
 unfoldable pub step : Base → ℕ → Command → Result (Reply × Base) Refusal
 step base now command =
-    value_unless_refused (refusal_of_command base now command) (reply_to_command base (stamp_of_next_command base now) command, base_after_accepted_command base (stamp_of_next_command base now) command)
+    value_unless_refused (refusal_of_command base now command)
+    (reply_to_command base (stamp_of_next_command base now) command, base_after_accepted_command base (stamp_of_next_command base now) command)

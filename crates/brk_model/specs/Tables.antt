@@ -11,16 +11,19 @@ use Rattle.brk_model.specs.Records.{Broker, Customer, Account, Permission, Secur
 use Rattle.brk_model.specs.Base.{Base, last_status_change, last_status_stamp_of_trade, broker_id_in_accounts, completed_trades, completion_price}
 use Rattle.brk_model.specs.Shares.{Share, Deal, Touch, changes_lot_quantity, lot_quantity, shares_after_deal, touch_of_lot}
 use Rattle.brk_model.specs.Schemas.{Schema, third_schema}
-use Rattle.brk_model.specs.Derived.{Posting, deals_of_position, shares_of_position, holding_summary_quantity, settlement_amount, due_day, cash_trades, postings, postings_sorted_by_stamp, balance_of_account, trade_count_of_broker, commission_total_of_broker, pending_trades}
+use Rattle.brk_model.specs.Derived.{Posting, deals_of_position, shares_of_position, holding_summary_quantity, settlement_amount, due_day, cash_trades, postings}
+use Rattle.brk_model.specs.Derived.{postings_sorted_by_stamp, balance_of_account, trade_count_of_broker, commission_total_of_broker, pending_trades}
 
--- A row of BROKER: B_ID, B_NAME, B_NUM_TRADES, B_COMM_TOTAL.
+-- A row of BROKER: id (B_ID), name (B_NAME), number of completed trades (B_NUM_TRADES), and their
+-- commissions, in cents (B_COMM_TOTAL).
 pub record BrokerRow : Type 0 where
   pub id : ℕ
   pub name : Text
   pub trades : ℤ
   pub commissions : ℕ
 
--- A row of CUSTOMER_ACCOUNT: CA_ID, CA_C_ID, CA_B_ID, CA_NAME, CA_TAX_ST, CA_OPEN, CA_BAL.
+-- A row of CUSTOMER_ACCOUNT: id (CA_ID), customer (CA_C_ID), broker (CA_B_ID), name (CA_NAME), tax
+-- status (CA_TAX_ST), opening balance (CA_OPEN) and balance (CA_BAL), both in cents.
 pub record AccountRow : Type 0 where
   pub id : ℕ
   pub customer : ℕ
@@ -30,14 +33,15 @@ pub record AccountRow : Type 0 where
   pub opening : ℤ
   pub balance : ℤ
 
--- A row of SECURITY: S_SYMB, S_NAME, S_EX_ID, S_SECTOR.
+-- A row of SECURITY: symbol (S_SYMB), name (S_NAME), exchange (S_EX_ID) and sector (S_SECTOR).
 pub record SecurityRow : Type 0 where
   pub symbol : Text
   pub name : Text
   pub exchange : Text
   pub sector : Text
 
--- A row of LAST_TRADE: LT_S_SYMB, LT_DTS, LT_PRICE, LT_VOL.
+-- A row of LAST_TRADE: symbol (LT_S_SYMB), stamp of the last tick or, before it, of the listing
+-- (LT_DTS), last price in cents (LT_PRICE), and volume in shares (LT_VOL).
 pub record LastTradeRow : Type 0 where
   pub symbol : Text
   pub stamp : ℕ
@@ -45,7 +49,9 @@ pub record LastTradeRow : Type 0 where
   pub volume : ℕ
 
 -- A row of TRADE: T_ID, T_DTS, T_ST_ID, T_TT_ID, T_IS_CASH, T_S_SYMB, T_QTY, T_BID_PRICE, T_CA_ID,
--- T_EXEC_NAME, T_TRADE_PRICE, T_CHRG, T_COMM, T_TAX, T_LIFO.
+-- T_EXEC_NAME, T_TRADE_PRICE, T_CHRG, T_COMM, T_TAX, T_LIFO. The stamp and the status are those of
+-- the last status change. The bid, the price, the charge, the commission and the tax are in cents;
+-- there is no price before the completion.
 pub record TradeRow : Type 0 where
   pub id : ℕ
   pub stamp : ℕ
@@ -63,13 +69,15 @@ pub record TradeRow : Type 0 where
   pub tax : ℕ
   pub is_lifo : Bool
 
--- A row of TRADE_HISTORY: TH_T_ID, TH_ST_ID, TH_DTS.
+-- A row of TRADE_HISTORY, a status change: trade (TH_T_ID), new status (TH_ST_ID) and stamp
+-- (TH_DTS).
 pub record HistoryRow : Type 0 where
   pub trade : ℕ
   pub status : Status
   pub stamp : ℕ
 
--- A row of TRADE_REQUEST: TR_T_ID, TR_TT_ID, TR_S_SYMB, TR_QTY, TR_BID_PRICE, TR_B_ID.
+-- A row of TRADE_REQUEST, a pending trade: its id (TR_T_ID), type (TR_TT_ID), symbol (TR_S_SYMB),
+-- quantity in shares (TR_QTY), requested price in cents (TR_BID_PRICE), and broker (TR_B_ID).
 pub record RequestRow : Type 0 where
   pub trade : ℕ
   pub kind : TradeType
@@ -78,7 +86,8 @@ pub record RequestRow : Type 0 where
   pub bid : ℕ
   pub broker : ℕ
 
--- A row of HOLDING: H_T_ID, H_CA_ID, H_S_SYMB, H_DTS, H_PRICE, H_QTY.
+-- A row of HOLDING, a lot: the trade that opened it (H_T_ID), account (H_CA_ID), symbol (H_S_SYMB),
+-- stamp (H_DTS), price in cents (H_PRICE), and quantity, below 0 if it was sold short (H_QTY).
 pub record HoldingRow : Type 0 where
   pub trade : ℕ
   pub account : ℕ
@@ -87,34 +96,39 @@ pub record HoldingRow : Type 0 where
   pub price : ℕ
   pub qty : ℤ
 
--- A row of HOLDING_SUMMARY: HS_CA_ID, HS_S_SYMB, HS_QTY.
+-- A row of HOLDING_SUMMARY: account (HS_CA_ID), symbol (HS_S_SYMB), and net quantity in shares,
+-- below 0 if they were sold short (HS_QTY).
 pub record SummaryRow : Type 0 where
   pub account : ℕ
   pub symbol : Text
   pub qty : ℤ
 
--- A row of HOLDING_HISTORY: HH_H_T_ID, HH_T_ID, HH_BEFORE_QTY, HH_AFTER_QTY.
+-- A row of HOLDING_HISTORY, a change of a lot: the trade that opened the lot (HH_H_T_ID), the trade
+-- that changed it (HH_T_ID), and the lot's quantity before and after (HH_BEFORE_QTY, HH_AFTER_QTY).
 pub record HoldingHistoryRow : Type 0 where
   pub lot : ℕ
   pub trade : ℕ
   pub before : ℤ
   pub after : ℤ
 
--- A row of SETTLEMENT: SE_T_ID, SE_CASH_TYPE, SE_CASH_DUE_DATE, SE_AMT.
+-- A row of SETTLEMENT: trade (SE_T_ID), cash type (SE_CASH_TYPE), due day in days since 1970-01-01
+-- (SE_CASH_DUE_DATE), and amount in cents (SE_AMT).
 pub record SettlementRow : Type 0 where
   pub trade : ℕ
   pub cash_type : Text
   pub due_day : ℕ
   pub amount : ℤ
 
--- A row of CASH_TRANSACTION: CT_T_ID, CT_DTS, CT_AMT, CT_NAME.
+-- A row of CASH_TRANSACTION, the cash row of a trade in the first schema: trade (CT_T_ID), stamp
+-- (CT_DTS), amount in cents (CT_AMT), and name (CT_NAME).
 pub record CashRow : Type 0 where
   pub trade : ℕ
   pub stamp : ℕ
   pub amount : ℤ
   pub name : Text
 
--- A row of CASH_MOVE: CM_ID, CM_CA_ID, CM_T_ID, CM_DTS, CM_AMT, CM_NAME.
+-- A row of CASH_MOVE, a cash row: number (CM_ID), account (CM_CA_ID), trade, or none for a movement
+-- (CM_T_ID), stamp (CM_DTS), amount in cents (CM_AMT), and name (CM_NAME).
 pub record MoveRow : Type 0 where
   pub id : ℕ
   pub account : ℕ
@@ -209,21 +223,27 @@ history_rows t = map (λ m. record { trade = t.id; status = m.status; stamp = m.
 abbrev pub request_row : List Account → Trade → RequestRow
 request_row accounts t = record { trade = t.id; kind = t.kind; symbol = t.symbol; qty = t.qty; bid = t.bid; broker = broker_id_in_accounts accounts t.account }
 
--- The rows that `rows` returns for each account and each symbol of `base`, account by account.
+-- The rows that `rows` returns for each account id and each symbol of `base`, account by account.
 abbrev pub rows_by_position : {Row : Type 0} → Base → (ℕ → Text → List Row) → List Row
 rows_by_position base rows = flat_map (λ a. flat_map (λ s. rows a.id s.symbol) base.securities) base.accounts
 
 -- The HOLDING row of the lot that the completed trade `t` opened; its quantity is 0 if no share of
 -- the lot is left after the completed trades `done`.
 abbrev pub holding_row : List Trade → Trade → HoldingRow
-holding_row done t =
-    record { trade = t.id; account = t.account; symbol = t.symbol; stamp = last_status_stamp_of_trade t; price = completion_price t; qty = lot_quantity (shares_of_position done t.account t.symbol) t.id }
+holding_row done t = record {
+  trade = t.id;
+  account = t.account;
+  symbol = t.symbol;
+  stamp = last_status_stamp_of_trade t;
+  price = completion_price t;
+  qty = lot_quantity (shares_of_position done t.account t.symbol) t.id;
+}
 
 -- The HOLDING_HISTORY row of a lot that the trade with the id `trade` touched.
 abbrev pub holding_history_row : ℕ → Touch → HoldingHistoryRow
 holding_history_row trade touch = record { lot = touch.lot; trade = trade; before = touch.before; after = touch.after }
 
--- The lot of a HOLDING_HISTORY row, with its quantities before and after.
+-- The effect that a HOLDING_HISTORY row records: its lot, with the quantities before and after.
 abbrev pub touch_of_row : HoldingHistoryRow → Touch
 touch_of_row row = record { lot = row.lot; before = row.before; after = row.after }
 
@@ -253,8 +273,7 @@ summary_rows done account symbol =
 abbrev pub settlement_row : List Account → SettleRule → Trade → SettlementRow
 settlement_row accounts rule t = record { trade = t.id; cash_type = t.cash_type; due_day = due_day rule t; amount = settlement_amount accounts t }
 
--- The CASH_TRANSACTION row of the completed cash trade `t`, a table that only the first schema
--- fills.
+-- The row of the completed cash trade `t` in CASH_TRANSACTION, which only the first schema fills.
 abbrev pub cash_transaction_row : List Account → Trade → CashRow
 cash_transaction_row accounts t = record { trade = t.id; stamp = last_status_stamp_of_trade t; amount = settlement_amount accounts t; name = t.cash_name }
 

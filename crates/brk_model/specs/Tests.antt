@@ -1,7 +1,8 @@
 -- The checks of a well-formed command against the base; the refusal is that of the first check that
 -- fails. The bounds of a commission band are checked here once more: no row that parses has them
 -- out of order (`read_quantity_bounds` of Parse).
-use Rattle.std.specs.Prelude.{ℕ, ◌+◌, Bool, true, false, not, ◌&&◌, ◌==◌, nat_le, nat_lt, List, [], ◌∷◌, ◌++◌, length, filter, find, Option, option_map, is_some, is_none, nat_abs, bytes_eq}
+use Rattle.std.specs.Prelude.{ℕ, ◌+◌, Bool, true, false, not, ◌&&◌, ◌==◌, nat_le, nat_lt, List, [], ◌∷◌, ◌++◌, length, filter, find, Option, option_map}
+use Rattle.std.specs.Prelude.{is_some, is_none, nat_abs, bytes_eq}
 use Rattle.std.specs.List.{list_any}
 use Rattle.std.specs.Option.{option_map_or}
 use Rattle.brk_money.specs.Spelling.{Text}
@@ -9,21 +10,26 @@ use Rattle.brk_money.specs.Moments.{day_of, greatest_day, greatest_stamp, unlimi
 use Rattle.brk_money.specs.Kinds.{is_same_trade_type}
 use Rattle.brk_money.specs.OrderTypes.{trade_type_of_order}
 use Rattle.brk_money.specs.declared.refusal.Refusal.{Refusal}
-use Rattle.brk_money.specs.declared.refusal.Refusal.TheVariants.{BadQty, NoAccount, NoCustomer, NoBroker, NoSecurity, NoTrade, NoTax, WrongStatus, NotPermitted, Exists, Overlap, TaxSum, NoCharge, NoRate, Range, ClockEnd, TooEarly}
+use Rattle.brk_money.specs.declared.refusal.Refusal.TheVariants.{BadQty, NoAccount, NoCustomer, NoBroker, NoSecurity, NoTrade, NoTax, WrongStatus, NotPermitted}
+use Rattle.brk_money.specs.declared.refusal.Refusal.TheVariants.{Exists, Overlap, TaxSum, NoCharge, NoRate, Range, ClockEnd, TooEarly}
 use Rattle.brk_money.specs.declared.refusal.Limit.TheVariants as limit
 use Rattle.brk_money.specs.declared.status.Status.TheVariants.{Pending, Submitted}
 use Rattle.brk_model.specs.Limits.{greatest_amount, greatest_summary, greatest_tax_rate, greatest_id, most_accounts_per_customer}
 use Rattle.brk_model.specs.Records.{Band, Trade, Movement}
-use Rattle.brk_model.specs.Base.{Base, broker_with_id, customer_with_id, account_with_id, security_with_symbol, tax_rate_record_with_id, trade_with_id, charge_for_type_and_tier, commission_band_for_quantity, broker_id_of_account, tier_of_account, exchange_of_security, tax_rate_sum_of_customer, completed_trades, has_status}
+use Rattle.brk_model.specs.Base.{Base, broker_with_id, customer_with_id, account_with_id, security_with_symbol, tax_rate_record_with_id, trade_with_id}
+use Rattle.brk_model.specs.Base.{charge_for_type_and_tier, commission_band_for_quantity, broker_id_of_account, tier_of_account, exchange_of_security}
+use Rattle.brk_model.specs.Base.{tax_rate_sum_of_customer, completed_trades, has_status}
 use Rattle.brk_model.specs.Tables.{last_status_of_trade}
 use Rattle.brk_model.specs.Derived.{due_day_of_completion_stamp, holding_summary_quantity, postings_of_base, balance_of_account, commission_total_of_broker}
 use Rattle.brk_model.specs.Orders.{may_order_for_account}
 use Rattle.brk_model.specs.Feed.{base_after_ticks}
 use Rattle.brk_model.specs.Results.{base_after_result}
 use Rattle.brk_model.specs.Movements.{deposit_movement, withdrawal_movement, base_after_movement}
-use Rattle.brk_model.specs.Commands.{Command, Order, AddBroker, AddCustomer, AddAccount, AddPermission, AddSecurity, AddCharge, AddBand, AddTaxRate, AddCustomerTax, PlaceOrder, FeedTicks, CancelTrade, CompleteTrade, ChangeExecutors, ChangeCashTypes, ChangeCashNames, DepositCash, WithdrawCash, SetOneDay}
+use Rattle.brk_model.specs.Commands.{Command, Order, AddBroker, AddCustomer, AddAccount, AddPermission, AddSecurity, AddCharge, AddBand, AddTaxRate}
+use Rattle.brk_model.specs.Commands.{AddCustomerTax, PlaceOrder, FeedTicks, CancelTrade, CompleteTrade, ChangeExecutors, ChangeCashTypes, ChangeCashNames}
+use Rattle.brk_model.specs.Commands.{DepositCash, WithdrawCash, SetOneDay}
 
--- The type of a check: true if the refusal applies, and the refusal.
+-- The type of a check: a Boolean that is true if the refusal applies, and the refusal.
 abbrev pub RefusalCheck : Type 0
 RefusalCheck = Bool × Refusal
 
@@ -69,8 +75,11 @@ charge_exists_check base o = (is_none (charge_for_type_and_tier base (trade_type
 
 -- The check that refuses with `NoRate` if no commission band of `base` applies to the order `o`.
 abbrev pub commission_band_exists_check : Base → Order → RefusalCheck
-commission_band_exists_check base o =
-    (is_none (commission_band_for_quantity base (tier_of_account base o.account) (trade_type_of_order o.order_type) (exchange_of_security base o.symbol) o.qty), NoRate)
+commission_band_exists_check base o = (
+  is_none (commission_band_for_quantity base (tier_of_account base o.account) (trade_type_of_order o.order_type)
+      (exchange_of_security base o.symbol) o.qty),
+  NoRate,
+)
 
 -- The checks of the order `o`, or of its estimate, in sequence: account, security, permission,
 -- charge and commission band.
@@ -97,8 +106,8 @@ checks_of_result base after stamp t =
     ∷ (nat_lt greatest_day (due_day_of_completion_stamp base.rule stamp), ClockEnd)
     ∷ []
 
--- The checks of the movement `m`, in sequence: its account exists, the balance after it is within
--- the limit, and there are fewer movements than the limit.
+-- The checks of the movement `m`, in sequence: its account exists, the absolute value of the
+-- balance after it is at most `greatest_amount`, and there are fewer than `greatest_id` movements.
 abbrev pub checks_of_movement : Base → Movement → List RefusalCheck
 checks_of_movement base m =
     account_exists_check base m.account

@@ -2,7 +2,8 @@
 use Rattle.std.specs.Prelude.{◌&&◌, ◌==◌, Option, Some, None, bytes_eq}
 use Rattle.brk_model.specs.Lists.{contains_number}
 use Rattle.brk_model.specs.Tables.{Tables}
-use Rattle.brk_model.specs.Queries.{View, Query, PositionOf, PositionOfTaxId, RecentOf, StatusOf, SubmittedTrades, EstimateOf, TradesWith, TradesOfAccount, TradesOfSymbol, LotsTouched, VolumeOf}
+use Rattle.brk_model.specs.Queries.{View, Query, PositionOf, PositionOfTaxId, RecentOf, StatusOf, SubmittedTrades, EstimateOf, TradesWith, TradesOfAccount}
+use Rattle.brk_model.specs.Queries.{TradesOfSymbol, LotsTouched, VolumeOf}
 use Rattle.brk_model.specs.PositionView.{customer_position_view, recent_trades_view}
 use Rattle.brk_model.specs.StatusView.{trade_status_view, submitted_trades_view}
 use Rattle.brk_model.specs.LookupView.{trade_lookup_view, row_stamp_is_between, touched_lots_of_oldest_trade}

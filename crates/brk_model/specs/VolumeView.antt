@@ -14,8 +14,8 @@ abbrev pub sector_requests_of_broker : Tables → Text → ℕ → List RequestR
 sector_requests_of_broker tables sector broker =
     filter (λ r. (r.broker == broker) && option_map_or (λ s. bytes_eq s.sector sector) (security_row_with_symbol tables r.symbol) false) tables.requests
 
--- The value of the pending requests of the broker `broker` in the sector `sector`, at their bid
--- prices, in cents.
+-- The value of the pending requests of the broker `broker` in the sector `sector`, in cents: the
+-- sum of quantity times bid price.
 abbrev pub sector_volume_of_broker : Tables → Text → ℕ → ℕ
 sector_volume_of_broker tables sector broker = sum_by (λ r. r.qty * r.bid) (sector_requests_of_broker tables sector broker)
 

@@ -8,7 +8,7 @@ use Rattle.brk_model.specs.Computed.{batch_of_input}
 use Rattle.brk_model.specs.Queries.{View}
 use Rattle.brk_model.specs.Ask.{ask, parse_query}
 
--- Twenty clock readings, all of them the start of 2024-03-01.
+-- Twenty clock readings, all of them the start of 2024-03-01, in milliseconds since 1970-01-01 UTC.
 abbrev pub twenty_clock_readings : List ℕ
 twenty_clock_readings = replicate 20 1709251200000
 
@@ -20,11 +20,12 @@ text_with_line_ends lines = flat_map (λ line. line ++ 10 ∷ []) lines
 abbrev pub bytes_of_batch : Text → List Text → Text
 bytes_of_batch name rows = text_with_line_ends ((codes "batch," ++ name) ∷ rows ++ (codes "end," ++ decimal (length rows)) ∷ [])
 
--- The base after the batch `T` of these rows, executed from `base` on.
+-- The base after the batch `T` of these rows, executed from `base` on at the start of 2024-03-01.
 abbrev pub base_after_batch : Base → List Text → Base
 base_after_batch base rows = (batch_of_input base twenty_clock_readings (bytes_of_batch (codes "T") rows)).base
 
--- The batch `T` of these rows, executed from `base` on, has exactly these output lines.
+-- The batch `T` of these rows, executed from `base` on at the start of 2024-03-01, has exactly
+-- these output lines.
 abbrev pub BatchOutputsLines : Base → List Text → List Text → Type 0
 BatchOutputsLines base rows lines = (batch_of_input base twenty_clock_readings (bytes_of_batch (codes "T") rows)).text ≡ text_with_line_ends lines
 

@@ -10,7 +10,7 @@ use Rattle.brk_model.specs.Base.{Base}
 use Rattle.brk_model.specs.Queries.{View}
 use Rattle.brk_model_examples.specs.Setting.{setting_base}
 
--- A pending limit sell of 10 shares with the id `n`.
+-- A pending trade with the id `n`: a limit sell of 10 shares at 10.50.
 abbrev pub pending_limit_sale : ℕ → Trade
 pending_limit_sale n = record {
   id = n;
@@ -31,11 +31,12 @@ pending_limit_sale n = record {
   cash_name = [];
 }
 
--- The setting with fifty-one pending trades.
+-- The base `setting_base` with fifty-one pending limit sells, numbered from 1, and the last stamp
+-- of these.
 unfoldable pub setting_with_fifty_one_pending_trades : Base
 setting_with_fifty_one_pending_trades = record setting_base { trades = map pending_limit_sale (range_with_len 1 51); last = Some 1709251200066 }
 
--- A completed purchase of one share on margin with the id `n`.
+-- A completed trade with the id `n`: a purchase of one share on margin at 10.00.
 abbrev pub margin_purchase : ℕ → Trade
 margin_purchase n = record {
   id = n;
@@ -56,11 +57,12 @@ margin_purchase n = record {
   cash_name = [];
 }
 
--- The setting with twenty-one completed purchases of one share on margin.
+-- The base `setting_base` with twenty-one completed purchases of one share on margin, numbered from
+-- 1, and the last stamp of these.
 unfoldable pub setting_with_twenty_one_margin_purchases : Base
 setting_with_twenty_one_margin_purchases = record setting_base { trades = map margin_purchase (range_with_len 1 21); last = Some 1709251200057 }
 
--- The setting with ` shares of ` in the name of its security.
+-- The base `setting_base`, in which the name of the security contains ` shares of `.
 unfoldable pub setting_with_misleading_security_name : Base
 setting_with_misleading_security_name = record setting_base {
   securities =

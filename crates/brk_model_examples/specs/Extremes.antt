@@ -9,26 +9,35 @@ use Rattle.brk_model.specs.Records.{Account, Trade}
 use Rattle.brk_model.specs.Base.{Base}
 use Rattle.brk_model_examples.specs.Setting.{setting_base}
 
--- The setting with the greatest stamp as its last stamp.
+-- The base `setting_base` with the greatest stamp as its last stamp.
 unfoldable pub base_at_greatest_stamp : Base
 base_at_greatest_stamp = record setting_base { last = Some greatest_stamp }
 
--- The setting with ten accounts of its customer.
+-- The base `setting_base` with ten accounts of its customer, numbered from 100.
 unfoldable pub setting_with_ten_accounts : Base
 setting_with_ten_accounts = record setting_base {
   accounts =
-      map {B = Account} (λ id. record { id = id; customer = 10; broker = 1; name = codes "Main"; tax_status = Untaxed; opening = pos 0 }) (range_with_len 100 10);
+      map {B = Account} (λ id. record { id = id; customer = 10; broker = 1; name = codes "Main"; tax_status = Untaxed; opening = pos 0 })
+      (range_with_len 100 10);
 }
 
--- The setting with a security whose volume is one hundred shares below its limit.
+-- The base `setting_base`, in which the volume of the security is one hundred shares below its
+-- limit.
 unfoldable pub setting_with_volume_near_limit : Base
 setting_with_volume_near_limit = record setting_base {
   securities =
-      record { symbol = codes "ABC"; name = codes "Acme"; exchange = codes "NYSE"; sector = codes "Tech"; last_price = 1000; volume = 99999999999999900; moment = 1709251200003 }
-      ∷ [];
+      record {
+        symbol = codes "ABC";
+        name = codes "Acme";
+        exchange = codes "NYSE";
+        sector = codes "Tech";
+        last_price = 1000;
+        volume = 99999999999999900;
+        moment = 1709251200003;
+      } ∷ [];
 }
 
--- A completed trade of another security with the commission `commission`, in cents.
+-- A completed margin trade of another security, with the commission `commission`, in cents.
 abbrev pub trade_with_commission : ℕ → Trade
 trade_with_commission commission = record {
   id = 1;
@@ -49,7 +58,7 @@ trade_with_commission commission = record {
   cash_name = [];
 }
 
--- The setting with one completed trade of the commission `commission`, which is the commission
--- total of its broker.
+-- The base `setting_base` with one completed trade of the commission `commission`, in cents, which
+-- is then the commission total of its broker.
 abbrev pub setting_with_commission_total : ℕ → Base
 setting_with_commission_total commission = record setting_base { trades = trade_with_commission commission ∷ [] }

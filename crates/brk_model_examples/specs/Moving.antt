@@ -6,7 +6,7 @@ use Rattle.brk_money.specs.declared.status.Status.TheVariants.{Completed, Submit
 use Rattle.brk_model_examples.specs.Setting.{setting_base}
 use Rattle.brk_model_examples.specs.Trading.{first_purchase, base_after_fifo_sale}
 
--- The base after the first sale, a deposit of 100.00 and a withdrawal of 9000.00.
+-- The base `base_after_fifo_sale` after a deposit of 100.00 and a withdrawal of 9000.00.
 unfoldable pub base_after_sale_and_movements : Base
 base_after_sale_and_movements = record base_after_fifo_sale {
   movements =
@@ -20,7 +20,7 @@ abbrev pub purchase_one_millisecond_later : Trade
 purchase_one_millisecond_later =
     record first_purchase { marks = record { stamp = 1709251200017; status = Submitted } ∷ record { stamp = 1709251200018; status = Completed } ∷ [] }
 
--- The setting with the first purchase one millisecond later, and with the settlement day
--- 2024-03-02.
+-- The base `setting_base` with the first purchase one millisecond later, and with the settlement
+-- day 2024-03-02, which is set before the purchase.
 unfoldable pub base_after_purchase_with_settlement_day : Base
 base_after_purchase_with_settlement_day = record setting_base { trades = purchase_one_millisecond_later ∷ []; rule = Some 19784; last = Some 1709251200018 }

@@ -4,23 +4,23 @@ use Rattle.brk_money.specs.declared.tax_status.TaxStatus.{TaxStatus}
 use Rattle.brk_model.specs.Records.{Account, Customer, Executor, Permission, Trade}
 use Rattle.brk_model_examples.specs.Trading.{first_purchase}
 
--- The account of the setting with the tax status `status`.
+-- The account of `setting_base` with the tax status `status`.
 abbrev pub account_with_tax_status : TaxStatus → Account
 account_with_tax_status status = record { id = 100; customer = 10; broker = 1; name = codes "Main"; tax_status = status; opening = pos 1000000 }
 
--- The first purchase as a margin trade.
+-- The trade `first_purchase` as a margin trade.
 abbrev pub first_purchase_on_margin : Trade
 first_purchase_on_margin = record first_purchase { is_cash = false }
 
--- The customer of the setting, Ann Lee.
+-- The customer of `setting_base`, Ann Lee.
 abbrev pub customer_ann_lee : Customer
 customer_ann_lee = record { id = 10; tier = 1; tax_id = codes "T10"; last_name = codes "Lee"; first_name = codes "Ann" }
 
--- The executor who has the names and the tax id of the customer.
+-- The executor who has the names and the tax id of the customer Ann Lee.
 abbrev pub executor_with_customer_identity : Executor
 executor_with_customer_identity = record { first_name = codes "Ann"; last_name = codes "Lee"; tax_id = codes "T10" }
 
--- An executor who has the names of the customer and another tax id.
+-- An executor who has the names of the customer Ann Lee and another tax id.
 abbrev pub executor_with_other_tax_id : Executor
 executor_with_other_tax_id = record { first_name = codes "Ann"; last_name = codes "Lee"; tax_id = codes "T11" }
 

@@ -15,8 +15,8 @@ two_purchase_deals =
 abbrev pub deal_against_two_lots : Side → ℕ → Bool → Deal
 deal_against_two_lots side qty is_lifo = record { trade = 9; side = side; qty = qty; price = 1300; stamp = 3; is_lifo = is_lifo }
 
--- The effect of a deal: the lots that it touches, the number of shares that it opens, and its buy
--- and sell values.
+-- The effect of a deal: the existing lots that it touches, the number of shares that it opens, and
+-- its buy value and sell value, in cents.
 pub record DealEffect : Type 0 where
   pub touched : List Touch
   pub opened : ℕ

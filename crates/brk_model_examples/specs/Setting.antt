@@ -5,7 +5,8 @@ use Rattle.brk_money.specs.declared.trade_type.TradeType.TheVariants.{MarketBuy,
 use Rattle.brk_money.specs.declared.tax_status.TaxStatus.TheVariants.{Withheld}
 use Rattle.brk_model.specs.Base.{Base}
 
--- The sixteen rows of the setting.
+-- The sixteen rows after which most examples begin: a broker, a customer, an account, a security,
+-- and the charges, commission bands and taxes of its trades.
 abbrev pub setting_rows : List Text
 setting_rows =
     codes "broker,1,Bo"
@@ -25,7 +26,8 @@ setting_rows =
     ∷ codes "taxrate,1,State,20000"
     ∷ codes "custtax,10,1" ∷ []
 
--- The base after the rows of the setting, without its stored rows and replies.
+-- The base with which most examples begin: the base after the rows `setting_rows`, without its
+-- stored rows and replies.
 unfoldable pub setting_base : Base
 setting_base = record {
   brokers = record { id = 1; name = codes "Bo" } ∷ [];
@@ -33,8 +35,15 @@ setting_base = record {
   accounts = record { id = 100; customer = 10; broker = 1; name = codes "Main"; tax_status = Withheld; opening = pos 1000000 } ∷ [];
   permissions = [];
   securities =
-      record { symbol = codes "ABC"; name = codes "Acme"; exchange = codes "NYSE"; sector = codes "Tech"; last_price = 1000; volume = 0; moment = 1709251200003 }
-      ∷ [];
+      record {
+        symbol = codes "ABC";
+        name = codes "Acme";
+        exchange = codes "NYSE";
+        sector = codes "Tech";
+        last_price = 1000;
+        volume = 0;
+        moment = 1709251200003;
+      } ∷ [];
   charges =
       record { kind = MarketBuy; tier = 1; amount = 500 }
       ∷ record { kind = MarketSell; tier = 1; amount = 500 }

@@ -3,8 +3,9 @@ use Rattle.std.specs.Prelude.{ℕ, ℤ, List, map, filter, ◌==◌}
 use Rattle.brk_model.specs.Base.{Base}
 use Rattle.brk_model.specs.Tables.{Tables, tables_of_base}
 
--- The lots (trade, quantity), the changes of lots by one trade (lot, before, after), the summaries,
--- the balances, and the broker totals (trade count, commissions).
+-- A part of the tables: the lots (trade, quantity), the changes of lots by one trade (lot, before,
+-- after), the quantities of the holding summaries, the balances of the accounts, and the broker
+-- totals (trade count, commissions). Amounts are in cents.
 pub record PositionsAndTotals : Type 0 where
   pub lots : List (ℕ × ℤ)
   pub changes : List (ℕ × ℤ × ℤ)
@@ -12,8 +13,8 @@ pub record PositionsAndTotals : Type 0 where
   pub balances : List ℤ
   pub brokers : List (ℤ × ℕ)
 
--- The part of the tables that an example shows, with the changes of lots by the trade with the id
--- `trade`.
+-- The lots, summaries, balances and broker totals of the tables, and the changes of lots by the
+-- trade with the id `trade`.
 abbrev pub positions_and_totals_of_tables : Tables → ℕ → PositionsAndTotals
 positions_and_totals_of_tables tables trade = record {
   lots = map {B = ℕ × ℤ} (λ row. (row.trade, row.qty)) tables.holdings;
@@ -23,7 +24,7 @@ positions_and_totals_of_tables tables trade = record {
   brokers = map {B = ℤ × ℕ} (λ row. (row.trades, row.commissions)) tables.brokers;
 }
 
--- The part of the tables of `base` that an example shows, with the changes of lots by the trade
--- with the id `trade`.
+-- The lots, summaries, balances and broker totals of the tables of `base`, and the changes of lots
+-- by the trade with the id `trade`.
 abbrev pub positions_and_totals_of_base : Base → ℕ → PositionsAndTotals
 positions_and_totals_of_base base trade = positions_and_totals_of_tables (tables_of_base base) trade

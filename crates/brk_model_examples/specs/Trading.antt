@@ -6,7 +6,7 @@ use Rattle.brk_model.specs.Records.{Trade}
 use Rattle.brk_model.specs.Base.{Base}
 use Rattle.brk_model_examples.specs.Setting.{setting_base}
 
--- The completed trade of a purchase of 100 shares at 10.10.
+-- Trade 1, completed: a cash purchase of 100 shares at 10.10.
 abbrev pub first_purchase : Trade
 first_purchase = record {
   id = 1;
@@ -27,7 +27,7 @@ first_purchase = record {
   cash_name = codes "Market-Buy 100 shares of Acme";
 }
 
--- The completed trade of a purchase of 200 shares at 12.00.
+-- Trade 2, completed: a cash purchase of 200 shares at 12.00.
 abbrev pub second_purchase : Trade
 second_purchase = record {
   id = 2;
@@ -48,7 +48,7 @@ second_purchase = record {
   cash_name = codes "Market-Buy 200 shares of Acme";
 }
 
--- The completed trade of a sale of 150 shares at 13.00, first in first out.
+-- Trade 3, completed: a cash sale of 150 shares at 13.00, first in first out.
 abbrev pub sale_first_in_first_out : Trade
 sale_first_in_first_out = record {
   id = 3;
@@ -69,7 +69,7 @@ sale_first_in_first_out = record {
   cash_name = codes "Market-Sell 150 shares of Acme";
 }
 
--- The completed trade of a sale of 150 shares at 13.00, last in first out.
+-- Trade 3, completed: a cash sale of 150 shares at 13.00, last in first out.
 abbrev pub sale_last_in_first_out : Trade
 sale_last_in_first_out = record {
   id = 3;
@@ -90,7 +90,8 @@ sale_last_in_first_out = record {
   cash_name = codes "Market-Sell 150 shares of Acme";
 }
 
--- The completed trade of a sale of 400 shares at 13.00, which turns the position short.
+-- Trade 4, completed: a cash sale of 400 shares at 13.00, which closes a long position of 150
+-- shares and opens a short one of 250.
 abbrev pub short_sale : Trade
 short_sale = record {
   id = 4;
@@ -111,7 +112,8 @@ short_sale = record {
   cash_name = codes "Market-Sell 400 shares of Acme";
 }
 
--- The completed trade of a purchase of 300 shares at 11.00, which closes the short position.
+-- Trade 5, completed: a cash purchase of 300 shares at 11.00, which closes the short position of
+-- 250 shares and opens a long one of 50.
 abbrev pub short_covering_purchase : Trade
 short_covering_purchase = record {
   id = 5;
@@ -132,7 +134,7 @@ short_covering_purchase = record {
   cash_name = codes "Market-Buy 300 shares of Acme";
 }
 
--- The completed trade of a sale of 50 shares at 11.00, which closes the whole position.
+-- Trade 6, completed: a cash sale of 50 shares at 11.00, which closes the whole position.
 abbrev pub sale_of_all : Trade
 sale_of_all = record {
   id = 6;
@@ -153,15 +155,15 @@ sale_of_all = record {
   cash_name = codes "Market-Sell 50 shares of Acme";
 }
 
--- The setting with the trades `trades` and the last stamp `last`.
+-- The base `setting_base` with the trades `trades` and the last stamp `last`.
 abbrev pub setting_with_trades : List Trade → ℕ → Base
 setting_with_trades trades last = record setting_base { trades = trades; last = Some last }
 
--- The base after the first purchase.
+-- The base `setting_base` after the trade `first_purchase`.
 unfoldable pub base_after_first_purchase : Base
 base_after_first_purchase = setting_with_trades (first_purchase ∷ []) 1709251200017
 
--- The base after both purchases.
+-- The base `setting_base` after the trades `first_purchase` and `second_purchase`.
 unfoldable pub base_after_two_purchases : Base
 base_after_two_purchases = setting_with_trades (first_purchase ∷ second_purchase ∷ []) 1709251200019
 

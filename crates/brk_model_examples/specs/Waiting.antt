@@ -6,14 +6,15 @@ use Rattle.brk_money.specs.declared.status.Status.TheVariants.{Pending}
 use Rattle.brk_model.specs.Base.{Base}
 use Rattle.brk_model_examples.specs.Setting.{setting_base}
 
--- The rows of three pending orders: a stop-loss, a limit buy and a limit sell.
+-- The rows of three orders that are pending once accepted: a stop-loss, a limit buy and a limit
+-- sell.
 abbrev pub pending_order_rows : List Text
 pending_order_rows =
     codes "order,100,TSL,ABC,10,9.50,cash,fifo,Ann,Lee,T10"
     ∷ codes "order,100,TLB,ABC,10,10.00,cash,fifo,Ann,Lee,T10"
     ∷ codes "order,100,TLS,ABC,10,10.50,cash,fifo,Ann,Lee,T10" ∷ []
 
--- The base after the three pending orders, without its stored rows and replies.
+-- The base `setting_base` after the rows `pending_order_rows`, without its stored rows and replies.
 unfoldable pub base_with_pending_orders : Base
 base_with_pending_orders = record setting_base {
   trades =

@@ -6,7 +6,16 @@ ghost use Rattle.std.specs.Prelude.{None, Some, pos, negsuc, codes};
 ghost use Rattle.brk_money.specs.declared.fault.Condition.TheVariants as condition;
 ghost use Rattle.brk_model.specs.Audit.{IsAuditResult};
 ghost use Rattle.brk_model.specs.Schemas.{first_schema, second_schema, third_schema};
-ghost use Rattle.brk_model_examples.specs.Bought.{tables_after_first_purchase, tables_with_zero_trade_quantity, tables_without_last_trade, tables_without_submission, tables_with_changed_trade_status, tables_with_request_of_completed_trade, tables_with_changed_lot_quantity, tables_with_changed_lot_price, tables_with_changed_trade_price, tables_with_changed_holding_history, tables_with_changed_summary, tables_with_changed_trade_count, tables_with_changed_commission_total, tables_with_changed_trade_commission, tables_with_changed_settlement, tables_with_changed_cash_amount, tables_with_changed_account_balance, tables_without_lots_and_summaries, first_schema_tables_after_purchase, tables_with_changed_cash_row_number, tables_with_second_cash_row_of_trade, tables_with_cash_row_of_older_schema, tables_with_trade_above_older_limit, tables_with_band_above_older_limit, tables_with_settlement_day_after_completion, tables_with_settlement_day_at_completion, tables_with_movement};
+ghost use Rattle.brk_model_examples.specs.Bought.{tables_after_first_purchase, tables_with_zero_trade_quantity, tables_without_last_trade};
+ghost use Rattle.brk_model_examples.specs.Bought.{tables_without_submission, tables_with_changed_trade_status, tables_with_request_of_completed_trade};
+ghost use Rattle.brk_model_examples.specs.Bought.{tables_with_changed_lot_quantity, tables_with_changed_lot_price, tables_with_changed_trade_price};
+ghost use Rattle.brk_model_examples.specs.Bought.{tables_with_changed_holding_history, tables_with_changed_summary, tables_with_changed_trade_count};
+ghost use Rattle.brk_model_examples.specs.Bought.{tables_with_changed_commission_total, tables_with_changed_trade_commission, tables_with_changed_settlement};
+ghost use Rattle.brk_model_examples.specs.Bought.{tables_with_changed_cash_amount, tables_with_changed_account_balance, tables_without_lots_and_summaries};
+ghost use Rattle.brk_model_examples.specs.Bought.{first_schema_tables_after_purchase, tables_with_changed_cash_row_number};
+ghost use Rattle.brk_model_examples.specs.Bought.{tables_with_second_cash_row_of_trade, tables_with_cash_row_of_older_schema};
+ghost use Rattle.brk_model_examples.specs.Bought.{tables_with_trade_above_older_limit, tables_with_band_above_older_limit};
+ghost use Rattle.brk_model_examples.specs.Bought.{tables_with_settlement_day_after_completion, tables_with_settlement_day_at_completion, tables_with_movement};
 
 /// Shows that the tables after a purchase pass the audit of each schema, also with a later
 /// settlement day, a deposit or a withdrawal.

@@ -4,7 +4,8 @@
 ghost use Rattle.std.specs.Prelude.{◌≡◌, ◌∷◌, ◌++◌, [], Ok, codes, decimal, map, replicate};
 ghost use Rattle.std.specs.List.{range_with_len};
 ghost use Rattle.brk_model_examples.specs.Batches.{base_after_batch, BatchOutputsLines, view_by_name_and_arguments};
-ghost use Rattle.brk_model_examples.specs.Crowds.{setting_with_fifty_one_pending_trades, first_fields_of_view, trade_ids_of_view, setting_with_twenty_one_margin_purchases};
+ghost use Rattle.brk_model_examples.specs.Crowds.{setting_with_fifty_one_pending_trades, first_fields_of_view, trade_ids_of_view};
+ghost use Rattle.brk_model_examples.specs.Crowds.{setting_with_twenty_one_margin_purchases};
 
 /// Shows that the view `recent` returns the last ten trades of an account, and the view `status`
 /// the last fifty.
@@ -19,13 +20,16 @@ pub fn views_return_last_trades()
 
 /// Shows that the lookups by account and by symbol return the first twenty trades from a stamp on.
 pub fn lookups_return_first_twenty_trades()
-    ensures by_account { trade_ids_of_view (view_by_name_and_arguments setting_with_fifty_one_pending_trades (codes "accounttrades") (codes "100" ∷ codes "1709251200018" ∷ codes "1709251200066" ∷ []))
+    ensures by_account { trade_ids_of_view (view_by_name_and_arguments setting_with_fifty_one_pending_trades (codes "accounttrades")
+        (codes "100" ∷ codes "1709251200018" ∷ codes "1709251200066" ∷ []))
         ≡ map (λ n. decimal n) (range_with_len 3 20) }
-    ensures by_symbol { trade_ids_of_view (view_by_name_and_arguments setting_with_fifty_one_pending_trades (codes "symboltrades") (codes "ABC" ∷ codes "0" ∷ codes "1709251200066" ∷ []))
+    ensures by_symbol { trade_ids_of_view (view_by_name_and_arguments setting_with_fifty_one_pending_trades (codes "symboltrades")
+        (codes "ABC" ∷ codes "0" ∷ codes "1709251200066" ∷ []))
         ≡ map (λ n. decimal n) (range_with_len 1 20) }
 {}
 
-/// Shows that `upcash` updates the first twenty of twenty-one completed trades.
+/// Shows that `upcash` updates the first twenty of twenty-one completed trades, and answers with
+/// this number.
 pub fn update_changes_first_twenty_trades()
     ensures reply { BatchOutputsLines setting_with_twenty_one_margin_purchases (codes "upcash,100,0,253402300799999" ∷ [])
         (codes "1,ok,1709251200058,20"

@@ -15,11 +15,16 @@ ghost use Rattle.brk_model_examples.specs.Setting.{setting_base};
 /// are refused with `BadText`.
 pub fn refusals_follow_format_check_order()
     ensures text_first { parse_row (codes "charge" ∷ codes "TMX" ∷ codes "9" ∷ codes "5.00" ∷ []) ≡ Err BadText }
-    ensures qty_then { parse_row (codes "order" ∷ codes "1" ∷ codes "TMX" ∷ codes "ABC" ∷ codes "0" ∷ codes "x" ∷ codes "cash" ∷ codes "fifo" ∷ codes "A" ∷ codes "B" ∷ codes "C" ∷ []) ≡ Err BadQty }
-    ensures price_then { parse_row (codes "order" ∷ codes "1" ∷ codes "TMX" ∷ codes "ABC" ∷ codes "1" ∷ codes "x" ∷ codes "cash" ∷ codes "fifo" ∷ codes "A" ∷ codes "B" ∷ codes "C" ∷ []) ≡ Err BadPrice }
-    ensures type_then { parse_row (codes "order" ∷ codes "1" ∷ codes "TMX" ∷ codes "ABC" ∷ codes "1" ∷ [] ∷ codes "cash" ∷ codes "fifo" ∷ codes "A" ∷ codes "B" ∷ codes "C" ∷ []) ≡ Err BadType }
-    ensures market_price { parse_row (codes "order" ∷ codes "1" ∷ codes "TMB" ∷ codes "ABC" ∷ codes "1" ∷ codes "1.00" ∷ codes "cash" ∷ codes "fifo" ∷ codes "A" ∷ codes "B" ∷ codes "C" ∷ []) ≡ Err BadPrice }
-    ensures no_price { parse_row (codes "order" ∷ codes "1" ∷ codes "TLB" ∷ codes "ABC" ∷ codes "1" ∷ [] ∷ codes "cash" ∷ codes "fifo" ∷ codes "A" ∷ codes "B" ∷ codes "C" ∷ []) ≡ Err BadPrice }
+    ensures qty_then { parse_row (codes "order" ∷ codes "1" ∷ codes "TMX" ∷ codes "ABC" ∷ codes "0" ∷ codes "x" ∷ codes "cash" ∷ codes "fifo" ∷ codes "A"
+        ∷ codes "B" ∷ codes "C" ∷ []) ≡ Err BadQty }
+    ensures price_then { parse_row (codes "order" ∷ codes "1" ∷ codes "TMX" ∷ codes "ABC" ∷ codes "1" ∷ codes "x" ∷ codes "cash" ∷ codes "fifo" ∷ codes "A"
+        ∷ codes "B" ∷ codes "C" ∷ []) ≡ Err BadPrice }
+    ensures type_then { parse_row (codes "order" ∷ codes "1" ∷ codes "TMX" ∷ codes "ABC" ∷ codes "1" ∷ [] ∷ codes "cash" ∷ codes "fifo" ∷ codes "A"
+        ∷ codes "B" ∷ codes "C" ∷ []) ≡ Err BadType }
+    ensures market_price { parse_row (codes "order" ∷ codes "1" ∷ codes "TMB" ∷ codes "ABC" ∷ codes "1" ∷ codes "1.00" ∷ codes "cash" ∷ codes "fifo"
+        ∷ codes "A" ∷ codes "B" ∷ codes "C" ∷ []) ≡ Err BadPrice }
+    ensures no_price { parse_row (codes "order" ∷ codes "1" ∷ codes "TLB" ∷ codes "ABC" ∷ codes "1" ∷ [] ∷ codes "cash" ∷ codes "fifo" ∷ codes "A" ∷ codes "B"
+        ∷ codes "C" ∷ []) ≡ Err BadPrice }
     ensures ticks { parse_row (codes "feed" ∷ repeat 21 (codes "ABC" ∷ codes "1.00" ∷ codes "1" ∷ [])) ≡ Err TooMany }
     ensures bad_tick { parse_row (codes "feed" ∷ codes "ABC" ∷ codes "x" ∷ codes "1" ∷ repeat 20 (codes "ABC" ∷ codes "1.00" ∷ codes "1" ∷ [])) ≡ Err BadPrice }
     ensures no_tick { parse_row (codes "feed" ∷ []) ≡ Err BadText }
@@ -27,8 +32,8 @@ pub fn refusals_follow_format_check_order()
     ensures no_field { parse_row [] ≡ Err BadText }
 {}
 
-/// Shows which texts parse as an amount or a number, and that a text that is not canonical does
-/// not.
+/// Shows that canonical texts parse as an amount or a number, and that other texts do not: minus
+/// zero, a leading zero, one decimal place, a plus sign, and no bytes.
 pub fn values_have_one_canonical_text()
     ensures cents { cents_of_text (codes "10000.00") ≡ Some (pos 1000000) }
     ensures minus { cents_of_text (codes "-0.01") ≡ Some (negsuc 0) }
@@ -42,7 +47,7 @@ pub fn values_have_one_canonical_text()
     ensures empty { decimal_number_of_text [] ≡ None }
 {}
 
-/// Shows that an account is refused if the text of its opening balance is not canonical.
+/// Shows that an account is refused with 18 if the text of its opening balance is not canonical.
 pub fn noncanonical_opening_balance_is_refused()
     ensures { BatchOutputsLines setting_base
         (codes "account,101,10,1,Main,1,-0.00"

@@ -9,8 +9,9 @@ ghost use Rattle.brk_model_examples.specs.Setting.{setting_base};
 ghost use Rattle.brk_model_examples.specs.Waiting.{base_with_pending_orders, pending_order_rows};
 ghost use Rattle.brk_model_examples.specs.Extremes.{setting_with_volume_near_limit};
 
-/// Shows that a feed of two ticks of one symbol triggers two of three pending trades, both by its
-/// second tick, and that this tick gives the last price.
+/// Shows the answers to three pending orders, and that a feed of two ticks of their symbol triggers
+/// two of them, both by its second tick, which also sets the last price. Shows the volume of their
+/// broker before and after the feed.
 pub fn feed_triggers_pending_trades()
     ensures orders { BatchOutputsLines setting_base pending_order_rows
         (codes "1,ok,1709251200016,1,PNDG,9.50,0.00,0.00,0.00,0.95,5.00,10000.00"
@@ -68,13 +69,14 @@ pub fn cancel_needs_pending_trade()
         ∷ []) }
     ensures estimate { view_by_name_and_arguments (base_after_batch base_with_pending_orders
         (codes "cancel,1"
-        ∷ codes "feed,ABC,9.50,100" ∷ [])) (codes "estimate") (codes "100" ∷ codes "TMB" ∷ codes "ABC" ∷ codes "100" ∷ [] ∷ codes "cash" ∷ codes "fifo" ∷ codes "Ann" ∷ codes "Lee" ∷ codes "T10" ∷ [])
+        ∷ codes "feed,ABC,9.50,100" ∷ [])) (codes "estimate") (codes "100" ∷ codes "TMB" ∷ codes "ABC" ∷ codes "100" ∷ [] ∷ codes "cash" ∷ codes "fifo"
+        ∷ codes "Ann" ∷ codes "Lee" ∷ codes "T10" ∷ [])
         ≡ Ok ((codes "9.50" ∷ codes "0.00" ∷ codes "0.00" ∷ codes "0.00" ∷ codes "9.50" ∷ codes "5.00" ∷ codes "10000.00" ∷ [])
         ∷ []) }
 {}
 
-/// Shows that a feed is refused if it takes the volume of a security above its limit, also if only
-/// two ticks together do.
+/// Shows that a feed is refused if the volume of a security would exceed its limit after one tick,
+/// or after two ticks together.
 pub fn volume_limit_is_checked()
     ensures at_limit { BatchOutputsLines setting_with_volume_near_limit
         (codes "feed,ABC,10.00,100" ∷ [])

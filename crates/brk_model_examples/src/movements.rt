@@ -4,7 +4,8 @@
 ghost use Rattle.std.specs.Prelude.{◌≡◌, ◌∷◌, [], ℕ, ℤ, Ok, map, pos, negsuc, codes};
 ghost use Rattle.brk_model.specs.Tables.{tables_of_base};
 ghost use Rattle.brk_model.specs.Statement.{statement};
-ghost use Rattle.brk_model_examples.specs.Batches.{base_after_batch, BatchOutputsLines, text_with_line_ends, base_without_stored_replies, view_by_name_and_arguments};
+ghost use Rattle.brk_model_examples.specs.Batches.{base_after_batch, BatchOutputsLines, text_with_line_ends, base_without_stored_replies};
+ghost use Rattle.brk_model_examples.specs.Batches.{view_by_name_and_arguments};
 ghost use Rattle.brk_model_examples.specs.Moving.{base_after_sale_and_movements};
 ghost use Rattle.brk_model_examples.specs.Setting.{setting_base};
 ghost use Rattle.brk_model_examples.specs.Trading.{base_after_fifo_sale};
@@ -29,7 +30,8 @@ pub fn movements_respect_balance_limit()
         ∷ codes "6,no,14,balance"
         ∷ codes "7,ok,1709251200025,7,1000000000000000.00"
         ∷ codes "end,4,0,3" ∷ []) }
-    ensures base { base_without_stored_replies (base_after_batch base_after_fifo_sale (codes "deposit,100,100.00" ∷ codes "withdraw,100,9000.00" ∷ [])) ≡ base_after_sale_and_movements }
+    ensures base { base_without_stored_replies (base_after_batch base_after_fifo_sale (codes "deposit,100,100.00" ∷ codes "withdraw,100,9000.00" ∷ []))
+        ≡ base_after_sale_and_movements }
 {}
 
 /// Shows that the cash rows of later movements follow those of trades, in CASH_MOVE and in the
@@ -54,14 +56,17 @@ pub fn cash_rows_of_movements()
         ∷ codes "Holdings                  1500.00"
         ∷ codes "Cash rows 5, lots 1" ∷ [])) }
     ensures trade_lookup { view_by_name_and_arguments base_after_sale_and_movements (codes "trades") (codes "3" ∷ [])
-        ≡ Ok ((codes "trade" ∷ codes "3" ∷ codes "1709251200021" ∷ codes "CMPT" ∷ codes "TMS" ∷ codes "ABC" ∷ codes "150" ∷ codes "10.00" ∷ codes "Ann Lee" ∷ codes "13.00" ∷ codes "5.00" ∷ codes "19.50" ∷ codes "68.00" ∷ codes "cash" ∷ codes "fifo" ∷ [])
+        ≡ Ok ((codes "trade" ∷ codes "3" ∷ codes "1709251200021" ∷ codes "CMPT" ∷ codes "TMS" ∷ codes "ABC" ∷ codes "150" ∷ codes "10.00" ∷ codes "Ann Lee"
+        ∷ codes "13.00" ∷ codes "5.00" ∷ codes "19.50" ∷ codes "68.00" ∷ codes "cash" ∷ codes "fifo" ∷ [])
         ∷ (codes "settlement" ∷ codes "Cash Account" ∷ codes "2024-03-03" ∷ codes "1857.50" ∷ [])
         ∷ (codes "cash" ∷ codes "1709251200021" ∷ codes "1857.50" ∷ codes "Market-Sell 150 shares of Acme" ∷ [])
         ∷ (codes "history" ∷ codes "1709251200020" ∷ codes "SBMT" ∷ [])
         ∷ (codes "history" ∷ codes "1709251200021" ∷ codes "CMPT" ∷ [])
         ∷ []) }
-    ensures names_after_update { map (λ row. row.name) (tables_of_base (base_after_batch base_after_sale_and_movements (codes "uptext,ABC,0,253402300799999" ∷ []))).moves
-        ≡ codes "Market-Buy 100 Shares of Acme" ∷ codes "Market-Buy 200 Shares of Acme" ∷ codes "Market-Sell 150 Shares of Acme" ∷ codes "Deposit" ∷ codes "Withdrawal" ∷ [] }
+    ensures names_after_update { map (λ row. row.name) (tables_of_base (base_after_batch base_after_sale_and_movements
+        (codes "uptext,ABC,0,253402300799999" ∷ []))).moves
+        ≡ codes "Market-Buy 100 Shares of Acme" ∷ codes "Market-Buy 200 Shares of Acme" ∷ codes "Market-Sell 150 Shares of Acme" ∷ codes "Deposit"
+        ∷ codes "Withdrawal" ∷ [] }
 {}
 
 /// Shows that a movement before the first trade has the first cash row, and the trade the second.

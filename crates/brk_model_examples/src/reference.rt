@@ -31,7 +31,8 @@ pub fn refused_reference_row_records_no_key()
         (codes "end,0,0,0" ∷ []) }
 {}
 
-/// Shows the answers to the sixteen rows of the setting, and the base after them.
+/// Shows that all sixteen rows `setting_rows` are accepted on the empty base, and that the base
+/// after them, without stored replies, is `setting_base`.
 pub fn setting_rows_result_in_setting()
     ensures lines { BatchOutputsLines empty_base setting_rows
         (codes "1,ok,1709251200000"
@@ -83,8 +84,8 @@ pub fn invalid_reference_rows_are_refused()
         ∷ codes "end,1,0,10" ∷ []) }
 {}
 
-/// Shows that an eleventh account of a customer is refused, and that a missing broker is checked
-/// before.
+/// Shows that an eleventh account of a customer is refused, and that an account whose broker does
+/// not exist is refused for this reason first.
 pub fn eleventh_account_is_refused()
     ensures { BatchOutputsLines setting_with_ten_accounts
         (codes "account,110,10,1,Main,1,0.00"
@@ -94,7 +95,8 @@ pub fn eleventh_account_is_refused()
         ∷ codes "end,0,0,2" ∷ []) }
 {}
 
-/// Shows that a reference row is refused if a row with its key exists.
+/// Shows that eight reference rows are refused with 15, because a row with their key exists, and
+/// that a new permission is accepted.
 pub fn duplicate_reference_rows_are_refused()
     ensures { BatchOutputsLines setting_base
         (codes "broker,1,Bob"

@@ -86,8 +86,8 @@ pub fn retried_batch_changes_nothing()
         ∷ codes "result,3,13.00" ∷ []) }
 {}
 
-/// Shows the answers to the setting when it is retried, and when it is retried with another first
-/// row.
+/// Shows that the retried rows `setting_rows` are answered with their stored replies, and that
+/// another first row under the recorded key is refused with 19.
 pub fn retried_setting_is_answered_again()
     ensures again { BatchOutputsLines (base_after_batch empty_base setting_rows) setting_rows
         (codes "1,again,1709251200000"
@@ -147,7 +147,8 @@ pub fn retried_setting_is_answered_again()
 /// removed.
 pub fn refused_row_may_be_retried()
     ensures { (batch_of_input (batch_of_input (base_after_batch setting_base
-        (codes "account,101,11,1,Side,0,0.00" ∷ [])) twenty_clock_readings (bytes_of_batch (codes "U") (codes "customer,11,1,T11,Kay,Kim" ∷ []))).base twenty_clock_readings
+        (codes "account,101,11,1,Side,0,0.00" ∷ [])) twenty_clock_readings (bytes_of_batch (codes "U")
+        (codes "customer,11,1,T11,Kay,Kim" ∷ []))).base twenty_clock_readings
         (bytes_of_batch (codes "T") (codes "account,101,11,1,Side,0,0.00" ∷ []))).text
         ≡ text_with_line_ends (codes "1,ok,1709251200017"
         ∷ codes "end,1,0,0" ∷ []) }
@@ -155,12 +156,14 @@ pub fn refused_row_may_be_retried()
 
 /// Shows that of an input without an end record the last row is refused and not executed.
 pub fn last_row_of_cut_input_is_refused()
-    ensures text { (batch_of_input setting_base twenty_clock_readings (codes "batch,C\nbroker,2,Cy\nbroker,3\nbroker,4,D")).text ≡ text_with_line_ends (codes "1,ok,1709251200016"
+    ensures text { (batch_of_input setting_base twenty_clock_readings (codes "batch,C\nbroker,2,Cy\nbroker,3\nbroker,4,D")).text
+        ≡ text_with_line_ends (codes "1,ok,1709251200016"
         ∷ codes "2,no,18"
         ∷ codes "3,no,18" ∷ []) }
     ensures ending { (batch_of_input setting_base twenty_clock_readings (codes "batch,C\nbroker,2,Cy\nbroker,3\nbroker,4,D")).ending ≡ NoEnd }
     ensures rows { (batch_of_input setting_base twenty_clock_readings (codes "batch,C\nbroker,2,Cy\nbroker,3\nbroker,4,D")).rows ≡ 3 }
-    ensures brokers { map {B = ℕ} (λ b. b.id) (batch_of_input setting_base twenty_clock_readings (codes "batch,C\nbroker,2,Cy\nbroker,3\nbroker,4,D")).base.brokers ≡ 1 ∷ 2 ∷ [] }
+    ensures brokers { map {B = ℕ} (λ b. b.id) (batch_of_input setting_base twenty_clock_readings
+        (codes "batch,C\nbroker,2,Cy\nbroker,3\nbroker,4,D")).base.brokers ≡ 1 ∷ 2 ∷ [] }
     ensures header_alone { (batch_of_input setting_base twenty_clock_readings (codes "batch,C\n")).ending ≡ NoEnd }
 {}
 
@@ -174,6 +177,7 @@ pub fn headers_and_end_records_are_checked()
     ensures leading_zero { (batch_of_input setting_base twenty_clock_readings (codes "batch,C\nend,00\n")).ending ≡ BadEnd }
     ensures end_record_with_third_field { (batch_of_input setting_base twenty_clock_readings (codes "batch,C\nend,0,\n")).ending ≡ BadEnd }
     ensures no_count { (batch_of_input setting_base twenty_clock_readings (codes "batch,C\nend\n")).ending ≡ BadEnd }
-    ensures row_before_wrong_end { (batch_of_input setting_base twenty_clock_readings (codes "batch,C\nbroker,2,Cy\nend,2\n")).text ≡ text_with_line_ends (codes "1,ok,1709251200016" ∷ []) }
+    ensures row_before_wrong_end { (batch_of_input setting_base twenty_clock_readings (codes "batch,C\nbroker,2,Cy\nend,2\n")).text
+        ≡ text_with_line_ends (codes "1,ok,1709251200016" ∷ []) }
     ensures records_after_end { (batch_of_input setting_base twenty_clock_readings (codes "batch,C\nbroker,2,Cy\nend,1\nbroker,3,Di\n")).ending ≡ CorrectEnd }
 {}

@@ -10,7 +10,8 @@ ghost use Rattle.brk_model.specs.Feed.{is_triggering_price};
 ghost use Rattle.brk_model.specs.Orders.{is_customer_or_has_permission};
 ghost use Rattle.brk_model.specs.Tests.{stamp_of_next_command};
 ghost use Rattle.brk_model_examples.specs.Batches.{base_after_batch};
-ghost use Rattle.brk_model_examples.specs.Rules.{account_with_tax_status, customer_ann_lee, permission_with_other_tax_id, executor_with_customer_identity, executor_with_other_tax_id, first_purchase_on_margin, permission_with_other_last_name};
+ghost use Rattle.brk_model_examples.specs.Rules.{account_with_tax_status, customer_ann_lee, permission_with_other_tax_id, executor_with_customer_identity};
+ghost use Rattle.brk_model_examples.specs.Rules.{executor_with_other_tax_id, first_purchase_on_margin, permission_with_other_last_name};
 ghost use Rattle.brk_model_examples.specs.Setting.{setting_base};
 ghost use Rattle.brk_model_examples.specs.Trading.{base_after_sale_of_all, first_purchase, sale_first_in_first_out};
 

@@ -39,7 +39,8 @@ pub fn settlement_after_one_day()
         ≡ text_with_line_ends (codes "1,ok,1709337600000,2,SBMT,10.00,0.00,0.00,0.00,20.00,5.00,9974.90"
         ∷ codes "2,ok,1709337600001,24.00,0.00,-2429.00,2024-03-03,0.00,0.00,6545.90"
         ∷ codes "end,2,0,0" ∷ []) }
-    ensures days { map {B = ℕ} (λ row. row.due_day) (tables_of_base (batch_of_input base_after_purchase_with_settlement_day (1709337600000 ∷ 1709424000000 ∷ []) (bytes_of_batch (codes "G")
+    ensures days { map {B = ℕ} (λ row. row.due_day) (tables_of_base (batch_of_input base_after_purchase_with_settlement_day
+        (1709337600000 ∷ 1709424000000 ∷ []) (bytes_of_batch (codes "G")
         (codes "order,100,TMB,ABC,200,,cash,fifo,Ann,Lee,T10"
         ∷ codes "result,2,12.00" ∷ []))).base).settlements ≡ 19785 ∷ 19786 ∷ [] }
 {}

@@ -44,7 +44,8 @@ pub fn wide_amounts_are_not_cut()
     ensures wider { amount_line (codes "Holdings") (pos 1000000000000000000000) ≡ codes "Holdings   10000000000000000000.00" }
 {}
 
-/// Shows the numbers of some dates, and texts that are no dates.
+/// Shows the texts of some days and their numbers since 1970-01-01, and that a date that the
+/// calendar does not have, or a text that is not canonical, is no day.
 pub fn day_texts_match_day_numbers()
     ensures march { day_of_text (codes "2024-03-01") ≡ Some 19783 }
     ensures leap { day_of_text (codes "2024-02-29") ≡ Some 19782 }

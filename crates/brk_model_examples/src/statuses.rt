@@ -64,9 +64,11 @@ pub fn broker_commission_limit_is_checked()
         ∷ codes "end,1,0,1" ∷ []) }
 {}
 
-/// Shows that the stamp follows the last stamp if the clock reading is before it.
+/// Shows that a command at a clock reading before the last stamp is stamped one millisecond after
+/// the last stamp.
 pub fn stamps_continue_if_clock_goes_back()
-    ensures { (batch_of_input base_after_sale_of_all (0 ∷ []) (bytes_of_batch (codes "Y") (codes "broker,7,Cy" ∷ []))).text ≡ text_with_line_ends (codes "1,ok,1709251200028"
+    ensures { (batch_of_input base_after_sale_of_all (0 ∷ []) (bytes_of_batch (codes "Y") (codes "broker,7,Cy" ∷ []))).text
+        ≡ text_with_line_ends (codes "1,ok,1709251200028"
         ∷ codes "end,1,0,0" ∷ []) }
 {}
 

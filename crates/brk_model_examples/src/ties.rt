@@ -8,7 +8,8 @@ ghost use Rattle.brk_model_examples.specs.Waiting.{base_with_pending_orders};
 /// Shows the views of two trades with one stamp: sorted by id, descending where the most recent
 /// trade is first, and ascending where the oldest is.
 pub fn equal_stamps_are_sorted_by_id()
-    ensures recent { view_by_name_and_arguments (base_after_batch base_with_pending_orders (codes "feed,ABC,10.01,100,ABC,9.50,200" ∷ [])) (codes "recent") (codes "100" ∷ [])
+    ensures recent { view_by_name_and_arguments (base_after_batch base_with_pending_orders (codes "feed,ABC,10.01,100,ABC,9.50,200" ∷ [])) (codes "recent")
+        (codes "100" ∷ [])
         ≡ Ok ((codes "trade" ∷ codes "2" ∷ codes "ABC" ∷ codes "10" ∷ [])
         ∷ (codes "trade" ∷ codes "1" ∷ codes "ABC" ∷ codes "10" ∷ [])
         ∷ (codes "trade" ∷ codes "3" ∷ codes "ABC" ∷ codes "10" ∷ [])
@@ -18,24 +19,35 @@ pub fn equal_stamps_are_sorted_by_id()
         ∷ (codes "history" ∷ codes "2" ∷ codes "Pending" ∷ codes "1709251200017" ∷ [])
         ∷ (codes "history" ∷ codes "1" ∷ codes "Pending" ∷ codes "1709251200016" ∷ [])
         ∷ []) }
-    ensures status { view_by_name_and_arguments (base_after_batch base_with_pending_orders (codes "feed,ABC,10.01,100,ABC,9.50,200" ∷ [])) (codes "status") (codes "100" ∷ [])
+    ensures status { view_by_name_and_arguments (base_after_batch base_with_pending_orders (codes "feed,ABC,10.01,100,ABC,9.50,200" ∷ [])) (codes "status")
+        (codes "100" ∷ [])
         ≡ Ok ((codes "Lee" ∷ codes "Ann" ∷ codes "Bo" ∷ [])
-        ∷ (codes "2" ∷ codes "1709251200019" ∷ codes "Submitted" ∷ codes "Limit-Buy" ∷ codes "ABC" ∷ codes "10" ∷ codes "Ann Lee" ∷ codes "5.00" ∷ codes "Acme" ∷ codes "NYSE" ∷ [])
-        ∷ (codes "1" ∷ codes "1709251200019" ∷ codes "Submitted" ∷ codes "Stop-Loss" ∷ codes "ABC" ∷ codes "10" ∷ codes "Ann Lee" ∷ codes "5.00" ∷ codes "Acme" ∷ codes "NYSE" ∷ [])
-        ∷ (codes "3" ∷ codes "1709251200018" ∷ codes "Pending" ∷ codes "Limit-Sell" ∷ codes "ABC" ∷ codes "10" ∷ codes "Ann Lee" ∷ codes "5.00" ∷ codes "Acme" ∷ codes "NYSE" ∷ [])
+        ∷ (codes "2" ∷ codes "1709251200019" ∷ codes "Submitted" ∷ codes "Limit-Buy" ∷ codes "ABC" ∷ codes "10" ∷ codes "Ann Lee" ∷ codes "5.00"
+        ∷ codes "Acme" ∷ codes "NYSE" ∷ [])
+        ∷ (codes "1" ∷ codes "1709251200019" ∷ codes "Submitted" ∷ codes "Stop-Loss" ∷ codes "ABC" ∷ codes "10" ∷ codes "Ann Lee" ∷ codes "5.00"
+        ∷ codes "Acme" ∷ codes "NYSE" ∷ [])
+        ∷ (codes "3" ∷ codes "1709251200018" ∷ codes "Pending" ∷ codes "Limit-Sell" ∷ codes "ABC" ∷ codes "10" ∷ codes "Ann Lee" ∷ codes "5.00" ∷ codes "Acme"
+        ∷ codes "NYSE" ∷ [])
         ∷ []) }
-    ensures by_account { view_by_name_and_arguments (base_after_batch base_with_pending_orders (codes "feed,ABC,10.01,100,ABC,9.50,200" ∷ [])) (codes "accounttrades") (codes "100" ∷ codes "1709251200019" ∷ codes "1709251200019" ∷ [])
-        ≡ Ok ((codes "trade" ∷ codes "1" ∷ codes "1709251200019" ∷ codes "SBMT" ∷ codes "TSL" ∷ codes "ABC" ∷ codes "10" ∷ codes "9.50" ∷ codes "Ann Lee" ∷ [] ∷ codes "5.00" ∷ codes "0.95" ∷ codes "0.00" ∷ codes "cash" ∷ codes "fifo" ∷ [])
+    ensures by_account { view_by_name_and_arguments (base_after_batch base_with_pending_orders (codes "feed,ABC,10.01,100,ABC,9.50,200" ∷ []))
+        (codes "accounttrades") (codes "100" ∷ codes "1709251200019" ∷ codes "1709251200019" ∷ [])
+        ≡ Ok ((codes "trade" ∷ codes "1" ∷ codes "1709251200019" ∷ codes "SBMT" ∷ codes "TSL" ∷ codes "ABC" ∷ codes "10" ∷ codes "9.50" ∷ codes "Ann Lee" ∷ []
+        ∷ codes "5.00" ∷ codes "0.95" ∷ codes "0.00" ∷ codes "cash" ∷ codes "fifo" ∷ [])
         ∷ (codes "history" ∷ codes "1709251200016" ∷ codes "PNDG" ∷ [])
         ∷ (codes "history" ∷ codes "1709251200019" ∷ codes "SBMT" ∷ [])
-        ∷ (codes "trade" ∷ codes "2" ∷ codes "1709251200019" ∷ codes "SBMT" ∷ codes "TLB" ∷ codes "ABC" ∷ codes "10" ∷ codes "10.00" ∷ codes "Ann Lee" ∷ [] ∷ codes "5.00" ∷ codes "1.00" ∷ codes "0.00" ∷ codes "cash" ∷ codes "fifo" ∷ [])
+        ∷ (codes "trade" ∷ codes "2" ∷ codes "1709251200019" ∷ codes "SBMT" ∷ codes "TLB" ∷ codes "ABC" ∷ codes "10" ∷ codes "10.00" ∷ codes "Ann Lee" ∷ []
+        ∷ codes "5.00" ∷ codes "1.00" ∷ codes "0.00" ∷ codes "cash" ∷ codes "fifo" ∷ [])
         ∷ (codes "history" ∷ codes "1709251200017" ∷ codes "PNDG" ∷ [])
         ∷ (codes "history" ∷ codes "1709251200019" ∷ codes "SBMT" ∷ [])
         ∷ []) }
-    ensures by_ids { view_by_name_and_arguments (base_after_batch base_with_pending_orders (codes "feed,ABC,10.01,100,ABC,9.50,200" ∷ [])) (codes "trades") (codes "2" ∷ codes "1" ∷ [])
-        ≡ view_by_name_and_arguments (base_after_batch base_with_pending_orders (codes "feed,ABC,10.01,100,ABC,9.50,200" ∷ [])) (codes "accounttrades") (codes "100" ∷ codes "1709251200019" ∷ codes "1709251200019" ∷ []) }
-    ensures by_symbol { view_by_name_and_arguments (base_after_batch base_with_pending_orders (codes "feed,ABC,10.01,100,ABC,9.50,200" ∷ [])) (codes "symboltrades") (codes "ABC" ∷ codes "1709251200019" ∷ codes "1709251200019" ∷ [])
-        ≡ view_by_name_and_arguments (base_after_batch base_with_pending_orders (codes "feed,ABC,10.01,100,ABC,9.50,200" ∷ [])) (codes "accounttrades") (codes "100" ∷ codes "1709251200019" ∷ codes "1709251200019" ∷ []) }
+    ensures by_ids { view_by_name_and_arguments (base_after_batch base_with_pending_orders (codes "feed,ABC,10.01,100,ABC,9.50,200" ∷ [])) (codes "trades")
+        (codes "2" ∷ codes "1" ∷ [])
+        ≡ view_by_name_and_arguments (base_after_batch base_with_pending_orders (codes "feed,ABC,10.01,100,ABC,9.50,200" ∷ [])) (codes "accounttrades")
+        (codes "100" ∷ codes "1709251200019" ∷ codes "1709251200019" ∷ []) }
+    ensures by_symbol { view_by_name_and_arguments (base_after_batch base_with_pending_orders (codes "feed,ABC,10.01,100,ABC,9.50,200" ∷ []))
+        (codes "symboltrades") (codes "ABC" ∷ codes "1709251200019" ∷ codes "1709251200019" ∷ [])
+        ≡ view_by_name_and_arguments (base_after_batch base_with_pending_orders (codes "feed,ABC,10.01,100,ABC,9.50,200" ∷ [])) (codes "accounttrades")
+        (codes "100" ∷ codes "1709251200019" ∷ codes "1709251200019" ∷ []) }
 {}
 
 /// Shows that the view `volume` sorts brokers by volume, descending, then by name, then by id. A

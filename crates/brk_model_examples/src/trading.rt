@@ -6,7 +6,8 @@ ghost use Rattle.std.specs.Prelude.{◌≡◌, ◌∷◌, [], pos, negsuc, map, 
 ghost use Rattle.brk_model.specs.Tables.{tables_of_base};
 ghost use Rattle.brk_model_examples.specs.Batches.{base_after_batch, BatchOutputsLines, base_without_stored_replies};
 ghost use Rattle.brk_model_examples.specs.Setting.{setting_base};
-ghost use Rattle.brk_model_examples.specs.Trading.{base_after_first_purchase, base_after_two_purchases, base_after_fifo_sale, base_after_lifo_sale, base_after_short_sale, base_after_covering_purchase, base_after_sale_of_all};
+ghost use Rattle.brk_model_examples.specs.Trading.{base_after_first_purchase, base_after_two_purchases, base_after_fifo_sale, base_after_lifo_sale};
+ghost use Rattle.brk_model_examples.specs.Trading.{base_after_short_sale, base_after_covering_purchase, base_after_sale_of_all};
 ghost use Rattle.brk_model_examples.specs.Standing.{positions_and_totals_of_base};
 
 /// Shows a market purchase and its result, whose commission is computed from the completion price

@@ -9,7 +9,9 @@ ghost use Rattle.brk_model_examples.specs.Crowds.{setting_with_misleading_securi
 ghost use Rattle.brk_model_examples.specs.Setting.{setting_base};
 ghost use Rattle.brk_model_examples.specs.Trading.{base_after_fifo_sale};
 
-/// Shows the answers to text updates after a sale, and the texts of a trade after them.
+/// Shows that `upname`, `upcash` and `uptext` answer with the number of trades that they select,
+/// that a repeated id is refused with 18 and an unknown id with 5, and the texts of the trades
+/// after the updates.
 pub fn text_updates_after_sale()
     ensures lines { BatchOutputsLines base_after_fifo_sale
         (codes "upname,1"
@@ -32,7 +34,8 @@ pub fn text_updates_after_sale()
         ∷ codes "upcash,100,0,253402300799999"
         ∷ codes "uptext,ABC,0,253402300799999"
         ∷ codes "upcash,100,5,4" ∷ [])) (codes "trades") (codes "1" ∷ [])
-        ≡ Ok ((codes "trade" ∷ codes "1" ∷ codes "1709251200017" ∷ codes "CMPT" ∷ codes "TMB" ∷ codes "ABC" ∷ codes "100" ∷ codes "10.00" ∷ codes "Ann X Lee" ∷ codes "10.10" ∷ codes "5.00" ∷ codes "10.10" ∷ codes "0.00" ∷ codes "cash" ∷ codes "fifo" ∷ [])
+        ≡ Ok ((codes "trade" ∷ codes "1" ∷ codes "1709251200017" ∷ codes "CMPT" ∷ codes "TMB" ∷ codes "ABC" ∷ codes "100" ∷ codes "10.00" ∷ codes "Ann X Lee"
+        ∷ codes "10.10" ∷ codes "5.00" ∷ codes "10.10" ∷ codes "0.00" ∷ codes "cash" ∷ codes "fifo" ∷ [])
         ∷ (codes "settlement" ∷ codes "Cash" ∷ codes "2024-03-03" ∷ codes "-1025.10" ∷ [])
         ∷ (codes "cash" ∷ codes "1709251200017" ∷ codes "-1025.10" ∷ codes "Market-Buy 100 Shares of Acme" ∷ [])
         ∷ (codes "history" ∷ codes "1709251200016" ∷ codes "SBMT" ∷ [])

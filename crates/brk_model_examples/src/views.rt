@@ -32,30 +32,39 @@ pub fn recent_view_of_account()
 pub fn status_view_of_account()
     ensures { view_by_name_and_arguments base_after_fifo_sale (codes "status") (codes "100" ∷ [])
         ≡ Ok ((codes "Lee" ∷ codes "Ann" ∷ codes "Bo" ∷ [])
-        ∷ (codes "3" ∷ codes "1709251200021" ∷ codes "Completed" ∷ codes "Market-Sell" ∷ codes "ABC" ∷ codes "150" ∷ codes "Ann Lee" ∷ codes "5.00" ∷ codes "Acme" ∷ codes "NYSE" ∷ [])
-        ∷ (codes "2" ∷ codes "1709251200019" ∷ codes "Completed" ∷ codes "Market-Buy" ∷ codes "ABC" ∷ codes "200" ∷ codes "Ann Lee" ∷ codes "5.00" ∷ codes "Acme" ∷ codes "NYSE" ∷ [])
-        ∷ (codes "1" ∷ codes "1709251200017" ∷ codes "Completed" ∷ codes "Market-Buy" ∷ codes "ABC" ∷ codes "100" ∷ codes "Ann Lee" ∷ codes "5.00" ∷ codes "Acme" ∷ codes "NYSE" ∷ [])
+        ∷ (codes "3" ∷ codes "1709251200021" ∷ codes "Completed" ∷ codes "Market-Sell" ∷ codes "ABC" ∷ codes "150" ∷ codes "Ann Lee" ∷ codes "5.00"
+        ∷ codes "Acme" ∷ codes "NYSE" ∷ [])
+        ∷ (codes "2" ∷ codes "1709251200019" ∷ codes "Completed" ∷ codes "Market-Buy" ∷ codes "ABC" ∷ codes "200" ∷ codes "Ann Lee" ∷ codes "5.00"
+        ∷ codes "Acme" ∷ codes "NYSE" ∷ [])
+        ∷ (codes "1" ∷ codes "1709251200017" ∷ codes "Completed" ∷ codes "Market-Buy" ∷ codes "ABC" ∷ codes "100" ∷ codes "Ann Lee" ∷ codes "5.00"
+        ∷ codes "Acme" ∷ codes "NYSE" ∷ [])
         ∷ []) }
 {}
 
-/// Shows the lookup of a trade by its id, by its account and by its symbol, and its refusals.
+/// Shows the lookup of a trade by its id, by its account and by its symbol, and the refusal of an
+/// unknown id and of a repeated id.
 pub fn lookup_views_of_trade()
     ensures by_id { view_by_name_and_arguments base_after_fifo_sale (codes "trades") (codes "3" ∷ [])
-        ≡ Ok ((codes "trade" ∷ codes "3" ∷ codes "1709251200021" ∷ codes "CMPT" ∷ codes "TMS" ∷ codes "ABC" ∷ codes "150" ∷ codes "10.00" ∷ codes "Ann Lee" ∷ codes "13.00" ∷ codes "5.00" ∷ codes "19.50" ∷ codes "68.00" ∷ codes "cash" ∷ codes "fifo" ∷ [])
+        ≡ Ok ((codes "trade" ∷ codes "3" ∷ codes "1709251200021" ∷ codes "CMPT" ∷ codes "TMS" ∷ codes "ABC" ∷ codes "150" ∷ codes "10.00" ∷ codes "Ann Lee"
+        ∷ codes "13.00" ∷ codes "5.00" ∷ codes "19.50" ∷ codes "68.00" ∷ codes "cash" ∷ codes "fifo" ∷ [])
         ∷ (codes "settlement" ∷ codes "Cash Account" ∷ codes "2024-03-03" ∷ codes "1857.50" ∷ [])
         ∷ (codes "cash" ∷ codes "1709251200021" ∷ codes "1857.50" ∷ codes "Market-Sell 150 shares of Acme" ∷ [])
         ∷ (codes "history" ∷ codes "1709251200020" ∷ codes "SBMT" ∷ [])
         ∷ (codes "history" ∷ codes "1709251200021" ∷ codes "CMPT" ∷ [])
         ∷ []) }
-    ensures by_account { view_by_name_and_arguments base_after_fifo_sale (codes "accounttrades") (codes "100" ∷ codes "1709251200021" ∷ codes "1709251200021" ∷ [])
-        ≡ Ok ((codes "trade" ∷ codes "3" ∷ codes "1709251200021" ∷ codes "CMPT" ∷ codes "TMS" ∷ codes "ABC" ∷ codes "150" ∷ codes "10.00" ∷ codes "Ann Lee" ∷ codes "13.00" ∷ codes "5.00" ∷ codes "19.50" ∷ codes "68.00" ∷ codes "cash" ∷ codes "fifo" ∷ [])
+    ensures by_account { view_by_name_and_arguments base_after_fifo_sale (codes "accounttrades")
+        (codes "100" ∷ codes "1709251200021" ∷ codes "1709251200021" ∷ [])
+        ≡ Ok ((codes "trade" ∷ codes "3" ∷ codes "1709251200021" ∷ codes "CMPT" ∷ codes "TMS" ∷ codes "ABC" ∷ codes "150" ∷ codes "10.00" ∷ codes "Ann Lee"
+        ∷ codes "13.00" ∷ codes "5.00" ∷ codes "19.50" ∷ codes "68.00" ∷ codes "cash" ∷ codes "fifo" ∷ [])
         ∷ (codes "settlement" ∷ codes "Cash Account" ∷ codes "2024-03-03" ∷ codes "1857.50" ∷ [])
         ∷ (codes "cash" ∷ codes "1709251200021" ∷ codes "1857.50" ∷ codes "Market-Sell 150 shares of Acme" ∷ [])
         ∷ (codes "history" ∷ codes "1709251200020" ∷ codes "SBMT" ∷ [])
         ∷ (codes "history" ∷ codes "1709251200021" ∷ codes "CMPT" ∷ [])
         ∷ []) }
-    ensures by_symbol { view_by_name_and_arguments base_after_fifo_sale (codes "symboltrades") (codes "ABC" ∷ codes "1709251200021" ∷ codes "1709251200021" ∷ [])
-        ≡ Ok ((codes "trade" ∷ codes "3" ∷ codes "1709251200021" ∷ codes "CMPT" ∷ codes "TMS" ∷ codes "ABC" ∷ codes "150" ∷ codes "10.00" ∷ codes "Ann Lee" ∷ codes "13.00" ∷ codes "5.00" ∷ codes "19.50" ∷ codes "68.00" ∷ codes "cash" ∷ codes "fifo" ∷ [])
+    ensures by_symbol { view_by_name_and_arguments base_after_fifo_sale (codes "symboltrades")
+        (codes "ABC" ∷ codes "1709251200021" ∷ codes "1709251200021" ∷ [])
+        ≡ Ok ((codes "trade" ∷ codes "3" ∷ codes "1709251200021" ∷ codes "CMPT" ∷ codes "TMS" ∷ codes "ABC" ∷ codes "150" ∷ codes "10.00" ∷ codes "Ann Lee"
+        ∷ codes "13.00" ∷ codes "5.00" ∷ codes "19.50" ∷ codes "68.00" ∷ codes "cash" ∷ codes "fifo" ∷ [])
         ∷ (codes "settlement" ∷ codes "Cash Account" ∷ codes "2024-03-03" ∷ codes "1857.50" ∷ [])
         ∷ (codes "cash" ∷ codes "1709251200021" ∷ codes "1857.50" ∷ codes "Market-Sell 150 shares of Acme" ∷ [])
         ∷ (codes "history" ∷ codes "1709251200020" ∷ codes "SBMT" ∷ [])
@@ -89,9 +98,11 @@ pub fn lots_view_of_oldest_trade()
 /// Shows that an estimate returns the figures of an order, and is refused for the executor of whom
 /// the order would be refused.
 pub fn estimate_returns_order_figures()
-    ensures numbers { view_by_name_and_arguments base_after_two_purchases (codes "estimate") (codes "100" ∷ codes "TMS" ∷ codes "ABC" ∷ codes "150" ∷ [] ∷ codes "cash" ∷ codes "fifo" ∷ codes "Ann" ∷ codes "Lee" ∷ codes "T10" ∷ [])
+    ensures numbers { view_by_name_and_arguments base_after_two_purchases (codes "estimate")
+        (codes "100" ∷ codes "TMS" ∷ codes "ABC" ∷ codes "150" ∷ [] ∷ codes "cash" ∷ codes "fifo" ∷ codes "Ann" ∷ codes "Lee" ∷ codes "T10" ∷ [])
         ≡ Ok ((codes "10.00" ∷ codes "1610.00" ∷ codes "1500.00" ∷ codes "0.00" ∷ codes "15.00" ∷ codes "5.00" ∷ codes "9545.90" ∷ [])
         ∷ []) }
-    ensures refused { view_by_name_and_arguments base_after_two_purchases (codes "estimate") (codes "100" ∷ codes "TMS" ∷ codes "ABC" ∷ codes "150" ∷ [] ∷ codes "cash" ∷ codes "fifo" ∷ codes "Ann" ∷ codes "Lee" ∷ codes "T11" ∷ [])
+    ensures refused { view_by_name_and_arguments base_after_two_purchases (codes "estimate")
+        (codes "100" ∷ codes "TMS" ∷ codes "ABC" ∷ codes "150" ∷ [] ∷ codes "cash" ∷ codes "fifo" ∷ codes "Ann" ∷ codes "Lee" ∷ codes "T11" ∷ [])
         ≡ Err NotPermitted }
 {}

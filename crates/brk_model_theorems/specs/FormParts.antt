@@ -5,8 +5,17 @@ use Rattle.brk_model.specs.Limits.{greatest_id}
 use Rattle.brk_model.specs.Lists.{all_distinct}
 use Rattle.brk_model.specs.Schemas.{Schema}
 use Rattle.brk_model.specs.Tables.{Tables}
-use Rattle.brk_model.specs.Form.{is_well_formed_kept_row, is_well_formed_broker_row, is_well_formed_customer_row, is_within_customer_limits, is_well_formed_account_row, is_well_formed_permission_row, is_well_formed_security_row, is_well_formed_last_trade_row, is_well_formed_charge_row, is_well_formed_band_row, bands_are_disjoint, is_well_formed_tax_rate_row, is_well_formed_customer_tax_row, is_well_formed_trade_row, are_equal_number_lists, is_well_formed_history_row, is_well_formed_request_row, is_well_formed_holding_row, is_well_formed_summary_row, is_well_formed_holding_history_row, is_well_formed_settlement_row, is_well_formed_cash_row, is_well_formed_move_row, trade_ids_of_cash_rows, lacks_rows_of_later_schemas, tables_are_sorted_by_unique_key, has_distinct_tax_ids, is_sorted_by_unique_key, is_last_stamp_in_calendar, is_settlement_day_in_calendar}
-use Rattle.brk_model.specs.Keys.{kept_key, broker_key, customer_key, account_key, permission_key, security_key, last_trade_key, charge_key, band_key, tax_rate_key, customer_tax_key, trade_key, history_key, request_key, holding_key, summary_key, holding_history_key, settlement_key, cash_key, move_key}
+use Rattle.brk_model.specs.Form.{is_well_formed_kept_row, is_well_formed_broker_row, is_well_formed_customer_row, is_within_customer_limits}
+use Rattle.brk_model.specs.Form.{is_well_formed_account_row, is_well_formed_permission_row, is_well_formed_security_row, is_well_formed_last_trade_row}
+use Rattle.brk_model.specs.Form.{is_well_formed_charge_row, is_well_formed_band_row, bands_are_disjoint, is_well_formed_tax_rate_row}
+use Rattle.brk_model.specs.Form.{is_well_formed_customer_tax_row, is_well_formed_trade_row, are_equal_number_lists, is_well_formed_history_row}
+use Rattle.brk_model.specs.Form.{is_well_formed_request_row, is_well_formed_holding_row, is_well_formed_summary_row, is_well_formed_holding_history_row}
+use Rattle.brk_model.specs.Form.{is_well_formed_settlement_row, is_well_formed_cash_row, is_well_formed_move_row, trade_ids_of_cash_rows}
+use Rattle.brk_model.specs.Form.{lacks_rows_of_later_schemas, tables_are_sorted_by_unique_key, has_distinct_tax_ids, is_sorted_by_unique_key}
+use Rattle.brk_model.specs.Form.{is_last_stamp_in_calendar, is_settlement_day_in_calendar}
+use Rattle.brk_model.specs.Keys.{kept_key, broker_key, customer_key, account_key, permission_key, security_key, last_trade_key, charge_key, band_key}
+use Rattle.brk_model.specs.Keys.{tax_rate_key, customer_tax_key, trade_key, history_key, request_key, holding_key, summary_key, holding_history_key}
+use Rattle.brk_model.specs.Keys.{settlement_key, cash_key, move_key}
 
 -- The tables satisfy every part of the audit's condition `Form`, by the limits of `schema`.
 pub record SatisfiesFormParts (schema : Schema) (t : Tables) : Type 0 where

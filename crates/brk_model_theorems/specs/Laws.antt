@@ -1,6 +1,7 @@
 -- Definitions for the theorems on runs and batches: stamps, accepted commands, stored keys and
 -- retried batches.
-use Rattle.std.specs.Prelude.{◌≡◌, ◌⊎◌, ⊤, ℕ, ◌+◌, ◌<◌, ◌++◌, if◌then◌else◌, List, [], ◌∷◌, drop, filter, length, map, take, Option, Some, None, Ok, IfSome, is_none}
+use Rattle.std.specs.Prelude.{◌≡◌, ◌⊎◌, ⊤, ℕ, ◌+◌, ◌<◌, ◌++◌, if◌then◌else◌, List, [], ◌∷◌, drop, filter, length, map, take, Option, Some, None, Ok, IfSome}
+use Rattle.std.specs.Prelude.{is_none}
 use Rattle.brk_money.specs.Spelling.{Text}
 use Rattle.brk_model.specs.Records.{Key, Kept}
 use Rattle.brk_model.specs.Base.{Base, empty_base}
@@ -14,7 +15,7 @@ use Rattle.brk_model.specs.Lines.{refused_answer_count}
 use Rattle.brk_model.specs.Batch.{BatchRowsAreDecided, BatchResult, CorrectEnd, IsResultOfTextWithHeader, step_of_row}
 use Rattle.brk_model.specs.Run.{Call, Do, Ask, Outcome, Did, Saw, NoView, Failed, Run}
 
--- The stamp of a reply.
+-- The stamp of a reply, in milliseconds since 1970-01-01 UTC.
 abbrev pub stamp_of_reply : Reply → ℕ
 stamp_of_reply (Booked stamp) = stamp
 stamp_of_reply (Ordered stamp trade status estimate) = stamp
@@ -92,8 +93,9 @@ SomeRunLeadsTo base after = (calls : List (ℕ × Call)) × (outcomes : List Out
 abbrev pub IsReachableFromEmptyBase : Base → Type 0
 IsReachableFromEmptyBase base = SomeRunLeadsTo empty_base base
 
--- The batch over the input is complete, its rows have the answers `answers`, and none of them is a
--- refusal. The format check of the rows is `form`.
+-- The batch `batch` is the result of `input`, executed from `base` on with the clock readings
+-- `moments` and the format check `form`. It is complete, its rows have the answers `answers`, and
+-- none of them is a refusal.
 pub record IsBatchWithoutRefusals (form : Fields → ReadResult Command) (base : Base) (moments : List ℕ) (input : Text) (answers : List Answer)
     (batch : BatchResult Base) : Type 0 where
   pub answered : IsResultOfTextWithHeader form step_of_row base moments (Some (input_text input)) batch
@@ -178,15 +180,16 @@ pub record NextRowLeadsTo (form : Fields → ReadResult Command) (name : Text) (
   -- The answer to the row, and the base after it.
   pub booked : step_of_row mid moment command (record { batch = name; row = length front + 1 }) ≡ (answer, stood)
 
--- The base `stood` is the base `mid` after the rows `front`, or the base after one more row.
+-- The base `stood` is `mid`, the base after the rows `front` of the batch `name`, or the base after
+-- the next row, the first of `more`, was executed too.
 abbrev pub IsBaseAfterInterruption : (Fields → ReadResult Command) → Text → Base → List Fields → List Fields → Base → Type 0
 IsBaseAfterInterruption form name mid front more stood =
     (stood ≡ mid) ⊎ ((moment : ℕ) × (answer : Answer) × NextRowLeadsTo form name mid front more moment answer stood)
 
--- The rows of the batch `name` are decided as by one uninterrupted run to the base `last`. The
--- first rows have `answers`, at the clock readings `earlier`, and their retry has the answers that
--- `answer_to_retry` gives. The other rows have the answers in `told`, at the clock readings
--- `later`.
+-- After a retry, the rows of the batch `name` are decided as by one uninterrupted run from `base`
+-- to `last`. The first rows have `answers`, at the clock readings `earlier`, and their retry has
+-- the answers that `answer_to_retry` returns. The other rows have the answers in `told`, at the
+-- clock readings `later`.
 pub record IsCompletedByRetry (form : Fields → ReadResult Command) (name : Text) (base : Base) (earlier later : List ℕ) (rows : List Fields)
     (answers told : List Answer) (last : Base) : Type 0 where
   pub again : take (length answers) told ≡ map answer_to_retry answers

@@ -4,7 +4,8 @@ use Rattle.std.specs.Prelude.{◌≡◌, true, List, is_some}
 use Rattle.std.specs.List.{AllByRecursion}
 use Rattle.brk_model.specs.Records.{Account, Permission, CustomerTax, Trade, Movement}
 use Rattle.brk_model.specs.Base.{Base, customer_with_id, account_with_id, tax_rate_record_with_id}
-use Rattle.brk_model.specs.Names.{BrokerOfAccountExists, CustomerOfAccountExists, AccountOfTradeExists, SecurityOfTradeExists, AccountOfMovementExists, TradesAreNumberedFrom}
+use Rattle.brk_model.specs.Names.{BrokerOfAccountExists, CustomerOfAccountExists, AccountOfTradeExists, SecurityOfTradeExists, AccountOfMovementExists}
+use Rattle.brk_model.specs.Names.{TradesAreNumberedFrom}
 
 -- The customer and the broker of the account exist in the base.
 abbrev pub AccountReferencesResolve : Base → Account → Type 0

@@ -12,7 +12,9 @@ ghost use Rattle.brk_model.specs.Batch.{BatchRowsAreDecided, BatchResult, IsResu
 ghost use Rattle.brk_model.specs.Lines.{refused_answer_count};
 ghost use Rattle.brk_model.specs.Computed.{batch_of_input, complete_batch};
 ghost use Rattle.brk_model.specs.Run.{Did, Run};
-ghost use Rattle.brk_model_theorems.specs.Laws.{AnswersMatchStoredReplies, AcceptedCallsAreStored, NextRowLeadsTo, IsCompletedByRetry, SomeRunLeadsTo, IsBaseAfterInterruption, IsBatchWithoutRefusals, answer_to_retry, answers_for_new_keys, call_of_batch_row, calls_with_new_keys, accepted_answers, accepted_calls};
+ghost use Rattle.brk_model_theorems.specs.Laws.{AnswersMatchStoredReplies, AcceptedCallsAreStored, NextRowLeadsTo, IsCompletedByRetry, SomeRunLeadsTo};
+ghost use Rattle.brk_model_theorems.specs.Laws.{IsBaseAfterInterruption, IsBatchWithoutRefusals, answer_to_retry, answers_for_new_keys, call_of_batch_row};
+ghost use Rattle.brk_model_theorems.specs.Laws.{calls_with_new_keys, accepted_answers, accepted_calls};
 
 /// Proves that the function `batch_of_input` computes the specified result of the input. It uses
 /// the first `n` clock readings, for some `n`. There must be at least as many clock readings as the

@@ -17,7 +17,9 @@ use Rattle.brk_money.specs.declared.side.Side.TheVariants.{Buy, Sell}
 use Rattle.brk_money.specs.declared.refusal.Limit.{Limit}
 use Rattle.brk_money.specs.declared.refusal.Limit.TheVariants as limit
 use Rattle.brk_money.specs.declared.refusal.Refusal.{Refusal}
-use Rattle.brk_money.specs.declared.refusal.Refusal.TheVariants.{BadText, BadQty, BadPrice, BadType, TooMany, KeyReused, NoAccount, NoCustomer, NoBroker, NoSecurity, NoTrade, NoTax, WrongStatus, NotPermitted, Exists, Overlap, TaxSum, NoCharge, NoRate, Range, ClockEnd, TooEarly}
+use Rattle.brk_money.specs.declared.refusal.Refusal.TheVariants.{BadText, BadQty, BadPrice, BadType, TooMany, KeyReused, NoAccount, NoCustomer, NoBroker}
+use Rattle.brk_money.specs.declared.refusal.Refusal.TheVariants.{NoSecurity, NoTrade, NoTax, WrongStatus, NotPermitted, Exists, Overlap, TaxSum, NoCharge}
+use Rattle.brk_money.specs.declared.refusal.Refusal.TheVariants.{NoRate, Range, ClockEnd, TooEarly}
 
 -- The side of a trade of this type: buy or sell (TT_IS_SELL).
 abbrev pub side_of_trade_type : TradeType → Side
@@ -92,7 +94,7 @@ is_same_side Sell Sell = true
 is_same_side Buy Sell = false
 is_same_side Sell Buy = false
 
--- The word that a `Range` refusal prints for its limit.
+-- The word that a `Range` refusal prints for its limit, such as `balance`.
 abbrev pub limit_word : Limit → List ℕ
 limit_word limit.Summary = codes "summary"
 limit_word limit.Balance = codes "balance"
@@ -159,7 +161,7 @@ tax_status_number Reported = 2
 abbrev pub tax_status_with_number : ℕ → Option TaxStatus
 tax_status_with_number n = if n == 0 then Some Untaxed else if n == 1 then Some Withheld else if n == 2 then Some Reported else None
 
--- The word that represents an audit condition.
+-- The lower-case word that represents an audit condition in output, such as `cash`.
 abbrev pub condition_word : Condition → List ℕ
 condition_word condition.NotEmpty = codes "notempty"
 condition_word condition.Schema = codes "schema"

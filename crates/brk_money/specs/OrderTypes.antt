@@ -13,7 +13,7 @@ trade_type_of_order (asked.StopLoss price) = StopLoss
 trade_type_of_order (asked.LimitSell price) = LimitSell
 trade_type_of_order (asked.LimitBuy price) = LimitBuy
 
--- The price that an order of this type asks for; none for a market type.
+-- The price, in cents, that an order of this type asks for; none for a market type.
 abbrev pub price_of_order : OrderType → Option ℕ
 price_of_order asked.MarketBuy = None
 price_of_order asked.MarketSell = None

@@ -1,6 +1,7 @@
 -- The canonical text of a number, an amount and a day. A text parses as a value if it is the
 -- value's canonical text.
-use Rattle.std.specs.Prelude.{ℕ, suc, ◌+◌, ◌-◌, ◌*◌, ◌/◌, ◌%◌, ◌≤◌, if◌then◌else◌, List, [], ◌∷◌, ◌++◌, fold, filter, length, take, drop, replicate, ◌==◌, Option, Some, None, ℤ, pos, negsuc, neg_ℤ, nat_le, nat_abs, decimal, bytes_eq, slice_index, Bool}
+use Rattle.std.specs.Prelude.{ℕ, suc, ◌+◌, ◌-◌, ◌*◌, ◌/◌, ◌%◌, ◌≤◌, if◌then◌else◌, List, [], ◌∷◌, ◌++◌, fold, filter, length, take, drop, replicate, ◌==◌}
+use Rattle.std.specs.Prelude.{Option, Some, None, ℤ, pos, negsuc, neg_ℤ, nat_le, nat_abs, decimal, bytes_eq, slice_index, Bool}
 use Rattle.std.specs.Char.{is_ascii_digit}
 use Rattle.brk_money.specs.declared.cents.TheConstants.Cents
 use Rattle.brk_money.specs.Moments.{Civil, civil_date_of_day, day_of_civil_date}
@@ -70,26 +71,31 @@ date_text_by_digits y m d =
     (48 + y / 100 / 10) ∷ (48 + y / 100 % 10) ∷ (48 + y % 100 / 10) ∷ (48 + y % 100 % 10) ∷ 45 ∷ (48 + m / 10) ∷ (48 + m % 10) ∷ 45 ∷ (48 + d / 10)
     ∷ (48 + d % 10) ∷ []
 
--- The canonical text of a day, such as 2024-03-01.
+-- The canonical text, such as 2024-03-01, of a day, which is given in days since 1970-01-01.
 abbrev pub day_text : ℕ → Text
 day_text day = date_text (civil_date_of_day day)
 
 -- The civil date whose year, month and day are the digits of the text at the places of a canonical
 -- date; whether the calendar has it is not checked.
 abbrev pub civil_date_from_ascii_digits : Text → Civil
-civil_date_from_ascii_digits text =
-    record { year = number_from_ascii_digits (take 4 text); month = number_from_ascii_digits (take 2 (drop 5 text)); day = number_from_ascii_digits (take 2 (drop 8 text)) }
+civil_date_from_ascii_digits text = record {
+  year = number_from_ascii_digits (take 4 text);
+  month = number_from_ascii_digits (take 2 (drop 5 text));
+  day = number_from_ascii_digits (take 2 (drop 8 text));
+}
 
--- The day that a text parses as; none if the text is not canonical.
+-- The day that a text parses as, in days since 1970-01-01; none if the text is not canonical.
 abbrev pub day_of_text : Text → Option ℕ
 day_of_text text = value_if_canonical day_text (day_of_civil_date (civil_date_from_ascii_digits text)) text
 
--- The amount if there is one and its absolute value is at most `Cents.GREATEST`, otherwise none.
+-- The amount, in cents, if there is one and its absolute value is at most `Cents.GREATEST`,
+-- otherwise none.
 abbrev pub amount_within_limit : Option ℤ → Option ℤ
 amount_within_limit None = None
 amount_within_limit (Some z) = if is_within_amount_limit z then Some z else None
 
--- The number that results from reading the digits of a list after the number `n`.
+-- The decimal number whose digits are those of `n` followed by the ASCII digits of the list. A byte
+-- that is no digit is not left out: it counts as itself minus 48.
 abbrev pub number_with_more_digits : ℕ → List ℕ → ℕ
 number_with_more_digits n [] = n
 number_with_more_digits n (c ∷ cs) = number_with_more_digits (n * 10 + (c - 48)) cs

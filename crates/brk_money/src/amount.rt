@@ -45,7 +45,7 @@ impl Amount {
 }
 
 impl Cents {
-    /// Returns the absolute value.
+    /// Returns the absolute value of the amount.
     pub fn unsigned_abs(self) -> Amount
         ensures { result ≡ nat_abs self }
     {
@@ -56,7 +56,7 @@ impl Cents {
 impl From<Amount> for Wide {
     ghost from_gives = { λ amount wide. wide ≡ pos amount };
 
-    /// Returns the amount, in cents.
+    /// Returns the amount, in cents, as a `Wide`.
     fn from(amount: Amount) -> Wide {
         Wide::new(i128::from(amount.get()))
     }

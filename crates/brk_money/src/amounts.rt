@@ -19,7 +19,7 @@ pub fn half_up(n: u128, d: u128) -> u128
     (2 * n + d) / 2 / d
 }
 
-// Returns the amount of `cents` cents, which must be within the limit.
+// Returns `cents` as an amount. Requires that it is at most `Cents::GREATEST`.
 fn cents_of_natural(cents: u128) -> Cents
     requires { cents ≤ Cents.GREATEST }
     ensures { result ≡ pos cents }
@@ -27,8 +27,8 @@ fn cents_of_natural(cents: u128) -> Cents
     Cents::new(cents as i64).unwrap()
 }
 
-/// Returns the commission on `qty` shares at `price` in cents, rounded once, a half up (T_COMM,
-/// Trade-Result).
+/// Returns the commission on `qty` shares at `price`, in cents: their value times `rate`, rounded
+/// once to whole cents, a half up (T_COMM, Trade-Result).
 pub fn commission(rate: Rate, qty: Qty, price: Price) -> Cents
     ensures { result ≡ pos (spec.commission rate qty price) }
 {
@@ -36,8 +36,8 @@ pub fn commission(rate: Rate, qty: Qty, price: Price) -> Cents
     cents_of_natural(half_up(product, 10_000))
 }
 
-/// Returns the tax on a trade's gain in cents, rounded once, a half up; 0 if the gain is 0 or below
-/// (T_TAX, Trade-Result).
+/// Returns the tax on `gain` at `rates`, the sum of the customer's tax rates, in cents: rounded
+/// once to whole cents, a half up, and 0 if `gain` is 0 or below (T_TAX, Trade-Result).
 pub fn tax(gain: Cents, rates: TaxRate) -> Cents
     ensures { result ≡ pos (spec.tax gain rates) }
 {

@@ -9,7 +9,7 @@ use crate::fault::Fault;
 use jiff::ToSpan;
 use jiff::civil::{Date, date};
 
-// Returns the calendar date of a day.
+// Returns the civil date of a day.
 fn date_of_day(day: Day) -> Date
     ensures { epoch_day result ≡ pos day }
 {
@@ -44,8 +44,9 @@ fn date_if_in_calendar(year: u16, month: u8, day: u8) -> Option<Date>
     }
 }
 
-// Parses the text of a date: four digits of a year, two of a month and two of a day, with a hyphen
-// between. Returns `None` for any other bytes, and for a date that the calendar does not have.
+// Parses the text of a date, such as `2024-03-01`: four digits of a year, two of a month and two of
+// a day, with a hyphen between. Returns `None` for any other bytes, and for a date that the
+// calendar does not have.
 #[tactic(auto, using(crate::proofs::DayTexts::spelled, crate::proofs::DayTexts::parts_spelled))]
 fn parse_date(bytes: &[u8]) -> Option<Date>
     ensures found { IfSome result (λ date. (pos 0 ≤ℤ date.year) × (bytes.now ≡ date_text_by_digits (unsigned_abs date.year) date.month date.day)) }
@@ -82,7 +83,8 @@ pub fn parse_day(bytes: &[u8]) -> Option<Day>
     Day::new(date.to_plain().to_unix_epoch_day())
 }
 
-// Returns the ten bytes of the text of a date whose year is not negative.
+// Returns the ten bytes of the text of a date, such as `2024-03-01`. Requires that the year is not
+// negative.
 fn date_text_bytes(date: Date) -> [u8; 10]
     requires { pos 0 ≤ℤ date.year }
     ensures { result ≡ date_text_by_digits (unsigned_abs date.year) date.month date.day }

@@ -37,7 +37,7 @@ pub enum Condition {
 }
 
 impl Condition {
-    /// Returns the word that represents the condition.
+    /// Returns the lower-case word that represents the condition in output, such as `cash`.
     pub fn word(self) -> &'static str
         ensures { result.now ≡ condition_word self }
     {

@@ -18,10 +18,11 @@ impl Model for Rate {
 }
 
 impl Rate {
-    /// The greatest rate: the whole value of the trade.
+    /// The greatest rate, 100 percent: the commission is the whole value of the trade.
     pub const GREATEST: u32 = 10_000;
 
-    /// Returns the rate of `hundredths`, or `None` if it is above `GREATEST`.
+    /// Returns the rate of `hundredths` hundredths of a percent, or `None` if it is above
+    /// `GREATEST`.
     pub fn new(hundredths: u32) -> Option<Rate>
         ensures { SomeIff result (hundredths ≤ Rate.GREATEST) hundredths }
     {

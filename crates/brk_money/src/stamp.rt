@@ -28,7 +28,8 @@ impl Stamp {
     /// The greatest stamp: the last millisecond of 9999-12-31 UTC.
     pub const GREATEST: i64 = 253_402_300_799_999;
 
-    /// Returns the stamp of `millis`, or `None` if it is out of range.
+    /// Returns the stamp `millis` milliseconds after 1970-01-01 UTC, or `None` if it is out of
+    /// range.
     pub fn new(millis: i64) -> Option<Stamp>
         ensures found { IfSome result (λ stamp. millis ≡ pos stamp) }
         ensures limits { SomeIff (option_map (λ stamp. pos stamp) result) ((pos 0 ≤ℤ millis) × (millis ≤ℤ pos spec.greatest_stamp)) millis }
@@ -40,7 +41,8 @@ impl Stamp {
         }
     }
 
-    /// Returns the stamp of `millis`, or the nearest stamp if it is out of range.
+    /// Returns the stamp `millis` milliseconds after 1970-01-01 UTC, or the nearest stamp if that
+    /// is out of range.
     pub fn nearest(millis: i64) -> Stamp
         ensures within { pos 0 ≤ℤ millis → millis ≤ℤ pos spec.greatest_stamp → pos result ≡ millis }
         ensures below { millis ≤ℤ pos 0 → result ≡ 0 }

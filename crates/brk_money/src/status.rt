@@ -6,11 +6,11 @@ ghost use Rattle.brk_money.specs.Kinds.{trade_status_code, trade_status_name};
 pub enum Status {
     /// A result has completed the trade.
     Completed,
-    /// No trade of this desk is ever active.
+    /// Not used: no trade of this desk is ever active.
     Active,
     /// The trade was sent to the market.
     Submitted,
-    /// The trade waits for its price.
+    /// The trade is sent to the market once a tick reaches its price.
     Pending,
     /// The trade was canceled while it was pending.
     Canceled,

@@ -19,10 +19,10 @@ impl Model for TaxRate {
 }
 
 impl TaxRate {
-    /// The greatest rate: the whole gain.
+    /// The greatest rate, 100 percent: the tax is the whole gain.
     pub const GREATEST: u32 = 100_000;
 
-    /// Returns the rate of `parts`, or `None` if it is above `GREATEST`.
+    /// Returns the rate of `parts` hundred-thousandths, or `None` if it is above `GREATEST`.
     pub fn new(parts: u32) -> Option<TaxRate>
         ensures { SomeIff result (parts ≤ TaxRate.GREATEST) parts }
     {

@@ -22,7 +22,7 @@ impl Model for Wide {
 }
 
 impl Wide {
-    /// Returns the amount of `cents`.
+    /// Returns the amount of `cents`; there is no limit.
     pub fn new(cents: i128) -> Wide
         ensures { result ≡ cents }
     {
@@ -40,7 +40,7 @@ impl Wide {
 impl From<Cents> for Wide {
     ghost from_gives = { λ cents wide. wide ≡ cents };
 
-    /// Returns the amount, in cents.
+    /// Returns the amount, in cents, as a `Wide`.
     fn from(cents: Cents) -> Wide {
         Wide(i128::from(cents.get()))
     }
@@ -49,7 +49,7 @@ impl From<Cents> for Wide {
 impl From<Price> for Wide {
     ghost from_gives = { λ price wide. wide ≡ pos price };
 
-    /// Returns the price, in cents.
+    /// Returns the price, in cents, as a `Wide`.
     fn from(price: Price) -> Wide {
         Wide(i128::from(price.get()))
     }
@@ -59,6 +59,7 @@ impl From<Price> for Wide {
 impl fmt::Display for Wide {
     ghost output = { λ amount. Some (cents_text amount) };
 
+    /// Writes the canonical text of the amount, such as `-12.05`.
     fn fmt<W: fmt::Write>(&self, f: &mut fmt::Formatter<W>) -> fmt::Result {
         let amount = self.get();
         let cents = amount.unsigned_abs();
