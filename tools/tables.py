@@ -80,6 +80,31 @@ def lst(xs):
 def q(s):
     return f'codes "{s}"'
 
+def folded(head, parts, sign, limit=150):
+    """The parts with a sign between them, on the line of the head, or on indented lines of their own if that line is too long"""
+    whole = f'{head} {f" {sign} ".join(parts)}'
+    if len(whole) <= limit:
+        return whole
+    lines = [f'    {parts[0]}']
+    for part in parts[1:]:
+        if len(f'{lines[-1]} {sign} {part}') <= limit:
+            lines[-1] += f' {sign} {part}'
+        else:
+            lines.append(f'    {sign} {part}')
+    return '\n'.join([head] + lines)
+
+def short_uses(line, limit=150):
+    """An import of many names as several imports from the same module"""
+    found = re.fullmatch(r'((?:ghost )?use [\w.]+\.{)(.*)(};?)', line)
+    if not found or len(line) <= 160:
+        return [line]
+    lines = [[]]
+    for name in found[2].split(', '):
+        if lines[-1] and len(f'{found[1]}{", ".join(lines[-1] + [name])}{found[3]}') > limit:
+            lines.append([])
+        lines[-1].append(name)
+    return [f'{found[1]}{", ".join(names)}{found[3]}' for names in lines]
+
 def col_is(t, c, shown, agg, alias):
     return f'column_is schema at ({t}_table tree) found ({q(TABLES[t][0])}) {shown} [] {agg} {alias} ({q(c)}) {index(t, c)} ({kind(t, c)} ({q(c)})) refl refl'
 
@@ -174,6 +199,9 @@ def save(path, text):
     """Writes a file without the names that its head imports and its body does without"""
     head, body = text.split('\n\n', 1)
     kept = [one for line in head.splitlines() for one in of_use(line, body)]
+    if '/proofs/' not in path:
+        kept = [one for line in kept for one in short_uses(line)]
+        body = '\n'.join(one for line in body.split('\n') for one in short_uses(line))
     if os.path.exists(path):
         with open(path) as file:
             BEFORE[path] = (file.read(), os.stat(path))
@@ -418,23 +446,26 @@ plain = no_returning statement (read statement) select refl refl refl
 
 
 def shapes():
-    out = """-- Written by tools/tables.py: the shape of each table, with its rows in any tree.
+    out = """-- Written by tools/tables.py: the definition of each table, with its rows at any tree.
 use Rattle.std.specs.Prelude.{ℕ, List, [], ◌∷◌, codes, Some, None}
 use Rattle.sqlite_schema.specs.declared.schema.Table.{Table}
 use Rattle.brk_sql.specs.Desk.{text_column, integer_column, nullable_integer_column, foreign_key, table_without_checks}
 """
     for t, sql, w, row, key, rows, rowkey, cols in DATA:
-        cs = lst(f'{k} ({q(c)})' for c, k, _, _ in cols)
+        cs = ' (' + lst(f'{k} ({q(c)})' for c, k, _, _ in cols) + ')'
+        if len(cs) > 80:
+            cs = '\n    (' + folded('', [f'{k} ({q(c)})' for c, k, _, _ in cols] + ['[]'], '∷').strip() + ')'
         spot = lambda i: 0 if rowkey and i == 0 else i + 1
         n = 1 if rowkey else KEYS[t]
         primary = lst(str(spot(i)) for i in range(n))
         uniques = ([] if rowkey else [f'({primary})']) + [f'({u} ∷ [])' for u in UNIQUE.get(t, [])]
-        refs = lst(f'foreign_key {spot(i)} ({q(r.split(".")[0])}) ({q(r.split(".")[1])})' for i, (c, k, _, r) in enumerate(cols) if r)
+        refs = [f'foreign_key {spot(i)} ({q(r.split(".")[0])}) ({q(r.split(".")[1])})' for i, (c, k, _, r) in enumerate(cols) if r]
+        refs = f'({lst(refs)})' if len(lst(refs)) < 130 else '\n    (' + folded('', refs + ['[]'], '∷').strip() + ')'
         out += f"""
--- The table {sql}: its columns, keys and foreign keys, with its rows at `tree`.
+{remark(f'The definition of the table {sql}, with its rows at `tree`: its columns, keys and foreign keys.')}
 abbrev pub {t}_table : ℕ → Table
-{t}_table tree = table_without_checks ({q(sql)}) tree ({cs})
-    {'(Some 0)' if rowkey else 'None'} ({primary}) ({lst(uniques)}) ({refs})
+{t}_table tree = table_without_checks ({q(sql)}) tree{cs}
+    {'(Some 0)' if rowkey else 'None'} ({primary}) ({lst(uniques)}) {refs}
 """
     save(f'{SPECS}/Shapes.antt', out)
 
@@ -442,7 +473,7 @@ ROWS = 'BrokerRow, AccountRow, SecurityRow, LastTradeRow, TradeRow, HistoryRow, 
 RECORDS = 'Customer, Permission, Charge, Band, TaxRate, CustomerTax, Kept'
 
 def cells():
-    out = f"""-- Written by tools/tables.py: the columns of each row.
+    out = f"""-- Written by tools/tables.py: the SQL values of the rows of each table.
 use Rattle.std.specs.Prelude.{{ℕ, pos, Bool, if◌then◌else◌, List, [], ◌∷◌, Option}}
 use Rattle.sqlite_value.specs.declared.value.Value.{{Value}}
 use Rattle.sqlite_value.specs.declared.value.Value.TheVariants.{{Int, Text as Words}}
@@ -452,13 +483,15 @@ use Rattle.brk_money.specs.Kinds.{{trade_type_code, trade_status_code, tax_statu
 use Rattle.brk_model.specs.Records.{{{RECORDS}}}
 use Rattle.brk_model.specs.Tables.{{{ROWS}}}
 
--- The row of DESK: D_ID, D_SCHEMA, D_LAST.
+-- The row of DESK: its id, which is 1 (D_ID), the number of the schema (D_SCHEMA), and the stamp of
+-- the last accepted command in milliseconds since 1970-01-01 UTC, or `None` (D_LAST).
 pub record DeskRow : Type 0 where
   pub id : ℕ
   pub schema : ℕ
   pub last : Option ℕ
 
--- A row of SETTLE_RULE: SR_ID, SR_DAY.
+-- A row of SETTLE_RULE: its id, which is 1 (SR_ID), and the settlement day in days since 1970-01-01
+-- (SR_DAY).
 pub record RuleRow : Type 0 where
   pub id : ℕ
   pub day : ℕ
@@ -467,11 +500,11 @@ pub record RuleRow : Type 0 where
 abbrev pub natural_as_value : ℕ → Value
 natural_as_value n = Int (pos n)
 
--- The SQL value of a natural number, or NULL for `None`.
+-- The SQL value of an optional natural number: an INTEGER, or NULL for `None`.
 abbrev pub optional_as_value : Option ℕ → Value
 optional_as_value = or_null (λ n. Int (pos n))
 
--- The SQL value of a Boolean: 1 for true, 0 for false.
+-- The SQL value of a Boolean: the INTEGER 1 for true, 0 for false.
 abbrev pub flag_as_value : Bool → Value
 flag_as_value b = Int (pos (if b then 1 else 0))
 """
@@ -479,7 +512,7 @@ flag_as_value b = Int (pos (if b then 1 else 0))
         out += f"""
 -- The SQL values of a row of {sql}, in the order of its columns.
 abbrev pub {t}_cells : {row} → Row
-{t}_cells r = {lst(e for _, _, e, _ in cols)}
+{folded(f'{t}_cells r =', [e for _, _, e, _ in cols] + ['[]'], '∷')}
 """
     save(f'{SPECS}/Cells.antt', out)
 
@@ -499,41 +532,43 @@ use Rattle.brk_tables_schema.specs.Shapes.{{{', '.join(d[0] + '_table' for d in 
 use Rattle.brk_tables_schema.specs.Cells.{{DeskRow, RuleRow, {', '.join(d[0] + '_cells' for d in DATA)}}}
 use Rattle.brk_tables_schema.specs.Order.{{ordering_by_key}}
 
--- The tables of a desk, by name. `table_name` is the SQL name of each.
+-- The tables of a desk, in all schemas. `table_name` is the SQL name of each.
 pub data DeskTable : Type 0 where
 {both(lambda d: f'  {d[2]} : DeskTable')}
 
--- The single row of DESK in a schema, with the stamp `last` of the last command, or without one.
+-- The rows of DESK in the schema `schema`: exactly one, with the stamp `last` of the last accepted
+-- command, or without a stamp.
 abbrev pub desk_rows : Schema → Option ℕ → List DeskRow
 desk_rows schema last = record {{ id = 1; schema = schema.number; last = last }} ∷ []
 
--- The primary key of the row of DESK: D_ID.
+-- The primary key of a row of DESK: its id (D_ID).
 abbrev pub desk_key : DeskRow → List KeyPart
 desk_key r = number r.id ∷ []
 
--- The single row of SETTLE_RULE with the settlement day, or no row if none is set.
+-- The rows of SETTLE_RULE: one row with the settlement day, or no row if none is set.
 abbrev pub rule_rows : Option ℕ → List RuleRow
 rule_rows None = []
 rule_rows (Some day) = record {{ id = 1; day = day }} ∷ []
 
--- The primary key of the row of SETTLE_RULE: SR_ID.
+-- The primary key of a row of SETTLE_RULE: its id (SR_ID).
 abbrev pub rule_key : RuleRow → List KeyPart
 rule_key r = number r.id ∷ []
 
--- True if the schema has the table.
+-- True if the schema `schema` has the table. Only CASH_MOVE and SETTLE_RULE depend on it.
 abbrev pub schema_has_table : Schema → DeskTable → Bool
 {chr(10).join(f'schema_has_table schema {d[2]} = schema.{LATER[d[0]]}' for d in DATA if d[0] in LATER)}
 schema_has_table schema w = true
 
--- The definition of a table with its rows at a tree: its name, columns, keys and foreign keys.
+-- The definition of a table of a desk, with its rows at the given tree: its SQL name, columns, keys
+-- and foreign keys.
 abbrev pub table_definition_at : DeskTable → ℕ → Table
 {both(lambda d: f'table_definition_at {d[2]} = {d[0]}_table')}
 
--- The definition of a table with its rows at the tree `tree` has this tree.
+-- The definition of the table `w` with its rows at the tree `tree` has this tree.
 abbrev pub table_definition_has_tree : (w : DeskTable) (tree : ℕ) → (table_definition_at w tree).tree ≡ tree
 {both(lambda d: f'table_definition_has_tree {d[2]} tree = refl')}
 
--- The type of the records of a table.
+-- The type of the records of a table of a desk.
 abbrev pub RecordOfTable : DeskTable → Type 0
 {both(lambda d: f'RecordOfTable {d[2]} = {d[3]}')}
 
@@ -541,11 +576,11 @@ abbrev pub RecordOfTable : DeskTable → Type 0
 abbrev pub encoded_row : (w : DeskTable) → RecordOfTable w → Row
 {both(lambda d: f'encoded_row {d[2]} = {d[0]}_cells')}
 
--- The primary key of a record of a table.
+-- The primary key of a record of a table: its parts, in the order of the key's columns.
 abbrev pub primary_key_of_record : (w : DeskTable) → RecordOfTable w → List KeyPart
 {both(lambda d: f'primary_key_of_record {d[2]} = {d[4]}')}
 
--- Compares two records of a table by their primary keys.
+-- The ordering of two records of the table `w` by their primary keys.
 abbrev pub ordering_by_primary_key : (w : DeskTable) → RecordOfTable w → RecordOfTable w → Ordering
 ordering_by_primary_key w = ordering_by_key (primary_key_of_record w)
 
@@ -558,27 +593,36 @@ abbrev pub rows_in_schema : Schema → (w : DeskTable) → Tables → List (Reco
 abbrev pub rows_of_table : (w : DeskTable) → Tables → List (RecordOfTable w)
 rows_of_table = rows_in_schema third_schema
 
--- All tables of a desk, with the number of the given schema in the row of DESK.
+-- All tables of a desk as the tables of a program: their definitions, records, encodings and
+-- orders. The row of DESK has the number of the schema `schema`.
 abbrev pub desk_tables_of_schema : Schema → ProgramTables DeskTable Tables
-desk_tables_of_schema schema = record {{ shape = table_definition_at; placed = table_definition_has_tree; Item = RecordOfTable; encode = encoded_row; order = ordering_by_primary_key; list = rows_in_schema schema }}
+desk_tables_of_schema schema = record {{
+  shape = table_definition_at;
+  placed = table_definition_has_tree;
+  Item = RecordOfTable;
+  encode = encoded_row;
+  order = ordering_by_primary_key;
+  list = rows_in_schema schema;
+}}
 
--- All tables of a desk in schema 3.
+-- All tables of a desk in schema 3 as the tables of a program: their definitions, records,
+-- encodings and orders.
 abbrev pub desk_tables : ProgramTables DeskTable Tables
 desk_tables = desk_tables_of_schema third_schema
 
--- The list of all tables of a desk: the tables of schema 3.
+-- The list of all tables of a desk, which are the tables of schema 3.
 abbrev pub all_tables : List DeskTable
-all_tables = {lst(d[2] for d in DATA)}
+{folded('all_tables =', [d[2] for d in DATA] + ['[]'], '∷')}
 
--- The list of the tables that a schema has.
+-- The list of the tables that the schema `schema` has.
 abbrev pub tables_in_schema : Schema → List DeskTable
 tables_in_schema schema = filter (schema_has_table schema) all_tables
 
--- The SQL name of a table.
+-- The SQL name of the table `w`, in ASCII.
 abbrev pub table_name : DeskTable → List ℕ
 table_name w = (table_definition_at w 0).name
 
--- The SQL names of all tables.
+-- The SQL names of all tables of a desk.
 abbrev pub all_table_names : List (List ℕ)
 all_table_names = map table_name all_tables
 """
@@ -682,20 +726,21 @@ use Rattle.brk_tables_schema.specs.Desk.{{DeskTable, {', '.join(d[2] for d in DA
 use Rattle.brk_tables_create.specs.declared.table.Table.{{Table}}
 use Rattle.brk_tables_create.specs.declared.table.Table.TheVariants as table
 
--- The table of the specification that a table of the code represents.
+-- The table of the specification that a value of the code's type `Table` represents.
 abbrev pub specified_table : Table → DeskTable
 {chr(10).join(f'specified_table table.{d[2]} = {d[2]}' for d in DATA)}
 
--- The text of the CREATE TABLE statement of a table.
+-- The text of the SQL statement that creates a table of a desk.
 abbrev pub create_table_text : DeskTable → List ℕ
 {chr(10).join(f'create_table_text {d[2]} = codes "{create_text(d)}"' for d in DATA)}
 
--- The text of a DELETE statement on a table. It is prepared, to check if the table exists, and
--- never executed.
+-- The text of a DELETE statement on the table `w`. It is compiled, to check if a table of this name
+-- exists, and never executed.
 abbrev pub existence_probe_text : DeskTable → List ℕ
 existence_probe_text w = codes "DELETE FROM " ++ table_name w
 """
     save('crates/brk_tables_create/specs/Texts.antt', out)
+    probe = 'Returns the text of a DELETE statement on the table. It is compiled, to check if a table of\n    /// this name exists, and never executed.'
     def function(name, what, contract, text):
         return f"""
     /// {what}
@@ -718,7 +763,7 @@ pub enum Table {{
 {chr(10).join(f'    /// {d[1]}{chr(10)}    {d[2]},' for d in DATA)}
 }}
 
-impl Table {{{function('create_table_text', 'Returns the text of the CREATE TABLE statement of the table.', 'create_table_text', create_text)}{function('existence_probe_text', 'Returns the text of a DELETE statement on the table, which is prepared and never executed.', 'existence_probe_text', lambda d: f'DELETE FROM {d[1]}')}}}
+impl Table {{{function('create_table_text', 'Returns the text of the SQL statement that creates the table.', 'create_table_text', create_text)}{function('existence_probe_text', probe, 'existence_probe_text', lambda d: f'DELETE FROM {d[1]}')}}}
 """
     for name, what, tables in by_schema():
         out += f"""
@@ -794,11 +839,12 @@ unfolding everything listing_schema
 
 def column_names():
     names = lambda d: ', '.join(f'"{c}"' for c, _, _, _ in d[7])
-    out = f"""//! Written by tools/tables.py: for each table a statement that shows all of its columns, and their names in order.
+    out = f"""//! Written by tools/tables.py: for each table a statement that selects all of its columns, and the
+//! names of these columns, in order.
 """
     for name, what, tables in by_schema()[:3]:
         out += f"""
-/// {what[0].upper()}{what[1:]}.
+{remark(f'For each of {what}: the statement that selects all of its columns, and their names, in order.', '///')}
 pub(crate) const {name.upper()}: [(&str, &[&str]); {len(tables)}] = [
 """
         out += ''.join(f'("{star_text(d)}", &[{names(d)}]),\n' for d in tables) + '];\n'
@@ -1050,7 +1096,8 @@ def read_whole(d):
     """The function that reads one whole table"""
     columns, keys = ', '.join(c[0] for c in d[7]), ', '.join(key_columns(d))
     mark, kind = ('//', 'fn') if d[0] in LATER else ('///', 'pub fn')
-    head = f'{mark} Returns all rows of {d[1]}, sorted by key, ascending. Fails with `Store` only.\n{kind}'
+    about = remark(f'Returns all rows of {d[1]}, sorted by key, ascending. Changes nothing. Fails with `Store` only.', mark)
+    head = f'{about}\n{kind}'
     return f"""
 {head} {rows_name(d)}<S: Alter>(tx: &mut Transaction<'_, S>) -> Result<Vec<Row>, Fault>
     {SAME_REFERENCE}
@@ -1068,8 +1115,7 @@ def read_whole(d):
 def read_later_table(d):
     """The function that reads a table which not every schema has"""
     return f"""
-/// Returns all rows of {d[1]}, sorted by key, or no rows if `schema` lacks the table. Fails
-/// with `Store` only.
+{remark(f'Returns all rows of {d[1]}, sorted by key, ascending, or no rows if `schema` lacks the table. Changes nothing. Fails with `Store` only.', '///')}
 pub fn {rows_name(d)}_in_schema<S: Alter>(
     tx: &mut Transaction<'_, S>,
     alloc: Global,
@@ -1088,7 +1134,7 @@ pub fn {rows_name(d)}_in_schema<S: Alter>(
 
 def rows_code():
     """The reads of whole tables in code"""
-    out = f"""//! All rows of each table, sorted by key, ascending, as the database shows them.
+    out = f"""//! Reads of all rows of each table, sorted by key, ascending.
 
 ghost use Rattle.std.specs.Prelude.{{◌≡◌, Err, OnErr}};
 ghost use Rattle.brk_money.specs.declared.fault.Fault.TheVariants.{{Store}};
@@ -1123,14 +1169,15 @@ def read_group(word, field, tables):
 pub struct {word}Sheets {{
 {types}}}
 
-{remark(f'Reads and decodes all rows of {named(tables)}. Fails with `Memory` or `Store` only.', '//')}
+{remark(f'Reads and decodes all rows of {named(tables)}, each list sorted by key. If a row is malformed, sets `are_well_formed` of the decoder to false. Fails with `Memory` or `Store` only.', '//')}
 fn {group_function('read', word)}<S: Alter>(
     tx: &mut Transaction<'_, S>,
     alloc: Global,
 {schema}    decoder: &mut Decoder,
 ) -> Result<{word}Sheets, Fault>
     {SAME_REFERENCE}
-    ensures step {{ IsConnectionStep S.Store tx.old tx.new result (λ sheets. Reads{word}Tables {of_schema}decoder.old.are_well_formed decoder.new.are_well_formed sheets) }}
+    ensures step {{ IsConnectionStep S.Store tx.old tx.new result
+        (λ sheets. Reads{word}Tables {of_schema}decoder.old.are_well_formed decoder.new.are_well_formed sheets) }}
     ensures fault {{ IfErr result IsCallFault }}
 {{
 {reads}    Ok({word}Sheets {{
@@ -1162,8 +1209,9 @@ use std::alloc::Global;
     out += ''.join(read_group(word, field, tables) for word, field, _, tables in groups())
     schema = lambda word: 'schema, ' if word in ('DeskAndCustomer', 'LaterSchema') else ''
     out += f"""
-/// Reads and decodes all rows of the tables of `schema`, each list sorted by key. A table that it
-/// lacks has no rows. Fails with `Memory` or `Store` only.
+/// Reads and decodes all rows of the tables of `schema`, each list sorted by key, ascending. The
+/// list of a table that `schema` lacks is empty. If a row is malformed, sets `are_well_formed` of
+/// the decoder to false. Fails with `Memory` or `Store` only.
 pub(crate) fn read_all_tables<S: Alter>(
     tx: &mut Transaction<'_, S>,
     alloc: Global,
@@ -1171,7 +1219,8 @@ pub(crate) fn read_all_tables<S: Alter>(
     decoder: &mut Decoder,
 ) -> Result<Sheets, Fault>
     {SAME_REFERENCE}
-    ensures step {{ IsConnectionStep S.Store tx.old tx.new result (λ sheets. ReadsDeskTables (abstract_schema schema) decoder.old.are_well_formed decoder.new.are_well_formed sheets) }}
+    ensures step {{ IsConnectionStep S.Store tx.old tx.new result
+        (λ sheets. ReadsDeskTables (abstract_schema schema) decoder.old.are_well_formed decoder.new.are_well_formed sheets) }}
     ensures fault {{ IfErr result IsCallFault }}
 {{
 {''.join(f'    let {field} = {group_function("read", word)}(tx, alloc, {schema(word)}decoder)?;{chr(10)}' for word, field, _ in GROUPS)}    Ok(Sheets {{
@@ -1201,7 +1250,8 @@ pub record {word}Rows : Type 0 where
 
 def raw_spec():
     """What the reads of all tables show"""
-    out = f"""-- The raw rows of all tables, as their reads show them. The code has those of one table at a time.
+    out = f"""-- The raw rows of all tables, as the reads return them: SQL values that are not yet decoded. In the
+-- code only the rows of one table are in memory at a time.
 use Rattle.std.specs.Prelude.{{◌≡◌, List, IsTrue}}
 use Rattle.sqlite_value.specs.Order.{{Row}}
 use Rattle.sqlite.specs.State.{{State}}
@@ -1210,16 +1260,17 @@ use Rattle.brk_model.specs.Schemas.{{Schema}}
 use Rattle.brk_tables_scan.specs.Whole.{{ShowsAllRows, ShowsRowsIfPresent}}
 
 {''.join(raw_record(word, tables) for word, _, _, tables in groups())}
--- The raw rows of all tables.
+-- The raw rows of all tables of a desk.
 pub record RawSheets : Type 0 where
 {chr(10).join(f'  pub {field} : {word}Rows' for word, field, _ in GROUPS)}
 
--- The database was open, and its contents are unchanged.
+-- The database was open in the state `old`, and its contents are unchanged in `new`.
 abbrev pub IsUnchangedAndOpen : State → State → Type 0
 IsUnchangedAndOpen old new = IsTrue old.is_open × (new.now ≡ old.now)
 
--- The lists are all rows of these four tables, sorted by key, and the reads changed nothing.
--- Vacuous for a table that the database does not define as a desk does.
+-- The database was open, and the reads changed nothing. The lists `a`, `b`, `c` and `d` have all
+-- rows of the tables `first`, `second`, `third` and `fourth`, each sorted by key. The clause on a
+-- table is vacuous if the database does not define it as a desk does.
 pub record ShowsFourTables (first second third fourth : DeskTable) (a b c d : List Row) (old new : State) : Type 0 where
   pub stays : IsUnchangedAndOpen old new
   pub one : ShowsAllRows first a old.now
@@ -1229,19 +1280,19 @@ pub record ShowsFourTables (first second third fourth : DeskTable) (a b c d : Li
 """
     for word, _, _, tables in groups()[:-1]:
         out += f"""
-{remark(f'The raw rows are all rows of {named(tables)}, sorted by key, and the reads changed nothing. Vacuous for a table that the database does not define as a desk does.')}
+{remark(f'The database was open, the reads changed nothing, and the raw rows are all rows of {named(tables)}, sorted by key. The clause on a table is vacuous if the database does not define it as a desk does.')}
 abbrev pub Shows{word}Tables : {word}Rows → State → State → Type 0
 Shows{word}Tables raw = ShowsFourTables {' '.join(d[2] for d in tables)} {' '.join(f'raw.{raw_field(d)}' for d in tables)}
 """
     out += f"""
--- The raw rows are all rows of CASH_MOVE and of SETTLE_RULE, sorted by key, or none of a table that
--- the schema `desk` does not have. The reads changed nothing. Vacuous for a table that the database
--- does not define as a desk does.
+-- The reads changed nothing, and the raw rows are all rows of CASH_MOVE and SETTLE_RULE, sorted by
+-- key; there are none of a table that the schema `desk` does not have. The clause on a table is
+-- vacuous if the database does not define it as a desk does.
 pub record ShowsLaterSchemaTables (desk : Schema) (raw : LaterSchemaRows) (old new : State) : Type 0 where
   pub same : new.now ≡ old.now
 {chr(10).join(f'  pub {raw_field(d)} : ShowsRowsIfPresent desk {d[2]} raw.{raw_field(d)} old.now' for d in groups()[-1][3])}
 
--- The raw rows of one table.
+-- The raw rows of one table, among those of all tables.
 abbrev pub raw_rows_of_table : RawSheets → DeskTable → List Row
 {chr(10).join(f'raw_rows_of_table raw {d[2]} = raw.{field}.{raw_field(d)}' for _, field, _, tables in groups() for d in tables)}
 """
@@ -1250,27 +1301,27 @@ abbrev pub raw_rows_of_table : RawSheets → DeskTable → List Row
 def decoded_group(word, field, tables):
     """That the sheets of a group are its rows in types, and whether these have their forms"""
     first = word == 'DeskAndCustomer'
-    counted = {'DeskAndCustomer': ' There is one row of DESK, with the number of the schema.', 'LaterSchema': ' There is at most one row of SETTLE_RULE.'}.get(word, '')
+    counted = {'DeskAndCustomer': ', and there is exactly one row of DESK, with the number of the schema `desk`.', 'LaterSchema': ', and there is at most one row of SETTLE_RULE.'}.get(word, '.')
     rows = lambda d: VALUES[d[0]][2] if d[0] in VALUES else f'sheets.{sheet_field(d)}.items'
     shown = lambda d: f'{d[0]}_cells' if d[0] in VALUES else f'(λ r. {d[0]}_cells ({record_meaning(d)} r))'
     of = lambda d: f'({rows(d)})' if d[0] in VALUES else rows(d)
     form = lambda d: VALUES[d[0]][3] if d[0] in VALUES else f'list_all (passes_all_cell_checks {d[0]}_column_cell_checks) raw.{raw_field(d)}'
     fields = '\n'.join(f'  pub {raw_field(d)} : map {shown(d)} {of(d)} ≡ raw.{raw_field(d)}' for d in tables)
     return f"""
-{remark(f'The raw rows of {named(tables)} are, in order, the encodings of the typed rows.')}
+{remark(f'The raw rows of {named(tables)} are, in order, the encodings of the typed rows `sheets`.')}
 pub record Decodes{word}Tables {'(schema : Schema) ' if first else ''}(sheets : {word}Sheets) (raw : {word}Rows) : Type 0 where
 {fields}
 
-{remark(f'True if each column of each raw row of {named(tables)} is well-formed.' + counted)}
+{remark(f'True if each column of each raw row of {named(tables)} is well-formed' + counted)}
 abbrev pub are_{words_of(word)}_rows_well_formed : {'Schema → ' if first else ''}{word}Rows → Bool
-are_{words_of(word)}_rows_well_formed {'desk ' if first else ''}raw = {' && '.join(form(d) for d in tables)}
+{folded(f'are_{words_of(word)}_rows_well_formed ' + ('desk ' if first else '') + 'raw =', [form(d) for d in tables], '&&')}
 """
 
 def reads_group(word, field, tables):
     """What the reads of a group show and decode"""
     desk = '(desk : Schema) ' if word in ('DeskAndCustomer', 'LaterSchema') else ''
     first, later = 'desk ' if word == 'DeskAndCustomer' else '', 'desk ' if word == 'LaterSchema' else ''
-    told = f'The reads show all rows of {named(tables)}, and change nothing. If the flag `new`, which was `old` before, is still true, the rows encode the typed rows `sheets`. Vacuous for a table that the database does not define as a desk does.'
+    told = f'The reads return all rows of {named(tables)}, and change nothing. If the flag of the decoding, `old` before and `new` after it, is true after it, the typed rows `sheets` are the decoded rows. The clause on the rows of a table is vacuous if the database does not define it as a desk does.'
     return f"""
 {remark(told)}
 pub record Reads{word}Tables {desk}(old new : Bool) (sheets : {word}Sheets) (a b : State) : Type 0 where
@@ -1282,7 +1333,8 @@ pub record Reads{word}Tables {desk}(old new : Bool) (sheets : {word}Sheets) (a b
 def decoded_spec():
     """What the rows of all tables are in types"""
     forms = ', '.join(VALUES[d[0]][3].split()[0] if d[0] in VALUES else f'{d[0]}_column_cell_checks' for d in DATA)
-    out = f"""-- The typed rows of all tables, and the test that each raw row is well-formed.
+    out = f"""-- The decoding of the raw rows of all tables into typed rows, and the test that each raw row is
+-- well-formed.
 use Rattle.std.specs.Prelude.{{◌≡◌, ◌⊎◌, Bool, true, false, ◌&&◌, map}}
 use Rattle.std.specs.List.{{list_all}}
 use Rattle.sqlite.specs.State.{{State}}
@@ -1300,30 +1352,31 @@ use Rattle.brk_tables_scan.specs.Raw.{{{', '.join(f'{word}Rows' for word, _, _ i
     out += ''.join(decoded_group(word, field, tables) for word, field, _, tables in groups())
     desk = lambda word: 'desk ' if word == 'DeskAndCustomer' else ''
     out += f"""
--- True if each column of each raw row is well-formed, there is one row of DESK, with the number of
--- the schema `desk`, and there is at most one row of SETTLE_RULE.
+-- True if each column of each raw row of all tables is well-formed, there is exactly one row of
+-- DESK, with the number of the schema `desk`, and there is at most one row of SETTLE_RULE.
 abbrev pub are_raw_sheets_well_formed : Schema → RawSheets → Bool
-are_raw_sheets_well_formed desk raw = {' && '.join(f'are_{words_of(word)}_rows_well_formed {desk(word)}raw.{field}' for word, field, _ in GROUPS)}
+{folded('are_raw_sheets_well_formed desk raw =', [f'are_{words_of(word)}_rows_well_formed {desk(word)}raw.{field}' for word, field, _ in GROUPS], '&&')}
 
 -- The raw rows of each table are, in order, the encodings of the typed rows `sheets`. The row of
 -- DESK has the number of the schema `desk`.
 abbrev pub DecodesSheets : Schema → Sheets → RawSheets → Type 0
 DecodesSheets desk sheets raw = (w : DeskTable) → map (encoded_row w) (rows_in_schema desk w (abstract_sheets sheets)) ≡ raw_rows_of_table raw w
 
--- A step of a decoding, which counts whether all raw rows so far are well-formed: `old` before the
--- step and `new` after it.
+-- A step of a decoding of raw rows. A flag, `old` before the step and `new` after it, is true only
+-- if all raw rows so far are well-formed. `are_well_formed` is true if the raw rows of this step
+-- are well-formed, and `Decodes` states that the step decodes them.
 pub record ContinuesDecoding (old new are_well_formed : Bool) (Decodes : Type 0) : Type 0 where
-  -- If all are well-formed after the step, they were before it.
+  -- If the flag is true after the step, it was true before it.
   pub before : new ≡ true → old ≡ true
-  -- If all are well-formed after the step, `Decodes` holds of its own rows.
+  -- If the flag is true after the step, the step decodes its rows.
   pub value : new ≡ true → Decodes
-  -- If not all are well-formed after the step, not all were before it, or not all of its own are.
+  -- If the flag is false after the step, it was false before it, or a row of the step is malformed.
   pub form : new ≡ false → (old ≡ false) ⊎ (are_well_formed ≡ false)
 {''.join(reads_group(word, field, tables) for word, field, _, tables in groups())}
--- The reads show all rows of each table of the schema `desk`, and none of other tables. The database
--- was open, and the reads changed nothing. If the flag `new`, which was `old` before, is still true,
--- the rows encode the typed rows `sheets`. Vacuous for a table that the database does not define as a
--- desk does.
+-- The reads return all rows of each table of the schema `desk`, and none of other tables. The
+-- database was open, and the reads changed nothing. If the flag of the decoding, `old` before and
+-- `new` after it, is true after it, the typed rows `sheets` are the decoded rows. The clause on the
+-- rows of a table is vacuous if the database does not define it as a desk does.
 pub record ReadsDeskTables (desk : Schema) (old new : Bool) (sheets : Sheets) (a b : State) : Type 0 where
   pub raw : RawSheets
   pub stays : IsUnchangedAndOpen a b

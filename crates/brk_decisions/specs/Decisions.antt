@@ -17,10 +17,10 @@ use Rattle.brk_plans.specs.declared.plan.Plan.{Plan}
 use Rattle.brk_book_theorems.specs.Books.{BooksInvariant}
 use Rattle.brk_trade_theorems.specs.Plans.{PlanImplementsCommand}
 
--- `planned` is the decision of the model on `command` at the clock reading `now`, for every base
--- that satisfies the books invariant and has the tables `t`: a plan has the effect of the model's
--- step (`PlanImplementsCommand`), and a refusal is the refusal of this step. Vacuous if `t` are the
--- tables of no such base.
+-- `planned` is the decision of the model on `command` at the clock reading `now`, in milliseconds
+-- since 1970-01-01 UTC, for every base that satisfies the books invariant and has the tables `t`: a
+-- plan has the effect of the model's step (`PlanImplementsCommand`), and a refusal is the refusal
+-- of this step. Vacuous if no such base has the tables `t`.
 abbrev pub DecidesCommand : ℕ → Command → Result Plan Refusal → Tables → Type 0
 DecidesCommand now command planned t =
     (base : Base) → BooksInvariant base → t ≡ sheets base
@@ -29,7 +29,7 @@ DecidesCommand now command planned t =
 -- `planned` is the result of the model for the estimate of `order`, for every base that satisfies
 -- the books invariant and has the tables `t`: an estimate equals the model's estimate, and its
 -- fields are the view of the query `EstimateOf`; a refusal is the refusal of this query. Vacuous if
--- `t` are the tables of no such base.
+-- no such base has the tables `t`.
 abbrev pub IsEstimateOfModel : Order → Result Estimate Refusal → Tables → Type 0
 IsEstimateOfModel order planned t =
     (base : Base) → BooksInvariant base → t ≡ sheets base

@@ -17,45 +17,48 @@ use Rattle.brk_book_theorems.specs.TradeReads.{band_of_quantity, permission_list
 use Rattle.brk_decisions.specs.declared.tested.OrderFacts.{OrderFacts}
 use Rattle.brk_decisions.specs.declared.amounts.Amounts.{Amounts}
 
--- The customer with the id `id` exists in the tables, and its row equals `customer`.
+-- The customer with the id `id` exists in the tables `t`, and its row equals `customer`.
 abbrev pub IsCustomerWithId : Tables → ℕ → Customer → Type 0
 IsCustomerWithId t id customer = find (λ r. r.id == id) t.customers ≡ Some (abstract_customer customer)
 
--- The facts `tested` that decide on an order of the customer equal those of the tables `t`: the
--- last price, whether the executor is permitted, the charge and the commission rate. The rate is
--- specified only if the order's security exists.
+-- The facts `tested` that decide on the order `order` of the customer equal those of the tables
+-- `t`: the last price, whether the executor is permitted, the charge and the commission rate. The
+-- rate is specified only if the security of the order exists.
 pub record CustomerOrderFactsMatchTables (t : Tables) (order : Order) (customer : Customer) (tested : OrderFacts) : Type 0 where
   pub last_price : tested.last_price ≡ last_price_of_symbol t order.symbol
   pub is_permitted : tested.is_permitted
-      ≡ is_customer_or_has_permission (abstract_customer customer) (permission_list_for_tax_id t order.account order.executor.tax_id) (abstract_executor order.executor)
+      ≡ is_customer_or_has_permission (abstract_customer customer) (permission_list_for_tax_id t order.account order.executor.tax_id)
+      (abstract_executor order.executor)
   pub charge : tested.charge ≡ charge_of_type_and_tier t (trade_type_of_order order.order_type) customer.tier
   pub rate : IfSome (security_row_with_symbol t order.symbol) (λ s. tested.rate
       ≡ option_map (λ b. b.rate) (band_of_quantity t customer.tier (trade_type_of_order order.order_type) s.exchange order.qty))
 
--- The market value of a holding summary in cents: its shares times the last price of its symbol.
--- Shares sold short count below 0.
+-- The market value of a holding summary in cents: its number of shares times the last price of its
+-- symbol. It is below 0 for shares that were sold short.
 abbrev pub market_value_of_summary : Tables → SummaryRow → ℤ
 market_value_of_summary t row = row.qty *ℤ pos (last_price_in_tables t row.symbol)
 
--- The market value of all holding summaries of an account, at last prices, in cents.
+-- The market value of all holding summaries of the account `account`, at last prices, in cents.
+-- Shares that were sold short count below 0.
 abbrev pub market_value_of_account : Tables → ℕ → ℤ
 market_value_of_account t account = total_by (market_value_of_summary t) (filter (λ row. row.account == account) t.summaries)
 
 -- The amounts for the estimate of an order of the account equal those of the tables `t`: the sum of
--- the customer's tax rates, the account's balance plus the market value of its holdings, and its
--- shares of the order's security.
+-- the customer's tax rates in hundred-thousandths, the account's balance plus the market value of
+-- its holdings in cents, and its number of shares of the order's security.
 pub record EstimateAmountsMatchTables (t : Tables) (account : AccountRow) (order : Order) (amounts : Amounts) : Type 0 where
   pub rates : amounts.rates ≡ customer_tax_rate_sum t account.account.customer
   pub assets : amounts.assets ≡ account.balance +ℤ market_value_of_account t account.account.id
   pub summary : amounts.summary ≡ option_map (λ r. r.qty) (summary_row_of_position t order.account order.symbol)
 
--- The facts for the decision on an order whose account does not exist.
+-- The facts for the decision on an order whose account does not exist: no other fact is read.
 abbrev pub order_facts_without_account : OrderPlanFacts
 order_facts_without_account =
     record { account = None; last_price = None; is_permitted = false; charge = None; rate = None; rates = 0; assets = pos 0; summary = None; last_trade = None }
 
--- The facts for the decision on an order of the account: its broker and its tax status, the facts
--- `tested`, the amounts `amounts`, and no last trade.
+-- The facts for the decision on an order of the account `account`: its broker and its tax status,
+-- the facts `tested`, the amounts `amounts`, and no greatest trade id, which an estimate does not
+-- need.
 abbrev pub order_facts_with_account : AccountRow → OrderFacts → Amounts → OrderPlanFacts
 order_facts_with_account account tested amounts = record {
   account = Some (record { broker = account.account.broker; tax_status = account.account.tax_status });

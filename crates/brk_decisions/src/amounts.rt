@@ -18,20 +18,20 @@ use brk_trade::SummaryRow;
 use sqlite::Alter;
 use std::alloc::Global;
 
-/// The amounts that the estimate of an order of an account needs.
+/// The amounts that the estimate of an order needs: of its account and of the account's customer.
 #[derive(Clone, Copy)]
 pub struct Amounts {
-    /// The sum of the tax rates that the account's customer pays.
+    /// The sum of the tax rates that the account's customer pays, in hundred-thousandths.
     pub rates: TaxRate,
     /// The account's balance plus the market value of its holdings, in cents.
     pub assets: Wide,
-    /// The number of shares of the order's symbol that the account holds in total (HS_QTY), or
-    /// `None` if it has no summary of the symbol.
+    /// The number of shares of the order's symbol that the account holds in total (HS_QTY), below 0
+    /// if it sold them short, or `None` if it has no summary of the symbol.
     pub summary: Option<i64>,
 }
 
-// Returns the sum of the tax rates that a customer pays. Changes nothing. Fails with `Memory` or
-// `Store` only; with `Store` also if the sum exceeds the greatest rate.
+// Returns the sum of the tax rates that a customer pays, in hundred-thousandths. Changes nothing.
+// Fails with `Memory` or `Store` only; with `Store` also if the sum exceeds the greatest rate.
 pub(crate) fn read_tax_rate_sum<S: Alter>(
     alloc: Global,
     store: &mut Store<S>,
@@ -46,7 +46,8 @@ pub(crate) fn read_tax_rate_sum<S: Alter>(
     }
 }
 
-// Returns an amount plus the market value of a summary at a price, or `None` if the sum overflows.
+// Returns an amount in cents plus the market value of a holding summary at a price, or `None` if
+// the sum overflows.
 fn add_market_value(amount: Wide, row: &SummaryRow, price: Price) -> Option<Wide>
     ensures { IfSome result (λ sum. sum ≡ amount +ℤ row.now.qty *ℤ pos price) }
 {
@@ -59,8 +60,9 @@ fn add_market_value(amount: Wide, row: &SummaryRow, price: Price) -> Option<Wide
     }
 }
 
-// Returns an amount plus the market value of a summary at the last price of its symbol. Changes
-// nothing. Fails with `Memory` or `Store` only; with `Store` also if the sum overflows.
+// Returns an amount in cents plus the market value of a holding summary at the last price of its
+// symbol. Changes nothing. Fails with `Memory` or `Store` only; with `Store` also if the symbol has
+// no last price or the sum overflows.
 fn add_value_at_last_price<S: Alter>(
     store: &mut Store<S>,
     amount: Wide,
@@ -76,8 +78,9 @@ fn add_value_at_last_price<S: Alter>(
     }
 }
 
-/// Returns the market value of an account's holdings at last prices, in cents. Shares sold short
-/// count below 0. Changes nothing. Fails with `Memory` or `Store` only.
+/// Returns the market value of an account's holdings at last prices, in cents. Shares that were
+/// sold short count below 0. Changes nothing. Fails with `Memory` or `Store` only; with `Store`
+/// also if a symbol has no last price or the sum overflows.
 pub fn read_holdings_value<S: Alter>(
     alloc: Global,
     store: &mut Store<S>,
@@ -95,7 +98,7 @@ pub fn read_holdings_value<S: Alter>(
     Ok(total)
 }
 
-// Returns a balance plus a market value, or `None` if the sum overflows.
+// Returns a balance plus a market value, in cents, or `None` if the sum overflows.
 fn add_balance_to_value(balance: Cents, worth: Wide) -> Option<Wide>
     ensures { IfSome result (λ assets. assets ≡ balance +ℤ worth) }
 {
@@ -106,7 +109,8 @@ fn add_balance_to_value(balance: Cents, worth: Wide) -> Option<Wide>
 }
 
 // Returns an account's balance plus the market value of its holdings, in cents. Changes nothing.
-// Fails with `Memory` or `Store` only.
+// Fails with `Memory` or `Store` only; with `Store` also if a symbol has no last price or the sum
+// overflows.
 fn read_asset_total<S: Alter>(
     alloc: Global,
     store: &mut Store<S>,
@@ -122,8 +126,8 @@ fn read_asset_total<S: Alter>(
     }
 }
 
-// Reads the amounts that the estimate of an order of an account needs. Fails with `Memory` or
-// `Store` only.
+// Reads the amounts that the estimate of an order of an account needs. Changes nothing. Fails with
+// `Memory` or `Store` only.
 pub(crate) fn read_estimate_amounts<S: Alter>(
     alloc: Global,
     store: &mut Store<S>,

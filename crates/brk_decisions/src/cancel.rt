@@ -38,6 +38,7 @@ pub fn decide_cancel<S: Alter>(
     ensures read { ReadPost S.Store store.old store.new result (DecidesCommand now (CancelTrade trade)) }
     ensures fault { IfErr result IsCallFault }
 {
+    // The value is not needed: the call shows that the stamp is at most the greatest stamp.
     let _moment = now.get();
     let last = store.last_stamp()?;
     let status = read_trade_status(store, trade)?;

@@ -21,9 +21,10 @@ use brk_trade::{Estimate, OrderPlanFacts, plan_estimate};
 use sqlite::Alter;
 use std::alloc::Global;
 
-// Plans an estimate from the facts that were read and from `lots`, the lots of the position. The
-// number of lots that it reads exceeds the number that the order would touch by at most 16, also if
-// it fails. Fails with `Memory` or `Store` only.
+// Plans the estimate of an order from the facts `found` in the tables and from `lots`, the lots of
+// the position: returns the estimate, or the refusal. The number of lots that it reads exceeds the
+// number that the order would touch by at most 16, also if it fails. Fails with `Memory` or `Store`
+// only.
 fn plan_estimate_over_lots<S: Alter>(
     order: &Order,
     found: &OrderPlanFacts,
@@ -35,15 +36,17 @@ fn plan_estimate_over_lots<S: Alter>(
         (EstimatesCheckedOrder order.now found.now (AreLotsBeforeReads S.Store lots.old lots.new))
         (λ refusal. first_refusal (order_checks found.now) ≡ Some refusal)) }
     ensures refused { IfOk result (λ planned. OnErr planned (lots.new ≡ lots.old)) }
-    ensures few_rows_read { OrderReadsAtMostOneLotMore (terms_of_order order.now found.now) (AreLotsBeforeReads S.Store lots.old lots.new) (number_of_rows_read lots.old
-        + 15) (number_of_rows_read lots.new) }
+    ensures few_rows_read { OrderReadsAtMostOneLotMore (terms_of_order order.now found.now)
+        (AreLotsBeforeReads S.Store lots.old lots.new) (number_of_rows_read lots.old + 15) (number_of_rows_read lots.new) }
     ensures no_lot_read { closes_lots (terms_of_order order.now found.now).side (terms_of_order order.now found.now).held ≡ false → lots.new ≡ lots.old }
     ensures fault { IfErr result IsCallFault }
 {
     plan_estimate(order, found, lots)
 }
 
-/// Returns the estimate of an order (Trade-Order), or the refusal. Changes nothing.
+/// Returns the estimated figures of an order, in cents (Trade-Order): its price, the buy and the
+/// sell value of the shares that it would close, the tax, the commission, the charge and the
+/// account's assets; or the refusal. Changes nothing.
 ///
 /// Fails with `Memory` or `Store` only; with `Store` also if a row whose key another row contains
 /// does not exist.

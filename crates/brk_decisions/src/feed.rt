@@ -20,9 +20,9 @@ use brk_trade::{
 use sqlite::Alter;
 use std::alloc::Global;
 
-// Returns the quote of a tick's symbol, or `None` if the symbol has no last trade. The quote has
-// the pending requests that some price of the feed's ticks may trigger, read by one statement for
-// each trade type. Changes nothing. Fails with `Memory` or `Store` only.
+// Returns the quote of a tick's symbol: its last trade, and the pending requests that some price of
+// the feed's ticks may trigger, read by one statement for each trade type. Returns `None` if the
+// symbol has no last trade. Changes nothing. Fails with `Memory` or `Store` only.
 fn read_quote_of_tick<S: Alter>(
     alloc: Global,
     store: &mut Store<S>,
@@ -50,8 +50,9 @@ fn read_quote_of_tick<S: Alter>(
     Ok(Some(quote))
 }
 
-// Returns the last stamp, and one quote for each symbol of the ticks that has a last trade. Changes
-// nothing. Fails with `Memory` or `Store` only.
+// Returns the stamp of the last accepted command, or `None` if there is none, and one quote for
+// each symbol of the ticks that has a last trade. Changes nothing. Fails with `Memory` or `Store`
+// only.
 fn read_last_stamp_and_quotes<S: Alter>(
     alloc: Global,
     store: &mut Store<S>,
@@ -73,7 +74,8 @@ fn read_last_stamp_and_quotes<S: Alter>(
     Ok((last, quotes))
 }
 
-/// Decides on a feed at the clock reading `now`: returns its plan, or the refusal. Changes nothing.
+/// Decides on a feed of ticks at the clock reading `now`: returns its plan, or the refusal. Changes
+/// nothing.
 ///
 /// Fails with `Memory` or `Store` only.
 pub fn decide_feed<S: Alter>(
@@ -85,6 +87,7 @@ pub fn decide_feed<S: Alter>(
     ensures read { ReadPost S.Store store.old store.new result (DecidesCommand now (FeedTicks (abstract_ticks feed.now))) }
     ensures fault { IfErr result IsCallFault }
 {
+    // The value is not needed: the call shows that the stamp is at most the greatest stamp.
     let _moment = now.get();
     let (last, quotes) = read_last_stamp_and_quotes(alloc, store, feed.ticks())?;
     plan_feed(alloc, feed, quotes, last, now)

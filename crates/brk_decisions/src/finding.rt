@@ -1,4 +1,4 @@
-//! Reads of the facts that decide on a reference record.
+//! Reads of the facts that decide on a command that adds a reference record.
 
 ghost use Rattle.std.specs.Prelude.{◌≡◌, IfErr};
 ghost use Rattle.brk_model.specs.Run.{IsCallFault};
@@ -18,7 +18,7 @@ use brk_trade::{Reference, ReferenceFacts};
 use sqlite::Alter;
 use std::alloc::Global;
 
-// The facts with every flag false, a count of 0 and no rate.
+// The facts of no record: every flag is false, the number of accounts is 0, and there are no rates.
 pub(crate) const NO_REFERENCE_FACTS: ReferenceFacts = ReferenceFacts {
     same_id: false,
     same_tax_id: false,
@@ -31,7 +31,8 @@ pub(crate) const NO_REFERENCE_FACTS: ReferenceFacts = ReferenceFacts {
     rates: None,
 };
 
-// Returns true if the broker exists. Changes nothing. Fails with `Memory` or `Store` only.
+// Returns true if the broker with the id `id` exists. Changes nothing. Fails with `Memory` or
+// `Store` only.
 fn broker_exists<S: Alter>(store: &mut Store<S>, id: Id) -> Result<bool, Fault>
     ensures read { ReadPost S.Store store.old store.new result (λ there t. there ≡ has_broker t id) }
     ensures fault { IfErr result IsCallFault }
@@ -39,7 +40,8 @@ fn broker_exists<S: Alter>(store: &mut Store<S>, id: Id) -> Result<bool, Fault>
     Ok(store.broker(id)?.is_some())
 }
 
-// Returns true if the customer exists. Changes nothing. Fails with `Memory` or `Store` only.
+// Returns true if the customer with the id `id` exists. Changes nothing. Fails with `Memory` or
+// `Store` only.
 pub(crate) fn customer_exists<S: Alter>(store: &mut Store<S>, id: Id) -> Result<bool, Fault>
     ensures read { ReadPost S.Store store.old store.new result (λ there t. there ≡ has_customer t id) }
     ensures fault { IfErr result IsCallFault }
@@ -47,7 +49,8 @@ pub(crate) fn customer_exists<S: Alter>(store: &mut Store<S>, id: Id) -> Result<
     Ok(store.customer(id)?.is_some())
 }
 
-// Returns true if a customer has the tax id. Changes nothing. Fails with `Memory` or `Store` only.
+// Returns true if a customer with the tax id `tax_id` exists. Changes nothing. Fails with `Memory`
+// or `Store` only.
 fn tax_id_exists<S: Alter>(store: &mut Store<S>, tax_id: &TaxId) -> Result<bool, Fault>
     ensures read { ReadPost S.Store store.old store.new result (λ there t. there ≡ contains_tax_id t tax_id.now) }
     ensures fault { IfErr result IsCallFault }
@@ -55,7 +58,8 @@ fn tax_id_exists<S: Alter>(store: &mut Store<S>, tax_id: &TaxId) -> Result<bool,
     Ok(store.customer_by_tax_id(tax_id)?.is_some())
 }
 
-// Returns true if the account exists. Changes nothing. Fails with `Memory` or `Store` only.
+// Returns true if the account with the id `id` exists. Changes nothing. Fails with `Memory` or
+// `Store` only.
 pub(crate) fn account_exists<S: Alter>(store: &mut Store<S>, id: Id) -> Result<bool, Fault>
     ensures read { ReadPost S.Store store.old store.new result (λ there t. there ≡ has_account t id) }
     ensures fault { IfErr result IsCallFault }
@@ -76,7 +80,8 @@ fn count_accounts<S: Alter>(
     Ok(store.accounts_of_customer(alloc, customer)?.len())
 }
 
-// Reads the facts that decide on a broker. Fails with `Memory` or `Store` only.
+// Reads the fact that decides on a new broker: whether its id exists. Changes nothing. Fails with
+// `Memory` or `Store` only.
 fn read_broker_facts<S: Alter>(
     store: &mut Store<S>,
     broker: &Broker,
@@ -91,7 +96,8 @@ fn read_broker_facts<S: Alter>(
     })
 }
 
-// Reads the facts that decide on a customer. Fails with `Memory` or `Store` only.
+// Reads the facts that decide on a new customer: whether its id and its tax id exist. Changes
+// nothing. Fails with `Memory` or `Store` only.
 fn read_customer_facts<S: Alter>(
     store: &mut Store<S>,
     customer: &Customer,
@@ -109,13 +115,15 @@ fn read_customer_facts<S: Alter>(
     })
 }
 
-// Reads the facts that decide on an account. Fails with `Memory` or `Store` only.
+// Reads the facts that decide on a new account: whether its id, its customer and its broker exist,
+// and the number of accounts of its customer. Changes nothing. Fails with `Memory` or `Store` only.
 fn read_account_facts<S: Alter>(
     alloc: Global,
     store: &mut Store<S>,
     account: &Account,
 ) -> Result<ReferenceFacts, Fault>
-    ensures read { ReadPost S.Store store.old store.new result (λ found t. AccountFactsMatchTables t account.now.id account.now.customer account.now.broker found) }
+    ensures read { ReadPost S.Store store.old store.new result
+        (λ found t. AccountFactsMatchTables t account.now.id account.now.customer account.now.broker found) }
     ensures fault { IfErr result IsCallFault }
 {
     let same_id = account_exists(store, account.id)?;
@@ -131,7 +139,8 @@ fn read_account_facts<S: Alter>(
     })
 }
 
-// Reads the facts that decide on a security. Fails with `Memory` or `Store` only.
+// Reads the fact that decides on a new security: whether its symbol exists. Changes nothing. Fails
+// with `Memory` or `Store` only.
 fn read_listing_facts<S: Alter>(
     store: &mut Store<S>,
     symbol: &Symbol,
@@ -146,7 +155,8 @@ fn read_listing_facts<S: Alter>(
     })
 }
 
-// Reads the facts that decide on a tax rate. Fails with `Memory` or `Store` only.
+// Reads the fact that decides on a new tax: whether its id exists. Changes nothing. Fails with
+// `Memory` or `Store` only.
 fn read_tax_facts<S: Alter>(store: &mut Store<S>, id: Id) -> Result<ReferenceFacts, Fault>
     ensures read { ReadPost S.Store store.old store.new result (λ found t. found.same_id ≡ contains_tax_rate t id) }
     ensures fault { IfErr result IsCallFault }
@@ -158,7 +168,8 @@ fn read_tax_facts<S: Alter>(store: &mut Store<S>, id: Id) -> Result<ReferenceFac
     })
 }
 
-/// Reads the facts that decide on a reference record. Fails with `Memory` or `Store` only.
+/// Reads the facts that decide on a new reference record. A fact that records of its kind do not
+/// need is false, 0 or `None`. Changes nothing. Fails with `Memory` or `Store` only.
 pub(crate) fn read_reference_facts<S: Alter>(
     alloc: Global,
     store: &mut Store<S>,

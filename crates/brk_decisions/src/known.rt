@@ -1,4 +1,5 @@
-//! Reads of rows whose keys other rows contain. They fail with `Store` if the row does not exist.
+//! Reads of rows that must exist, because another row contains their key. Each fails with `Store`
+//! if its row does not exist.
 
 ghost use Rattle.std.specs.Prelude.{◌≡◌, IfErr};
 ghost use Rattle.brk_decisions.specs.OrderFactReads.{IsCustomerWithId};
@@ -14,7 +15,7 @@ use brk_store::Store;
 use brk_trade::BrokerTotals;
 use sqlite::Alter;
 
-// Returns the customer with an id. Changes nothing. Fails with `Memory` or `Store` only; with
+// Returns the customer with the id `id`. Changes nothing. Fails with `Memory` or `Store` only; with
 // `Store` also if there is none.
 pub(crate) fn require_customer<S: Alter>(store: &mut Store<S>, id: Id) -> Result<Customer, Fault>
     ensures read { ReadPost S.Store store.old store.new result (λ customer t. IsCustomerWithId t id customer) }
@@ -26,8 +27,8 @@ pub(crate) fn require_customer<S: Alter>(store: &mut Store<S>, id: Id) -> Result
     }
 }
 
-// Returns the account with an id. Changes nothing. Fails with `Memory` or `Store` only; with
-// `Store` also if there is none.
+// Returns the row of the account with the id `id`. Changes nothing. Fails with `Memory` or `Store`
+// only; with `Store` also if there is none.
 pub(crate) fn require_account<S: Alter>(store: &mut Store<S>, id: Id) -> Result<AccountRow, Fault>
     ensures read { ReadPost S.Store store.old store.new result (λ account t. IsAccountWithId t id account) }
     ensures fault { IfErr result IsCallFault }
@@ -38,8 +39,9 @@ pub(crate) fn require_account<S: Alter>(store: &mut Store<S>, id: Id) -> Result<
     }
 }
 
-// Returns the totals of the broker with an id. Changes nothing. Fails with `Memory` or `Store`
-// only; with `Store` also if there is none.
+// Returns the totals of the broker with the id `id`: the number of its completed trades and their
+// commissions in cents. Changes nothing. Fails with `Memory` or `Store` only; with `Store` also if
+// there is no such broker.
 pub(crate) fn require_broker_totals<S: Alter>(
     store: &mut Store<S>,
     id: Id,
@@ -53,8 +55,8 @@ pub(crate) fn require_broker_totals<S: Alter>(
     }
 }
 
-// Returns the last price of a symbol. Changes nothing. Fails with `Memory` or `Store` only; with
-// `Store` also if there is none.
+// Returns the last price of a symbol on the market, in cents. Changes nothing. Fails with `Memory`
+// or `Store` only; with `Store` also if the symbol has no last trade.
 pub(crate) fn require_last_price<S: Alter>(
     store: &mut Store<S>,
     symbol: &Symbol,
@@ -68,8 +70,8 @@ pub(crate) fn require_last_price<S: Alter>(
     }
 }
 
-// Returns the security with a symbol. Changes nothing. Fails with `Memory` or `Store` only; with
-// `Store` also if there is none.
+// Returns the security with the symbol `symbol`. Changes nothing. Fails with `Memory` or `Store`
+// only; with `Store` also if there is none.
 pub(crate) fn require_security<S: Alter>(
     store: &mut Store<S>,
     symbol: &Symbol,

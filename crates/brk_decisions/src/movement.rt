@@ -27,6 +27,7 @@ pub fn decide_movement<S: Alter>(
     ensures read { ReadPost S.Store store.old store.new result (DecidesCommand now (movement_command movement.now)) }
     ensures fault { IfErr result IsCallFault }
 {
+    // The value is not needed: the call shows that the stamp is at most the greatest stamp.
     let _moment = now.get();
     let last = store.last_stamp()?;
     let found = read_movement_facts(store, movement)?;

@@ -26,6 +26,7 @@ pub fn decide_settlement_day<S: Alter>(
     ensures read { ReadPost S.Store store.old store.new result (DecidesCommand now (SetOneDay day)) }
     ensures fault { IfErr result IsCallFault }
 {
+    // The value is not needed: the call shows that the stamp is at most the greatest stamp.
     let _moment = now.get();
     let last = store.last_stamp()?;
     let rule = store.settlement_day()?;

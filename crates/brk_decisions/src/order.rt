@@ -23,9 +23,9 @@ use brk_trade::{OrderPlanFacts, Plan, plan_order};
 use sqlite::Alter;
 use std::alloc::Global;
 
-// Plans an order from the facts that were read and from `lots`, the lots of the position. The
-// number of lots that it reads exceeds the number that the order would touch by at most 16, also if
-// it fails. Fails with `Memory` or `Store` only.
+// Plans an order from the facts `found` in the tables and from `lots`, the lots of the position:
+// returns its plan, or the refusal. The number of lots that it reads exceeds the number that the
+// order would touch by at most 16, also if it fails. Fails with `Memory` or `Store` only.
 fn plan_order_over_lots<S: Alter>(
     alloc: Global,
     order: &Order,
@@ -40,8 +40,8 @@ fn plan_order_over_lots<S: Alter>(
         (IsOrderPlan order.now found.now (AreLotsBeforeReads S.Store lots.old lots.new) last now)
         (λ refusal. first_refusal (order_checks found.now ++ free_trade_id_check found.now.last_trade ∷ later_stamp_check last now ∷ []) ≡ Some refusal)) }
     ensures refused { IfOk result (λ planned. OnErr planned (lots.new ≡ lots.old)) }
-    ensures few_rows_read { OrderReadsAtMostOneLotMore (terms_of_order order.now found.now) (AreLotsBeforeReads S.Store lots.old lots.new) (number_of_rows_read lots.old
-        + 15) (number_of_rows_read lots.new) }
+    ensures few_rows_read { OrderReadsAtMostOneLotMore (terms_of_order order.now found.now)
+        (AreLotsBeforeReads S.Store lots.old lots.new) (number_of_rows_read lots.old + 15) (number_of_rows_read lots.new) }
     ensures no_lot_read { closes_lots (terms_of_order order.now found.now).side (terms_of_order order.now found.now).held ≡ false → lots.new ≡ lots.old }
     ensures fault { IfErr result IsCallFault }
 {
@@ -62,6 +62,7 @@ pub fn decide_order<S: Alter>(
     ensures read { ReadPost S.Store store.old store.new result (DecidesCommand now (PlaceOrder (abstract_order order.now))) }
     ensures fault { IfErr result IsCallFault }
 {
+    // The value is not needed: the call shows that the stamp is at most the greatest stamp.
     let _moment = now.get();
     let last = store.last_stamp()?;
     let found = read_order_facts(alloc, store, order)?;

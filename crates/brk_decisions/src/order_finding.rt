@@ -17,7 +17,7 @@ use brk_trade::{OrderAccount, OrderPlanFacts};
 use sqlite::Alter;
 use std::alloc::Global;
 
-// Returns the facts for an order whose account does not exist.
+// Returns the facts for an order whose account does not exist: no other fact is read.
 fn facts_without_account() -> OrderPlanFacts
     ensures { result ≡ order_facts_without_account }
 {
@@ -34,7 +34,8 @@ fn facts_without_account() -> OrderPlanFacts
     }
 }
 
-// Returns the facts for an order of the account. They have no last trade.
+// Returns the facts for an order of the account `account`, from the facts `tested` and the amounts
+// `amounts`. The greatest trade id, which an estimate does not need, is `None`.
 fn order_facts_with_account(
     account: &AccountRow,
     tested: OrderFacts,
@@ -58,8 +59,8 @@ fn order_facts_with_account(
     }
 }
 
-// Reads the facts that decide on the estimate of an order of an account. Fails with `Memory` or
-// `Store` only.
+// Reads the facts that decide on the estimate of an order whose account is `account`. Changes
+// nothing. Fails with `Memory` or `Store` only.
 fn read_order_account_facts<S: Alter>(
     alloc: Global,
     store: &mut Store<S>,
@@ -75,7 +76,8 @@ fn read_order_account_facts<S: Alter>(
     Ok(order_facts_with_account(account, tested, amounts))
 }
 
-/// Reads the facts that decide on the estimate of an order. Fails with `Memory` or `Store` only.
+/// Reads the facts that decide on the estimate of an order: those of its account, or, if the
+/// account does not exist, only that. Changes nothing. Fails with `Memory` or `Store` only.
 pub(crate) fn read_estimate_facts<S: Alter>(
     alloc: Global,
     store: &mut Store<S>,
@@ -93,7 +95,8 @@ pub(crate) fn read_estimate_facts<S: Alter>(
     }
 }
 
-/// Reads the facts that decide on an order. Fails with `Memory` or `Store` only.
+/// Reads the facts that decide on an order: those of its estimate, and the greatest trade id.
+/// Changes nothing. Fails with `Memory` or `Store` only.
 pub(crate) fn read_order_facts<S: Alter>(
     alloc: Global,
     store: &mut Store<S>,

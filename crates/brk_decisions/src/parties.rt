@@ -19,16 +19,19 @@ use std::alloc::Global;
 /// The facts of a trade's account, its customer and its broker that decide on a result.
 #[derive(Clone, Copy)]
 pub struct Parties {
+    /// The broker, the tax status and the balance of the account.
     pub account: ResultAccount,
-    /// The totals of the account's broker.
+    /// The totals of the account's broker: completed trades, and their commissions in cents.
     pub broker: BrokerTotals,
     /// The tier of the account's customer.
     pub tier: Tier,
-    /// The sum of the tax rates that the customer pays.
+    /// The sum of the tax rates that the customer pays, in hundred-thousandths.
     pub rates: TaxRate,
 }
 
-// Reads the facts of an account, its customer and its broker. Fails with `Memory` or `Store` only.
+// Reads the facts of the account in the row `row`, its customer and its broker. Changes nothing.
+// Fails with `Memory` or `Store` only; with `Store` also if the customer or the broker does not
+// exist.
 fn read_parties_of_account<S: Alter>(
     alloc: Global,
     store: &mut Store<S>,
@@ -53,8 +56,8 @@ fn read_parties_of_account<S: Alter>(
     })
 }
 
-/// Reads the facts of the account with the id `account`, its customer and its broker. Fails with
-/// `Memory` or `Store` only; with `Store` also if one of them does not exist.
+/// Reads the facts of the account with the id `account`, its customer and its broker. Changes
+/// nothing. Fails with `Memory` or `Store` only; with `Store` also if one of them does not exist.
 pub(crate) fn read_parties<S: Alter>(
     alloc: Global,
     store: &mut Store<S>,

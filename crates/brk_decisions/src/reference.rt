@@ -1,4 +1,4 @@
-//! Decisions on reference records.
+//! Decisions on commands that add a reference record.
 
 ghost use Rattle.std.specs.Prelude.{IfErr};
 ghost use Rattle.brk_plans.specs.Commands.{command_adding_record};
@@ -13,8 +13,8 @@ use brk_trade::{Plan, Reference, plan_reference};
 use sqlite::Alter;
 use std::alloc::Global;
 
-/// Decides on a reference record at the clock reading `now`: returns its plan, or the refusal.
-/// Changes nothing.
+/// Decides on a command that adds a reference record, such as a broker or a charge, at the clock
+/// reading `now`: returns its plan, or the refusal. Changes nothing.
 ///
 /// Fails with `Memory` or `Store` only.
 pub fn decide_reference_record<S: Alter>(
@@ -26,6 +26,7 @@ pub fn decide_reference_record<S: Alter>(
     ensures read { ReadPost S.Store store.old store.new result (DecidesCommand now (command_adding_record reference.now)) }
     ensures fault { IfErr result IsCallFault }
 {
+    // The value is not needed: the call shows that the stamp is at most the greatest stamp.
     let _moment = now.get();
     let last = store.last_stamp()?;
     let found = read_reference_facts(alloc, store, reference)?;

@@ -24,9 +24,10 @@ use brk_trade::{Plan, ResultPlanFacts, plan_result};
 use sqlite::Alter;
 use std::alloc::Global;
 
-// Plans the result of a trade from the facts that were read and from `lots`, the lots of its
-// position. The number of lots that it reads exceeds the number that the trade touches by at most
-// 16, also if it fails. Fails with `Memory` or `Store` only.
+// Plans the result of a trade, completed at `price`, from the facts `found` in the tables and from
+// `lots`, the lots of its position: returns its plan, or the refusal. The number of lots that it
+// reads exceeds the number that the trade touches by at most 16, also if it fails. Fails with
+// `Memory` or `Store` only.
 fn plan_result_over_lots<S: Alter>(
     alloc: Global,
     found: &ResultPlanFacts,
@@ -40,16 +41,17 @@ fn plan_result_over_lots<S: Alter>(
     ensures planned { IfOk result (λ planned. MatchResult planned
         (CompletesExistingTrade (Some found.now) price (AreLotsBeforeReads S.Store lots.old lots.new) last now)
         (IsResultRefusal (Some found.now) price (AreLotsBeforeReads S.Store lots.old lots.new) last now)) }
-    ensures few_rows_read { ResultReadsAtMostOneLotMore (Some found.now) price (stamp_or_clock_reading (moments.stamp_after last now) now) (AreLotsBeforeReads S.Store lots.old lots.new) (number_of_rows_read lots.old
-        + 15) (number_of_rows_read lots.new) }
+    ensures few_rows_read { ResultReadsAtMostOneLotMore (Some found.now) price (stamp_or_clock_reading (moments.stamp_after last now) now)
+        (AreLotsBeforeReads S.Store lots.old lots.new) (number_of_rows_read lots.old + 15) (number_of_rows_read lots.new) }
     ensures no_lot_read { ClosesNoHeldShares found.now → lots.new ≡ lots.old }
     ensures fault { IfErr result IsCallFault }
 {
     plan_result(alloc, Some(found), price, lots, last, now)
 }
 
-// Plans the result of the trade in `found` from the facts that were read and from the lots of its
-// position, or refuses it if `found` is `None`. Fails with `Memory` or `Store` only.
+// Plans the result of the trade in `found`, completed at `price`, from these facts and from the
+// lots of its position: returns its plan, or the refusal. If `found` is `None`, the trade does not
+// exist, and it returns a refusal. Changes nothing. Fails with `Memory` or `Store` only.
 fn plan_result_from_facts<S: Alter>(
     alloc: Global,
     store: &mut Store<S>,
@@ -92,6 +94,7 @@ pub fn decide_result<S: Alter>(
     ensures read { ReadPost S.Store store.old store.new result (DecidesCommand now (CompleteTrade completion.now.trade completion.now.price)) }
     ensures fault { IfErr result IsCallFault }
 {
+    // The value is not needed: the call shows that the stamp is at most the greatest stamp.
     let _moment = now.get();
     let last = store.last_stamp()?;
     let found = read_result_facts(alloc, store, completion.trade)?;

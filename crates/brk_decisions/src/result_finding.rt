@@ -22,19 +22,22 @@ use std::alloc::Global;
 pub struct SecurityFacts {
     /// The name of the security.
     pub name: Name,
-    /// The rate of the band of the trade's quantity, or `None` if there is none.
+    /// The commission rate of the band of the trade's quantity, in hundredths of a percent, or
+    /// `None` if no band has this quantity.
     pub rate: Option<Rate>,
 }
 
-// Reads the facts of a trade's security, for a customer's tier. Fails with `Memory` or `Store`
-// only.
+// Reads the facts of a trade's security, its name and its commission rate for a customer tier.
+// Changes nothing. Fails with `Memory` or `Store` only; with `Store` also if the security does not
+// exist.
 fn read_security_facts<S: Alter>(
     alloc: Global,
     store: &mut Store<S>,
     trade: &TradeRow,
     tier: Tier,
 ) -> Result<SecurityFacts, Fault>
-    ensures read { ReadPost S.Store store.old store.new result (λ listed t. IfSome (security_row_with_symbol t trade.now.symbol) (λ s. SecurityFactsMatchTables t trade.now tier s listed)) }
+    ensures read { ReadPost S.Store store.old store.new result
+        (λ listed t. IfSome (security_row_with_symbol t trade.now.symbol) (λ s. SecurityFactsMatchTables t trade.now tier s listed)) }
     ensures fault { IfErr result IsCallFault }
 {
     let security = require_security(store, &trade.symbol)?;
@@ -52,17 +55,19 @@ fn read_security_facts<S: Alter>(
     })
 }
 
-/// The settlement day, if one is set, and the number of the next cash row.
+/// The facts for the cash row of a result: the settlement day, if one is set, and the number of the
+/// next cash row.
 #[derive(Clone, Copy)]
 pub struct Posting {
-    /// The first day whose completions settle after one day, if it is set (SR_DAY).
+    /// The first day whose completions settle after one day (SR_DAY), in days since 1970-01-01, or
+    /// `None` if none is set.
     pub rule: Option<Day>,
     /// The number of the next cash row (CM_ID).
     pub next: MoveId,
 }
 
-// Reads the settlement day and the number of the next cash row. Fails with `Memory` or `Store`
-// only; with `Store` also if no number is left.
+// Reads the settlement day and the number of the next cash row. Changes nothing. Fails with
+// `Memory` or `Store` only; with `Store` also if no number is left.
 fn read_posting_facts<S: Alter>(store: &mut Store<S>) -> Result<Posting, Fault>
     ensures read { ReadPost S.Store store.old store.new result (λ posting t. PostingFactsMatchTables t posting) }
     ensures fault { IfErr result IsCallFault }
@@ -72,8 +77,9 @@ fn read_posting_facts<S: Alter>(store: &mut Store<S>) -> Result<Posting, Fault>
     Ok(Posting { rule, next })
 }
 
-// Reads the facts that decide on a result of a trade that exists. Fails with `Memory` or `Store`
-// only.
+// Reads the facts that decide on a result of the trade `trade`, which exists. Changes nothing.
+// Fails with `Memory` or `Store` only; with `Store` also if its account, customer, broker or
+// security does not exist, or if no number is left for a cash row.
 fn read_result_facts_of_trade<S: Alter>(
     alloc: Global,
     store: &mut Store<S>,
@@ -83,6 +89,7 @@ fn read_result_facts_of_trade<S: Alter>(
     ensures some_shares { IfOk result (λ found. 0 < found.trade.qty) }
     ensures fault { IfErr result IsCallFault }
 {
+    // The value is not needed: the call shows that the quantity is at least 1 share.
     let _shares = trade.qty.get();
     let parties = read_parties(alloc, store, trade.account)?;
     let listed = read_security_facts(alloc, store, &trade, parties.tier)?;
@@ -101,9 +108,10 @@ fn read_result_facts_of_trade<S: Alter>(
     })
 }
 
-/// Reads the facts that decide on a result of a trade, or returns `None` if the trade does not
-/// exist. Fails with `Memory` or `Store` only; with `Store` also if its account, customer, broker
-/// or security does not exist, or if no number is left for a cash row.
+/// Reads the facts that decide on a result of the trade with the id `trade`, or returns `None` if
+/// it does not exist. Changes nothing. Fails with `Memory` or `Store` only; with `Store` also if
+/// its account, customer, broker or security does not exist, or if no number is left for a cash
+/// row.
 pub(crate) fn read_result_facts<S: Alter>(
     alloc: Global,
     store: &mut Store<S>,

@@ -1,4 +1,4 @@
-//! The number of shares of a security that an account holds in total.
+//! Reads of the number of shares of a security that an account holds in total.
 
 ghost use Rattle.std.specs.Prelude.{◌≡◌, IfErr, option_map};
 ghost use Rattle.brk_book_theorems.specs.TradeReads.{summary_row_of_position};
@@ -11,14 +11,14 @@ use brk_store::Store;
 use brk_trade::SummaryRow;
 use sqlite::Alter;
 
-// Returns the number of shares of a summary.
+// Returns the number of shares of a holding summary, below 0 if they were sold short.
 fn shares_of_summary(summary: &SummaryRow) -> i64
     ensures { result ≡ summary.now.qty }
 {
     summary.qty
 }
 
-// Returns the number of shares of a summary, or `None` if there is no summary.
+// Returns the number of shares of a holding summary, or `None` if there is no summary.
 fn shares_of_optional_summary(summary: Option<SummaryRow>) -> Option<i64>
     ensures { result ≡ option_map (λ r. r.qty) summary }
 {

@@ -1,9 +1,11 @@
-//! Reads of the facts that decide on terms: permissions, securities, charges, bands and taxes.
+//! Reads of permissions, securities, charges, commission bands and taxes, and of the facts that
+//! decide on commands that add them.
 
 ghost use Rattle.std.specs.Prelude.{◌≡◌, ◌==◌, ◌≤◌, IfErr, SomeIff, Some, filter, map};
 ghost use Rattle.brk_trade_theorems.specs.Found.{CustomerTaxFactsMatchTables};
 ghost use Rattle.brk_model.specs.Form.{has_account, has_security};
-ghost use Rattle.brk_book_theorems.specs.Reads.{contains_charge, overlaps_some_band, contains_permission, contains_tax_rate, contains_customer_tax, rate_of_tax_rate_with_id, customer_tax_rate_sum, tax_rate_with_id};
+ghost use Rattle.brk_book_theorems.specs.Reads.{contains_charge, overlaps_some_band, contains_permission, contains_tax_rate};
+ghost use Rattle.brk_book_theorems.specs.Reads.{contains_customer_tax, rate_of_tax_rate_with_id, customer_tax_rate_sum, tax_rate_with_id};
 ghost use Rattle.brk_model.specs.Limits.{greatest_tax_rate};
 ghost use Rattle.brk_model.specs.Run.{IsCallFault};
 ghost use Rattle.brk_ref.specs.Records.{abstract_band, abstract_tax_rate};
@@ -17,8 +19,8 @@ use brk_trade::ReferenceFacts;
 use sqlite::Alter;
 use std::alloc::Global;
 
-// Returns true if the account has a permission for the tax id. Changes nothing. Fails with `Memory`
-// or `Store` only.
+// Returns true if the account has a permission for the tax id `tax_id`. Changes nothing. Fails with
+// `Memory` or `Store` only.
 fn permission_exists<S: Alter>(
     store: &mut Store<S>,
     account: Id,
@@ -30,7 +32,8 @@ fn permission_exists<S: Alter>(
     Ok(store.permission(account, tax_id)?.is_some())
 }
 
-// Returns true if the security exists. Changes nothing. Fails with `Memory` or `Store` only.
+// Returns true if the security with the symbol `symbol` exists. Changes nothing. Fails with
+// `Memory` or `Store` only.
 pub(crate) fn security_exists<S: Alter>(
     store: &mut Store<S>,
     symbol: &Symbol,
@@ -41,7 +44,8 @@ pub(crate) fn security_exists<S: Alter>(
     Ok(store.security(symbol)?.is_some())
 }
 
-// Returns true if the charge exists. Changes nothing. Fails with `Memory` or `Store` only.
+// Returns true if a charge of the trade type and the customer tier exists. Changes nothing. Fails
+// with `Memory` or `Store` only.
 pub(crate) fn charge_exists<S: Alter>(
     store: &mut Store<S>,
     kind: TradeType,
@@ -53,9 +57,8 @@ pub(crate) fn charge_exists<S: Alter>(
     Ok(store.charge(kind, tier)?.is_some())
 }
 
-// Returns true if the tables have a band that overlaps the given band: both apply to the same
-// quantity of a tier, a trade type and an exchange. Changes nothing. Fails with `Memory` or `Store`
-// only.
+// Returns true if the tables have a band that overlaps `band`: both apply to some quantity, for one
+// customer tier, trade type and exchange. Changes nothing. Fails with `Memory` or `Store` only.
 pub(crate) fn overlapping_band_exists<S: Alter>(
     alloc: Global,
     store: &mut Store<S>,
@@ -68,7 +71,8 @@ pub(crate) fn overlapping_band_exists<S: Alter>(
     Ok(overlaps(&bands, band))
 }
 
-// Returns true if the tax exists. Changes nothing. Fails with `Memory` or `Store` only.
+// Returns true if the tax with the id `id` exists. Changes nothing. Fails with `Memory` or `Store`
+// only.
 pub(crate) fn tax_exists<S: Alter>(store: &mut Store<S>, id: Id) -> Result<bool, Fault>
     ensures read { ReadPost S.Store store.old store.new result (λ there t. there ≡ contains_tax_rate t id) }
     ensures fault { IfErr result IsCallFault }
@@ -76,8 +80,8 @@ pub(crate) fn tax_exists<S: Alter>(store: &mut Store<S>, id: Id) -> Result<bool,
     Ok(store.tax_with_id(id)?.is_some())
 }
 
-// Returns the rate of a tax, or `None` if the tax does not exist. Changes nothing. Fails with
-// `Memory` or `Store` only.
+// Returns the rate of the tax with the id `tax`, in hundred-thousandths, or `None` if the tax does
+// not exist. Changes nothing. Fails with `Memory` or `Store` only.
 fn read_rate_of_tax<S: Alter>(store: &mut Store<S>, tax: Id) -> Result<Option<TaxRate>, Fault>
     ensures read { ReadPost S.Store store.old store.new result (λ rate t. rate ≡ rate_of_tax_rate_with_id t tax) }
     ensures fault { IfErr result IsCallFault }
@@ -96,8 +100,9 @@ fn customer_pays_tax<S: Alter>(store: &mut Store<S>, customer: Id, tax: Id) -> R
     Ok(store.customer_tax(customer, tax)?.is_some())
 }
 
-// Returns the taxes that a customer pays. Changes nothing. Fails with `Memory` or `Store` only;
-// with `Store` also if one of them does not exist.
+// Returns the taxes that a customer pays, with their rates, sorted by id, ascending. Changes
+// nothing. Fails with `Memory` or `Store` only; with `Store` also if one of the taxes does not
+// exist.
 fn read_taxes_of_customer<S: Alter>(
     alloc: Global,
     store: &mut Store<S>,
@@ -118,8 +123,8 @@ fn read_taxes_of_customer<S: Alter>(
     Ok(taxes)
 }
 
-// Returns the sum of the tax rates that a customer pays, or `None` if the sum exceeds the greatest
-// rate. Changes nothing. Fails with `Memory` or `Store` only.
+// Returns the sum of the tax rates that a customer pays, in hundred-thousandths, or `None` if the
+// sum exceeds the greatest rate. Changes nothing. Fails with `Memory` or `Store` only.
 pub(crate) fn read_tax_rate_sum_within_limit<S: Alter>(
     alloc: Global,
     store: &mut Store<S>,
@@ -133,7 +138,8 @@ pub(crate) fn read_tax_rate_sum_within_limit<S: Alter>(
     Ok(tax_sum(&taxes))
 }
 
-// Reads the facts that decide on a permission. Fails with `Memory` or `Store` only.
+// Reads the facts that decide on a new permission: whether its account exists, and whether this
+// account has a permission for its tax id. Changes nothing. Fails with `Memory` or `Store` only.
 pub(crate) fn read_permission_facts<S: Alter>(
     store: &mut Store<S>,
     permission: &Permission,
@@ -151,7 +157,8 @@ pub(crate) fn read_permission_facts<S: Alter>(
     })
 }
 
-// Reads the facts that decide on a charge. Fails with `Memory` or `Store` only.
+// Reads the fact that decides on a new charge: whether one of its trade type and customer tier
+// exists. Changes nothing. Fails with `Memory` or `Store` only.
 pub(crate) fn read_charge_facts<S: Alter>(
     store: &mut Store<S>,
     charge: &Charge,
@@ -166,7 +173,8 @@ pub(crate) fn read_charge_facts<S: Alter>(
     })
 }
 
-// Reads the facts that decide on a band. Fails with `Memory` or `Store` only.
+// Reads the fact that decides on a new commission band: whether it overlaps an existing band.
+// Changes nothing. Fails with `Memory` or `Store` only.
 pub(crate) fn read_band_facts<S: Alter>(
     alloc: Global,
     store: &mut Store<S>,
@@ -182,7 +190,9 @@ pub(crate) fn read_band_facts<S: Alter>(
     })
 }
 
-// Reads the facts that decide on a customer's tax. Fails with `Memory` or `Store` only.
+// Reads the facts that decide on a new tax of a customer: whether the customer exists and pays this
+// tax, the rate of the tax, and the sum of the rates that the customer pays. Changes nothing. Fails
+// with `Memory` or `Store` only.
 pub(crate) fn read_customer_tax_facts<S: Alter>(
     alloc: Global,
     store: &mut Store<S>,

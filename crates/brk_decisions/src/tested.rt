@@ -1,4 +1,4 @@
-//! Reads of the facts that test an order of an account that exists.
+//! Reads of the facts that the checks of an order test, if its account exists.
 
 ghost use Rattle.std.specs.Prelude.{◌≡◌, IfErr, IfSome, option_map};
 ghost use Rattle.brk_money.specs.OrderTypes.{trade_type_of_order};
@@ -19,21 +19,23 @@ use brk_trade::executor_may_place_orders;
 use sqlite::Alter;
 use std::alloc::Global;
 
-/// The facts that test an order of an account that exists.
+/// The facts that the checks of an order test, if its account exists.
 #[derive(Clone, Copy)]
 pub struct OrderFacts {
-    /// The last price of the order's security, or `None` if the security does not exist.
+    /// The last price of the order's security, in cents, or `None` if the security does not exist.
     pub last_price: Option<Price>,
     /// True if the order's executor may order for the account.
     pub is_permitted: bool,
-    /// The charge of the order's trade type and the customer's tier, or `None` if there is none.
+    /// The charge of the order's trade type and the customer's tier, in cents, or `None` if there
+    /// is none.
     pub charge: Option<ChargeAmount>,
-    /// The commission rate of the band of the order's quantity, or `None` if there is none.
+    /// The commission rate of the band of the order's quantity, in hundredths of a percent, or
+    /// `None` if no band has this quantity.
     pub rate: Option<Rate>,
 }
 
-// Returns the last price of a symbol, or `None` if there is none. Changes nothing. Fails with
-// `Memory` or `Store` only.
+// Returns the last price of a symbol on the market, in cents, or `None` if the symbol has no last
+// trade. Changes nothing. Fails with `Memory` or `Store` only.
 pub(crate) fn read_last_price<S: Alter>(
     store: &mut Store<S>,
     symbol: &Symbol,
@@ -47,8 +49,8 @@ pub(crate) fn read_last_price<S: Alter>(
     }
 }
 
-// Returns true if an executor may order for an account of a customer. Changes nothing. Fails with
-// `Memory` or `Store` only.
+// Returns true if an executor may order for an account of a customer: the executor is the customer
+// or has a permission of the account. Changes nothing. Fails with `Memory` or `Store` only.
 fn is_executor_permitted<S: Alter>(
     store: &mut Store<S>,
     account: Id,
@@ -57,15 +59,16 @@ fn is_executor_permitted<S: Alter>(
 ) -> Result<bool, Fault>
     ensures read { ReadPost S.Store store.old store.new result (λ is_permitted t.
         is_permitted
-        ≡ is_customer_or_has_permission (abstract_customer customer.now) (permission_list_for_tax_id t account executor.now.tax_id) (abstract_executor executor.now)) }
+        ≡ is_customer_or_has_permission (abstract_customer customer.now) (permission_list_for_tax_id t account executor.now.tax_id)
+        (abstract_executor executor.now)) }
     ensures fault { IfErr result IsCallFault }
 {
     let permission = store.permission(account, &executor.tax_id)?;
     Ok(executor_may_place_orders(customer, permission.as_slice(), executor))
 }
 
-// Returns the charge of a trade type and a tier, or `None` if there is none. Changes nothing. Fails
-// with `Memory` or `Store` only.
+// Returns the charge of a trade type and a customer tier, in cents, or `None` if there is none.
+// Changes nothing. Fails with `Memory` or `Store` only.
 fn read_charge_of_tier<S: Alter>(
     store: &mut Store<S>,
     kind: TradeType,
@@ -80,8 +83,9 @@ fn read_charge_of_tier<S: Alter>(
     }
 }
 
-// Returns the commission rate of the band of a quantity for a tier, a trade type and an exchange,
-// or `None` if there is no band. Changes nothing. Fails with `Memory` or `Store` only.
+// Returns the commission rate of the band of a quantity for a customer tier, a trade type and an
+// exchange, in hundredths of a percent, or `None` if no band has this quantity. Changes nothing.
+// Fails with `Memory` or `Store` only.
 pub(crate) fn read_commission_rate_of_band<S: Alter>(
     alloc: Global,
     store: &mut Store<S>,
@@ -97,8 +101,9 @@ pub(crate) fn read_commission_rate_of_band<S: Alter>(
     Ok(band_for(&bands, qty))
 }
 
-// Returns the commission rate of an order for a tier, or `None` if no band contains its quantity or
-// its security does not exist. Changes nothing. Fails with `Memory` or `Store` only.
+// Returns the commission rate of an order for a customer tier, in hundredths of a percent, or
+// `None` if no band has its quantity or its security does not exist. Changes nothing. Fails with
+// `Memory` or `Store` only.
 fn read_commission_rate_of_order<S: Alter>(
     alloc: Global,
     store: &mut Store<S>,
@@ -126,8 +131,8 @@ fn read_commission_rate_of_order<S: Alter>(
     }
 }
 
-// Reads the facts that test an order of an account that exists. Fails with `Memory` or `Store`
-// only.
+// Reads the facts that the checks of an order test, for an order of the customer `customer`, whose
+// account exists. Changes nothing. Fails with `Memory` or `Store` only.
 pub(crate) fn read_order_test_facts<S: Alter>(
     alloc: Global,
     store: &mut Store<S>,

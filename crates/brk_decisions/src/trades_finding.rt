@@ -13,8 +13,8 @@ use brk_trade::TradeRow;
 use sqlite::Alter;
 use std::alloc::Global;
 
-/// Returns the trades with these ids, in the order of the ids, or `None` if one of them does not
-/// exist. Changes nothing. Fails with `Memory` or `Store` only.
+/// Returns the trades with the ids `ids`, in the order of the ids, or `None` if one of them does
+/// not exist. Changes nothing. Fails with `Memory` or `Store` only.
 pub fn read_trades_by_ids<S: Alter>(
     alloc: Global,
     store: &mut Store<S>,
@@ -24,6 +24,7 @@ pub fn read_trades_by_ids<S: Alter>(
         MatchOption found (list_any (λ id. is_none (trade_row_with_id t id)) ids.now ≡ true) (λ trades. AreTradesWithIds t ids.now trades.items)) }
     ensures fault { IfErr result IsCallFault }
 {
+    // The value is not needed: the read shows that the store is open, also if `ids` is empty.
     let _last = store.last_stamp()?;
     let mut trades = Vec::new(alloc);
     for id in ids {

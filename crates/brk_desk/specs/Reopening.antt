@@ -22,8 +22,9 @@ pub record RepresentsDurableBase {S : Type 0} (g : Ghosts S) (store : Held S) (b
   pub alone : CrashStatesSatisfy g store (IsDiskContentOfRows (sheets base))
 
 -- `conn` is in the state of a new connection to a database with the disk contents `trees`. Under
--- the disk assumption it is open, with no transaction, no savepoint and no counted change, its
--- current state equals its committed state, and `trees` are the disk contents of this state.
+-- the disk assumption it is open, without a transaction and without a savepoint; its number of rows
+-- that the last statement changed and its last inserted rowid are 0; its current database equals
+-- its committed database, and `trees` are the disk contents of this database.
 pub record IsNewConnectionToDiskContent {S : Type 0} (g : Ghosts S) (trees : Trees) (conn : Held S) : Type 0 where
   -- The connection is to a database with these disk contents.
   pub over : IsConnectionToDiskContent g trees conn

@@ -1,4 +1,6 @@
--- The tables of one program in a database that may contain other tables.
+-- The tables of one program in a database that may contain other tables. A tree is the number under
+-- which a database stores the rows of a table. A stored row has its rowid at place 0 and its
+-- columns at the places from 1 on; an INTEGER PRIMARY KEY is the rowid, so it has place 0.
 use Rattle.std.specs.Prelude.{◌≡◌, ◌≢◌, ◌==◌, ℕ, Bool, true, false, List, [], ◌∷◌, ◌++◌, Option, Some, not, ◌||◌, slice_get}
 use Rattle.std.specs.List.{list_all, AllByRecursion}
 use Rattle.std.specs.declared.cmp.Ordering.{Ordering}
@@ -29,26 +31,28 @@ use Rattle.brk_sql.specs.Rows.{TreeHoldsRecords}
 abbrev pub not_null_column : Kind → List ℕ → Column
 not_null_column kind name = record { name = name; kind = kind; is_strict = true; not_null = true; default = Null; collation = Binary }
 
--- A TEXT column, NOT NULL and without a default.
+-- A TEXT column of a STRICT table, with this name, NOT NULL and without a default.
 abbrev pub text_column : List ℕ → Column
 text_column = not_null_column Text
 
--- An INTEGER column, NOT NULL and without a default.
+-- An INTEGER column of a STRICT table, with this name, NOT NULL and without a default.
 abbrev pub integer_column : List ℕ → Column
 integer_column = not_null_column Integer
 
--- An INTEGER column that may be null, without a default.
+-- An INTEGER column of a STRICT table, with this name, which may be null and has no default.
 abbrev pub nullable_integer_column : List ℕ → Column
 nullable_integer_column name = record (integer_column name) { not_null = false }
 
--- The foreign key of the column at `place` to the column `column` of the table `parent`, with NO
--- ACTION on delete and on update, and not deferred.
+-- The foreign key of the column at `place` of a stored row to the column `column` of the table
+-- `parent`, with NO ACTION on delete and on update, and not deferred.
 abbrev pub foreign_key : ℕ → List ℕ → List ℕ → Reference
 foreign_key place parent column =
     record { columns = place ∷ []; parent = parent; parent_columns = column ∷ []; on_delete = NoAction; on_update = NoAction; is_deferred = false }
 
--- A table with this name, tree, columns, keys and foreign keys, and without checks and computed
--- columns.
+-- A table with this name, tree, columns and foreign keys (`references`), and without checks and
+-- computed columns. `key` is the index of its INTEGER PRIMARY KEY column, or `None`; `primary` are
+-- the places of its PRIMARY KEY, and `uniques` those of each UNIQUE constraint, including a PRIMARY
+-- KEY that is not the rowid.
 abbrev pub table_without_checks : List ℕ → ℕ → List Column → Option ℕ → List ℕ → List (List ℕ) → List Reference → Table
 table_without_checks name tree columns key primary uniques references = record {
   name = name;
@@ -67,8 +71,8 @@ table_without_checks name tree columns key primary uniques references = record {
 
 -- ---- The place of a table in a schema
 
--- The table `table` is at the position `at` of the schema's list of tables, and its name refers to
--- it.
+-- The table `table` is at the index `at` of the schema's list of tables, and its name refers to
+-- this index.
 pub record IsTableAt (schema : Schema) (table : Table) (at : ℕ) : Type 0 where
   pub named : table_named schema table.name ≡ Some at
   pub found : slice_get schema.tables at ≡ Some table
@@ -86,22 +90,23 @@ action_writes_rows SetDefault = true
 abbrev pub foreign_key_writes_rows : Reference → Bool
 foreign_key_writes_rows ref = action_writes_rows ref.on_delete || action_writes_rows ref.on_update
 
--- True if none of the foreign keys of the table `t` changes or deletes rows. True as well if the
--- rows of `t` are not at `tree`.
+-- True if the rows of the table `t` are at another tree than `tree`, or if none of the foreign keys
+-- of `t` changes or deletes rows.
 abbrev pub has_no_writing_foreign_keys_if_at : ℕ → Table → Bool
 has_no_writing_foreign_keys_if_at tree t = not (t.tree == tree) || list_all (λ ref. not (foreign_key_writes_rows ref)) t.references
 
--- For each table of the schema whose rows are at `tree`: none of its foreign keys changes or
--- deletes rows. Vacuous if no table has its rows there.
+-- No foreign key of a table whose rows are at `tree` changes or deletes rows. Vacuous if the schema
+-- has no table whose rows are there.
 abbrev pub HasNoWritingForeignKeysAt : Schema → ℕ → Type 0
 HasNoWritingForeignKeysAt schema tree = list_all (has_no_writing_foreign_keys_if_at tree) schema.tables ≡ true
 
--- True if none of the table's foreign keys changes or deletes its rows.
+-- True if none of the foreign keys of the table `t` changes or deletes rows.
 abbrev pub has_no_writing_foreign_keys : Table → Bool
 has_no_writing_foreign_keys t = list_all (λ ref. not (foreign_key_writes_rows ref)) t.references
 
--- The database `new` has a table, without rows, that `old` did not have, and all tables of `old` at
--- their positions with their rows. The new table is defined as `shape` of its tree.
+-- The database `new` has a table without rows, whose definition is `shape tree` for its tree `tree`
+-- and which is stored at the tree of no table of `old`. It also has all tables of `old`, at the
+-- same indexes and with the same rows.
 pub record CreatesTableOfShape (old new : Database) (shape : ℕ → Table) : Type 0 where
   pub tree : ℕ
   pub at : ℕ
@@ -117,17 +122,18 @@ pub record CreatesTableOfShape (old new : Database) (shape : ℕ → Table) : Ty
   pub inert : list_all has_no_writing_foreign_keys more ≡ true
   pub sound : IsDatabase new
 
--- The database `new` is `old` after the tables of these shapes were created, in order, each as
--- `CreatesTableOfShape` specifies.
+-- The database `new` results from `old` if the tables with these definitions are created one after
+-- the other, each as `CreatesTableOfShape` specifies. For an empty list `new` equals `old`.
 abbrev pub CreatesEachTable : List (ℕ → Table) → Database → Database → Type 0
 CreatesEachTable [] old new = new ≡ old
 CreatesEachTable (shape ∷ shapes) old new = (mid : Database) × CreatesTableOfShape old mid shape × CreatesEachTable shapes mid new
 
 -- ---- All tables of the program
 
--- The tables of a program: `W` names them, and `T` contains a list of records for each of them. For
--- each table: its definition with the rows at a tree (`shape`), the type of its records (`Item`),
--- the row that encodes a record, the order of the records, and the list of them in `T`.
+-- The tables of a program: `W` is the type of their names, and a value of `T` contains a list of
+-- records for each of them. For each table: its definition with the rows at a given tree (`shape`),
+-- the type of its records (`Item`), the row that encodes a record (`encode`), the order of its
+-- records (`order`), and its list of records in a value of `T` (`list`).
 pub record ProgramTables (W T : Type 0) : Type 1 where
   pub shape : W → ℕ → Table
   pub placed : (w : W) (tree : ℕ) → (shape w tree).tree ≡ tree
@@ -136,8 +142,9 @@ pub record ProgramTables (W T : Type 0) : Type 1 where
   pub order : (w : W) → Item w → Item w → Ordering
   pub list : (w : W) → T → List (Item w)
 
--- The database contains all tables of the program, at the trees `tree`, with the records of `t`. No
--- foreign key changes or deletes rows at these trees. The database may contain other tables.
+-- The database contains all tables of the program `desk`, at the trees `tree`, with the records of
+-- `t`. No foreign key of a table changes or deletes rows at these trees. The database may contain
+-- other tables.
 pub record HasTables {W T : Type 0} (desk : ProgramTables W T) (t : T) (tree : W → ℕ) (db : Database) : Type 0 where
   pub place : W → ℕ
   pub stands : (w : W) → IsTableAt db.schema (desk.shape w (tree w)) (place w)
@@ -147,9 +154,9 @@ pub record HasTables {W T : Type 0} (desk : ProgramTables W T) (t : T) (tree : W
   pub sound : IsDatabase db
   pub rows : (w : W) → TreeHoldsRecords (desk.shape w (tree w)) (desk.encode w) (desk.order w) (desk.list w t) (db.trees (tree w))
 
--- The database contains those tables `w` of the program for which `In w` holds, at the trees
--- `tree`, with their records of `t`. No foreign key changes or deletes rows at these trees. The
--- database may contain other tables.
+-- The database contains those tables `w` of the program `desk` for which `In w` holds, at the trees
+-- `tree`, with their records of `t`. No foreign key of a table changes or deletes rows at these
+-- trees. The database may contain other tables.
 pub record HasSelectedTables {W T : Type 0} (desk : ProgramTables W T) (In : W → Type 0) (t : T) (tree : W → ℕ) (db : Database) : Type 0 where
   pub place : W → ℕ
   pub stands : (w : W) → In w → IsTableAt db.schema (desk.shape w (tree w)) (place w)
@@ -173,13 +180,13 @@ abbrev pub ChangesTablesBy : {W T : Type 0} → ProgramTables W T → (T → T) 
 ChangesTablesBy {W} {T} desk f old new =
     (t : T) (tree : W → ℕ) → HasTables desk t tree old → HasTables desk (f t) tree new × PreservesUnrelatedTables tree old new
 
--- `P` holds of the records that the database contains in the program's tables. Vacuous if the
--- database does not contain these tables.
+-- `P` holds for the records `t` that the database contains in the program's tables. Vacuous if the
+-- database does not contain all these tables.
 abbrev pub TablesSatisfy : {W T : Type 0} → ProgramTables W T → (T → Type 0) → Database → Type 0
 TablesSatisfy {W} {T} desk P db = (t : T) (tree : W → ℕ) → HasTables desk t tree db → P t
 
--- Each table of `old` is in `new`, at the same position and with the same rows. The database `new`
--- may have more tables.
+-- Each table of `old` is in `new`, at the same index and with the same rows. The database `new` may
+-- have more tables.
 pub record PreservesAllTables (old new : Database) : Type 0 where
   pub more : List Table
   pub tables : new.schema.tables ≡ old.schema.tables ++ more

@@ -15,7 +15,7 @@ use sqlite::{Alter, Error, Row, Transaction};
 use sqlite_resolve::error::CompileError;
 use std::alloc::Global;
 
-/// Returns true if each number is greater than the one before it.
+/// Returns true if each number is greater than the one before it, and for an empty list.
 pub fn numbers_strictly_ascend(numbers: &[i64]) -> bool
     ensures { result ≡ is_strictly_ascending_above None numbers.now }
 {
@@ -31,8 +31,8 @@ pub fn numbers_strictly_ascend(numbers: &[i64]) -> bool
     true
 }
 
-/// Returns the numbers in column `at` of the rows, in order. Fails if one of these columns is not
-/// an INTEGER, or with the error of an allocation.
+/// Returns the numbers in column `at` of the rows, in the order of the rows. Fails if a row has no
+/// such column or no INTEGER in it, or if memory is exhausted.
 pub fn integers_in_column(alloc: Global, rows: &[Row], at: usize) -> Result<Vec<i64>, Error>
     ensures { IfOk result (λ all. map Int all.items ≡ map (λ r. column r at) rows.now) }
 {
@@ -43,8 +43,9 @@ pub fn integers_in_column(alloc: Global, rows: &[Row], at: usize) -> Result<Vec<
     Ok(all)
 }
 
-/// Returns true if the statement compiles, and false if it names a table that does not exist. If it
-/// returns a value, the database was open and is unchanged. Fails with the error of the database.
+/// Returns true if the statement `text` compiles, and false if it names a table that does not
+/// exist. If it returns a value, the database was open and is unchanged. Fails with any other error
+/// of the compilation or of the database.
 pub fn statement_compiles<S: Alter>(tx: &mut Transaction<'_, S>, text: &str) -> Result<bool, Error>
     ensures same_reference { tx.new.conn.ghost_name ≡ tx.old.conn.ghost_name }
     ensures step { IsConnectionStep S.Store tx.old tx.new result (λ has old new. IsTrue old.is_open × (new.now ≡ old.now)

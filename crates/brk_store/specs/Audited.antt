@@ -1,6 +1,5 @@
--- The result of an audit of a database, and the postconditions of an audit and of an adoption. In
--- this file a desk of a schema is a set of tables, not a value of the type `Desk`. A database has a
--- desk of a schema (`HasDeskOfSchema`) if it has each table of the schema, with its name and
+-- The result of an audit of a database, and the postconditions of an audit and of an adoption. A
+-- database has a schema (`HasDeskOfSchema`) if it has each table of the schema, with its name and
 -- exactly its columns, no table that a later schema adds, and one row of the table DESK, with the
 -- number of the schema. `brk_store/specs/Holds.antt` explains the other terms of the clauses. A
 -- clause with the premise `HasCleanDisk` for the new state, and the promise on crashes in
@@ -41,37 +40,38 @@ use Rattle.brk_store.specs.Holds.{IsDiskContentOfRows, HoldsRows, WasOpenAndIsUn
 abbrev pub StoresRowsWithAuditResult : Schema → Tables → Database → Option Condition → Type 0
 StoresRowsWithAuditResult schema t db answer = HasDeskTablesInSchema schema t db × IsTrue (has_utf8_texts t) × IsAuditResult schema t answer
 
--- `answer` is the result of an audit of the database `db` by the conditions of `schema`: the first
--- condition that the database fails, or `None` if it passes.
+-- `answer` is the result of an audit of the database `db` by the conditions of the schema `schema`:
+-- the first condition that the database fails, or `None` if it passes.
 abbrev pub IsDatabaseAuditResultBySchema : Schema → Database → Option Condition → Type 0
 -- An audit never returns `NotEmpty`, which only the creation of the tables returns.
 IsDatabaseAuditResultBySchema schema db (Some condition.NotEmpty) = ⊥
--- `Schema`: the database has no desk of the schema.
+-- `Schema`: the database does not have the schema (`HasDeskOfSchema`).
 IsDatabaseAuditResultBySchema schema db (Some condition.Schema) = ¬ HasDeskOfSchema schema db
--- `Form`: the database has a desk of the schema, and for all rows `t` that it contains with texts
--- in UTF-8, the audit of `t` returns `Form`. So the result is `Form`, too, if the database contains
--- no such rows, for example because a text is not UTF-8.
+-- `Form`: the database has the schema, and for all rows `t` that it contains with texts in UTF-8,
+-- the audit of `t` returns `Form`. So the result is `Form`, too, if the database contains no such
+-- rows, for example because a text is not UTF-8.
 IsDatabaseAuditResultBySchema schema db (Some condition.Form) =
     HasDeskOfSchema schema db × ((t : Tables) → HasDeskTablesInSchema schema t db → IsTrue (has_utf8_texts t) → IsAuditResult schema t (Some condition.Form))
 -- Any other result, `None` included, is that of the audit of the rows that the database contains.
 IsDatabaseAuditResultBySchema schema db answer = (t : Tables) × StoresRowsWithAuditResult schema t db answer
 
--- `Some schema`: the database has a desk of this schema. `None`: the database has a desk of no
--- schema.
+-- `Some schema`: the database has this schema (`HasDeskOfSchema`). `None`: the database has none of
+-- the three schemas.
 abbrev pub IsSchemaOfDatabase : Option known.Schema → Database → Type 0
 IsSchemaOfDatabase (Some schema) db = HasDeskOfSchema (abstract_schema schema) db
 IsSchemaOfDatabase None db = (schema : known.Schema) → ¬ HasDeskOfSchema (abstract_schema schema) db
 
--- `answer` is the result of an audit of the database `db` by the conditions of the schema whose
--- desk it has. The result is never `NotEmpty`, and it is `Schema` if the database has a desk of no
--- schema.
+-- `answer` is the result of an audit of the database `db` by the conditions of the schema that it
+-- has: the first condition that it fails, or `None` if it passes. The result is never `NotEmpty`,
+-- and it is `Schema` if the database has none of the three schemas.
 abbrev pub IsDatabaseAuditResult : Database → Option Condition → Type 0
 IsDatabaseAuditResult db (Some condition.NotEmpty) = ⊥
 IsDatabaseAuditResult db (Some condition.Schema) = IsSchemaOfDatabase None db
 IsDatabaseAuditResult db answer = (schema : known.Schema) × IsDatabaseAuditResultBySchema (abstract_schema schema) db answer
 
--- `P` holds for the result of the audit that a call with this result made: for `None` at `Ok`, and
--- for the condition at `Damaged`. Vacuous at `Memory` and `Store`.
+-- `P` holds for the answer of the audit that a call made, if the call returned this result: for
+-- `None` at `Ok`, and for the condition at `Damaged`. Vacuous at `Memory` and `Store`, which say
+-- nothing about the database.
 abbrev pub AuditAnswerSatisfies : Result (Unit {0}) Fault → (Option Condition → Type 0) → Type 0
 AuditAnswerSatisfies (Ok x) P = P None
 AuditAnswerSatisfies (Err (Damaged failing)) P = P (Some failing)
@@ -80,28 +80,30 @@ AuditAnswerSatisfies (Err Store) P = ⊤
 
 -- ---- premises on the database
 
--- For each schema: if the current database has all tables of a desk of this schema, by their names
--- and columns, these tables have the definitions of the desk's tables: their types, keys and
--- foreign keys (`NamedTablesMatchDeskDefinitions`). So a database without these tables, for example
--- an empty one, satisfies it. Vacuous if the disk assumption fails, or once the database is closed.
+-- For each schema: if the current database of the connection `held` has all tables of the schema,
+-- by name and with exactly their columns, these tables have the definitions of the desk's tables:
+-- their types, keys and foreign keys (`NamedTablesMatchDeskDefinitions`). So a database without
+-- these tables, for example an empty one, satisfies it. Vacuous if the disk assumption fails, or
+-- once the database is closed.
 abbrev pub StoreNamedTablesMatchDeskDefinitions : {S : Type 0} → Ghosts S → Held S → Type 0
 StoreNamedTablesMatchDeskDefinitions g held = HasCleanDisk (state g held) → IsTrue (state g held).is_open → NamedTablesMatchDeskDefinitions (state g held).now
 
--- If the current database has all tables of schema 3, by their names and columns, these tables have
--- the definitions of the desk's tables: their types, keys and foreign keys. Vacuous if the disk
--- assumption fails, or once the database is closed.
+-- If the current database of the connection `held` has all tables of schema 3, by name and with
+-- exactly their columns, these tables have the definitions of the desk's tables: their types, keys
+-- and foreign keys. Vacuous if the disk assumption fails, or once the database is closed.
 abbrev pub StoreNamedTablesMatchThirdSchema : {S : Type 0} → Ghosts S → Held S → Type 0
 StoreNamedTablesMatchThirdSchema g held =
     HasCleanDisk (state g held) → IsTrue (state g held).is_open → NamedTablesMatchSchemaDefinitions third_schema (state g held).now
 
--- The current database has a desk of schema 3. Vacuous if the disk assumption fails, or once the
--- database is closed.
+-- The current database of the connection `held` has schema 3 (`HasDeskOfSchema`). Vacuous if the
+-- disk assumption fails, or once the database is closed.
 abbrev pub StoreHasDeskOfThirdSchema : {S : Type 0} → Ghosts S → Held S → Type 0
 StoreHasDeskOfThirdSchema g held = HasCleanDisk (state g held) → IsTrue (state g held).is_open → HasDeskOfSchema third_schema (state g held).now
 
 -- ---- an audit
 
--- The postcondition of an audit by the conditions of schema 3, which writes nothing.
+-- The postcondition of an audit by the conditions of schema 3, which writes nothing: `old` is the
+-- connection before the call, and `new` after it.
 pub record AuditPost {S : Type 0} (g : Ghosts S) (old new : Held S) (result : Result (Unit {0}) Fault) : Type 0 where
   -- `Ok` is returned only if the rows pass, and `Damaged` only with the first condition that fails.
   -- Vacuous if the disk assumption fails after the call, or if the old database does not satisfy
@@ -119,27 +121,28 @@ pub record AuditPost {S : Type 0} (g : Ghosts S) (old new : Held S) (result : Re
 
 -- ---- an adoption
 
--- The database `db` contains rows of some schema that pass the audit of this schema. The database
--- `after` contains the tables of schema 3 with the rows of the base that these rows determine.
--- Every other table of `db` exists in `after` with its rows, unless a foreign key of this table
--- changes or deletes the rows by CASCADE, SET NULL or SET DEFAULT.
+-- The database `db` contains the tables of some schema with rows that pass the audit of this
+-- schema. The database `after` contains the tables of schema 3 with the rows of the base that these
+-- rows determine. Every other table of `db` is in `after` with its rows, unless a foreign key of
+-- this table changes or deletes the rows by CASCADE, SET NULL or SET DEFAULT.
 abbrev pub UpgradesPassingRows : Database → Database → Type 0
 UpgradesPassingRows db after =
     (schema : known.Schema) × (t : Tables) × (passed : StoresRowsWithAuditResult (abstract_schema schema) t db None)
     × HasDeskTables (sheets (base_of_tables t)) after × PreservesTablesOutside (IsTableOfSchema (abstract_schema schema)) passed.0.0 db after
 
--- The database `db` contains rows of a schema older than 3 that pass the audit of this schema, and
--- `trees` are the disk contents of a database that contains the tables of schema 3 with the rows of
--- the base that these rows determine.
+-- The database `db` contains the tables of a schema older than 3 with rows that pass the audit of
+-- this schema, and `trees` are the disk contents of a database that contains the tables of schema 3
+-- with the rows of the base that these rows determine.
 abbrev pub IsUpgradedDiskContent : Database → Trees → Type 0
 IsUpgradedDiskContent db trees =
     (schema : known.Schema) × (t : Tables) × (schema ≢ Third) × StoresRowsWithAuditResult (abstract_schema schema) t db None
     × IsDiskContentOfRows (sheets (base_of_tables t)) trees
 
--- The postcondition of an adoption: an audit by the conditions of the schema whose desk the
--- database has and, at `Ok`, a store that holds the rows, converted to schema 3. The clauses with
--- the premise `StoreNamedTablesMatchDeskDefinitions` are vacuous for a database that has all tables
--- of a desk by their names and columns, but with other definitions.
+-- The postcondition of an adoption: an audit by the conditions of the schema that the database has
+-- and, at `Ok`, a store that holds the rows, converted to schema 3. `old` is the connection before
+-- the call, and `new` the connection or the store after it. The clauses with the premise
+-- `StoreNamedTablesMatchDeskDefinitions` are vacuous for a database that has all tables of a schema
+-- by their names and columns, but with other definitions.
 pub record AdoptPost {S : Type 0} (g : Ghosts S) (old new : Held S) (result : Result (Unit {0}) Fault) : Type 0 where
   -- `Ok` is returned only if the rows pass, and `Damaged` only with the first condition that fails.
   -- Vacuous if the disk assumption fails after the call, or if the old database does not satisfy
@@ -155,7 +158,7 @@ pub record AdoptPost {S : Type 0} (g : Ghosts S) (old new : Held S) (result : Re
   -- determine.
   pub upgraded : HasCleanDisk (state g new) → IsTrue (state g new).is_open → StoreNamedTablesMatchDeskDefinitions g old
       → OnOk result (UpgradesPassingRows (state g old).now (state g new).now × ((state g new).committed ≡ (state g new).now))
-  -- At `Ok` the store is open, unless the database had a desk of schema 3.
+  -- At `Ok` the store is open, unless the database had schema 3.
   pub open_after_upgrade : HasCleanDisk (state g new) → StoreNamedTablesMatchDeskDefinitions g old
       → OnOk result (StoreHasDeskOfThirdSchema g old ⊎ IsTrue (state g new).is_open)
   -- At an error: if the database is open after the call, it was open before and is unchanged.
@@ -163,11 +166,12 @@ pub record AdoptPost {S : Type 0} (g : Ghosts S) (old new : Held S) (result : Re
   -- A crash exposes a state that a crash before the call could expose or, if rows of an older
   -- schema passed their audit, the tables of their base in schema 3.
   pub survives : StoreNamedTablesMatchDeskDefinitions g old → Survives (state g old) (state g new) (IsUpgradedDiskContent (state g old).now)
-  -- If the database had a desk of schema 3, the adoption satisfies the postcondition of an audit by
-  -- schema 3, which writes nothing.
+  -- If the database had schema 3, the adoption satisfies the postcondition of an audit by schema 3,
+  -- which writes nothing.
   pub audited : StoreNamedTablesMatchDeskDefinitions g old → StoreHasDeskOfThirdSchema g old → AuditPost g old new result
 
--- The base satisfies the books invariant and the audit invariant, and its texts are UTF-8.
+-- The base satisfies the books invariant and the audit invariant, and the texts of its tables are
+-- UTF-8.
 pub record IsConsistent (base : Base) : Type 0 where
   pub books : BooksInvariant base
   pub sound : AuditInvariant base

@@ -1,12 +1,12 @@
--- Calls of a closure with a lot and its symbol.
+-- Calls of a closure with a symbol and a lot.
 use Rattle.std.specs.Prelude.{◌≡◌, ℕ, List}
 use Rattle.std.specs.Fn.{Called, Mut}
 use denote.Ref.{Bor}
 use Rattle.brk_lots.specs.declared.lot.Lot.{Lot}
 use Rattle.brk_changes.specs.declared.holding_row.HoldingRow.{HoldingRow}
 
--- A call of the closure `f` with the symbol and the lot of `row` may return `r`, and the state of
--- the closure is then `f'`.
+-- A call of the closure `f`, whose contract is `g`, with the symbol and the lot of `row` may return
+-- `r`, and the closure is `f'` after it.
 pub record IsClosureCallWithLot {F R : Type 0} (g : Mut F (Bor (List ℕ) × (Bor Lot × Unit {0})) R) (f : F) (row : HoldingRow) (r : R) (f' : F) : Type 0 where
   pub symbol : Bor (List ℕ)
   pub lot : Bor Lot

@@ -1,14 +1,18 @@
--- The rows that a store holds, and the postconditions of its calls. The clauses use these terms.
--- `state g store` is the state of the store's connection, with the fields `is_open`, true if the
--- store is open; `now`, the current database; `committed`, the database at the last commit;
--- `may_leave`, the disk contents that a crash may expose. `Trees` are disk contents: the rows of
--- each table and index of a database, by number. `HasCleanDisk` is the disk assumption: every read
--- so far returned what was written. `Survives old new P`: a crash after the call exposes disk
--- contents that a crash before it could expose, or contents that satisfy `P`; no contents satisfy
--- `λ _. ⊥`. `IfOk` and `OnOk` are vacuous at an error, `IfErr` and `OnErr` at `Ok`. A store, its
--- connection and its database are open if `is_open` of their state is true. A clause with the
--- premise `HasCleanDisk` for the new state, and the promise on crashes in `survives`, are vacuous
--- if the disk assumption fails after the call.
+-- The rows that a store holds, and the postconditions of its calls. The clauses use these terms. A
+-- value of `Held S` is the connection of a store in contracts: a connection to a database that is
+-- kept in a storage of the type `S`, for example files or memory, with the schema of the database
+-- and the open transaction. `Ghosts S` is the specification of this storage: the contents that it
+-- has, its faults, and the contents that a crash of it may expose. `state g store` is the state of
+-- the connection by the specification `g`, with the fields `is_open`, true if the store is open;
+-- `now`, the current database; `committed`, the database at the last commit; `may_leave`, the disk
+-- contents that a crash may expose. `Trees` are disk contents: the rows of each table and index of
+-- a database, by number. `HasCleanDisk` is the disk assumption: every read so far returned what was
+-- written. `Survives old new P`: a crash after the call exposes disk contents that a crash before
+-- it could expose, or contents that satisfy `P`; no contents satisfy `λ _. ⊥`. `IfOk` and `OnOk`
+-- are vacuous at an error, `IfErr` and `OnErr` at `Ok`. A store, its connection and its database
+-- are open if `is_open` of their state is true. A clause with the premise `HasCleanDisk` for the
+-- new state, and the promise on crashes in `survives`, are vacuous if the disk assumption fails
+-- after the call.
 use Rattle.std.specs.Prelude.{◌≡◌, ◌⊎◌, ℕ, true, false, Result, Err, IfOk, OnOk, OnErr, IsTrue}
 use Rattle.sqlite_trees.specs.declared.store.Store.{Ghosts}
 use Rattle.sqlite_trees.specs.Tree.{Trees}
@@ -24,8 +28,8 @@ use Rattle.brk_tables_schema.specs.Desk.{DeskTable, desk_tables}
 use Rattle.brk_tables_schema.specs.Made.{HasDeskTables}
 use Rattle.brk_tables_create.specs.Present.{has_table_of_desk}
 
--- The database of `store` contains all tables of a desk in schema 3, with exactly the rows `t`.
--- Vacuous if the disk assumption fails (`HasCleanDisk`), or once the store is closed.
+-- The current database of `store` contains all tables of a desk in schema 3, with exactly the rows
+-- `t`. Vacuous if the disk assumption fails (`HasCleanDisk`), or once the store is closed.
 abbrev pub HoldsRows : {S : Type 0} → Ghosts S → Held S → Tables → Type 0
 HoldsRows g store t = HasCleanDisk (state g store) → IsTrue (state g store).is_open → HasDeskTables t (state g store).now
 
@@ -38,18 +42,18 @@ IsDiskContentOfRows t trees = (db : Database) × HasDeskTables t db × (trees �
 abbrev pub CrashStatesSatisfy : {S : Type 0} → Ghosts S → Held S → (Trees → Type 0) → Type 0
 CrashStatesSatisfy g store P = (trees : Trees) → (state g store).may_leave trees → P trees
 
--- The state `old` is open, and the current and the committed database of `new` equal those of
--- `old`.
+-- The database was open in the state `old`, and the current and the committed database of `new`
+-- equal those of `old`.
 pub record WasOpenAndIsUnchanged (old new : State) : Type 0 where
   pub was_open : IsTrue old.is_open
   pub now : new.now ≡ old.now
   pub committed : new.committed ≡ old.committed
 
--- The postcondition of a read, which writes nothing. `Told` relates the returned
--- value to the rows that the store holds.
+-- The postcondition of a read, which writes nothing: `old` is the store before the call, and `new`
+-- after it. `Told` relates a returned value to the rows that the store holds.
 pub record ReadPost {S V E : Type 0} (g : Ghosts S) (old new : Held S) (result : Result V E) (Told : V → Tables → Type 0) : Type 0 where
-  -- A returned value satisfies `Told` with the rows that the store held before the
-  -- call. Vacuous if the disk assumption fails after the call.
+  -- A returned value satisfies `Told` with the rows that the store held before the call. Vacuous if
+  -- the disk assumption fails after the call.
   pub answered : HasCleanDisk (state g new) → IfOk result (λ answer. (t : Tables) → HoldsRows g old t → Told answer t)
   -- A value is returned only if the store was open.
   pub opened : HasCleanDisk (state g new) → OnOk result (IsTrue (state g old).is_open)
@@ -60,7 +64,8 @@ pub record ReadPost {S V E : Type 0} (g : Ghosts S) (old new : Held S) (result :
   -- A crash exposes only states that a crash before the call could expose.
   pub survives : Survives (state g old) (state g new) (λ _. ⊥)
 
--- The postcondition of an atomic call that changes the rows `t` to `after t`.
+-- The postcondition of a call that changes the rows `t` to `after t`, all together or not at all:
+-- `old` is the store before the call, and `new` after it.
 pub record ApplyPost {S V E : Type 0} (g : Ghosts S) (old new : Held S) (result : Result V E) (after : Tables → Tables) : Type 0 where
   -- At `Ok` the store holds the changed rows.
   pub applied : OnOk result ((t : Tables) → HoldsRows g old t → HoldsRows g new (after t))
@@ -83,9 +88,10 @@ pub record ApplyPost {S V E : Type 0} (g : Ghosts S) (old new : Held S) (result 
   -- At `Ok` a crash exposes only the changed rows.
   pub durable : HasCleanDisk (state g new) → OnOk result ((t : Tables) → HoldsRows g old t → CrashStatesSatisfy g new (IsDiskContentOfRows (after t)))
 
--- The postcondition of the atomic creation of the tables.
+-- The postcondition of the creation of the tables, of all together or of none: `old` is the
+-- connection before the call, and `new` the connection or the store after it.
 pub record CreatePost {S : Type 0} (g : Ghosts S) (old new : Held S) (result : Result (Unit {0}) Fault) : Type 0 where
-  -- At `Ok` the store holds the tables without rows.
+  -- At `Ok` the store holds the tables of schema 3 without rows, except for the one row of DESK.
   pub created : OnOk result (HoldsRows g new tables_without_rows)
   -- At `Ok` the store was open, is open, and has committed its current state.
   pub opened : HasCleanDisk (state g new)
@@ -107,9 +113,9 @@ pub record CreatePost {S : Type 0} (g : Ghosts S) (old new : Held S) (result : R
   -- At `Ok` a crash exposes only the tables without rows.
   pub durable : HasCleanDisk (state g new) → OnOk result (CrashStatesSatisfy g new (IsDiskContentOfRows tables_without_rows))
 
--- `conn` is a connection to a database with the disk contents `trees`: under the disk assumption
--- its current database has these contents, and its current and its committed database are
--- well-formed if it is open.
+-- `conn` is a connection to a database with the disk contents `trees`. Under the disk assumption
+-- its current database has these contents and, if it is open, the disk contents of its current and
+-- of its committed database list their tables and obey their definitions.
 pub record IsConnectionToDiskContent {S : Type 0} (g : Ghosts S) (trees : Trees) (conn : Held S) : Type 0 where
   pub live : HasCleanDisk (state g conn) → IsLive (state g conn)
   pub same : HasCleanDisk (state g conn) → (state g conn).now.trees ≡ trees

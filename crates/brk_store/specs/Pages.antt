@@ -1,4 +1,5 @@
--- The lots of a position in a store, and the lots that remain after a page.
+-- The lots of a position in the order in which a trade closes them, and the lots that remain after
+-- pages of them were read.
 use Rattle.std.specs.Prelude.{ℕ, List, [], ◌++◌, Bool, if◌then◌else◌, drop, map}
 use Rattle.brk_lots.specs.declared.lot.Lot.{Lot}
 use Rattle.brk_lots.specs.Lots.{list_in_closing_order}
@@ -9,8 +10,8 @@ use Rattle.brk_changes.specs.declared.holding_row.HoldingRow as row
 use Rattle.brk_tables_trading.specs.Pages.{position_lots_by_age}
 use Rattle.brk_book_theorems.specs.TradeReads.{lot_of_row}
 
--- The rows of the lots of `account` in the security `symbol`, sorted by age: the newest first if
--- `lifo`, otherwise the oldest first.
+-- The rows of the lots of `account` in the security `symbol`, sorted by the stamp of their opening
+-- and then by trade: the newest first if `lifo` is true, otherwise the oldest first.
 abbrev pub lot_rows_in_closing_order : Bool → ℕ → Text → Tables → List HoldingRow
 lot_rows_in_closing_order lifo account symbol t = list_in_closing_order lifo (position_lots_by_age account symbol t)
 
@@ -18,7 +19,8 @@ lot_rows_in_closing_order lifo account symbol t = list_in_closing_order lifo (po
 abbrev pub unread_rows : Bool → ℕ → List HoldingRow → List HoldingRow
 unread_rows ended read rows = if ended then [] else drop read rows
 
--- The lots that a source of pages still has to return: first the lots of `pending`, the rows that
--- were read and not yet returned, then the lots of the rows in `rows` that were not read.
+-- The lots that a source of pages has not returned yet: first the lots of `pending`, the rows that
+-- were read and not yet returned, then the lots of `rows` after the first `read`, or none of these
+-- if `ended` is true.
 abbrev pub remaining_page_lots : List row.HoldingRow → Bool → ℕ → List HoldingRow → List Lot
 remaining_page_lots pending ended read rows = map lot_of_row (map abstract_holding_row pending ++ unread_rows ended read rows)

@@ -1,4 +1,4 @@
--- Sequences of reads.
+-- Sequences of reads, which change nothing.
 use Rattle.std.proofs.Common.{IsTrue, ◌∙◌, refl, inl}
 use Rattle.std.proofs.Math.Nat.{le_refl}
 use Rattle.sqlite_trees.specs.declared.store.Store.{Ghosts}
@@ -11,18 +11,21 @@ use Rattle.brk_store.specs.Holds.{HoldsRows, ReadPost, WasOpenAndIsUnchanged}
 
 -- The postcondition of any number of reads: the store holds the rows that it held before them; if
 -- the database is open after them, it was open before and is unchanged; a crash exposes only states
--- that a crash before the reads could expose.
+-- that a crash before the reads could expose. The last two parts are vacuous if the disk assumption
+-- fails after the reads.
 pub record IsUnchangedByReads {S : Type 0} (g : Ghosts S) (old new : Held S) : Type 0 where
   pub same_rows : (t : Tables) → HoldsRows g old t → HoldsRows g new t
   pub same : HasCleanDisk (state g new) → IsTrue (state g new).is_open → WasOpenAndIsUnchanged (state g old) (state g new)
   pub survives : Survives (state g old) (state g new) (λ _. ⊥)
 
 module _ {S : Type 0} {g : Ghosts S} where
-  -- If the disk assumption holds after reads, it held before them.
+  -- If the disk assumption holds after reads that satisfy `IsUnchangedByReads`, it held before
+  -- them.
   pub disk_was_clean_before_reads : (old new : Held S) → IsUnchangedByReads g old new → HasCleanDisk (state g new) → HasCleanDisk (state g old)
   disk_was_clean_before_reads old new k = clean_before (state g old) (state g new) (λ _. ⊥) k.survives
 
-  -- Reads that follow other reads satisfy `IsUnchangedByReads` together with them.
+  -- If reads from the store `p` to `q` satisfy `IsUnchangedByReads`, and further reads from `q` to
+  -- `r` do, all of them together, from `p` to `r`, satisfy it.
   pub joined_reads_change_nothing : (p q r : Held S) → IsUnchangedByReads g p q → IsUnchangedByReads g q r → IsUnchangedByReads g p r
   joined_reads_change_nothing p q r a b = record {
     same_rows = λ t h. b.same_rows t (a.same_rows t h);
@@ -33,12 +36,13 @@ module _ {S : Type 0} {g : Ghosts S} where
     survives = survives_then (state g p) (state g q) (state g r) (λ _. ⊥) (λ _. ⊥) (λ _. ⊥) (λ _ db none. none) (λ _ db none. none) a.survives b.survives;
   }
 
-  -- A call that satisfies `ReadPost` satisfies `IsUnchangedByReads`.
+  -- A read that satisfies `ReadPost` satisfies `IsUnchangedByReads`.
   pub single_read_changes_nothing : {V E : Type 0} (old new : Held S) (result : _) (Told : _) → ReadPost {V = V} {E = E} g old new result Told
       → IsUnchangedByReads g old new
   single_read_changes_nothing old new result Told r = record { same_rows = r.same_rows; same = r.same; survives = r.survives }
 
--- No read at all satisfies `IsUnchangedByReads`.
+-- The empty sequence of reads, after which the store is `old` as before, satisfies
+-- `IsUnchangedByReads`.
 pub no_reads_change_nothing : {S : Type 0} {g : Ghosts S} (old : Held S) → IsUnchangedByReads g old old
 no_reads_change_nothing {S} {g} old = record {
   same_rows = λ t h. h;

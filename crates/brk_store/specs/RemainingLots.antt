@@ -10,11 +10,11 @@ use Rattle.brk_store.specs.Pages.{remaining_page_lots, lot_rows_in_closing_order
 use Rattle.brk_store.specs.declared.pages.Page.{Page}
 use Rattle.brk_store.specs.declared.pages.Pages.{Pages}
 
--- The store that the source of pages borrows.
+-- The store that the source of pages borrows, as a mutable reference.
 abbrev pub borrowed_store : {S P : Type 0} → Pages S P → MutBor (Held S)
 borrowed_store p = p.store
 
--- The number of rows that the source of pages has read.
+-- The number of rows that the source of pages has read from the store so far.
 abbrev pub number_of_rows_read : {S P : Type 0} → Pages S P → ℕ
 number_of_rows_read p = p.read
 

@@ -20,27 +20,30 @@ use Rattle.brk_tables_walks.specs.declared.walking.WalkError.TheVariants.{Failed
 use Rattle.brk_store.specs.Holds.{HoldsRows, WasOpenAndIsUnchanged}
 
 -- The cash rows of `account` whose stamps are from `from` to `to`, both included, sorted by stamp,
--- ascending.
+-- ascending. Rows with equal stamps are in the order of their numbers.
 abbrev pub cash_rows_in_span : ℕ → ℕ → ℕ → Tables → List MoveRow
 cash_rows_in_span account from to t = filter (λ r. is_in_range from to r.stamp) (cash_move_rows_of_account t account)
 
--- The completed trades of all accounts, sorted by the stamp of completion, ascending.
+-- The completed trades of all accounts, sorted by the stamp of completion, ascending. Trades with
+-- equal stamps are in the order of the table TRADE.
 abbrev pub completed_trades_by_stamp : Tables → List TradeRow
 completed_trades_by_stamp t = sort_by_key (λ r. r.stamp) (filter (λ r. is_same_trade_status r.status Completed) t.trades)
 
 -- The records `all` equal the whole list that `list` selects from the rows that the store holds.
+-- Vacuous if the store holds no rows of a desk.
 abbrev pub EqualsStoredList : {S M : Type 0} → Ghosts S → Held S → (Tables → List M) → List M → Type 0
 EqualsStoredList g store list all = (t : Tables) → HoldsRows g store t → all ≡ list t
 
 -- The records `first` are a prefix of the list that `list` selects from the rows that the store
--- holds.
+-- holds, possibly empty. Vacuous if the store holds no rows of a desk.
 abbrev pub IsPrefixOfStoredList : {S M : Type 0} → Ghosts S → Held S → (Tables → List M) → List M → Type 0
 IsPrefixOfStoredList {S} {M} g store list first = (t : Tables) → HoldsRows g store t → (rest : List M) × (first ++ rest ≡ list t)
 
--- The postcondition of a walk, which passes the records that `list` selects to a visitor, in order
--- and one at a time. The walk ends after the last record, at an error of the visitor, or at a
--- fault. `takes` and `stops` relate the visitor before and after it takes a record or returns an
--- error for it.
+-- The postcondition of a walk, which passes the records that `list` selects from the rows of the
+-- store to a visitor, in order and one at a time, and writes nothing. The walk ends after the last
+-- record, at an error of the visitor, or at a fault. `takes` and `stops` relate the visitor before
+-- and after it takes a record or returns an error for it; `before` and `after` are the visitor
+-- before and after the walk.
 pub record WalkPost {S X M V E : Type 0} (g : Ghosts S) (old new : Held S) (of : X → M) (list : Tables → List M) (takes : V → X → V → Type 0)
     (stops : V → X → E → V → Type 0)
     (before after : V) (result : Result (Unit {0}) (WalkError E)) : Type 0 where
@@ -61,17 +64,18 @@ pub record WalkPost {S X M V E : Type 0} (g : Ghosts S) (old new : Held S) (of :
   -- A crash exposes only states that a crash before the call could expose.
   pub survives : Survives (state g old) (state g new) (λ _. ⊥)
 
--- The result of a walk that calls a closure, for the outcome of the walk: `Ok` for `Ok`, the
--- closure's own error for `Cause`, and for `Failed` an error that `gives` relates to the fault.
+-- The result of a walk that calls a closure, for the outcome of the walk with a visitor: `Ok` for
+-- `Ok`, the closure's own error for `Cause`, and for `Failed` an error that `gives` relates to the
+-- fault.
 abbrev pub MatchesWalkResult : {E : Type 0} → (Fault → E → Type 0) → Result (Unit {0}) (WalkError E) → Result (Unit {0}) E → Type 0
 MatchesWalkResult {E} gives (Ok u) result = result ≡ Ok tt
 MatchesWalkResult {E} gives (Err (Cause e)) result = result ≡ Err e
 MatchesWalkResult {E} gives (Err (Failed fault)) result = (e : E) × (result ≡ Err e) × gives fault e
 
--- The closure was called with the records that `list` selects, in order and one at a time, until it
--- returned an error or the walk failed. The result is `Ok` after the last record, otherwise the
--- closure's error, or an error that `gives` relates to the fault. The calls satisfy `WalkPost`,
--- with the closure as the visitor.
+-- The closure `call` was called with the records that `list` selects, in order and one at a time,
+-- until it returned an error or the walk failed. The result is `Ok` after the last record,
+-- otherwise the closure's error, or an error that `gives` relates to the fault. The calls, which
+-- `called` specifies, satisfy `WalkPost` with the closure as the visitor.
 abbrev pub CallsClosureWithEachRecord : {S X M F E : Type 0} → Ghosts S → Held S → Held S → (X → M) → (Tables → List M)
     → (F → X → Result (Unit {0}) E → F → Type 0) → (Fault → E → Type 0) → F → Result (Unit {0}) E → Type 0
 CallsClosureWithEachRecord {S} {X} {M} {F} {E} g old new of list called gives call result =

@@ -15,21 +15,22 @@ ghost use Rattle.brk_model.specs.Tables.{Tables};
 ghost use Rattle.brk_changes.specs.declared.schema.Schema.{Schema};
 ghost use Rattle.brk_changes.specs.Schemas.{abstract_schema};
 ghost use Rattle.brk_audit_theorems.specs.Passing.{PassesAudit};
-ghost use Rattle.brk_store.specs.Audited.{StoresRowsWithAuditResult, IsDatabaseAuditResult, IsDatabaseAuditResultBySchema, StoreHasDeskOfThirdSchema, Represents, AdoptPost, AuditPost, StoreNamedTablesMatchDeskDefinitions, AuditAnswerSatisfies};
+ghost use Rattle.brk_store.specs.Audited.{StoresRowsWithAuditResult, IsDatabaseAuditResult, IsDatabaseAuditResultBySchema, StoreHasDeskOfThirdSchema};
+ghost use Rattle.brk_store.specs.Audited.{Represents, AdoptPost, AuditPost, StoreNamedTablesMatchDeskDefinitions, AuditAnswerSatisfies};
 ghost use Rattle.brk_store.specs.Holds.{HoldsRows};
 
 use sqlite::Alter;
 
-/// Proves that an audit of a database has at most one result, both by the schema whose desk the
-/// database has (`of_database`) and by a given schema (`by_schema`).
+/// Proves that an audit of a database has at most one result, both by the schema that the database
+/// has (`of_database`) and by a given schema (`by_schema`).
 pub fn audit_results_are_unique()
     ensures of_database { (db : Database) (a b : Option Condition) → IsDatabaseAuditResult db a → IsDatabaseAuditResult db b → a ≡ b }
     ensures by_schema { (schema : Schema) (db : Database) (a b : Option Condition) → IsDatabaseAuditResultBySchema (abstract_schema schema) db a
         → IsDatabaseAuditResultBySchema (abstract_schema schema) db b → a ≡ b }
 {}
 
-/// Proves that a store that holds the tables of schema 3 with any rows satisfies the premise of an
-/// adoption (`StoreNamedTablesMatchDeskDefinitions`) and has a desk of schema 3.
+/// Proves that the database of a store that holds the tables of schema 3 with any rows satisfies
+/// the premise of an adoption (`StoreNamedTablesMatchDeskDefinitions`) and has schema 3.
 pub fn stores_with_rows_have_desk_definitions<S: Alter>()
     ensures defined { (held : Held S) (t : Tables) → HoldsRows S.Store held t → StoreNamedTablesMatchDeskDefinitions S.Store held }
     ensures has_tables { (held : Held S) (t : Tables) → HoldsRows S.Store held t → StoreHasDeskOfThirdSchema S.Store held }
@@ -47,8 +48,8 @@ pub fn audits_return_result_for_stored_rows<S: Alter>()
         → AuditAnswerSatisfies result (λ answer. answer ≡ None) }
 {}
 
-/// Proves that an adoption of a database that holds rows of schema 3 satisfies the postcondition of
-/// an audit: it writes nothing.
+/// Proves that an adoption of a database that contains the tables of schema 3 with some rows
+/// satisfies the postcondition of an audit: it writes nothing.
 pub fn adoption_of_third_schema_is_audit<S: Alter>()
     ensures { (old new : Held S) (result : Result (Unit {0}) Fault) (t : Tables)
         → AdoptPost S.Store old new result → HoldsRows S.Store old t → AuditPost S.Store old new result }

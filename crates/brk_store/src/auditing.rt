@@ -19,10 +19,10 @@ use brk_tables_scan::{has_desk_of_schema, read_sheets};
 use sqlite::{Alter, Connection, Transaction};
 use std::alloc::Global;
 
-/// Returns the first condition of a schema that the rows of its tables fail, or `None` if they
-/// pass. Fails with `Memory` or `Store` only. The result is specified only if the database has a
-/// desk of the schema, with the definitions of the desk's tables (`HasDeskOfSchema`,
-/// `NamedTablesMatchSchemaDefinitions`).
+/// Returns the first condition of `schema` that the rows of its tables fail, or `None` if they
+/// pass. Changes nothing. Fails with `Memory` or `Store` only. The result is specified only if the
+/// database has the schema (`HasDeskOfSchema`) and its tables have the definitions of the desk's
+/// tables (`NamedTablesMatchSchemaDefinitions`).
 pub(crate) fn audit_rows_of_schema<S: Alter>(
     tx: &mut Transaction<'_, S>,
     alloc: Global,
@@ -41,9 +41,10 @@ pub(crate) fn audit_rows_of_schema<S: Alter>(
     }
 }
 
-// Returns the first condition of schema 3 that the database fails, or `None` if it passes. Fails
-// with `Memory` or `Store` only. The result is specified only if tables with the names and columns
-// of schema 3 have the definitions of the desk's tables (`NamedTablesMatchSchemaDefinitions`).
+// Returns the first condition of schema 3 that the database fails, or `None` if it passes. Changes
+// nothing. Fails with `Memory` or `Store` only. The result is specified only if tables with the
+// names and columns of schema 3 have the definitions of the desk's tables
+// (`NamedTablesMatchSchemaDefinitions`).
 fn first_failing_condition<S: Alter>(
     tx: &mut Transaction<'_, S>,
     alloc: Global,

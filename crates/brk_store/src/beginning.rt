@@ -5,14 +5,16 @@ ghost use Rattle.sqlite.specs.Held.{state};
 
 use sqlite::{Alter, Connection, Transaction};
 
-/// Begins a transaction on a connection on which no transaction is open. If the database is open,
-/// its current state is then its committed state.
+/// Begins a transaction on a connection on which no transaction is open, and returns it. If the
+/// database is open, its current state is then its committed state.
 pub(crate) fn begin_transaction<S: Alter>(conn: &mut Connection<S>) -> Transaction<'_, S>
     requires { conn.old.in_transaction ≡ false }
     ensures same_reference { result.conn.ghost_name ≡ conn.entry.ghost_name }
     ensures begun { result.conn.now ≡ record conn.old { in_transaction = true } }
     ensures settled { IsTrue (state S.Store conn.old).is_open → (state S.Store conn.old).now ≡ (state S.Store conn.old).committed }
 {
+    // The value is not needed: the call shows that an open database outside a transaction is in its
+    // committed state.
     let _settled = conn.is_autocommit();
     conn.transaction()
 }

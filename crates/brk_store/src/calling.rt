@@ -4,7 +4,7 @@ use brk_changes::HoldingRow;
 use brk_lots::Lot;
 use brk_tables_walks::Visitor;
 
-/// A visitor that calls a closure with each record.
+/// A visitor that calls a closure with each record and stops at the closure's first error.
 #[derive(Drop)]
 pub struct ClosureVisitor<F> {
     pub call: F,
@@ -32,7 +32,8 @@ impl<R, E, F: FnMut(&R) -> Result<(), E>> Visitor<R, E> for ClosureVisitor<F> {
     ghost transitive = { λ _ _ _ _ _. tt };
 }
 
-/// A visitor that calls a closure with each lot and its symbol.
+/// A visitor that calls a closure with the symbol and the lot of each row, and stops at the
+/// closure's first error.
 #[derive(Drop)]
 pub struct LotClosureVisitor<F> {
     pub call: F,

@@ -17,13 +17,13 @@ use brk_changes::MoveRow;
 use brk_money::{Day, Fault, Id, MoveId};
 use sqlite::Alter;
 
-// The greatest number of deposits and withdrawals.
+// The greatest number of deposits and withdrawals of a desk.
 const GREATEST_MOVEMENT_COUNT: u64 = 1_000_000_000_000;
 
 #[tactic(auto, using(crate::proofs::Ending::is_read_of))]
 impl<S: Alter> Store<S> {
-    /// Returns the settlement day, the first day whose completions settle after one day, or `None`
-    /// if none is set. Changes nothing. Fails with `Store` only.
+    /// Returns the settlement day, the first day whose completions settle after one day, in days
+    /// since 1970-01-01, or `None` if none is set. Changes nothing. Fails with `Store` only.
     pub fn settlement_day(&mut self) -> Result<Option<Day>, Fault>
         ensures read { ReadPost S.Store self.old self.new result (λ day t. day ≡ t.rule) }
         ensures fault { OnErr result (result ≡ Err fault.Store) }
@@ -42,8 +42,8 @@ impl<S: Alter> Store<S> {
         brk_tables_cash::cash_row_by_trade(&mut tx, trade)
     }
 
-    // Returns the cash row with the greatest number, or `None` if there is none. Changes nothing.
-    // Fails with `Store` only.
+    // Returns the cash row with the greatest number (CM_ID), or `None` if there is no cash row.
+    // Changes nothing. Fails with `Store` only.
     fn last_cash_row(&mut self) -> Result<Option<MoveRow>, Fault>
         ensures read { ReadPost S.Store self.old self.new result (λ o t. option_map abstract_move_row o ≡ slice_get (reverse t.moves) 0) }
         ensures fault { OnErr result (result ≡ Err fault.Store) }
@@ -52,8 +52,9 @@ impl<S: Alter> Store<S> {
         brk_tables_cash::cash_row_with_greatest_number(&mut tx)
     }
 
-    // Returns true if there are at least `GREATEST_MOVEMENT_COUNT` deposits and withdrawals. The
-    // time grows with the number of cash rows. Changes nothing. Fails with `Store` only.
+    // Returns true if there are at least `GREATEST_MOVEMENT_COUNT` deposits and withdrawals, which
+    // it counts: its time grows with the number of cash rows. Changes nothing. Fails with `Store`
+    // only.
     fn has_maximum_movements_by_count(&mut self) -> Result<bool, Fault>
         ensures read { ReadPost S.Store self.old self.new result (λ all t. all ≡ nat_le greatest_id (length (filter (λ r. is_none r.trade) t.moves))) }
         ensures fault { OnErr result (result ≡ Err fault.Store) }

@@ -14,10 +14,12 @@ use brk_changes::Change;
 use brk_money::{Condition, Fault};
 use sqlite::{Alter, Connection, Transaction};
 
-// Applies one change to its row in the transaction. Fails with `Store` only.
+// Applies one change to its row within the transaction, by one SQL statement. Fails with `Store`
+// only.
 fn apply_change<S: Alter>(tx: &mut Transaction<'_, S>, change: &Change) -> Result<(), Fault>
     ensures same_reference { tx.new.conn.ghost_name ≡ tx.old.conn.ghost_name }
-    ensures step { IsTransactionStep (state S.Store tx.old.conn.now) (state S.Store tx.new.conn.now) result (λ _ a b. ChangesTablesBy desk_tables (tables_after_change change.now) a.now b.now) }
+    ensures step { IsTransactionStep (state S.Store tx.old.conn.now) (state S.Store tx.new.conn.now) result
+        (λ _ a b. ChangesTablesBy desk_tables (tables_after_change change.now) a.now b.now) }
     ensures fault { OnErr result (result ≡ Err fault.Store) }
 {
     match change {
@@ -88,10 +90,12 @@ fn apply_change<S: Alter>(tx: &mut Transaction<'_, S>, change: &Change) -> Resul
     }
 }
 
-// Applies the changes in order in the transaction. Fails with `Store` only.
+// Applies the changes in order within the transaction. Fails with `Store` only, at the first change
+// that fails.
 fn apply_each_change<S: Alter>(tx: &mut Transaction<'_, S>, changes: &[Change]) -> Result<(), Fault>
     ensures same_reference { tx.new.conn.ghost_name ≡ tx.old.conn.ghost_name }
-    ensures step { IsTransactionStep (state S.Store tx.old.conn.now) (state S.Store tx.new.conn.now) result (λ _ a b. ChangesTablesBy desk_tables (tables_after_changes changes.now) a.now b.now) }
+    ensures step { IsTransactionStep (state S.Store tx.old.conn.now) (state S.Store tx.new.conn.now) result
+        (λ _ a b. ChangesTablesBy desk_tables (tables_after_changes changes.now) a.now b.now) }
     ensures fault { OnErr result (result ≡ Err fault.Store) }
 {
     for change in changes {
@@ -100,8 +104,8 @@ fn apply_each_change<S: Alter>(tx: &mut Transaction<'_, S>, changes: &[Change]) 
     Ok(())
 }
 
-/// Applies the changes in order in one transaction and commits them, or changes nothing in the open
-/// database. Fails with `Store` only.
+/// Applies the changes in order in one transaction and commits it. If it fails, the open database
+/// is unchanged. Fails with `Store` only.
 pub(crate) fn apply_changes_in_transaction<S: Alter>(
     conn: &mut Connection<S>,
     changes: &[Change],
@@ -111,6 +115,8 @@ pub(crate) fn apply_changes_in_transaction<S: Alter>(
     ensures applied { ApplyPost S.Store conn.old conn.new result (tables_after_changes changes.now) }
     ensures fault { OnErr result (result ≡ Err fault.Store) }
 {
+    // The value is not needed: the call shows that an open database outside a transaction is in its
+    // committed state.
     let _settled = conn.is_autocommit();
     let mut tx = conn.transaction();
     // The value is not needed: the read succeeds only if the store is open.
@@ -122,15 +128,17 @@ pub(crate) fn apply_changes_in_transaction<S: Alter>(
     }
 }
 
-/// Creates the tables in one transaction and commits them, or changes nothing in the open database.
-/// Fails with `Store`; or with `Damaged(NotEmpty)`, which it returns only if one of the tables
-/// exists.
+/// Creates the tables of schema 3 in one transaction and commits it. If it fails, the open database
+/// is unchanged. Fails with `Store`; or with `Damaged(NotEmpty)`, only if a table with the name of
+/// a desk's table exists.
 pub(crate) fn create_tables_in_transaction<S: Alter>(conn: &mut Connection<S>) -> Result<(), Fault>
     requires { conn.old.in_transaction ≡ false }
     ensures mode { conn.new.in_transaction ≡ false }
     ensures created { CreatePost S.Store conn.old conn.new result }
     ensures fault { IfErr result (λ f. (f ≡ fault.Store) ⊎ (f ≡ fault.Damaged NotEmpty)) }
 {
+    // The value is not needed: the call shows that an open database outside a transaction is in its
+    // committed state.
     let _settled = conn.is_autocommit();
     let mut tx = conn.transaction();
     if brk_tables_create::has_some_desk_table(&mut tx)? {

@@ -17,17 +17,17 @@ use brk_tables_scan::has_desk_of_schema;
 use sqlite::{Alter, Transaction};
 use std::alloc::Global;
 
-/// The result of an audit.
+/// The result of an audit of a database by the conditions of the schema that it has.
 #[derive(Clone, Copy)]
 pub enum AuditResult {
-    /// The database has a desk of this schema, and its rows pass.
+    /// The database has this schema, and its rows pass the audit by its conditions.
     Passes(Schema),
-    /// The first condition that fails.
+    /// The first condition that the database fails.
     Fails(Condition),
 }
 
-// Returns the schema whose desk the database has, or `None` if it has a desk of no schema. Fails
-// with `Store` only. The result is specified only if the database satisfies
+// Returns the schema that the database has, or `None` if it has none of the three. Changes nothing.
+// Fails with `Store` only. The result is specified only if the database satisfies
 // `NamedTablesMatchDeskDefinitions`.
 fn schema_of_database<S: Alter>(tx: &mut Transaction<'_, S>) -> Result<Option<Schema>, Fault>
     ensures same_reference { tx.new.conn.ghost_name ≡ tx.old.conn.ghost_name }
@@ -47,9 +47,9 @@ fn schema_of_database<S: Alter>(tx: &mut Transaction<'_, S>) -> Result<Option<Sc
     Ok(None)
 }
 
-/// Audits the database by the conditions of the schema whose desk it has, and returns the result:
-/// `Fails` with the condition `Schema` if it has a desk of no schema. Fails with `Memory` or
-/// `Store` only. The result is specified only if the database satisfies
+/// Audits the database by the conditions of the schema that it has, and returns the result: `Fails`
+/// with the condition `Schema` if it has none of the three schemas. Changes nothing. Fails with
+/// `Memory` or `Store` only. The result is specified only if the database satisfies
 /// `NamedTablesMatchDeskDefinitions`.
 pub(crate) fn audit_by_own_schema<S: Alter>(
     tx: &mut Transaction<'_, S>,

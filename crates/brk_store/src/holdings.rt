@@ -17,8 +17,9 @@ use std::alloc::Global;
 
 #[tactic(auto, using(crate::proofs::Ending::is_read_of))]
 impl<S: Alter> Store<S> {
-    /// Returns the ids of the completed trades of an account in a security, the oldest first.
-    /// Changes nothing. Fails with `Memory` or `Store`.
+    /// Returns the ids of the completed trades of an account in a security, sorted by the stamp of
+    /// completion and then by id, the oldest first. Changes nothing. Fails with `Memory` or
+    /// `Store`.
     pub fn completed_trades_of_holding(
         &mut self,
         alloc: Global,

@@ -18,8 +18,9 @@ use std::alloc::Global;
 
 #[tactic(auto, using(crate::proofs::Ending::is_read_of))]
 impl<S: Alter> Store<S> {
-    /// Returns the last ten trades of an account, the most recent first. Changes nothing. Fails
-    /// with `Memory` or `Store`.
+    /// Returns the ten most recent trades of an account, or all if it has fewer, sorted by the
+    /// stamp of their last status change and then by id, the most recent first. Changes nothing.
+    /// Fails with `Memory` or `Store`.
     pub fn last_ten_trades_of_account(
         &mut self,
         alloc: Global,
@@ -33,8 +34,9 @@ impl<S: Alter> Store<S> {
         brk_tables_trading::last_ten_trades_of_account(&mut tx, alloc, account)
     }
 
-    /// Returns the last fifty trades of an account, the most recent first. Changes nothing. Fails
-    /// with `Memory` or `Store`.
+    /// Returns the fifty most recent trades of an account, or all if it has fewer, sorted by the
+    /// stamp of their last status change and then by id, the most recent first. Changes nothing.
+    /// Fails with `Memory` or `Store`.
     pub fn last_fifty_trades_of_account(
         &mut self,
         alloc: Global,
@@ -48,8 +50,9 @@ impl<S: Alter> Store<S> {
         brk_tables_trading::last_fifty_trades_of_account(&mut tx, alloc, account)
     }
 
-    /// Returns the history of a trade, sorted by status code, ascending. Changes nothing. Fails
-    /// with `Memory` or `Store`.
+    /// Returns the rows of TRADE_HISTORY of a trade: the statuses that it reached and their stamps,
+    /// sorted by the code of the status, ascending. Changes nothing. Fails with `Memory` or
+    /// `Store`.
     pub fn history_of_trade(&mut self, alloc: Global, trade: Id) -> Result<Vec<HistoryRow>, Fault>
         ensures read { ReadPost S.Store self.old self.new result (AreMatchingRows TradeHistory abstract_history_row (λ r. r.trade == trade)) }
         ensures fault { IfErr result IsCallFault }

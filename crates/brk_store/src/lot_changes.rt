@@ -31,8 +31,8 @@ impl<S: Alter> Store<S> {
         brk_tables_views::lot_changes_by_trade(&mut tx, alloc, trade)
     }
 
-    /// Returns the changes of the lot that a trade opened, sorted by trade, ascending. Changes
-    /// nothing. Fails with `Memory` or `Store`.
+    /// Returns all changes of the lot that the trade `lot` opened, sorted by the trade that made
+    /// the change, ascending. Changes nothing. Fails with `Memory` or `Store`.
     pub fn lot_changes_of_lot(&mut self, alloc: Global, lot: Id) -> Result<Vec<LotChange>, Fault>
         ensures read { ReadPost S.Store self.old self.new result (AreMatchingRows HoldingHistory abstract_lot_change_row (λ r. r.lot == lot)) }
         ensures fault { IfErr result IsCallFault }

@@ -20,8 +20,9 @@ use std::alloc::Global;
 
 #[tactic(auto, using(crate::proofs::Ending::is_read_of))]
 impl<S: Alter> Store<S> {
-    /// Returns the first twenty trades of an account whose stamps are in a span, both ends
-    /// included, the oldest first. Changes nothing. Fails with `Memory` or `Store`.
+    /// Returns the first trades of an account, at most twenty, whose last status change has a stamp
+    /// in a span, both ends included, the oldest first. Changes nothing. Fails with `Memory` or
+    /// `Store`.
     pub fn first_twenty_trades_of_account(
         &mut self,
         alloc: Global,
@@ -38,8 +39,9 @@ impl<S: Alter> Store<S> {
         )
     }
 
-    /// Returns the first twenty trades of a symbol whose stamps are in a span, both ends included,
-    /// the oldest first. Changes nothing. Fails with `Memory` or `Store`.
+    /// Returns the first trades of a symbol, at most twenty, whose last status change has a stamp
+    /// in a span, both ends included, the oldest first. Changes nothing. Fails with `Memory` or
+    /// `Store`.
     pub fn first_twenty_trades_of_symbol(
         &mut self,
         alloc: Global,
@@ -56,8 +58,9 @@ impl<S: Alter> Store<S> {
         )
     }
 
-    /// Returns the first trade of an account, sorted by stamp and then by id, whose stamp is
-    /// `first` or later, or `None` if there is none. Changes nothing. Fails with `Store` only.
+    /// Returns the oldest trade of an account whose last status change has a stamp of at least
+    /// `first`, or `None` if there is none; trades of one stamp are sorted by id. Changes nothing.
+    /// Fails with `Store` only.
     pub fn first_trade_of_account_since(
         &mut self,
         account: Id,

@@ -13,7 +13,8 @@ use brk_money::{Cents, Fault, Id};
 use brk_ref::BrokerRow;
 use sqlite::Alter;
 
-// Returns the totals in a broker's row, or `None` only if one of them is out of range.
+// Returns the totals in a broker's row, the number of its completed trades and the sum of their
+// commissions in cents, or `None` only if one of them is out of range.
 fn totals_in_broker_row(row: &BrokerRow) -> Option<BrokerTotals>
     ensures none { IfNone result ((n : ℕ) → pos n ≡ row.now.trades → n ≤ TradeCount.GREATEST → row.now.commissions ≤ Amount.GREATEST → ⊥) }
     ensures some { IfSome result (λ numbers. (pos numbers.trades ≡ row.now.trades) × (numbers.commissions ≡ row.now.commissions)) }
@@ -35,8 +36,9 @@ fn totals_in_broker_row(row: &BrokerRow) -> Option<BrokerTotals>
 
 #[tactic(auto, using(crate::proofs::Ending::is_read_of))]
 impl<S: Alter> Store<S> {
-    /// Returns the totals of a broker, or `None` if the broker does not exist. Changes nothing.
-    /// Fails with `Store` only, also if a total is out of range.
+    /// Returns the totals of a broker, the number of its completed trades and the sum of their
+    /// commissions in cents, or `None` if the broker does not exist. Changes nothing. Fails with
+    /// `Store` only, also if a total is out of range.
     pub fn broker_totals(&mut self, broker: Id) -> Result<Option<BrokerTotals>, Fault>
         ensures read { ReadPost S.Store self.old self.new result (λ numbers t. AreBrokerTotals numbers (find (λ r. r.id == broker) t.brokers)) }
         ensures fault { OnErr result (result ≡ Err fault.Store) }

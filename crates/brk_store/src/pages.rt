@@ -1,4 +1,4 @@
-//! The lots of a position, read from the tables in pages.
+//! The lots of a position, which a source reads from the store in pages of 16 rows.
 
 ghost use Rattle.std.specs.Prelude.{◌≡◌, ◌≢◌, ◌≤◌, ◌+◌, IfErr, IfOk, IsTrue, length, map, pos};
 ghost use Rattle.std.specs.List.{All};
@@ -17,8 +17,8 @@ use brk_ref::Symbol;
 use sqlite::Alter;
 use std::alloc::Global;
 
-// The number of rows of a page, unless it is the last one, which may have fewer. The SQL statements
-// that read a page contain this number too.
+// The number of rows of a page; the last page may have fewer. The SQL statements that read a page
+// contain this number too.
 const PAGE_SIZE: usize = 16;
 
 /// The rows of a page, and the number of them that were returned as lots.
@@ -43,7 +43,7 @@ pub struct Pages<'a, S: Alter, P> {
     symbol: &'a Symbol,
     lifo: bool,
     page: P,
-    // The number of rows that were read, and true if no more rows exist.
+    // `read`: the number of rows that were read. `ended`: true if no more rows exist.
     read: u32,
     ended: bool,
     // The number of calls of `next` that failed; it stops at the greatest `u64`.
@@ -71,9 +71,9 @@ impl<S: Alter, P: Drop> Drop for Pages<'_, S, P> {
     }
 }
 
-// Returns a page of the lots of an account in a security: at most 16 after the first `skipped`, the
-// newest first if `lifo`, otherwise the oldest first. Changes nothing. Fails with `Memory` or
-// `Store` only.
+// Returns a page of the lots of an account in a security: at most 16 after the first `skipped`,
+// sorted by the stamp of their opening and then by trade, the newest first if `lifo`, otherwise the
+// oldest first. Changes nothing. Fails with `Memory` or `Store` only.
 fn read_page<S: Alter>(
     store: &mut Store<S>,
     alloc: Global,
@@ -93,16 +93,17 @@ fn read_page<S: Alter>(
     }
 }
 
-// Returns true only if there are at most 16 rows and each has shares.
+// Returns true only if there are at most 16 rows and each lot has shares.
 fn is_valid_page(rows: &[HoldingRow]) -> bool
     ensures { IsTrue result → (length rows.now ≤ page_size) × All (λ r. r.qty ≢ pos 0) rows.now }
 {
     rows.len() <= PAGE_SIZE && rows.iter().all(|row| row.qty != 0)
 }
 
-// Returns a page of the lots of an account in a security, as `read_page` does. Changes nothing.
-// Fails with `Memory` or `Store` only; with `Store` also if the page has more than 16 rows, or a
-// lot without shares.
+// Returns a page of the lots of an account in a security: at most 16 after the first `skipped`, the
+// newest first if `lifo`, otherwise the oldest first, each with shares. Changes nothing. Fails with
+// `Memory` or `Store` only; with `Store` also if the page has more than 16 rows, or a lot without
+// shares.
 fn read_valid_page<S: Alter>(
     store: &mut Store<S>,
     alloc: Global,
@@ -125,7 +126,7 @@ fn read_valid_page<S: Alter>(
     }
 }
 
-// Returns the lot in a row of HOLDING.
+// Returns the lot in a row of HOLDING: its trade, price, quantity and stamp.
 fn lot_of_holding_row(row: &HoldingRow) -> Lot
     ensures { result ≡ lot_of_typed_row row.now }
 {
@@ -209,7 +210,7 @@ impl<S: Alter> Pages<'_, S, Page> {
         u64::from(self.read)
     }
 
-    // Reads the next page and adds the number of its rows to that of the rows read. Fails with
+    // Reads the next page and adds the number of its rows to the number of rows read. Fails with
     // `Memory` or `Store` only; with `Store` also if this number exceeds 32 bits. At an error the
     // number is unchanged.
     fn read_next_page(&mut self) -> Result<Vec<HoldingRow>, Fault>
@@ -240,8 +241,9 @@ impl<S: Alter> Pages<'_, S, Page> {
         Ok(page)
     }
 
-    // Reads the next page and returns its first lot, or `None` if no lot remains. Fails with
-    // `Memory` or `Store` only; the remaining lots are then unchanged.
+    // Reads the next page and returns its first lot, or `None` if no lot remains. It requires that
+    // all lots of the current page were returned. Fails with `Memory` or `Store` only; the
+    // remaining lots are then unchanged.
     fn read_first_lot_of_next_page(&mut self) -> Result<Option<Lot>, Fault>
         requires { length self.old.page.rows.items ≤ self.old.page.returned }
         ensures same_reference { self.new.store.ghost_name ≡ self.old.store.ghost_name }

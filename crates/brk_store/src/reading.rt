@@ -1,5 +1,5 @@
-//! Reads of parties, of stored replies and of the last stamp. Each read is a transaction of its
-//! own, which is rolled back.
+//! Reads of brokers, customers and accounts, of stored replies, and of the last stamp. Each read is
+//! a transaction of its own, which is rolled back.
 
 ghost use Rattle.std.specs.Prelude.{◌≡◌, ◌==◌, ◌&&◌, Err, IfErr, OnErr, bytes_eq};
 ghost use Rattle.brk_money.specs.declared.fault.Fault.TheVariants as fault;
@@ -18,8 +18,8 @@ use std::alloc::Global;
 
 #[tactic(auto, using(crate::proofs::Ending::is_read_of))]
 impl<S: Alter> Store<S> {
-    /// Returns the stamp of the last accepted command, or `None` if there is none. Changes nothing.
-    /// Fails with `Store` only.
+    /// Returns the stamp of the last accepted command, in milliseconds since 1970-01-01 UTC, or
+    /// `None` if no command was accepted. Changes nothing. Fails with `Store` only.
     pub fn last_stamp(&mut self) -> Result<Option<Stamp>, Fault>
         ensures read { ReadPost S.Store self.old self.new result (λ last t. last ≡ t.last) }
         ensures fault { OnErr result (result ≡ Err fault.Store) }

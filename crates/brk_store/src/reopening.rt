@@ -11,8 +11,8 @@ ghost use Rattle.brk_store.specs.Holds.{IsDiskContentOfRows, HoldsRows, IsConnec
 
 use sqlite::Alter;
 
-/// Proves that a connection to a database whose disk contents (`trees`) have the rows `t` holds
-/// these rows.
+/// Proves that a connection to a database holds the rows `t`, if its disk contents `trees` are
+/// those of a database with the rows `t`.
 pub fn connection_holds_rows_of_disk_content<S: Alter>()
     ensures { (t : Tables) (trees : Trees) (conn : Held S) → IsDiskContentOfRows t trees → IsConnectionToDiskContent S.Store trees conn
         → HoldsRows S.Store conn t }
@@ -24,7 +24,7 @@ pub fn crash_of_open_store_exposes_last_commit<S: Alter>()
         → CrashStatesSatisfy S.Store store (λ trees. trees ≡ (state S.Store store).committed.trees) }
 {}
 
-/// Proves that a store in memory is open and satisfies the disk assumption, always.
+/// Proves that a store in memory is always open and satisfies the disk assumption.
 pub fn a_store_in_memory_is_open()
     ensures { (store : Held MemStore) → HasCleanDisk (state over_memory store) × IsTrue (state over_memory store).is_open }
 {}

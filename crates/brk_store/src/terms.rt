@@ -42,8 +42,8 @@ impl<S: Alter> Store<S> {
         brk_tables_reference::security_by_symbol(&mut tx, symbol)
     }
 
-    /// Returns the charge of a trade type and a tier, or `None` if there is none. Changes nothing.
-    /// Fails with `Store` only.
+    /// Returns the charge of a trade type and a customer tier, or `None` if there is none. Changes
+    /// nothing. Fails with `Store` only.
     pub fn charge(&mut self, kind: TradeType, tier: Tier) -> Result<Option<Charge>, Fault>
         ensures read { ReadPost S.Store self.old self.new result (IsFirstMatch Charges abstract_charge (λ r. is_same_trade_type r.kind kind
             && (r.tier == tier))) }
@@ -53,8 +53,8 @@ impl<S: Alter> Store<S> {
         brk_tables_reference::charge_by_type_and_tier(&mut tx, kind, tier)
     }
 
-    /// Returns the commission bands of a tier, a trade type and an exchange, sorted by lower bound,
-    /// ascending. Changes nothing. Fails with `Memory` or `Store`.
+    /// Returns the commission bands of a customer tier, a trade type and an exchange, sorted by
+    /// lower bound, ascending. Changes nothing. Fails with `Memory` or `Store`.
     pub fn commission_bands(
         &mut self,
         alloc: Global,
@@ -70,8 +70,8 @@ impl<S: Alter> Store<S> {
         brk_tables_reference::bands_by_tier_type_and_exchange(&mut tx, alloc, tier, kind, exchange)
     }
 
-    /// Returns the tax with the id `id`, or `None` if there is none. Changes nothing. Fails with
-    /// `Store` only.
+    /// Returns the tax with the id `id`, with its rate, or `None` if there is none. Changes
+    /// nothing. Fails with `Store` only.
     pub fn tax_with_id(&mut self, id: Id) -> Result<Option<Tax>, Fault>
         ensures read { ReadPost S.Store self.old self.new result (IsFirstMatch TaxRates abstract_tax_rate (λ r. r.id == id)) }
         ensures fault { OnErr result (result ≡ Err fault.Store) }
@@ -80,8 +80,8 @@ impl<S: Alter> Store<S> {
         brk_tables_reference::tax_rate_by_id(&mut tx, id)
     }
 
-    /// Returns the row of a customer and a tax, or `None` if the customer does not pay the tax.
-    /// Changes nothing. Fails with `Store` only.
+    /// Returns the row by which a customer pays a tax, or `None` if the customer does not pay the
+    /// tax. Changes nothing. Fails with `Store` only.
     pub fn customer_tax(&mut self, customer: Id, tax: Id) -> Result<Option<CustomerTax>, Fault>
         ensures read { ReadPost S.Store self.old self.new result (IsFirstMatch CustomerTaxes abstract_customer_tax (λ r. (r.customer == customer)
             && (r.tax == tax))) }
@@ -91,8 +91,8 @@ impl<S: Alter> Store<S> {
         brk_tables_reference::customer_tax_by_customer_and_tax(&mut tx, customer, tax)
     }
 
-    /// Returns the taxes that a customer pays, sorted by the id of the tax, ascending. Changes
-    /// nothing. Fails with `Memory` or `Store`.
+    /// Returns the rows by which a customer pays taxes, sorted by the id of the tax, ascending.
+    /// Changes nothing. Fails with `Memory` or `Store`.
     pub fn taxes_of_customer(
         &mut self,
         alloc: Global,

@@ -43,8 +43,8 @@ impl<S: Alter> Store<S> {
         brk_tables_trading::greatest_trade_id(&mut tx)
     }
 
-    /// Returns the submitted trades, sorted by id, ascending. Changes nothing. Fails with `Memory`
-    /// or `Store`.
+    /// Returns the trades with the status submitted, sorted by id, ascending. Changes nothing.
+    /// Fails with `Memory` or `Store`.
     pub fn submitted_trades(&mut self, alloc: Global) -> Result<Vec<TradeRow>, Fault>
         ensures read { ReadPost S.Store self.old self.new result (AreMatchingRows Trades abstract_trade_row (λ r. is_same_trade_status r.status Submitted)) }
         ensures fault { IfErr result IsCallFault }
@@ -53,8 +53,8 @@ impl<S: Alter> Store<S> {
         brk_tables_trading::submitted_trades(&mut tx, alloc)
     }
 
-    /// Returns the requests of a symbol and a trade type with a bid of at least `price`, sorted by
-    /// trade, ascending. Changes nothing. Fails with `Memory` or `Store`.
+    /// Returns the requests of a symbol and a trade type with a bid of at least `price`, in cents,
+    /// sorted by trade, ascending. Changes nothing. Fails with `Memory` or `Store`.
     pub fn requests_at_or_above(
         &mut self,
         alloc: Global,
@@ -70,8 +70,8 @@ impl<S: Alter> Store<S> {
         brk_tables_trading::requests_with_bid_at_least(&mut tx, alloc, symbol, kind, price)
     }
 
-    /// Returns the requests of a symbol and a trade type with a bid of at most `price`, sorted by
-    /// trade, ascending. Changes nothing. Fails with `Memory` or `Store`.
+    /// Returns the requests of a symbol and a trade type with a bid of at most `price`, in cents,
+    /// sorted by trade, ascending. Changes nothing. Fails with `Memory` or `Store`.
     pub fn requests_at_or_below(
         &mut self,
         alloc: Global,
@@ -87,8 +87,8 @@ impl<S: Alter> Store<S> {
         brk_tables_trading::requests_with_bid_at_most(&mut tx, alloc, symbol, kind, price)
     }
 
-    /// Returns the row of LAST_TRADE of a symbol, with its last price on the market, or `None` if
-    /// there is none. Changes nothing. Fails with `Store` only.
+    /// Returns the last trade of a symbol on the market (LAST_TRADE), or `None` if there is none.
+    /// Changes nothing. Fails with `Store` only.
     pub fn last_trade(&mut self, symbol: &Symbol) -> Result<Option<LastTrade>, Fault>
         ensures read { ReadPost S.Store self.old self.new result (IsFirstMatch LastTrades abstract_last_trade_row (λ r. bytes_eq r.symbol symbol.now)) }
         ensures fault { OnErr result (result ≡ Err fault.Store) }
@@ -133,8 +133,8 @@ impl<S: Alter> Store<S> {
         brk_tables_trading::page_of_lots_newest_first(&mut tx, alloc, account, symbol, skipped)
     }
 
-    /// Returns the summaries of an account, sorted by symbol, ascending. Changes nothing. Fails
-    /// with `Memory` or `Store`.
+    /// Returns the holding summaries of an account, one for each security that it holds, sorted by
+    /// symbol, ascending. Changes nothing. Fails with `Memory` or `Store`.
     pub fn summaries_of_account(
         &mut self,
         alloc: Global,
@@ -147,8 +147,8 @@ impl<S: Alter> Store<S> {
         brk_tables_trading::holding_summaries_of_account(&mut tx, alloc, account)
     }
 
-    /// Returns the summary of an account in a security, or `None` if there is none. Changes
-    /// nothing. Fails with `Store` only.
+    /// Returns the holding summary of an account in a security, its number of shares in total, or
+    /// `None` if there is none. Changes nothing. Fails with `Store` only.
     pub fn summary_of_position(
         &mut self,
         account: Id,

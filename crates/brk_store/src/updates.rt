@@ -20,8 +20,8 @@ use std::alloc::Global;
 
 #[tactic(auto, using(crate::proofs::Ending::is_read_of))]
 impl<S: Alter> Store<S> {
-    /// Returns the first twenty trades of an account that were completed in a span, both ends
-    /// included, the oldest first. Changes nothing. Fails with `Memory` or `Store`.
+    /// Returns the first trades of an account, at most twenty, that were completed in a span, both
+    /// ends included, the oldest first. Changes nothing. Fails with `Memory` or `Store`.
     pub fn first_twenty_completed_trades_of_account(
         &mut self,
         alloc: Global,
@@ -38,8 +38,8 @@ impl<S: Alter> Store<S> {
         )
     }
 
-    /// Returns the first twenty cash trades of a symbol that were completed in a span, both ends
-    /// included, the oldest first. Changes nothing. Fails with `Memory` or `Store`.
+    /// Returns the first cash trades of a symbol, at most twenty, that were completed in a span,
+    /// both ends included, the oldest first. Changes nothing. Fails with `Memory` or `Store`.
     pub fn first_twenty_completed_cash_trades_of_symbol(
         &mut self,
         alloc: Global,

@@ -13,9 +13,9 @@ use brk_tables_upgrade::upgrade_tables;
 use sqlite::{Alter, Connection};
 use std::alloc::Global;
 
-// Audits the database by the conditions of the schema whose desk it has. If its rows pass and the
-// schema is older than 3, upgrades the tables to schema 3 in the same transaction and commits it.
-// Fails with `Damaged`, `Memory` or `Store`.
+// Audits the database by the conditions of the schema that it has. If its rows pass and the schema
+// is older than 3, upgrades the tables to schema 3 in the same transaction and commits it. Fails
+// with `Damaged` and the first condition that fails, or with `Memory` or `Store`.
 fn audit_and_upgrade_database<S: Alter>(
     conn: &mut Connection<S>,
     alloc: Global,
@@ -30,7 +30,7 @@ fn audit_and_upgrade_database<S: Alter>(
         AuditResult::Fails(condition) => return Err(Fault::Damaged(condition)),
         AuditResult::Passes(schema) => schema,
     };
-    // A desk of schema 3 needs no upgrade.
+    // A database of schema 3 needs no upgrade.
     if schema.has_settle_rule_table() {
         return Ok(());
     }
@@ -56,10 +56,10 @@ impl<S: Alter> Store<S> {
     /// tables.
     ///
     /// The result and the crash states are specified only if the database satisfies
-    /// `StoreNamedTablesMatchDeskDefinitions`: if it has all tables of a desk of some schema, by
-    /// their names and columns, then these tables have the definitions of the desk's tables, with
-    /// the same types, keys and foreign keys, and no foreign key with CASCADE, SET NULL or SET
-    /// DEFAULT. A database without such tables, for example an empty one, satisfies this premise.
+    /// `StoreNamedTablesMatchDeskDefinitions`: if it has all tables of some schema, by their names
+    /// and columns, then these tables have the definitions of the desk's tables, with the same
+    /// types, keys and foreign keys, and no foreign key with CASCADE, SET NULL or SET DEFAULT. A
+    /// database without such tables, for example an empty one, satisfies this premise.
     pub fn adopt(alloc: Global, mut conn: Connection<S>) -> Result<Store<S>, (Connection<S>, Fault)>
         ensures adopted { MatchResult result (λ store. AdoptPost S.Store conn store (Ok tt)) (λ e. AdoptPost S.Store conn e.0 (Err e.1)) }
         ensures never_not_empty { IfErr result (λ e. e.1 ≢ fault.Damaged NotEmpty) }

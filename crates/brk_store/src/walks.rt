@@ -35,7 +35,8 @@ impl<S: Alter> Store<S> {
         requires ready { V.ready visitor.old }
         ensures ready { V.ready visitor.new }
         ensures leads { V.leads visitor.old visitor.new }
-        ensures walked { WalkPost S.Store self.old self.new abstract_move_row (cash_rows_in_span account from to) V.takes V.stops visitor.old visitor.new result }
+        ensures walked { WalkPost S.Store self.old self.new abstract_move_row (cash_rows_in_span account from to)
+            V.takes V.stops visitor.old visitor.new result }
     {
         brk_tables_walks::walk_cash_rows_of_account::<S, E, V>(
             &mut self.conn,
@@ -62,7 +63,8 @@ impl<S: Alter> Store<S> {
         requires ready { V.ready visitor.old }
         ensures ready { V.ready visitor.new }
         ensures leads { V.leads visitor.old visitor.new }
-        ensures walked { WalkPost S.Store self.old self.new abstract_holding_row (λ t. holding_rows_of_account t account) V.takes V.stops visitor.old visitor.new result }
+        ensures walked { WalkPost S.Store self.old self.new abstract_holding_row (λ t. holding_rows_of_account t account)
+            V.takes V.stops visitor.old visitor.new result }
     {
         brk_tables_walks::walk_lots::<S, E, V>(&mut self.conn, account, visitor)
     }
@@ -103,7 +105,8 @@ impl<S: Alter> Store<S> {
         call: F,
     ) -> Result<(), E>
         requires callable { F.IsAlwaysCallable call }
-        ensures called { CallsClosureWithEachRecord S.Store self.old self.new abstract_move_row (cash_rows_in_span account from to) (CalledAt F.FnMut) E.from_gives call result }
+        ensures called { CallsClosureWithEachRecord S.Store self.old self.new abstract_move_row (cash_rows_in_span account from to)
+            (CalledAt F.FnMut) E.from_gives call result }
     {
         let mut calls = ClosureVisitor { call };
         match self.visit_cash_rows::<E, ClosureVisitor<F>>(account, from, to, &mut calls) {
@@ -127,7 +130,8 @@ impl<S: Alter> Store<S> {
         call: F,
     ) -> Result<(), E>
         requires callable { F.IsAlwaysCallable call }
-        ensures called { CallsClosureWithEachRecord S.Store self.old self.new abstract_holding_row (λ t. holding_rows_of_account t account) (IsClosureCallWithLot F.FnMut) E.from_gives call result }
+        ensures called { CallsClosureWithEachRecord S.Store self.old self.new abstract_holding_row (λ t. holding_rows_of_account t account)
+            (IsClosureCallWithLot F.FnMut) E.from_gives call result }
     {
         let mut calls = LotClosureVisitor { call };
         match self.visit_lots::<E, LotClosureVisitor<F>>(account, &mut calls) {

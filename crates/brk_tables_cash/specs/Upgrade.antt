@@ -1,4 +1,4 @@
--- The effect of the upgrade's statements on the tables.
+-- The effect of those statements on the tables that only an upgrade executes.
 use Rattle.std.specs.Prelude.{ℕ, []}
 use Rattle.sqlite.specs.Effect.{Database}
 use Rattle.brk_model.specs.Schemas.{Schema}

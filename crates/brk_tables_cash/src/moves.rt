@@ -1,4 +1,4 @@
-//! Rows of CASH_MOVE.
+//! Cash rows: the rows of CASH_MOVE.
 
 ghost use Rattle.std.specs.Prelude.{◌≡◌, Err, OnErr, filter, is_none, length, nat_le, option_map, reverse, slice_get};
 ghost use Rattle.brk_money.specs.declared.fault.Fault.TheVariants.{Store};
@@ -19,7 +19,8 @@ use brk_tables_schema::values::{
 };
 use sqlite::{Alter, Transaction};
 
-/// Inserts a cash row. Fails with `Store` only, also if its number exists.
+/// Inserts a cash row (CASH_MOVE). Fails with `Store` only, also if its number exists, or if its
+/// trade has a cash row.
 pub fn add_cash_row<S: Alter>(tx: &mut Transaction<'_, S>, row: &MoveRow) -> Result<(), Fault>
     ensures same_reference { tx.new.conn.ghost_name ≡ tx.old.conn.ghost_name }
     ensures step { WritesDeskTables S.Store tx.old tx.new result (tables_with_cash_row (abstract_move_row row.now)) }
@@ -39,8 +40,8 @@ pub fn add_cash_row<S: Alter>(tx: &mut Transaction<'_, S>, row: &MoveRow) -> Res
     )
 }
 
-/// Returns the cash row with the greatest number, or `None` if there is none. Changes nothing.
-/// Fails with `Store` only.
+/// Returns the cash row with the greatest number (CM_ID), or `None` if there is no cash row.
+/// Changes nothing. Fails with `Store` only.
 pub fn cash_row_with_greatest_number<S: Alter>(
     tx: &mut Transaction<'_, S>,
 ) -> Result<Option<MoveRow>, Fault>
@@ -56,8 +57,8 @@ pub fn cash_row_with_greatest_number<S: Alter>(
     decode_first_row(&rows)
 }
 
-/// Returns true if there are at least 10^12 deposits and withdrawals. The query steps over all rows
-/// of them, so its cost grows with their number. Changes nothing. Fails with `Store` only.
+/// Returns true if there are at least 10^12 deposits and withdrawals. The query steps over all of
+/// their rows, so its time grows with their number. Changes nothing. Fails with `Store` only.
 pub fn has_maximum_movements<S: Alter>(tx: &mut Transaction<'_, S>) -> Result<bool, Fault>
     ensures same_reference { tx.new.conn.ghost_name ≡ tx.old.conn.ghost_name }
     ensures step { ReadsDeskTables S.Store tx.old tx.new result (λ all t. all ≡ nat_le greatest_id (length (filter (λ r. is_none r.trade) t.moves))) }
@@ -89,7 +90,8 @@ pub fn cash_row_by_trade<S: Alter>(
     decode_first_row(&rows)
 }
 
-/// Sets the text of a trade's cash row (CM_NAME). Fails with `Store` only.
+/// Sets the text of the cash row of a trade (CM_NAME). Changes nothing if the trade has no cash
+/// row. Fails with `Store` only.
 pub fn set_cash_row_name<S: Alter>(
     tx: &mut Transaction<'_, S>,
     trade: Id,

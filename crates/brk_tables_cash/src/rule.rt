@@ -13,8 +13,8 @@ use brk_tables_schema::rule_row::settlement_day_in_rule_rows;
 use brk_tables_schema::values::{day_as_parameter, integer_as_parameter};
 use sqlite::{Alter, Row, Transaction};
 
-/// Inserts the settlement day, the first day whose completions settle after one day (SR_DAY). Fails
-/// with `Store` only, also if one is set.
+/// Inserts the settlement day, the first day whose completions settle after one day (SR_DAY), in
+/// days since 1970-01-01. Fails with `Store` only, also if a settlement day is set.
 pub fn set_settlement_day<S: Alter>(tx: &mut Transaction<'_, S>, day: Day) -> Result<(), Fault>
     ensures same_reference { tx.new.conn.ghost_name ≡ tx.old.conn.ghost_name }
     ensures step { WritesDeskTables S.Store tx.old tx.new result (tables_with_settlement_day day) }
@@ -27,7 +27,8 @@ pub fn set_settlement_day<S: Alter>(tx: &mut Transaction<'_, S>, day: Day) -> Re
     )
 }
 
-// Decodes the settlement day from the rows of SETTLE_RULE. Fails with `Store` only.
+// Decodes the settlement day from all rows of SETTLE_RULE, or returns `None` if there is no row.
+// Fails with `Store` only, also if there are two rows or a malformed one.
 fn settlement_day_in_rows(rows: &[Row]) -> Result<Option<Day>, Fault>
     ensures value { IfOk result (λ day. map rule_cells (rule_rows day) ≡ rows.now) }
     ensures fault { OnErr result (result ≡ Err Store) }

@@ -12,8 +12,8 @@ use brk_tables_schema::calls::execute_statement;
 use brk_tables_schema::values::integer_as_parameter;
 use sqlite::{Alter, Transaction};
 
-/// Sets the number of the schema to 3 (D_SCHEMA). Fails with `Store` only. The effect is specified
-/// only if all tables of a desk exist.
+/// Sets the number of the schema in DESK to 3 (D_SCHEMA). Fails with `Store` only. The effect is
+/// specified only if all tables of a desk in schema 3 exist.
 pub fn set_schema_number_to_three<S: Alter>(tx: &mut Transaction<'_, S>) -> Result<(), Fault>
     ensures same_reference { tx.new.conn.ghost_name ≡ tx.old.conn.ghost_name }
     ensures step { IsConnectionStep S.Store tx.old tx.new result (λ _ a b. SetsSchemaNumberToThree a.now b.now) }

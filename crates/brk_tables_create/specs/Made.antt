@@ -7,7 +7,7 @@ use Rattle.brk_sql.specs.Desk.{PreservesAllTables}
 use Rattle.brk_tables_schema.specs.Desk.{DeskTable, all_tables, schema_has_table}
 use Rattle.brk_tables_schema.specs.Made.{HasDeskTables}
 
--- The tables of a desk that this schema does not have, which later schemas add.
+-- The list of the tables of a desk that the schema `schema` does not have and later schemas add.
 abbrev pub tables_of_later_schemas : Schema → List DeskTable
 tables_of_later_schemas schema = filter (λ w. not (schema_has_table schema w)) all_tables
 
@@ -17,6 +17,7 @@ pub record CreatesDeskTables (old new : Database) : Type 0 where
   pub rows : HasDeskTables tables_without_rows new
   pub others : PreservesAllTables old new
 
--- The text of the SQL statement that inserts the one row of DESK, with schema 3 and no stamp.
+-- The text of the SQL statement that inserts the one row of DESK, with the id 1, the schema number
+-- 3 and no stamp.
 abbrev pub insert_desk_row_text : List ℕ
 insert_desk_row_text = codes "INSERT INTO DESK (D_ID, D_SCHEMA, D_LAST) VALUES (1, 3, NULL)"

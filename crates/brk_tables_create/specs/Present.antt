@@ -7,7 +7,8 @@ use Rattle.brk_model.specs.Schemas.{Schema}
 use Rattle.brk_tables_schema.specs.Desk.{DeskTable, all_tables, table_name, tables_in_schema}
 use Rattle.brk_tables_create.specs.Made.{tables_of_later_schemas}
 
--- True if the schema of the database has a table with the name of `w`, with any columns.
+-- True if the schema of the database has a table with the SQL name of the table `w` of a desk, with
+-- any columns.
 abbrev pub has_table_named : database.Schema → DeskTable → Bool
 has_table_named schema w = is_some (table_named schema (table_name w))
 
@@ -15,8 +16,8 @@ has_table_named schema w = is_some (table_named schema (table_name w))
 abbrev pub has_table_of_desk : database.Schema → Bool
 has_table_of_desk schema = list_any (has_table_named schema) all_tables
 
--- True if the database has, by name, each table of the desk's schema `desk`, and none that a later
--- schema adds.
+-- True if the database has each table of the desk's schema `desk`, and no table that a later schema
+-- adds. Tables are compared by name only.
 abbrev pub has_exact_table_names : Schema → database.Schema → Bool
 has_exact_table_names desk schema =
     list_all (has_table_named schema) (tables_in_schema desk) && not (list_any (has_table_named schema) (tables_of_later_schemas desk))

@@ -15,7 +15,7 @@ use brk_money::Fault;
 use brk_tables_schema::calls::execute_statement;
 use sqlite::{Alter, Transaction};
 
-// Creates a table without rows. Fails with `Store` only.
+// Creates one table of a desk, without rows. Fails with `Store` only.
 fn create_desk_table<S: Alter>(tx: &mut Transaction<'_, S>, table: Table) -> Result<(), Fault>
     ensures same_reference { tx.new.conn.ghost_name ≡ tx.old.conn.ghost_name }
     ensures step { IsConnectionStep S.Store tx.old tx.new result (λ _ a b. CreatesTableOfShape a.now b.now (table_definition_at (specified_table table))) }
@@ -24,10 +24,11 @@ fn create_desk_table<S: Alter>(tx: &mut Transaction<'_, S>, table: Table) -> Res
     execute_statement(tx, table.create_table_text(), &[])
 }
 
-// Creates the tables in order, without rows. Fails with `Store` only.
+// Creates the given tables of a desk in order, without rows. Fails with `Store` only.
 fn create_each_table<S: Alter>(tx: &mut Transaction<'_, S>, tables: &[Table]) -> Result<(), Fault>
     ensures same_reference { tx.new.conn.ghost_name ≡ tx.old.conn.ghost_name }
-    ensures step { IsConnectionStep S.Store tx.old tx.new result (λ _ a b. CreatesEachTable (map (λ table. table_definition_at (specified_table table)) tables.now) a.now b.now) }
+    ensures step { IsConnectionStep S.Store tx.old tx.new result
+        (λ _ a b. CreatesEachTable (map (λ table. table_definition_at (specified_table table)) tables.now) a.now b.now) }
     ensures fault { OnErr result (result ≡ Err Store) }
 {
     for table in tables {
@@ -36,7 +37,8 @@ fn create_each_table<S: Alter>(tx: &mut Transaction<'_, S>, tables: &[Table]) ->
     Ok(())
 }
 
-// Inserts the one row of DESK, with schema 3 and no stamp. Fails with `Store` only.
+// Inserts the one row of DESK, with the id 1, the schema number 3 and no stamp. Fails with `Store`
+// only.
 fn add_desk_row<S: Alter>(tx: &mut Transaction<'_, S>) -> Result<(), Fault>
     ensures same_reference { tx.new.conn.ghost_name ≡ tx.old.conn.ghost_name }
     ensures step { IsConnectionStep S.Store tx.old tx.new result (λ _. ExecutesStatement insert_desk_row_text []) }
@@ -50,7 +52,8 @@ fn add_desk_row<S: Alter>(tx: &mut Transaction<'_, S>) -> Result<(), Fault>
 }
 
 /// Creates the tables of schema 3, without rows, except for the one row of DESK. The rows of
-/// existing tables are unchanged. Fails with `Store` only.
+/// existing tables are unchanged. Fails with `Store` only, also if a table with one of their names
+/// exists.
 pub fn create_third_schema_tables<S: Alter>(tx: &mut Transaction<'_, S>) -> Result<(), Fault>
     ensures same_reference { tx.new.conn.ghost_name ≡ tx.old.conn.ghost_name }
     ensures step { IsConnectionStep S.Store tx.old tx.new result (λ _ a b. CreatesDeskTables a.now b.now) }
@@ -60,14 +63,16 @@ pub fn create_third_schema_tables<S: Alter>(tx: &mut Transaction<'_, S>) -> Resu
     add_desk_row(tx)
 }
 
-/// Creates the tables that `schema` does not have and later schemas add, without rows. Fails with
-/// `Store` only.
+/// Creates the tables that `schema` does not have and later schemas add, without rows: CASH_MOVE
+/// and SETTLE_RULE for schema 1, SETTLE_RULE for schema 2, none for schema 3. Fails with `Store`
+/// only.
 pub fn create_tables_of_later_schemas<S: Alter>(
     tx: &mut Transaction<'_, S>,
     schema: Schema,
 ) -> Result<(), Fault>
     ensures same_reference { tx.new.conn.ghost_name ≡ tx.old.conn.ghost_name }
-    ensures step { IsConnectionStep S.Store tx.old tx.new result (λ _ a b. CreatesEachTable (map table_definition_at (tables_of_later_schemas (abstract_schema schema))) a.now b.now) }
+    ensures step { IsConnectionStep S.Store tx.old tx.new result
+        (λ _ a b. CreatesEachTable (map table_definition_at (tables_of_later_schemas (abstract_schema schema))) a.now b.now) }
     ensures fault { OnErr result (result ≡ Err Store) }
 {
     match schema {

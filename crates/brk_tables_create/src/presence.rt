@@ -1,4 +1,4 @@
-//! Look-ups of tables by name.
+//! Look-ups of a desk's tables by name. A table of this name may have any columns.
 
 ghost use Rattle.std.specs.Prelude.{◌≡◌, ◌&&◌, Err, OnErr, IsTrue, not};
 ghost use Rattle.std.specs.List.{list_all, list_any};
@@ -69,7 +69,7 @@ pub fn has_some_desk_table<S: Alter>(tx: &mut Transaction<'_, S>) -> Result<bool
     has_any_of_tables(tx, &IN_THIRD)
 }
 
-// Returns true if each table of `there` exists and none of `absent`, by name. Changes nothing.
+// Returns true if each table of `there` and no table of `absent` exists, by name. Changes nothing.
 // Fails with `Store` only.
 fn has_exactly_tables<S: Alter>(
     tx: &mut Transaction<'_, S>,
@@ -89,7 +89,7 @@ fn has_exactly_tables<S: Alter>(
     Ok(!has_any_of_tables(tx, absent)?)
 }
 
-// Returns true if the tables that a schema has exist, by name, and none that a later schema adds.
+// Returns true if each table of `schema` and no table that a later schema adds exists, by name.
 // Changes nothing. Fails with `Store` only.
 fn has_exactly_tables_of_schema<S: Alter>(
     tx: &mut Transaction<'_, S>,
@@ -107,8 +107,8 @@ fn has_exactly_tables_of_schema<S: Alter>(
     }
 }
 
-/// Returns true if the tables that a schema has exist, by name, and none that a later schema adds.
-/// If it returns a value, the database was open and is unchanged. Fails with `Store` only.
+/// Returns true if each table of `schema` and no table that a later schema adds exists, by name. If
+/// it returns a value, the database was open and is unchanged. Fails with `Store` only.
 pub fn has_exact_tables_by_name<S: Alter>(
     tx: &mut Transaction<'_, S>,
     schema: Schema,
@@ -118,7 +118,7 @@ pub fn has_exact_tables_by_name<S: Alter>(
         × (has ≡ has_exact_table_names (abstract_schema schema) a.now.schema)) }
     ensures fault { OnErr result (result ≡ Err Store) }
 {
-    // Any result shows that the database is open. DESK is looked up a second time below.
+    // The value is not needed: the look-up succeeds only if the database is open.
     let _there = table_exists(tx, Table::TheDesk)?;
     has_exactly_tables_of_schema(tx, schema)
 }

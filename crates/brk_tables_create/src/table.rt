@@ -53,7 +53,7 @@ pub enum Table {
 }
 
 impl Table {
-    /// Returns the text of the CREATE TABLE statement of the table.
+    /// Returns the text of the SQL statement that creates the table.
     pub fn create_table_text(self) -> &'static str
         ensures { result.now ≡ create_table_text (specified_table self) }
     {
@@ -105,7 +105,8 @@ impl Table {
         }
     }
 
-    /// Returns the text of a DELETE statement on the table, which is prepared and never executed.
+    /// Returns the text of a DELETE statement on the table. It is compiled, to check if a table of
+    /// this name exists, and never executed.
     pub fn existence_probe_text(self) -> &'static str
         ensures { result.now ≡ existence_probe_text (specified_table self) }
     {

@@ -16,8 +16,8 @@ use brk_tables_schema::values::{
 use sqlite::{Alter, Transaction};
 use std::alloc::Global;
 
-/// Inserts the row of an account, whose balance is its opening balance. Fails with `Store` only,
-/// also if the id exists.
+/// Inserts the row of an account (CUSTOMER_ACCOUNT), whose balance is its opening balance, in
+/// cents. Fails with `Store` only, also if the id exists.
 pub fn add_account<S: Alter>(tx: &mut Transaction<'_, S>, account: &Account) -> Result<(), Fault>
     ensures same_reference { tx.new.conn.ghost_name ≡ tx.old.conn.ghost_name }
     ensures step { WritesDeskTables S.Store tx.old tx.new result (tables_with_account (abstract_account account.now)) }
@@ -37,7 +37,7 @@ pub fn add_account<S: Alter>(tx: &mut Transaction<'_, S>, account: &Account) -> 
     )
 }
 
-/// Returns the account with this id, or `None` if there is none. Changes nothing. Fails with
+/// Returns the account with the id `id`, or `None` if there is none. Changes nothing. Fails with
 /// `Store` only.
 pub fn account_by_id<S: Alter>(
     tx: &mut Transaction<'_, S>,

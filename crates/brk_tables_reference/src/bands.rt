@@ -18,8 +18,8 @@ use brk_tables_schema::values::{
 use sqlite::{Alter, Transaction};
 use std::alloc::Global;
 
-/// Inserts a band. Fails with `Store` only, also if a band of its tier, type, exchange and lower
-/// bound exists.
+/// Inserts a commission band (COMMISSION_RATE). Fails with `Store` only, also if a band of its
+/// tier, trade type, exchange and lower bound exists.
 pub fn add_band<S: Alter>(tx: &mut Transaction<'_, S>, band: &Band) -> Result<(), Fault>
     ensures same_reference { tx.new.conn.ghost_name ≡ tx.old.conn.ghost_name }
     ensures step { WritesDeskTables S.Store tx.old tx.new result (tables_with_band (abstract_band band.now)) }
@@ -39,8 +39,8 @@ pub fn add_band<S: Alter>(tx: &mut Transaction<'_, S>, band: &Band) -> Result<()
     )
 }
 
-/// Returns the bands of a tier, a type and an exchange, sorted by lower bound, ascending. Changes
-/// nothing. Fails with `Memory` or `Store`.
+/// Returns the commission bands of a customer tier, a trade type and an exchange, sorted by lower
+/// bound, ascending. Changes nothing. Fails with `Memory` or `Store`.
 pub fn bands_by_tier_type_and_exchange<S: Alter>(
     tx: &mut Transaction<'_, S>,
     alloc: Global,

@@ -12,8 +12,8 @@ use brk_tables_schema::record::decode_first_row;
 use brk_tables_schema::values::{id_as_parameter, text_as_parameter};
 use sqlite::{Alter, Transaction};
 
-/// Inserts the row of a broker, with no trades and no commissions yet. Fails with `Store` only,
-/// also if the id exists.
+/// Inserts the row of a broker (BROKER), with 0 trades and 0 cents of commissions. Fails with
+/// `Store` only, also if the id exists.
 pub fn add_broker<S: Alter>(tx: &mut Transaction<'_, S>, broker: &Broker) -> Result<(), Fault>
     ensures same_reference { tx.new.conn.ghost_name ≡ tx.old.conn.ghost_name }
     ensures step { WritesDeskTables S.Store tx.old tx.new result (tables_with_broker (abstract_broker broker.now)) }
@@ -29,8 +29,8 @@ pub fn add_broker<S: Alter>(tx: &mut Transaction<'_, S>, broker: &Broker) -> Res
     )
 }
 
-/// Returns the broker with this id, or `None` if there is none. Changes nothing. Fails with `Store`
-/// only.
+/// Returns the broker with the id `id`, or `None` if there is none. Changes nothing. Fails with
+/// `Store` only.
 pub fn broker_by_id<S: Alter>(
     tx: &mut Transaction<'_, S>,
     id: Id,

@@ -15,7 +15,8 @@ use brk_tables_schema::values::{
 };
 use sqlite::{Alter, Transaction};
 
-/// Inserts a charge. Fails with `Store` only, also if a charge of its type and tier exists.
+/// Inserts the charge of a trade type and a customer tier (CHARGE), in cents. Fails with `Store`
+/// only, also if a charge of this type and tier exists.
 pub fn add_charge<S: Alter>(tx: &mut Transaction<'_, S>, charge: &Charge) -> Result<(), Fault>
     ensures same_reference { tx.new.conn.ghost_name ≡ tx.old.conn.ghost_name }
     ensures step { WritesDeskTables S.Store tx.old tx.new result (tables_with_charge (abstract_charge charge.now)) }
@@ -32,8 +33,8 @@ pub fn add_charge<S: Alter>(tx: &mut Transaction<'_, S>, charge: &Charge) -> Res
     )
 }
 
-/// Returns the charge of a type and a tier, or `None` if there is none. Changes nothing. Fails with
-/// `Store` only.
+/// Returns the charge of a trade type and a customer tier, or `None` if there is none. Changes
+/// nothing. Fails with `Store` only.
 pub fn charge_by_type_and_tier<S: Alter>(
     tx: &mut Transaction<'_, S>,
     kind: TradeType,

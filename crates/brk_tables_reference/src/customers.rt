@@ -12,7 +12,8 @@ use brk_tables_schema::record::decode_first_row;
 use brk_tables_schema::values::{id_as_parameter, text_as_parameter, tier_as_parameter};
 use sqlite::{Alter, Transaction};
 
-/// Inserts a customer. Fails with `Store` only, also if the id or the tax id exists.
+/// Inserts the row of a customer (CUSTOMER). Fails with `Store` only, also if the id or the tax id
+/// exists.
 pub fn add_customer<S: Alter>(tx: &mut Transaction<'_, S>, customer: &Customer) -> Result<(), Fault>
     ensures same_reference { tx.new.conn.ghost_name ≡ tx.old.conn.ghost_name }
     ensures step { WritesDeskTables S.Store tx.old tx.new result (tables_with_customer (abstract_customer customer.now)) }
@@ -31,7 +32,7 @@ pub fn add_customer<S: Alter>(tx: &mut Transaction<'_, S>, customer: &Customer) 
     )
 }
 
-/// Returns the customer with this id, or `None` if there is none. Changes nothing. Fails with
+/// Returns the customer with the id `id`, or `None` if there is none. Changes nothing. Fails with
 /// `Store` only.
 pub fn customer_by_id<S: Alter>(
     tx: &mut Transaction<'_, S>,
@@ -49,8 +50,8 @@ pub fn customer_by_id<S: Alter>(
     decode_first_row(&rows)
 }
 
-/// Returns the customer with this tax id, or `None` if there is none. Changes nothing. Fails with
-/// `Store` only.
+/// Returns the customer with the tax id `tax_id`, or `None` if there is none. Changes nothing.
+/// Fails with `Store` only.
 pub fn customer_by_tax_id<S: Alter>(
     tx: &mut Transaction<'_, S>,
     tax_id: &TaxId,

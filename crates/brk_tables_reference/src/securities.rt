@@ -14,7 +14,8 @@ use brk_tables_schema::values::{
 };
 use sqlite::{Alter, Transaction};
 
-/// Inserts a security, without its last trade. Fails with `Store` only, also if the symbol exists.
+/// Inserts the row of a security (SECURITY), without its last trade. Fails with `Store` only, also
+/// if the symbol exists.
 pub fn add_security<S: Alter>(tx: &mut Transaction<'_, S>, security: &Security) -> Result<(), Fault>
     ensures same_reference { tx.new.conn.ghost_name ≡ tx.old.conn.ghost_name }
     ensures step { WritesDeskTables S.Store tx.old tx.new result (tables_with_security (abstract_security_row security.now)) }
@@ -32,7 +33,8 @@ pub fn add_security<S: Alter>(tx: &mut Transaction<'_, S>, security: &Security) 
     )
 }
 
-/// Inserts the last trade of a security. Fails with `Store` only, also if the security has one.
+/// Inserts the last trade of a security on the market (LAST_TRADE): its stamp, price and volume.
+/// Fails with `Store` only, also if the security has a last trade.
 pub fn add_last_trade<S: Alter>(
     tx: &mut Transaction<'_, S>,
     last_trade: &LastTrade,
@@ -53,8 +55,8 @@ pub fn add_last_trade<S: Alter>(
     )
 }
 
-/// Returns the security with this symbol, or `None` if there is none. Changes nothing. Fails with
-/// `Store` only.
+/// Returns the security with the symbol `symbol`, or `None` if there is none. Changes nothing.
+/// Fails with `Store` only.
 pub fn security_by_symbol<S: Alter>(
     tx: &mut Transaction<'_, S>,
     symbol: &Symbol,

@@ -1,17 +1,34 @@
--- The typed rows of all tables, and the test that each raw row is well-formed.
+-- The decoding of the raw rows of all tables into typed rows, and the test that each raw row is
+-- well-formed.
 use Rattle.std.specs.Prelude.{◌≡◌, ◌⊎◌, Bool, true, false, ◌&&◌, map}
 use Rattle.std.specs.List.{list_all}
 use Rattle.sqlite.specs.State.{State}
 use Rattle.brk_model.specs.Schemas.{Schema}
-use Rattle.brk_ref.specs.Records.{abstract_kept_row, abstract_broker_row, abstract_customer, abstract_account_row, abstract_permission, abstract_security_row, abstract_last_trade_row, abstract_charge, abstract_band, abstract_tax_rate, abstract_customer_tax}
-use Rattle.brk_changes.specs.Rows.{abstract_trade_row, abstract_history_row, abstract_request_row, abstract_holding_row, abstract_summary_row, abstract_lot_change_row, abstract_settlement_row, abstract_cash_row, abstract_move_row}
+use Rattle.brk_ref.specs.Records.{abstract_kept_row, abstract_broker_row, abstract_customer, abstract_account_row, abstract_permission}
+use Rattle.brk_ref.specs.Records.{abstract_security_row, abstract_last_trade_row, abstract_charge, abstract_band, abstract_tax_rate}
+use Rattle.brk_ref.specs.Records.{abstract_customer_tax}
+use Rattle.brk_changes.specs.Rows.{abstract_trade_row, abstract_history_row, abstract_request_row, abstract_holding_row, abstract_summary_row}
+use Rattle.brk_changes.specs.Rows.{abstract_lot_change_row, abstract_settlement_row, abstract_cash_row, abstract_move_row}
 use Rattle.brk_changes.specs.Sheets.{abstract_sheets}
 use Rattle.brk_changes.specs.declared.sheets.Sheets.{Sheets}
-use Rattle.brk_tables_schema.specs.Cells.{desk_row_cells, kept_cells, broker_cells, customer_cells, account_cells, permission_cells, security_cells, last_trade_cells, charge_cells, band_cells, tax_rate_cells, customer_tax_cells, trade_cells, history_cells, request_cells, holding_cells, summary_cells, holding_history_cells, settlement_cells, cash_cells, move_cells, rule_cells}
+use Rattle.brk_tables_schema.specs.Cells.{desk_row_cells, kept_cells, broker_cells, customer_cells, account_cells, permission_cells, security_cells}
+use Rattle.brk_tables_schema.specs.Cells.{last_trade_cells, charge_cells, band_cells, tax_rate_cells, customer_tax_cells, trade_cells, history_cells}
+use Rattle.brk_tables_schema.specs.Cells.{request_cells, holding_cells, summary_cells, holding_history_cells, settlement_cells, cash_cells}
+use Rattle.brk_tables_schema.specs.Cells.{move_cells, rule_cells}
 use Rattle.brk_tables_schema.specs.Desk.{DeskTable, desk_rows, rule_rows, encoded_row, rows_in_schema}
-use Rattle.brk_tables_schema.specs.Formed.{passes_all_cell_checks, has_one_valid_desk_row, kept_column_cell_checks, broker_column_cell_checks, customer_column_cell_checks, account_column_cell_checks, permission_column_cell_checks, security_column_cell_checks, last_trade_column_cell_checks, charge_column_cell_checks, band_column_cell_checks, tax_rate_column_cell_checks, customer_tax_column_cell_checks, trade_column_cell_checks, history_column_cell_checks, request_column_cell_checks, holding_column_cell_checks, summary_column_cell_checks, holding_history_column_cell_checks, settlement_column_cell_checks, cash_column_cell_checks, move_column_cell_checks, has_at_most_one_valid_rule_row}
+use Rattle.brk_tables_schema.specs.Formed.{passes_all_cell_checks, has_one_valid_desk_row, kept_column_cell_checks, broker_column_cell_checks}
+use Rattle.brk_tables_schema.specs.Formed.{customer_column_cell_checks, account_column_cell_checks, permission_column_cell_checks}
+use Rattle.brk_tables_schema.specs.Formed.{security_column_cell_checks, last_trade_column_cell_checks, charge_column_cell_checks}
+use Rattle.brk_tables_schema.specs.Formed.{band_column_cell_checks, tax_rate_column_cell_checks, customer_tax_column_cell_checks}
+use Rattle.brk_tables_schema.specs.Formed.{trade_column_cell_checks, history_column_cell_checks, request_column_cell_checks}
+use Rattle.brk_tables_schema.specs.Formed.{holding_column_cell_checks, summary_column_cell_checks, holding_history_column_cell_checks}
+use Rattle.brk_tables_schema.specs.Formed.{settlement_column_cell_checks, cash_column_cell_checks, move_column_cell_checks}
+use Rattle.brk_tables_schema.specs.Formed.{has_at_most_one_valid_rule_row}
 use Rattle.brk_tables_scan.specs.Whole.{ShowsRowsIfPresent}
-use Rattle.brk_tables_scan.specs.Raw.{DeskAndCustomerRows, AccountAndSecurityRows, ChargeAndRateRows, TradeAndHoldingRows, SummaryAndSettlementRows, LaterSchemaRows, RawSheets, raw_rows_of_table, IsUnchangedAndOpen, ShowsDeskAndCustomerTables, ShowsAccountAndSecurityTables, ShowsChargeAndRateTables, ShowsTradeAndHoldingTables, ShowsSummaryAndSettlementTables, ShowsLaterSchemaTables}
+use Rattle.brk_tables_scan.specs.Raw.{DeskAndCustomerRows, AccountAndSecurityRows, ChargeAndRateRows, TradeAndHoldingRows, SummaryAndSettlementRows}
+use Rattle.brk_tables_scan.specs.Raw.{LaterSchemaRows, RawSheets, raw_rows_of_table, IsUnchangedAndOpen, ShowsDeskAndCustomerTables}
+use Rattle.brk_tables_scan.specs.Raw.{ShowsAccountAndSecurityTables, ShowsChargeAndRateTables, ShowsTradeAndHoldingTables}
+use Rattle.brk_tables_scan.specs.Raw.{ShowsSummaryAndSettlementTables, ShowsLaterSchemaTables}
 use Rattle.brk_tables_scan.specs.declared.all_tables.DeskAndCustomerSheets.{DeskAndCustomerSheets}
 use Rattle.brk_tables_scan.specs.declared.all_tables.AccountAndSecuritySheets.{AccountAndSecuritySheets}
 use Rattle.brk_tables_scan.specs.declared.all_tables.ChargeAndRateSheets.{ChargeAndRateSheets}
@@ -19,20 +36,24 @@ use Rattle.brk_tables_scan.specs.declared.all_tables.TradeAndHoldingSheets.{Trad
 use Rattle.brk_tables_scan.specs.declared.all_tables.SummaryAndSettlementSheets.{SummaryAndSettlementSheets}
 use Rattle.brk_tables_scan.specs.declared.all_tables.LaterSchemaSheets.{LaterSchemaSheets}
 
--- The raw rows of DESK, KEPT, BROKER and CUSTOMER are, in order, the encodings of the typed rows.
+-- The raw rows of DESK, KEPT, BROKER and CUSTOMER are, in order, the encodings of the typed rows
+-- `sheets`.
 pub record DecodesDeskAndCustomerTables (schema : Schema) (sheets : DeskAndCustomerSheets) (raw : DeskAndCustomerRows) : Type 0 where
   pub desk : map desk_row_cells (desk_rows schema sheets.last) ≡ raw.desk
   pub kept : map (λ r. kept_cells (abstract_kept_row r)) sheets.kept.items ≡ raw.kept
   pub brokers : map (λ r. broker_cells (abstract_broker_row r)) sheets.brokers.items ≡ raw.brokers
   pub customers : map (λ r. customer_cells (abstract_customer r)) sheets.customers.items ≡ raw.customers
 
--- True if each column of each raw row of DESK, KEPT, BROKER and CUSTOMER is well-formed. There is
--- one row of DESK, with the number of the schema.
+-- True if each column of each raw row of DESK, KEPT, BROKER and CUSTOMER is well-formed, and there
+-- is exactly one row of DESK, with the number of the schema `desk`.
 abbrev pub are_desk_and_customer_rows_well_formed : Schema → DeskAndCustomerRows → Bool
-are_desk_and_customer_rows_well_formed desk raw = has_one_valid_desk_row desk raw.desk && list_all (passes_all_cell_checks kept_column_cell_checks) raw.kept && list_all (passes_all_cell_checks broker_column_cell_checks) raw.brokers && list_all (passes_all_cell_checks customer_column_cell_checks) raw.customers
+are_desk_and_customer_rows_well_formed desk raw =
+    has_one_valid_desk_row desk raw.desk && list_all (passes_all_cell_checks kept_column_cell_checks) raw.kept
+    && list_all (passes_all_cell_checks broker_column_cell_checks) raw.brokers
+    && list_all (passes_all_cell_checks customer_column_cell_checks) raw.customers
 
 -- The raw rows of CUSTOMER_ACCOUNT, ACCOUNT_PERMISSION, SECURITY and LAST_TRADE are, in order, the
--- encodings of the typed rows.
+-- encodings of the typed rows `sheets`.
 pub record DecodesAccountAndSecurityTables (sheets : AccountAndSecuritySheets) (raw : AccountAndSecurityRows) : Type 0 where
   pub accounts : map (λ r. account_cells (abstract_account_row r)) sheets.accounts.items ≡ raw.accounts
   pub permissions : map (λ r. permission_cells (abstract_permission r)) sheets.permissions.items ≡ raw.permissions
@@ -42,10 +63,14 @@ pub record DecodesAccountAndSecurityTables (sheets : AccountAndSecuritySheets) (
 -- True if each column of each raw row of CUSTOMER_ACCOUNT, ACCOUNT_PERMISSION, SECURITY and
 -- LAST_TRADE is well-formed.
 abbrev pub are_account_and_security_rows_well_formed : AccountAndSecurityRows → Bool
-are_account_and_security_rows_well_formed raw = list_all (passes_all_cell_checks account_column_cell_checks) raw.accounts && list_all (passes_all_cell_checks permission_column_cell_checks) raw.permissions && list_all (passes_all_cell_checks security_column_cell_checks) raw.securities && list_all (passes_all_cell_checks last_trade_column_cell_checks) raw.last_trades
+are_account_and_security_rows_well_formed raw =
+    list_all (passes_all_cell_checks account_column_cell_checks) raw.accounts
+    && list_all (passes_all_cell_checks permission_column_cell_checks) raw.permissions
+    && list_all (passes_all_cell_checks security_column_cell_checks) raw.securities
+    && list_all (passes_all_cell_checks last_trade_column_cell_checks) raw.last_trades
 
 -- The raw rows of CHARGE, COMMISSION_RATE, TAXRATE and CUSTOMER_TAXRATE are, in order, the
--- encodings of the typed rows.
+-- encodings of the typed rows `sheets`.
 pub record DecodesChargeAndRateTables (sheets : ChargeAndRateSheets) (raw : ChargeAndRateRows) : Type 0 where
   pub charges : map (λ r. charge_cells (abstract_charge r)) sheets.charges.items ≡ raw.charges
   pub bands : map (λ r. band_cells (abstract_band r)) sheets.bands.items ≡ raw.bands
@@ -55,10 +80,13 @@ pub record DecodesChargeAndRateTables (sheets : ChargeAndRateSheets) (raw : Char
 -- True if each column of each raw row of CHARGE, COMMISSION_RATE, TAXRATE and CUSTOMER_TAXRATE is
 -- well-formed.
 abbrev pub are_charge_and_rate_rows_well_formed : ChargeAndRateRows → Bool
-are_charge_and_rate_rows_well_formed raw = list_all (passes_all_cell_checks charge_column_cell_checks) raw.charges && list_all (passes_all_cell_checks band_column_cell_checks) raw.bands && list_all (passes_all_cell_checks tax_rate_column_cell_checks) raw.tax_rates && list_all (passes_all_cell_checks customer_tax_column_cell_checks) raw.customer_taxes
+are_charge_and_rate_rows_well_formed raw =
+    list_all (passes_all_cell_checks charge_column_cell_checks) raw.charges && list_all (passes_all_cell_checks band_column_cell_checks) raw.bands
+    && list_all (passes_all_cell_checks tax_rate_column_cell_checks) raw.tax_rates
+    && list_all (passes_all_cell_checks customer_tax_column_cell_checks) raw.customer_taxes
 
 -- The raw rows of TRADE, TRADE_HISTORY, TRADE_REQUEST and HOLDING are, in order, the encodings of
--- the typed rows.
+-- the typed rows `sheets`.
 pub record DecodesTradeAndHoldingTables (sheets : TradeAndHoldingSheets) (raw : TradeAndHoldingRows) : Type 0 where
   pub trades : map (λ r. trade_cells (abstract_trade_row r)) sheets.trades.items ≡ raw.trades
   pub history : map (λ r. history_cells (abstract_history_row r)) sheets.history.items ≡ raw.history
@@ -68,10 +96,13 @@ pub record DecodesTradeAndHoldingTables (sheets : TradeAndHoldingSheets) (raw : 
 -- True if each column of each raw row of TRADE, TRADE_HISTORY, TRADE_REQUEST and HOLDING is
 -- well-formed.
 abbrev pub are_trade_and_holding_rows_well_formed : TradeAndHoldingRows → Bool
-are_trade_and_holding_rows_well_formed raw = list_all (passes_all_cell_checks trade_column_cell_checks) raw.trades && list_all (passes_all_cell_checks history_column_cell_checks) raw.history && list_all (passes_all_cell_checks request_column_cell_checks) raw.requests && list_all (passes_all_cell_checks holding_column_cell_checks) raw.holdings
+are_trade_and_holding_rows_well_formed raw =
+    list_all (passes_all_cell_checks trade_column_cell_checks) raw.trades && list_all (passes_all_cell_checks history_column_cell_checks) raw.history
+    && list_all (passes_all_cell_checks request_column_cell_checks) raw.requests
+    && list_all (passes_all_cell_checks holding_column_cell_checks) raw.holdings
 
 -- The raw rows of HOLDING_SUMMARY, HOLDING_HISTORY, SETTLEMENT and CASH_TRANSACTION are, in order,
--- the encodings of the typed rows.
+-- the encodings of the typed rows `sheets`.
 pub record DecodesSummaryAndSettlementTables (sheets : SummaryAndSettlementSheets) (raw : SummaryAndSettlementRows) : Type 0 where
   pub summaries : map (λ r. summary_cells (abstract_summary_row r)) sheets.summaries.items ≡ raw.summaries
   pub holding_history : map (λ r. holding_history_cells (abstract_lot_change_row r)) sheets.holding_history.items ≡ raw.holding_history
@@ -81,90 +112,105 @@ pub record DecodesSummaryAndSettlementTables (sheets : SummaryAndSettlementSheet
 -- True if each column of each raw row of HOLDING_SUMMARY, HOLDING_HISTORY, SETTLEMENT and
 -- CASH_TRANSACTION is well-formed.
 abbrev pub are_summary_and_settlement_rows_well_formed : SummaryAndSettlementRows → Bool
-are_summary_and_settlement_rows_well_formed raw = list_all (passes_all_cell_checks summary_column_cell_checks) raw.summaries && list_all (passes_all_cell_checks holding_history_column_cell_checks) raw.holding_history && list_all (passes_all_cell_checks settlement_column_cell_checks) raw.settlements && list_all (passes_all_cell_checks cash_column_cell_checks) raw.cash
+are_summary_and_settlement_rows_well_formed raw =
+    list_all (passes_all_cell_checks summary_column_cell_checks) raw.summaries
+    && list_all (passes_all_cell_checks holding_history_column_cell_checks) raw.holding_history
+    && list_all (passes_all_cell_checks settlement_column_cell_checks) raw.settlements
+    && list_all (passes_all_cell_checks cash_column_cell_checks) raw.cash
 
--- The raw rows of CASH_MOVE and SETTLE_RULE are, in order, the encodings of the typed rows.
+-- The raw rows of CASH_MOVE and SETTLE_RULE are, in order, the encodings of the typed rows
+-- `sheets`.
 pub record DecodesLaterSchemaTables (sheets : LaterSchemaSheets) (raw : LaterSchemaRows) : Type 0 where
   pub moves : map (λ r. move_cells (abstract_move_row r)) sheets.moves.items ≡ raw.moves
   pub rule : map rule_cells (rule_rows sheets.rule) ≡ raw.rule
 
--- True if each column of each raw row of CASH_MOVE and SETTLE_RULE is well-formed. There is at most
--- one row of SETTLE_RULE.
+-- True if each column of each raw row of CASH_MOVE and SETTLE_RULE is well-formed, and there is at
+-- most one row of SETTLE_RULE.
 abbrev pub are_later_schema_rows_well_formed : LaterSchemaRows → Bool
 are_later_schema_rows_well_formed raw = list_all (passes_all_cell_checks move_column_cell_checks) raw.moves && has_at_most_one_valid_rule_row raw.rule
 
--- True if each column of each raw row is well-formed, there is one row of DESK, with the number of
--- the schema `desk`, and there is at most one row of SETTLE_RULE.
+-- True if each column of each raw row of all tables is well-formed, there is exactly one row of
+-- DESK, with the number of the schema `desk`, and there is at most one row of SETTLE_RULE.
 abbrev pub are_raw_sheets_well_formed : Schema → RawSheets → Bool
-are_raw_sheets_well_formed desk raw = are_desk_and_customer_rows_well_formed desk raw.first && are_account_and_security_rows_well_formed raw.accounts && are_charge_and_rate_rows_well_formed raw.rates && are_trade_and_holding_rows_well_formed raw.trades && are_summary_and_settlement_rows_well_formed raw.last && are_later_schema_rows_well_formed raw.later
+are_raw_sheets_well_formed desk raw =
+    are_desk_and_customer_rows_well_formed desk raw.first && are_account_and_security_rows_well_formed raw.accounts
+    && are_charge_and_rate_rows_well_formed raw.rates && are_trade_and_holding_rows_well_formed raw.trades
+    && are_summary_and_settlement_rows_well_formed raw.last && are_later_schema_rows_well_formed raw.later
 
 -- The raw rows of each table are, in order, the encodings of the typed rows `sheets`. The row of
 -- DESK has the number of the schema `desk`.
 abbrev pub DecodesSheets : Schema → Sheets → RawSheets → Type 0
 DecodesSheets desk sheets raw = (w : DeskTable) → map (encoded_row w) (rows_in_schema desk w (abstract_sheets sheets)) ≡ raw_rows_of_table raw w
 
--- A step of a decoding, which counts whether all raw rows so far are well-formed: `old` before the
--- step and `new` after it.
+-- A step of a decoding of raw rows. A flag, `old` before the step and `new` after it, is true only
+-- if all raw rows so far are well-formed. `are_well_formed` is true if the raw rows of this step
+-- are well-formed, and `Decodes` states that the step decodes them.
 pub record ContinuesDecoding (old new are_well_formed : Bool) (Decodes : Type 0) : Type 0 where
-  -- If all are well-formed after the step, they were before it.
+  -- If the flag is true after the step, it was true before it.
   pub before : new ≡ true → old ≡ true
-  -- If all are well-formed after the step, `Decodes` holds of its own rows.
+  -- If the flag is true after the step, the step decodes its rows.
   pub value : new ≡ true → Decodes
-  -- If not all are well-formed after the step, not all were before it, or not all of its own are.
+  -- If the flag is false after the step, it was false before it, or a row of the step is malformed.
   pub form : new ≡ false → (old ≡ false) ⊎ (are_well_formed ≡ false)
 
--- The reads show all rows of DESK, KEPT, BROKER and CUSTOMER, and change nothing. If the flag
--- `new`, which was `old` before, is still true, the rows encode the typed rows `sheets`. Vacuous
--- for a table that the database does not define as a desk does.
+-- The reads return all rows of DESK, KEPT, BROKER and CUSTOMER, and change nothing. If the flag of
+-- the decoding, `old` before and `new` after it, is true after it, the typed rows `sheets` are the
+-- decoded rows. The clause on the rows of a table is vacuous if the database does not define it as
+-- a desk does.
 pub record ReadsDeskAndCustomerTables (desk : Schema) (old new : Bool) (sheets : DeskAndCustomerSheets) (a b : State) : Type 0 where
   pub raw : DeskAndCustomerRows
   pub shown : ShowsDeskAndCustomerTables raw a b
   pub decoded : ContinuesDecoding old new (are_desk_and_customer_rows_well_formed desk raw) (DecodesDeskAndCustomerTables desk sheets raw)
 
--- The reads show all rows of CUSTOMER_ACCOUNT, ACCOUNT_PERMISSION, SECURITY and LAST_TRADE, and
--- change nothing. If the flag `new`, which was `old` before, is still true, the rows encode the
--- typed rows `sheets`. Vacuous for a table that the database does not define as a desk does.
+-- The reads return all rows of CUSTOMER_ACCOUNT, ACCOUNT_PERMISSION, SECURITY and LAST_TRADE, and
+-- change nothing. If the flag of the decoding, `old` before and `new` after it, is true after it,
+-- the typed rows `sheets` are the decoded rows. The clause on the rows of a table is vacuous if the
+-- database does not define it as a desk does.
 pub record ReadsAccountAndSecurityTables (old new : Bool) (sheets : AccountAndSecuritySheets) (a b : State) : Type 0 where
   pub raw : AccountAndSecurityRows
   pub shown : ShowsAccountAndSecurityTables raw a b
   pub decoded : ContinuesDecoding old new (are_account_and_security_rows_well_formed raw) (DecodesAccountAndSecurityTables sheets raw)
 
--- The reads show all rows of CHARGE, COMMISSION_RATE, TAXRATE and CUSTOMER_TAXRATE, and change
--- nothing. If the flag `new`, which was `old` before, is still true, the rows encode the typed rows
--- `sheets`. Vacuous for a table that the database does not define as a desk does.
+-- The reads return all rows of CHARGE, COMMISSION_RATE, TAXRATE and CUSTOMER_TAXRATE, and change
+-- nothing. If the flag of the decoding, `old` before and `new` after it, is true after it, the
+-- typed rows `sheets` are the decoded rows. The clause on the rows of a table is vacuous if the
+-- database does not define it as a desk does.
 pub record ReadsChargeAndRateTables (old new : Bool) (sheets : ChargeAndRateSheets) (a b : State) : Type 0 where
   pub raw : ChargeAndRateRows
   pub shown : ShowsChargeAndRateTables raw a b
   pub decoded : ContinuesDecoding old new (are_charge_and_rate_rows_well_formed raw) (DecodesChargeAndRateTables sheets raw)
 
--- The reads show all rows of TRADE, TRADE_HISTORY, TRADE_REQUEST and HOLDING, and change nothing.
--- If the flag `new`, which was `old` before, is still true, the rows encode the typed rows
--- `sheets`. Vacuous for a table that the database does not define as a desk does.
+-- The reads return all rows of TRADE, TRADE_HISTORY, TRADE_REQUEST and HOLDING, and change nothing.
+-- If the flag of the decoding, `old` before and `new` after it, is true after it, the typed rows
+-- `sheets` are the decoded rows. The clause on the rows of a table is vacuous if the database does
+-- not define it as a desk does.
 pub record ReadsTradeAndHoldingTables (old new : Bool) (sheets : TradeAndHoldingSheets) (a b : State) : Type 0 where
   pub raw : TradeAndHoldingRows
   pub shown : ShowsTradeAndHoldingTables raw a b
   pub decoded : ContinuesDecoding old new (are_trade_and_holding_rows_well_formed raw) (DecodesTradeAndHoldingTables sheets raw)
 
--- The reads show all rows of HOLDING_SUMMARY, HOLDING_HISTORY, SETTLEMENT and CASH_TRANSACTION, and
--- change nothing. If the flag `new`, which was `old` before, is still true, the rows encode the
--- typed rows `sheets`. Vacuous for a table that the database does not define as a desk does.
+-- The reads return all rows of HOLDING_SUMMARY, HOLDING_HISTORY, SETTLEMENT and CASH_TRANSACTION,
+-- and change nothing. If the flag of the decoding, `old` before and `new` after it, is true after
+-- it, the typed rows `sheets` are the decoded rows. The clause on the rows of a table is vacuous if
+-- the database does not define it as a desk does.
 pub record ReadsSummaryAndSettlementTables (old new : Bool) (sheets : SummaryAndSettlementSheets) (a b : State) : Type 0 where
   pub raw : SummaryAndSettlementRows
   pub shown : ShowsSummaryAndSettlementTables raw a b
   pub decoded : ContinuesDecoding old new (are_summary_and_settlement_rows_well_formed raw) (DecodesSummaryAndSettlementTables sheets raw)
 
--- The reads show all rows of CASH_MOVE and SETTLE_RULE, and change nothing. If the flag `new`,
--- which was `old` before, is still true, the rows encode the typed rows `sheets`. Vacuous for a
--- table that the database does not define as a desk does.
+-- The reads return all rows of CASH_MOVE and SETTLE_RULE, and change nothing. If the flag of the
+-- decoding, `old` before and `new` after it, is true after it, the typed rows `sheets` are the
+-- decoded rows. The clause on the rows of a table is vacuous if the database does not define it as
+-- a desk does.
 pub record ReadsLaterSchemaTables (desk : Schema) (old new : Bool) (sheets : LaterSchemaSheets) (a b : State) : Type 0 where
   pub raw : LaterSchemaRows
   pub shown : ShowsLaterSchemaTables desk raw a b
   pub decoded : ContinuesDecoding old new (are_later_schema_rows_well_formed raw) (DecodesLaterSchemaTables sheets raw)
 
--- The reads show all rows of each table of the schema `desk`, and none of other tables. The database
--- was open, and the reads changed nothing. If the flag `new`, which was `old` before, is still true,
--- the rows encode the typed rows `sheets`. Vacuous for a table that the database does not define as a
--- desk does.
+-- The reads return all rows of each table of the schema `desk`, and none of other tables. The
+-- database was open, and the reads changed nothing. If the flag of the decoding, `old` before and
+-- `new` after it, is true after it, the typed rows `sheets` are the decoded rows. The clause on the
+-- rows of a table is vacuous if the database does not define it as a desk does.
 pub record ReadsDeskTables (desk : Schema) (old new : Bool) (sheets : Sheets) (a b : State) : Type 0 where
   pub raw : RawSheets
   pub stays : IsUnchangedAndOpen a b

@@ -6,24 +6,27 @@ use Rattle.brk_sql.specs.Desk.{MatchesResultColumns}
 use Rattle.brk_tables_schema.specs.Desk.{DeskTable, table_name, table_definition_at}
 use Rattle.brk_tables_scan.specs.Schemas.{table_and_column_names}
 
--- A statement and the column names that its result is to have.
+-- A statement and the column names that its result is expected to have, in order.
 abbrev pub Heading : Type 0
 Heading = List ℕ × List (List ℕ)
 
--- The heading of a borrowed statement and of borrowed column names.
+-- The statement and the column names that the borrowed texts `told` contain.
 abbrev pub heading_of_borrowed_texts : Bor (List ℕ) × Bor (List (Bor (List ℕ))) → Heading
 heading_of_borrowed_texts told = (told.0.now, map (λ (name : Bor (List ℕ)). name.now) told.1.now)
 
--- The text `SELECT * FROM` with the name of the table.
+-- The text of the statement that selects all columns of the table `w`: `SELECT * FROM` and its SQL
+-- name.
 abbrev pub select_all_text : DeskTable → List ℕ
 select_all_text w = codes "SELECT * FROM " ++ table_name w
 
--- The statement that selects all columns of a table, and the names of these columns, in order.
+-- The statement that selects all columns of the table `w`, and the names of these columns, in
+-- order.
 abbrev pub heading_of_table : DeskTable → Heading
 heading_of_table w = (select_all_text w, (table_and_column_names (table_definition_at w 0)).columns)
 
 -- If `has` is true, the result of each statement has exactly the column names of its heading, in
--- order. If it is false, the result of some statement does not have them.
+-- order. If it is false, the result of some statement does not have them. Each statement up to this
+-- one compiles in the schema.
 abbrev pub MatchesEachHeading : List Heading → Bool → Schema → Type 0
 MatchesEachHeading [] has schema = has ≡ true
 MatchesEachHeading (h ∷ headings) has schema =

@@ -1,8 +1,11 @@
--- The raw rows of all tables, as their reads show them. The code has those of one table at a time.
+-- The raw rows of all tables, as the reads return them: SQL values that are not yet decoded. In the
+-- code only the rows of one table are in memory at a time.
 use Rattle.std.specs.Prelude.{◌≡◌, List, IsTrue}
 use Rattle.sqlite_value.specs.Order.{Row}
 use Rattle.sqlite.specs.State.{State}
-use Rattle.brk_tables_schema.specs.Desk.{DeskTable, TheDesk, KeptRows, Brokers, Customers, Accounts, Permissions, Securities, LastTrades, Charges, Bands, TaxRates, CustomerTaxes, Trades, TradeHistory, Requests, Holdings, Summaries, HoldingHistory, Settlements, CashRows, CashMoves, SettleRules}
+use Rattle.brk_tables_schema.specs.Desk.{DeskTable, TheDesk, KeptRows, Brokers, Customers, Accounts, Permissions, Securities, LastTrades, Charges}
+use Rattle.brk_tables_schema.specs.Desk.{Bands, TaxRates, CustomerTaxes, Trades, TradeHistory, Requests, Holdings, Summaries, HoldingHistory}
+use Rattle.brk_tables_schema.specs.Desk.{Settlements, CashRows, CashMoves, SettleRules}
 use Rattle.brk_model.specs.Schemas.{Schema}
 use Rattle.brk_tables_scan.specs.Whole.{ShowsAllRows, ShowsRowsIfPresent}
 
@@ -46,7 +49,7 @@ pub record LaterSchemaRows : Type 0 where
   pub moves : List Row
   pub rule : List Row
 
--- The raw rows of all tables.
+-- The raw rows of all tables of a desk.
 pub record RawSheets : Type 0 where
   pub first : DeskAndCustomerRows
   pub accounts : AccountAndSecurityRows
@@ -55,12 +58,13 @@ pub record RawSheets : Type 0 where
   pub last : SummaryAndSettlementRows
   pub later : LaterSchemaRows
 
--- The database was open, and its contents are unchanged.
+-- The database was open in the state `old`, and its contents are unchanged in `new`.
 abbrev pub IsUnchangedAndOpen : State → State → Type 0
 IsUnchangedAndOpen old new = IsTrue old.is_open × (new.now ≡ old.now)
 
--- The lists are all rows of these four tables, sorted by key, and the reads changed nothing.
--- Vacuous for a table that the database does not define as a desk does.
+-- The database was open, and the reads changed nothing. The lists `a`, `b`, `c` and `d` have all
+-- rows of the tables `first`, `second`, `third` and `fourth`, each sorted by key. The clause on a
+-- table is vacuous if the database does not define it as a desk does.
 pub record ShowsFourTables (first second third fourth : DeskTable) (a b c d : List Row) (old new : State) : Type 0 where
   pub stays : IsUnchangedAndOpen old new
   pub one : ShowsAllRows first a old.now
@@ -68,43 +72,45 @@ pub record ShowsFourTables (first second third fourth : DeskTable) (a b c d : Li
   pub three : ShowsAllRows third c old.now
   pub four : ShowsAllRows fourth d old.now
 
--- The raw rows are all rows of DESK, KEPT, BROKER and CUSTOMER, sorted by key, and the reads
--- changed nothing. Vacuous for a table that the database does not define as a desk does.
+-- The database was open, the reads changed nothing, and the raw rows are all rows of DESK, KEPT,
+-- BROKER and CUSTOMER, sorted by key. The clause on a table is vacuous if the database does not
+-- define it as a desk does.
 abbrev pub ShowsDeskAndCustomerTables : DeskAndCustomerRows → State → State → Type 0
 ShowsDeskAndCustomerTables raw = ShowsFourTables TheDesk KeptRows Brokers Customers raw.desk raw.kept raw.brokers raw.customers
 
--- The raw rows are all rows of CUSTOMER_ACCOUNT, ACCOUNT_PERMISSION, SECURITY and LAST_TRADE,
--- sorted by key, and the reads changed nothing. Vacuous for a table that the database does not
--- define as a desk does.
+-- The database was open, the reads changed nothing, and the raw rows are all rows of
+-- CUSTOMER_ACCOUNT, ACCOUNT_PERMISSION, SECURITY and LAST_TRADE, sorted by key. The clause on a
+-- table is vacuous if the database does not define it as a desk does.
 abbrev pub ShowsAccountAndSecurityTables : AccountAndSecurityRows → State → State → Type 0
 ShowsAccountAndSecurityTables raw = ShowsFourTables Accounts Permissions Securities LastTrades raw.accounts raw.permissions raw.securities raw.last_trades
 
--- The raw rows are all rows of CHARGE, COMMISSION_RATE, TAXRATE and CUSTOMER_TAXRATE, sorted by
--- key, and the reads changed nothing. Vacuous for a table that the database does not define as a
--- desk does.
+-- The database was open, the reads changed nothing, and the raw rows are all rows of CHARGE,
+-- COMMISSION_RATE, TAXRATE and CUSTOMER_TAXRATE, sorted by key. The clause on a table is vacuous if
+-- the database does not define it as a desk does.
 abbrev pub ShowsChargeAndRateTables : ChargeAndRateRows → State → State → Type 0
 ShowsChargeAndRateTables raw = ShowsFourTables Charges Bands TaxRates CustomerTaxes raw.charges raw.bands raw.tax_rates raw.customer_taxes
 
--- The raw rows are all rows of TRADE, TRADE_HISTORY, TRADE_REQUEST and HOLDING, sorted by key, and
--- the reads changed nothing. Vacuous for a table that the database does not define as a desk does.
+-- The database was open, the reads changed nothing, and the raw rows are all rows of TRADE,
+-- TRADE_HISTORY, TRADE_REQUEST and HOLDING, sorted by key. The clause on a table is vacuous if the
+-- database does not define it as a desk does.
 abbrev pub ShowsTradeAndHoldingTables : TradeAndHoldingRows → State → State → Type 0
 ShowsTradeAndHoldingTables raw = ShowsFourTables Trades TradeHistory Requests Holdings raw.trades raw.history raw.requests raw.holdings
 
--- The raw rows are all rows of HOLDING_SUMMARY, HOLDING_HISTORY, SETTLEMENT and CASH_TRANSACTION,
--- sorted by key, and the reads changed nothing. Vacuous for a table that the database does not
--- define as a desk does.
+-- The database was open, the reads changed nothing, and the raw rows are all rows of
+-- HOLDING_SUMMARY, HOLDING_HISTORY, SETTLEMENT and CASH_TRANSACTION, sorted by key. The clause on a
+-- table is vacuous if the database does not define it as a desk does.
 abbrev pub ShowsSummaryAndSettlementTables : SummaryAndSettlementRows → State → State → Type 0
 ShowsSummaryAndSettlementTables raw = ShowsFourTables Summaries HoldingHistory Settlements CashRows raw.summaries raw.holding_history raw.settlements raw.cash
 
--- The raw rows are all rows of CASH_MOVE and of SETTLE_RULE, sorted by key, or none of a table that
--- the schema `desk` does not have. The reads changed nothing. Vacuous for a table that the database
--- does not define as a desk does.
+-- The reads changed nothing, and the raw rows are all rows of CASH_MOVE and SETTLE_RULE, sorted by
+-- key; there are none of a table that the schema `desk` does not have. The clause on a table is
+-- vacuous if the database does not define it as a desk does.
 pub record ShowsLaterSchemaTables (desk : Schema) (raw : LaterSchemaRows) (old new : State) : Type 0 where
   pub same : new.now ≡ old.now
   pub moves : ShowsRowsIfPresent desk CashMoves raw.moves old.now
   pub rule : ShowsRowsIfPresent desk SettleRules raw.rule old.now
 
--- The raw rows of one table.
+-- The raw rows of one table, among those of all tables.
 abbrev pub raw_rows_of_table : RawSheets → DeskTable → List Row
 raw_rows_of_table raw TheDesk = raw.first.desk
 raw_rows_of_table raw KeptRows = raw.first.kept

@@ -1,5 +1,6 @@
--- The tables that a database must have to be a desk's in a schema, and the premise under which
--- their rows are known.
+-- The tables that a database must have to have a schema of a desk, and the premise under which
+-- their rows are known. In the parameters, `desk` is the schema of a desk, and `schema` is the list
+-- of the tables that the database has.
 use Rattle.std.specs.Prelude.{◌≡◌, ℕ, List, [], ◌∷◌, map, Some, None, slice_get, IsTrue}
 use Rattle.std.specs.List.{AllByRecursion, IsDistinct}
 use Rattle.sqlite_value.specs.declared.value.Value.{Value}
@@ -21,83 +22,84 @@ use Rattle.brk_tables_schema.specs.Desk.{DeskTable, table_name, table_definition
 use Rattle.brk_tables_schema.specs.Made.{IsTableOfSchema}
 use Rattle.brk_tables_create.specs.Made.{tables_of_later_schemas}
 
--- The name of a table and the names of its columns, in order.
+-- The SQL name of a table and the names of its columns, in order.
 pub record TableAndColumnNames : Type 0 where
   pub name : List ℕ
   pub columns : List (List ℕ)
 
--- The name of a table and the names of its columns, in order.
+-- The SQL name of the table `table` and the names of its columns, in order.
 abbrev pub table_and_column_names : Table → TableAndColumnNames
 table_and_column_names table = record { name = table.name; columns = map (λ c. c.name) table.columns }
 
--- The table is at the position `at` of the database's schema, and has this name and exactly these
--- columns, in order.
+-- The table `table` is at the index `at` of the database's list of tables, and has this name and
+-- exactly these columns, in order.
 pub record IsTableWithNames (schema : database.Schema) (names : TableAndColumnNames) (at : ℕ) (table : Table) : Type 0 where
   pub named : table_named schema names.name ≡ Some at
   pub found : slice_get schema.tables at ≡ Some table
   pub columns : map (λ c. c.name) table.columns ≡ names.columns
 
--- The schema of the database has a table with this name and exactly these columns, in order.
+-- The database has a table with this name and exactly these columns, in order.
 abbrev pub HasTableWithNames : database.Schema → TableAndColumnNames → Type 0
 HasTableWithNames schema names = (at : ℕ) × (table : Table) × IsTableWithNames schema names at table
 
--- For each table that a desk has in the schema `desk`, a table of its name and with exactly its
--- columns, in order, exists in the database.
+-- For each table of the schema `desk`, the database has a table with its name and exactly its
+-- columns, in order.
 abbrev pub HasTablesOfSchema : Schema → database.Schema → Type 0
 HasTablesOfSchema desk schema = AllByRecursion (λ w. HasTableWithNames schema (table_and_column_names (table_definition_at w 0))) (tables_in_schema desk)
 
--- The database has no table with the name of one that `desk` does not have and a later schema adds.
+-- The database has no table with the name of one that the schema `desk` does not have and a later
+-- schema adds.
 abbrev pub LacksTablesOfLaterSchemas : Schema → database.Schema → Type 0
 LacksTablesOfLaterSchemas desk schema = AllByRecursion (λ w. table_named schema (table_name w) ≡ None) (tables_of_later_schemas desk)
 
--- The row has exactly the three values of a row of DESK: the id 1, the number of the schema, and
--- any value as the stamp.
+-- The row has exactly the three values of a row of DESK in the schema `desk`: the id 1, the number
+-- of the schema, and any value as the stamp.
 abbrev pub IsDeskRowOfSchema : Schema → Row → Type 0
 IsDeskRowOfSchema desk row = (last : Value) × (row ≡ natural_as_value 1 ∷ natural_as_value desk.number ∷ last ∷ [])
 
--- The rows are exactly one, with the three values of a row of DESK: the id 1, the number of the
--- schema, and any value as the stamp.
+-- The rows are exactly one row, with the three values of a row of DESK in the schema `desk`: the id
+-- 1, the number of the schema, and any value as the stamp.
 abbrev pub IsOneDeskRowOfSchema : Schema → List Row → Type 0
 IsOneDeskRowOfSchema desk rows = (last : Value) × (rows ≡ (natural_as_value 1 ∷ natural_as_value desk.number ∷ last ∷ []) ∷ [])
 
--- The database has a desk of the schema `desk`: each table of the schema, by its name and with
--- exactly its columns; no table that a later schema adds; and exactly one row of DESK, with the
--- number of the schema.
+-- The database has the schema `desk`: each table of the schema, by its name and with exactly its
+-- columns; no table that a later schema adds; and exactly one row of DESK, with the number of the
+-- schema. The clause on the row is vacuous if DESK is not defined as a desk defines it.
 pub record HasDeskOfSchema (desk : Schema) (db : Database) : Type 0 where
   pub tables : HasTablesOfSchema desk db.schema
   pub later : LacksTablesOfLaterSchemas desk db.schema
   pub row : (at tree : ℕ) → IsTableAt db.schema (desk_row_table tree) at
       → IsOneDeskRowOfSchema desk (map (cells_in_column_order (desk_row_table tree)) (db.trees tree))
 
--- The rowids of the rows are distinct integers.
+-- The rowids of the stored rows are distinct integers.
 pub record HasDistinctRowids (rows : List Row) : Type 0 where
   pub keyed : AllByRecursion (λ r. IsTrue (is_int (rowid r))) rows
   pub apart : IsDistinct has_same_rowid rows
 
--- The tables of a desk in this database are defined as a desk defines them, in what the names of
--- tables and columns do not determine: types, keys, foreign keys, rowids, and that no foreign key
--- of theirs writes rows.
+-- The tables of the database with the names of the tables of the schema `desk` are defined as a
+-- desk defines them, in what the names of tables and columns do not determine: types, keys, foreign
+-- keys, and distinct rowids. No foreign key of a table changes or deletes their rows.
 pub record HasDeskDefinitions (desk : Schema) (db : Database) : Type 0 where
   pub sound : IsDatabase db
-  -- The column types, keys and foreign keys equal those of the desk's table.
+  -- The column types, keys and foreign keys equal those that the desk defines for this name.
   pub shaped : (w : DeskTable) → IsTableOfSchema desk w → (at : ℕ) (table : Table) → table_named db.schema (table_name w) ≡ Some at
       → slice_get db.schema.tables at ≡ Some table → table ≡ table_definition_at w table.tree
-  -- No two of them share a tree.
+  -- No two of these tables share a tree.
   pub apart : (v w : DeskTable) → IsTableOfSchema desk v → IsTableOfSchema desk w → (i j tree : ℕ) → IsTableAt db.schema (table_definition_at v tree) i
       → IsTableAt db.schema (table_definition_at w tree) j → v ≡ w
-  -- No foreign key of any table at their trees writes rows.
+  -- No foreign key of a table at their trees changes or deletes rows.
   pub calm : (w : DeskTable) → IsTableOfSchema desk w → (at tree : ℕ) → IsTableAt db.schema (table_definition_at w tree) at
       → HasNoWritingForeignKeysAt db.schema tree
   pub keyed : (w : DeskTable) → IsTableOfSchema desk w → (at tree : ℕ) → IsTableAt db.schema (table_definition_at w tree) at → HasDistinctRowids (db.trees tree)
 
--- If each table of a desk in the schema `desk` exists in the database by its name and its columns,
--- these tables are defined as a desk defines them (`HasDeskDefinitions`). Vacuous if a table or a
--- column of them is missing, or if there is one column more.
+-- If the database has each table of the schema `desk`, by its name and with exactly its columns,
+-- these tables are defined as a desk defines them (`HasDeskDefinitions`). Vacuous if one of these
+-- tables or columns is missing, or if one of the tables has another column.
 abbrev pub NamedTablesMatchSchemaDefinitions : Schema → Database → Type 0
 NamedTablesMatchSchemaDefinitions desk db = HasTablesOfSchema desk db.schema → HasDeskDefinitions desk db
 
--- For each schema: if the tables of a desk exist by their names and columns, they are defined as a
--- desk defines them. It is the premise on a database that another program may have created; an
--- empty one satisfies it.
+-- For each schema of a desk: if the database has each of its tables, by name and with exactly its
+-- columns, these tables are defined as a desk defines them. This is the premise on a database that
+-- another program may have created; an empty database satisfies it.
 abbrev pub NamedTablesMatchDeskDefinitions : Database → Type 0
 NamedTablesMatchDeskDefinitions db = (schema : known.Schema) → NamedTablesMatchSchemaDefinitions (abstract_schema schema) db

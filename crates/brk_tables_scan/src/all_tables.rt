@@ -5,7 +5,8 @@ ghost use Rattle.std.specs.Prelude.{◌≡◌, IfErr};
 ghost use Rattle.brk_model.specs.Run.{IsCallFault};
 ghost use Rattle.brk_changes.specs.Schemas.{abstract_schema};
 ghost use Rattle.brk_sql.specs.Model.{IsConnectionStep};
-ghost use Rattle.brk_tables_scan.specs.Decoded.{ReadsDeskAndCustomerTables, ReadsAccountAndSecurityTables, ReadsChargeAndRateTables, ReadsTradeAndHoldingTables, ReadsSummaryAndSettlementTables, ReadsLaterSchemaTables, ReadsDeskTables};
+ghost use Rattle.brk_tables_scan.specs.Decoded.{ReadsDeskAndCustomerTables, ReadsAccountAndSecurityTables, ReadsChargeAndRateTables};
+ghost use Rattle.brk_tables_scan.specs.Decoded.{ReadsTradeAndHoldingTables, ReadsSummaryAndSettlementTables, ReadsLaterSchemaTables, ReadsDeskTables};
 
 use crate::decoder::Decoder;
 use crate::rows::{
@@ -35,7 +36,8 @@ pub struct DeskAndCustomerSheets {
     customers: Vec<Customer>,
 }
 
-// Reads and decodes all rows of DESK, KEPT, BROKER and CUSTOMER. Fails with `Memory` or `Store`
+// Reads and decodes all rows of DESK, KEPT, BROKER and CUSTOMER, each list sorted by key. If a row
+// is malformed, sets `are_well_formed` of the decoder to false. Fails with `Memory` or `Store`
 // only.
 fn read_desk_and_customer_tables<S: Alter>(
     tx: &mut Transaction<'_, S>,
@@ -44,7 +46,8 @@ fn read_desk_and_customer_tables<S: Alter>(
     decoder: &mut Decoder,
 ) -> Result<DeskAndCustomerSheets, Fault>
     ensures same_reference { tx.new.conn.ghost_name ≡ tx.old.conn.ghost_name }
-    ensures step { IsConnectionStep S.Store tx.old tx.new result (λ sheets. ReadsDeskAndCustomerTables (abstract_schema schema) decoder.old.are_well_formed decoder.new.are_well_formed sheets) }
+    ensures step { IsConnectionStep S.Store tx.old tx.new result
+        (λ sheets. ReadsDeskAndCustomerTables (abstract_schema schema) decoder.old.are_well_formed decoder.new.are_well_formed sheets) }
     ensures fault { IfErr result IsCallFault }
 {
     let last = decoder.decode_last_stamp(schema, desk_rows(tx)?)?;
@@ -68,15 +71,17 @@ pub struct AccountAndSecuritySheets {
     last_trades: Vec<LastTrade>,
 }
 
-// Reads and decodes all rows of CUSTOMER_ACCOUNT, ACCOUNT_PERMISSION, SECURITY and LAST_TRADE.
-// Fails with `Memory` or `Store` only.
+// Reads and decodes all rows of CUSTOMER_ACCOUNT, ACCOUNT_PERMISSION, SECURITY and LAST_TRADE, each
+// list sorted by key. If a row is malformed, sets `are_well_formed` of the decoder to false. Fails
+// with `Memory` or `Store` only.
 fn read_account_and_security_tables<S: Alter>(
     tx: &mut Transaction<'_, S>,
     alloc: Global,
     decoder: &mut Decoder,
 ) -> Result<AccountAndSecuritySheets, Fault>
     ensures same_reference { tx.new.conn.ghost_name ≡ tx.old.conn.ghost_name }
-    ensures step { IsConnectionStep S.Store tx.old tx.new result (λ sheets. ReadsAccountAndSecurityTables decoder.old.are_well_formed decoder.new.are_well_formed sheets) }
+    ensures step { IsConnectionStep S.Store tx.old tx.new result
+        (λ sheets. ReadsAccountAndSecurityTables decoder.old.are_well_formed decoder.new.are_well_formed sheets) }
     ensures fault { IfErr result IsCallFault }
 {
     let accounts = decoder.decode(alloc, account_rows(tx)?)?;
@@ -100,7 +105,8 @@ pub struct ChargeAndRateSheets {
     customer_taxes: Vec<CustomerTax>,
 }
 
-// Reads and decodes all rows of CHARGE, COMMISSION_RATE, TAXRATE and CUSTOMER_TAXRATE. Fails with
+// Reads and decodes all rows of CHARGE, COMMISSION_RATE, TAXRATE and CUSTOMER_TAXRATE, each list
+// sorted by key. If a row is malformed, sets `are_well_formed` of the decoder to false. Fails with
 // `Memory` or `Store` only.
 fn read_charge_and_rate_tables<S: Alter>(
     tx: &mut Transaction<'_, S>,
@@ -108,7 +114,8 @@ fn read_charge_and_rate_tables<S: Alter>(
     decoder: &mut Decoder,
 ) -> Result<ChargeAndRateSheets, Fault>
     ensures same_reference { tx.new.conn.ghost_name ≡ tx.old.conn.ghost_name }
-    ensures step { IsConnectionStep S.Store tx.old tx.new result (λ sheets. ReadsChargeAndRateTables decoder.old.are_well_formed decoder.new.are_well_formed sheets) }
+    ensures step { IsConnectionStep S.Store tx.old tx.new result
+        (λ sheets. ReadsChargeAndRateTables decoder.old.are_well_formed decoder.new.are_well_formed sheets) }
     ensures fault { IfErr result IsCallFault }
 {
     let charges = decoder.decode(alloc, charge_rows(tx)?)?;
@@ -132,7 +139,8 @@ pub struct TradeAndHoldingSheets {
     holdings: Vec<HoldingRow>,
 }
 
-// Reads and decodes all rows of TRADE, TRADE_HISTORY, TRADE_REQUEST and HOLDING. Fails with
+// Reads and decodes all rows of TRADE, TRADE_HISTORY, TRADE_REQUEST and HOLDING, each list sorted
+// by key. If a row is malformed, sets `are_well_formed` of the decoder to false. Fails with
 // `Memory` or `Store` only.
 fn read_trade_and_holding_tables<S: Alter>(
     tx: &mut Transaction<'_, S>,
@@ -140,7 +148,8 @@ fn read_trade_and_holding_tables<S: Alter>(
     decoder: &mut Decoder,
 ) -> Result<TradeAndHoldingSheets, Fault>
     ensures same_reference { tx.new.conn.ghost_name ≡ tx.old.conn.ghost_name }
-    ensures step { IsConnectionStep S.Store tx.old tx.new result (λ sheets. ReadsTradeAndHoldingTables decoder.old.are_well_formed decoder.new.are_well_formed sheets) }
+    ensures step { IsConnectionStep S.Store tx.old tx.new result
+        (λ sheets. ReadsTradeAndHoldingTables decoder.old.are_well_formed decoder.new.are_well_formed sheets) }
     ensures fault { IfErr result IsCallFault }
 {
     let trades = decoder.decode(alloc, trade_rows(tx)?)?;
@@ -164,7 +173,8 @@ pub struct SummaryAndSettlementSheets {
     cash: Vec<CashRow>,
 }
 
-// Reads and decodes all rows of HOLDING_SUMMARY, HOLDING_HISTORY, SETTLEMENT and CASH_TRANSACTION.
+// Reads and decodes all rows of HOLDING_SUMMARY, HOLDING_HISTORY, SETTLEMENT and CASH_TRANSACTION,
+// each list sorted by key. If a row is malformed, sets `are_well_formed` of the decoder to false.
 // Fails with `Memory` or `Store` only.
 fn read_summary_and_settlement_tables<S: Alter>(
     tx: &mut Transaction<'_, S>,
@@ -172,7 +182,8 @@ fn read_summary_and_settlement_tables<S: Alter>(
     decoder: &mut Decoder,
 ) -> Result<SummaryAndSettlementSheets, Fault>
     ensures same_reference { tx.new.conn.ghost_name ≡ tx.old.conn.ghost_name }
-    ensures step { IsConnectionStep S.Store tx.old tx.new result (λ sheets. ReadsSummaryAndSettlementTables decoder.old.are_well_formed decoder.new.are_well_formed sheets) }
+    ensures step { IsConnectionStep S.Store tx.old tx.new result
+        (λ sheets. ReadsSummaryAndSettlementTables decoder.old.are_well_formed decoder.new.are_well_formed sheets) }
     ensures fault { IfErr result IsCallFault }
 {
     let summaries = decoder.decode(alloc, summary_rows(tx)?)?;
@@ -194,7 +205,8 @@ pub struct LaterSchemaSheets {
     rule: Option<Day>,
 }
 
-// Reads and decodes all rows of CASH_MOVE and SETTLE_RULE. Fails with `Memory` or `Store` only.
+// Reads and decodes all rows of CASH_MOVE and SETTLE_RULE, each list sorted by key. If a row is
+// malformed, sets `are_well_formed` of the decoder to false. Fails with `Memory` or `Store` only.
 fn read_later_schema_tables<S: Alter>(
     tx: &mut Transaction<'_, S>,
     alloc: Global,
@@ -202,7 +214,8 @@ fn read_later_schema_tables<S: Alter>(
     decoder: &mut Decoder,
 ) -> Result<LaterSchemaSheets, Fault>
     ensures same_reference { tx.new.conn.ghost_name ≡ tx.old.conn.ghost_name }
-    ensures step { IsConnectionStep S.Store tx.old tx.new result (λ sheets. ReadsLaterSchemaTables (abstract_schema schema) decoder.old.are_well_formed decoder.new.are_well_formed sheets) }
+    ensures step { IsConnectionStep S.Store tx.old tx.new result
+        (λ sheets. ReadsLaterSchemaTables (abstract_schema schema) decoder.old.are_well_formed decoder.new.are_well_formed sheets) }
     ensures fault { IfErr result IsCallFault }
 {
     let moves = decoder.decode(alloc, cash_move_rows_in_schema(tx, alloc, schema)?)?;
@@ -210,8 +223,9 @@ fn read_later_schema_tables<S: Alter>(
     Ok(LaterSchemaSheets { moves, rule })
 }
 
-/// Reads and decodes all rows of the tables of `schema`, each list sorted by key. A table that it
-/// lacks has no rows. Fails with `Memory` or `Store` only.
+/// Reads and decodes all rows of the tables of `schema`, each list sorted by key, ascending. The
+/// list of a table that `schema` lacks is empty. If a row is malformed, sets `are_well_formed` of
+/// the decoder to false. Fails with `Memory` or `Store` only.
 pub(crate) fn read_all_tables<S: Alter>(
     tx: &mut Transaction<'_, S>,
     alloc: Global,
@@ -219,7 +233,8 @@ pub(crate) fn read_all_tables<S: Alter>(
     decoder: &mut Decoder,
 ) -> Result<Sheets, Fault>
     ensures same_reference { tx.new.conn.ghost_name ≡ tx.old.conn.ghost_name }
-    ensures step { IsConnectionStep S.Store tx.old tx.new result (λ sheets. ReadsDeskTables (abstract_schema schema) decoder.old.are_well_formed decoder.new.are_well_formed sheets) }
+    ensures step { IsConnectionStep S.Store tx.old tx.new result
+        (λ sheets. ReadsDeskTables (abstract_schema schema) decoder.old.are_well_formed decoder.new.are_well_formed sheets) }
     ensures fault { IfErr result IsCallFault }
 {
     let first = read_desk_and_customer_tables(tx, alloc, schema, decoder)?;

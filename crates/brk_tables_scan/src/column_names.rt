@@ -1,6 +1,8 @@
-//! Written by tools/tables.py: for each table a statement that shows all of its columns, and their names in order.
+//! Written by tools/tables.py: for each table a statement that selects all of its columns, and the
+//! names of these columns, in order.
 
-/// The tables of the first schema.
+/// For each of the tables of the first schema: the statement that selects all of its columns, and
+/// their names, in order.
 pub(crate) const IN_FIRST: [(&str, &[&str]); 20] = [
     ("SELECT * FROM DESK", &["D_ID", "D_SCHEMA", "D_LAST"]),
     ("SELECT * FROM KEPT", &["K_BATCH", "K_N", "K_ROW", "K_LINE"]),
@@ -110,7 +112,8 @@ pub(crate) const IN_FIRST: [(&str, &[&str]); 20] = [
     ),
 ];
 
-/// The tables of the second schema.
+/// For each of the tables of the second schema: the statement that selects all of its columns, and
+/// their names, in order.
 pub(crate) const IN_SECOND: [(&str, &[&str]); 21] = [
     ("SELECT * FROM DESK", &["D_ID", "D_SCHEMA", "D_LAST"]),
     ("SELECT * FROM KEPT", &["K_BATCH", "K_N", "K_ROW", "K_LINE"]),
@@ -226,7 +229,8 @@ pub(crate) const IN_SECOND: [(&str, &[&str]); 21] = [
     ),
 ];
 
-/// The tables of the third schema.
+/// For each of the tables of the third schema: the statement that selects all of its columns, and
+/// their names, in order.
 pub(crate) const IN_THIRD: [(&str, &[&str]); 22] = [
     ("SELECT * FROM DESK", &["D_ID", "D_SCHEMA", "D_LAST"]),
     ("SELECT * FROM KEPT", &["K_BATCH", "K_N", "K_ROW", "K_LINE"]),

@@ -15,8 +15,8 @@ use brk_tables_create::has_exact_tables_by_name;
 use brk_tables_schema::calls::statement_has_columns;
 use sqlite::{Alter, Transaction};
 
-// Returns true if the result of each statement has exactly its column names, in order. Fails with
-// `Store` only.
+// Returns true if the result of each statement has exactly the column names beside it, in order.
+// Changes nothing. Fails with `Store` only.
 fn each_heading_matches<S: Alter>(
     tx: &mut Transaction<'_, S>,
     headings: &[(&str, &[&str])],
@@ -34,8 +34,8 @@ fn each_heading_matches<S: Alter>(
     Ok(true)
 }
 
-// Returns true if each table of a schema has exactly its columns, in order. Fails with `Store`
-// only.
+// Returns true if each table of `schema` has exactly its columns, in order. Changes nothing. Fails
+// with `Store` only, also if one of these tables does not exist.
 fn tables_have_columns<S: Alter>(tx: &mut Transaction<'_, S>, schema: Schema) -> Result<bool, Fault>
     ensures same_reference { tx.new.conn.ghost_name ≡ tx.old.conn.ghost_name }
     ensures step { IsConnectionStep S.Store tx.old tx.new result (λ has a b. (b.now ≡ a.now)
@@ -49,8 +49,9 @@ fn tables_have_columns<S: Alter>(tx: &mut Transaction<'_, S>, schema: Schema) ->
     }
 }
 
-/// Returns true if each table of `schema` exists with exactly its columns, in order, and none that
-/// a later schema adds. Assumes nothing of the tables that exist. Fails with `Store` only.
+/// Returns true if each table of `schema` exists by name, with exactly its columns, in order, and
+/// no table that a later schema adds. Other properties of the tables are not checked. If it returns
+/// a value, the database was open and is unchanged. Fails with `Store` only.
 pub fn has_exact_tables_and_columns<S: Alter>(
     tx: &mut Transaction<'_, S>,
     schema: Schema,

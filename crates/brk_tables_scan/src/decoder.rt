@@ -1,4 +1,4 @@
-//! The decoding of one table after the other, which goes on after a malformed row.
+//! The decoding of the rows of one table after the other, which continues after a malformed row.
 
 ghost use Rattle.std.specs.Prelude.{◌≡◌, Err, IfOk, OnErr, map, true};
 ghost use Rattle.std.specs.List.{list_all};
@@ -18,8 +18,8 @@ use brk_tables_schema::rule_row::settlement_day_in_rule_rows;
 use sqlite::Row;
 use std::alloc::Global;
 
-/// Decodes the rows of one table after the other. It goes on after a malformed row, so that all
-/// tables are read before it is known that one has such a row.
+/// A decoder of the rows of one table after the other. It continues after a malformed row, so that
+/// all tables are read before the decoding fails.
 #[derive(Clone, Copy)]
 pub(crate) struct Decoder {
     /// True if all rows so far are well-formed.
@@ -36,15 +36,16 @@ impl Decoder {
         }
     }
 
-    /// Decodes the rows of a table and drops them. If one of them is malformed, sets
-    /// `are_well_formed` to false and returns no records. Fails with `Memory` only.
+    /// Decodes the rows of one table, in order, and drops them. If one of them is malformed, sets
+    /// `are_well_formed` to false and returns an empty list. Fails with `Memory` only.
     pub(crate) fn decode<R: Record>(
         &mut self,
         alloc: Global,
         rows: Vec<Row>,
     ) -> Result<Vec<R>, Fault>
-        ensures decoding { IfOk result (λ all. ContinuesDecoding self.old.are_well_formed self.new.are_well_formed (list_all (passes_all_cell_checks R.forms) rows.items) (map R.cells all.items
-            ≡ rows.items)) }
+        ensures decoding { IfOk result (λ all. ContinuesDecoding self.old.are_well_formed self.new.are_well_formed
+            (list_all (passes_all_cell_checks R.forms) rows.items)
+            (map R.cells all.items ≡ rows.items)) }
         ensures fault { OnErr result (result ≡ Err Memory) }
     {
         match decode_records(alloc, &rows) {
@@ -57,16 +58,17 @@ impl Decoder {
         }
     }
 
-    /// Decodes the stamp of the last accepted command from the rows of DESK in a schema. If there
-    /// is not exactly one well-formed row, sets `are_well_formed` to false and returns `None`.
-    /// Fails with `Memory` only.
+    /// Decodes the stamp of the last accepted command from all rows of DESK, with the number of
+    /// `schema`; it is `None` if none is stored. If there is not exactly one well-formed row, sets
+    /// `are_well_formed` to false and returns `None`. Fails with `Memory` only.
     pub(crate) fn decode_last_stamp(
         &mut self,
         schema: Schema,
         rows: Vec<Row>,
     ) -> Result<Option<Stamp>, Fault>
-        ensures decoding { IfOk result (λ last. ContinuesDecoding self.old.are_well_formed self.new.are_well_formed (has_one_valid_desk_row (abstract_schema schema) rows.items) (map desk_row_cells (desk_rows (abstract_schema schema) last)
-            ≡ rows.items)) }
+        ensures decoding { IfOk result (λ last. ContinuesDecoding self.old.are_well_formed self.new.are_well_formed
+            (has_one_valid_desk_row (abstract_schema schema) rows.items)
+            (map desk_row_cells (desk_rows (abstract_schema schema) last) ≡ rows.items)) }
         ensures fault { OnErr result (result ≡ Err Memory) }
     {
         match last_stamp_in_desk_rows(schema, &rows) {
@@ -79,12 +81,13 @@ impl Decoder {
         }
     }
 
-    /// Decodes the settlement day from the rows of SETTLE_RULE, of which there may be none. If
-    /// there are two rows or a malformed one, sets `are_well_formed` to false and returns `None`.
-    /// Fails with `Memory` only.
+    /// Decodes the settlement day, in days since 1970-01-01, from all rows of SETTLE_RULE; it is
+    /// `None` if there is no row. If there are two rows or more, or a malformed one, sets
+    /// `are_well_formed` to false and returns `None`. Fails with `Memory` only.
     pub(crate) fn decode_settlement_day(&mut self, rows: Vec<Row>) -> Result<Option<Day>, Fault>
-        ensures decoding { IfOk result (λ day. ContinuesDecoding self.old.are_well_formed self.new.are_well_formed (has_at_most_one_valid_rule_row rows.items) (map rule_cells (rule_rows day)
-            ≡ rows.items)) }
+        ensures decoding { IfOk result (λ day. ContinuesDecoding self.old.are_well_formed self.new.are_well_formed
+            (has_at_most_one_valid_rule_row rows.items)
+            (map rule_cells (rule_rows day) ≡ rows.items)) }
         ensures fault { OnErr result (result ≡ Err Memory) }
     {
         match settlement_day_in_rule_rows(&rows) {

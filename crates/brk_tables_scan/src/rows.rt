@@ -1,8 +1,10 @@
-//! All rows of each table, sorted by key, ascending, as the database shows them.
+//! Reads of all rows of each table, sorted by key, ascending.
 
 ghost use Rattle.std.specs.Prelude.{◌≡◌, Err, OnErr};
 ghost use Rattle.brk_money.specs.declared.fault.Fault.TheVariants.{Store};
-ghost use Rattle.brk_tables_schema.specs.Desk.{TheDesk, KeptRows, Brokers, Customers, Accounts, Permissions, Securities, LastTrades, Charges, Bands, TaxRates, CustomerTaxes, Trades, TradeHistory, Requests, Holdings, Summaries, HoldingHistory, Settlements, CashRows, CashMoves, SettleRules};
+ghost use Rattle.brk_tables_schema.specs.Desk.{TheDesk, KeptRows, Brokers, Customers, Accounts, Permissions, Securities, LastTrades, Charges, Bands};
+ghost use Rattle.brk_tables_schema.specs.Desk.{TaxRates, CustomerTaxes, Trades, TradeHistory, Requests, Holdings, Summaries, HoldingHistory};
+ghost use Rattle.brk_tables_schema.specs.Desk.{Settlements, CashRows, CashMoves, SettleRules};
 ghost use Rattle.brk_changes.specs.Schemas.{abstract_schema};
 ghost use Rattle.brk_tables_scan.specs.Whole.{ReadsRowsIfPresent, ReadsAllRows};
 
@@ -12,7 +14,7 @@ use brk_tables_schema::calls::select_rows;
 use sqlite::{Alter, Row, Transaction};
 use std::alloc::Global;
 
-/// Returns all rows of DESK, sorted by key, ascending. Fails with `Store` only.
+/// Returns all rows of DESK, sorted by key, ascending. Changes nothing. Fails with `Store` only.
 pub fn desk_rows<S: Alter>(tx: &mut Transaction<'_, S>) -> Result<Vec<Row>, Fault>
     ensures same_reference { tx.new.conn.ghost_name ≡ tx.old.conn.ghost_name }
     ensures step { ReadsAllRows S.Store tx.old tx.new result TheDesk }
@@ -25,7 +27,7 @@ pub fn desk_rows<S: Alter>(tx: &mut Transaction<'_, S>) -> Result<Vec<Row>, Faul
     )
 }
 
-/// Returns all rows of KEPT, sorted by key, ascending. Fails with `Store` only.
+/// Returns all rows of KEPT, sorted by key, ascending. Changes nothing. Fails with `Store` only.
 pub fn kept_rows<S: Alter>(tx: &mut Transaction<'_, S>) -> Result<Vec<Row>, Fault>
     ensures same_reference { tx.new.conn.ghost_name ≡ tx.old.conn.ghost_name }
     ensures step { ReadsAllRows S.Store tx.old tx.new result KeptRows }
@@ -38,7 +40,7 @@ pub fn kept_rows<S: Alter>(tx: &mut Transaction<'_, S>) -> Result<Vec<Row>, Faul
     )
 }
 
-/// Returns all rows of BROKER, sorted by key, ascending. Fails with `Store` only.
+/// Returns all rows of BROKER, sorted by key, ascending. Changes nothing. Fails with `Store` only.
 pub fn broker_rows<S: Alter>(tx: &mut Transaction<'_, S>) -> Result<Vec<Row>, Fault>
     ensures same_reference { tx.new.conn.ghost_name ≡ tx.old.conn.ghost_name }
     ensures step { ReadsAllRows S.Store tx.old tx.new result Brokers }
@@ -51,7 +53,8 @@ pub fn broker_rows<S: Alter>(tx: &mut Transaction<'_, S>) -> Result<Vec<Row>, Fa
     )
 }
 
-/// Returns all rows of CUSTOMER, sorted by key, ascending. Fails with `Store` only.
+/// Returns all rows of CUSTOMER, sorted by key, ascending. Changes nothing. Fails with `Store`
+/// only.
 pub fn customer_rows<S: Alter>(tx: &mut Transaction<'_, S>) -> Result<Vec<Row>, Fault>
     ensures same_reference { tx.new.conn.ghost_name ≡ tx.old.conn.ghost_name }
     ensures step { ReadsAllRows S.Store tx.old tx.new result Customers }
@@ -64,7 +67,8 @@ pub fn customer_rows<S: Alter>(tx: &mut Transaction<'_, S>) -> Result<Vec<Row>, 
     )
 }
 
-/// Returns all rows of CUSTOMER_ACCOUNT, sorted by key, ascending. Fails with `Store` only.
+/// Returns all rows of CUSTOMER_ACCOUNT, sorted by key, ascending. Changes nothing. Fails with
+/// `Store` only.
 pub fn account_rows<S: Alter>(tx: &mut Transaction<'_, S>) -> Result<Vec<Row>, Fault>
     ensures same_reference { tx.new.conn.ghost_name ≡ tx.old.conn.ghost_name }
     ensures step { ReadsAllRows S.Store tx.old tx.new result Accounts }
@@ -77,7 +81,8 @@ pub fn account_rows<S: Alter>(tx: &mut Transaction<'_, S>) -> Result<Vec<Row>, F
     )
 }
 
-/// Returns all rows of ACCOUNT_PERMISSION, sorted by key, ascending. Fails with `Store` only.
+/// Returns all rows of ACCOUNT_PERMISSION, sorted by key, ascending. Changes nothing. Fails with
+/// `Store` only.
 pub fn permission_rows<S: Alter>(tx: &mut Transaction<'_, S>) -> Result<Vec<Row>, Fault>
     ensures same_reference { tx.new.conn.ghost_name ≡ tx.old.conn.ghost_name }
     ensures step { ReadsAllRows S.Store tx.old tx.new result Permissions }
@@ -90,7 +95,8 @@ pub fn permission_rows<S: Alter>(tx: &mut Transaction<'_, S>) -> Result<Vec<Row>
     )
 }
 
-/// Returns all rows of SECURITY, sorted by key, ascending. Fails with `Store` only.
+/// Returns all rows of SECURITY, sorted by key, ascending. Changes nothing. Fails with `Store`
+/// only.
 pub fn security_rows<S: Alter>(tx: &mut Transaction<'_, S>) -> Result<Vec<Row>, Fault>
     ensures same_reference { tx.new.conn.ghost_name ≡ tx.old.conn.ghost_name }
     ensures step { ReadsAllRows S.Store tx.old tx.new result Securities }
@@ -103,7 +109,8 @@ pub fn security_rows<S: Alter>(tx: &mut Transaction<'_, S>) -> Result<Vec<Row>, 
     )
 }
 
-/// Returns all rows of LAST_TRADE, sorted by key, ascending. Fails with `Store` only.
+/// Returns all rows of LAST_TRADE, sorted by key, ascending. Changes nothing. Fails with `Store`
+/// only.
 pub fn last_trade_rows<S: Alter>(tx: &mut Transaction<'_, S>) -> Result<Vec<Row>, Fault>
     ensures same_reference { tx.new.conn.ghost_name ≡ tx.old.conn.ghost_name }
     ensures step { ReadsAllRows S.Store tx.old tx.new result LastTrades }
@@ -116,7 +123,7 @@ pub fn last_trade_rows<S: Alter>(tx: &mut Transaction<'_, S>) -> Result<Vec<Row>
     )
 }
 
-/// Returns all rows of CHARGE, sorted by key, ascending. Fails with `Store` only.
+/// Returns all rows of CHARGE, sorted by key, ascending. Changes nothing. Fails with `Store` only.
 pub fn charge_rows<S: Alter>(tx: &mut Transaction<'_, S>) -> Result<Vec<Row>, Fault>
     ensures same_reference { tx.new.conn.ghost_name ≡ tx.old.conn.ghost_name }
     ensures step { ReadsAllRows S.Store tx.old tx.new result Charges }
@@ -129,7 +136,8 @@ pub fn charge_rows<S: Alter>(tx: &mut Transaction<'_, S>) -> Result<Vec<Row>, Fa
     )
 }
 
-/// Returns all rows of COMMISSION_RATE, sorted by key, ascending. Fails with `Store` only.
+/// Returns all rows of COMMISSION_RATE, sorted by key, ascending. Changes nothing. Fails with
+/// `Store` only.
 pub fn band_rows<S: Alter>(tx: &mut Transaction<'_, S>) -> Result<Vec<Row>, Fault>
     ensures same_reference { tx.new.conn.ghost_name ≡ tx.old.conn.ghost_name }
     ensures step { ReadsAllRows S.Store tx.old tx.new result Bands }
@@ -142,7 +150,7 @@ pub fn band_rows<S: Alter>(tx: &mut Transaction<'_, S>) -> Result<Vec<Row>, Faul
     )
 }
 
-/// Returns all rows of TAXRATE, sorted by key, ascending. Fails with `Store` only.
+/// Returns all rows of TAXRATE, sorted by key, ascending. Changes nothing. Fails with `Store` only.
 pub fn tax_rate_rows<S: Alter>(tx: &mut Transaction<'_, S>) -> Result<Vec<Row>, Fault>
     ensures same_reference { tx.new.conn.ghost_name ≡ tx.old.conn.ghost_name }
     ensures step { ReadsAllRows S.Store tx.old tx.new result TaxRates }
@@ -155,7 +163,8 @@ pub fn tax_rate_rows<S: Alter>(tx: &mut Transaction<'_, S>) -> Result<Vec<Row>, 
     )
 }
 
-/// Returns all rows of CUSTOMER_TAXRATE, sorted by key, ascending. Fails with `Store` only.
+/// Returns all rows of CUSTOMER_TAXRATE, sorted by key, ascending. Changes nothing. Fails with
+/// `Store` only.
 pub fn customer_tax_rows<S: Alter>(tx: &mut Transaction<'_, S>) -> Result<Vec<Row>, Fault>
     ensures same_reference { tx.new.conn.ghost_name ≡ tx.old.conn.ghost_name }
     ensures step { ReadsAllRows S.Store tx.old tx.new result CustomerTaxes }
@@ -168,7 +177,7 @@ pub fn customer_tax_rows<S: Alter>(tx: &mut Transaction<'_, S>) -> Result<Vec<Ro
     )
 }
 
-/// Returns all rows of TRADE, sorted by key, ascending. Fails with `Store` only.
+/// Returns all rows of TRADE, sorted by key, ascending. Changes nothing. Fails with `Store` only.
 pub fn trade_rows<S: Alter>(tx: &mut Transaction<'_, S>) -> Result<Vec<Row>, Fault>
     ensures same_reference { tx.new.conn.ghost_name ≡ tx.old.conn.ghost_name }
     ensures step { ReadsAllRows S.Store tx.old tx.new result Trades }
@@ -181,7 +190,8 @@ pub fn trade_rows<S: Alter>(tx: &mut Transaction<'_, S>) -> Result<Vec<Row>, Fau
     )
 }
 
-/// Returns all rows of TRADE_HISTORY, sorted by key, ascending. Fails with `Store` only.
+/// Returns all rows of TRADE_HISTORY, sorted by key, ascending. Changes nothing. Fails with `Store`
+/// only.
 pub fn history_rows<S: Alter>(tx: &mut Transaction<'_, S>) -> Result<Vec<Row>, Fault>
     ensures same_reference { tx.new.conn.ghost_name ≡ tx.old.conn.ghost_name }
     ensures step { ReadsAllRows S.Store tx.old tx.new result TradeHistory }
@@ -194,7 +204,8 @@ pub fn history_rows<S: Alter>(tx: &mut Transaction<'_, S>) -> Result<Vec<Row>, F
     )
 }
 
-/// Returns all rows of TRADE_REQUEST, sorted by key, ascending. Fails with `Store` only.
+/// Returns all rows of TRADE_REQUEST, sorted by key, ascending. Changes nothing. Fails with `Store`
+/// only.
 pub fn request_rows<S: Alter>(tx: &mut Transaction<'_, S>) -> Result<Vec<Row>, Fault>
     ensures same_reference { tx.new.conn.ghost_name ≡ tx.old.conn.ghost_name }
     ensures step { ReadsAllRows S.Store tx.old tx.new result Requests }
@@ -207,7 +218,7 @@ pub fn request_rows<S: Alter>(tx: &mut Transaction<'_, S>) -> Result<Vec<Row>, F
     )
 }
 
-/// Returns all rows of HOLDING, sorted by key, ascending. Fails with `Store` only.
+/// Returns all rows of HOLDING, sorted by key, ascending. Changes nothing. Fails with `Store` only.
 pub fn holding_rows<S: Alter>(tx: &mut Transaction<'_, S>) -> Result<Vec<Row>, Fault>
     ensures same_reference { tx.new.conn.ghost_name ≡ tx.old.conn.ghost_name }
     ensures step { ReadsAllRows S.Store tx.old tx.new result Holdings }
@@ -220,7 +231,8 @@ pub fn holding_rows<S: Alter>(tx: &mut Transaction<'_, S>) -> Result<Vec<Row>, F
     )
 }
 
-/// Returns all rows of HOLDING_SUMMARY, sorted by key, ascending. Fails with `Store` only.
+/// Returns all rows of HOLDING_SUMMARY, sorted by key, ascending. Changes nothing. Fails with
+/// `Store` only.
 pub fn summary_rows<S: Alter>(tx: &mut Transaction<'_, S>) -> Result<Vec<Row>, Fault>
     ensures same_reference { tx.new.conn.ghost_name ≡ tx.old.conn.ghost_name }
     ensures step { ReadsAllRows S.Store tx.old tx.new result Summaries }
@@ -233,7 +245,8 @@ pub fn summary_rows<S: Alter>(tx: &mut Transaction<'_, S>) -> Result<Vec<Row>, F
     )
 }
 
-/// Returns all rows of HOLDING_HISTORY, sorted by key, ascending. Fails with `Store` only.
+/// Returns all rows of HOLDING_HISTORY, sorted by key, ascending. Changes nothing. Fails with
+/// `Store` only.
 pub fn holding_history_rows<S: Alter>(tx: &mut Transaction<'_, S>) -> Result<Vec<Row>, Fault>
     ensures same_reference { tx.new.conn.ghost_name ≡ tx.old.conn.ghost_name }
     ensures step { ReadsAllRows S.Store tx.old tx.new result HoldingHistory }
@@ -246,7 +259,8 @@ pub fn holding_history_rows<S: Alter>(tx: &mut Transaction<'_, S>) -> Result<Vec
     )
 }
 
-/// Returns all rows of SETTLEMENT, sorted by key, ascending. Fails with `Store` only.
+/// Returns all rows of SETTLEMENT, sorted by key, ascending. Changes nothing. Fails with `Store`
+/// only.
 pub fn settlement_rows<S: Alter>(tx: &mut Transaction<'_, S>) -> Result<Vec<Row>, Fault>
     ensures same_reference { tx.new.conn.ghost_name ≡ tx.old.conn.ghost_name }
     ensures step { ReadsAllRows S.Store tx.old tx.new result Settlements }
@@ -259,7 +273,8 @@ pub fn settlement_rows<S: Alter>(tx: &mut Transaction<'_, S>) -> Result<Vec<Row>
     )
 }
 
-/// Returns all rows of CASH_TRANSACTION, sorted by key, ascending. Fails with `Store` only.
+/// Returns all rows of CASH_TRANSACTION, sorted by key, ascending. Changes nothing. Fails with
+/// `Store` only.
 pub fn cash_transaction_rows<S: Alter>(tx: &mut Transaction<'_, S>) -> Result<Vec<Row>, Fault>
     ensures same_reference { tx.new.conn.ghost_name ≡ tx.old.conn.ghost_name }
     ensures step { ReadsAllRows S.Store tx.old tx.new result CashRows }
@@ -272,7 +287,8 @@ pub fn cash_transaction_rows<S: Alter>(tx: &mut Transaction<'_, S>) -> Result<Ve
     )
 }
 
-// Returns all rows of CASH_MOVE, sorted by key, ascending. Fails with `Store` only.
+// Returns all rows of CASH_MOVE, sorted by key, ascending. Changes nothing. Fails with `Store`
+// only.
 fn cash_move_rows<S: Alter>(tx: &mut Transaction<'_, S>) -> Result<Vec<Row>, Fault>
     ensures same_reference { tx.new.conn.ghost_name ≡ tx.old.conn.ghost_name }
     ensures step { ReadsAllRows S.Store tx.old tx.new result CashMoves }
@@ -285,7 +301,8 @@ fn cash_move_rows<S: Alter>(tx: &mut Transaction<'_, S>) -> Result<Vec<Row>, Fau
     )
 }
 
-// Returns all rows of SETTLE_RULE, sorted by key, ascending. Fails with `Store` only.
+// Returns all rows of SETTLE_RULE, sorted by key, ascending. Changes nothing. Fails with `Store`
+// only.
 fn settle_rule_rows<S: Alter>(tx: &mut Transaction<'_, S>) -> Result<Vec<Row>, Fault>
     ensures same_reference { tx.new.conn.ghost_name ≡ tx.old.conn.ghost_name }
     ensures step { ReadsAllRows S.Store tx.old tx.new result SettleRules }
@@ -298,8 +315,8 @@ fn settle_rule_rows<S: Alter>(tx: &mut Transaction<'_, S>) -> Result<Vec<Row>, F
     )
 }
 
-/// Returns all rows of CASH_MOVE, sorted by key, or no rows if `schema` lacks the table. Fails
-/// with `Store` only.
+/// Returns all rows of CASH_MOVE, sorted by key, ascending, or no rows if `schema` lacks the table.
+/// Changes nothing. Fails with `Store` only.
 pub fn cash_move_rows_in_schema<S: Alter>(
     tx: &mut Transaction<'_, S>,
     alloc: Global,
@@ -315,8 +332,8 @@ pub fn cash_move_rows_in_schema<S: Alter>(
     cash_move_rows(tx)
 }
 
-/// Returns all rows of SETTLE_RULE, sorted by key, or no rows if `schema` lacks the table. Fails
-/// with `Store` only.
+/// Returns all rows of SETTLE_RULE, sorted by key, ascending, or no rows if `schema` lacks the
+/// table. Changes nothing. Fails with `Store` only.
 pub fn settle_rule_rows_in_schema<S: Alter>(
     tx: &mut Transaction<'_, S>,
     alloc: Global,

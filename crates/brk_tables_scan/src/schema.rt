@@ -13,7 +13,7 @@ use brk_money::Fault;
 use sqlite::{Alter, Row, Transaction};
 use sqlite_value::value::ValueRef;
 
-// Returns the number of a schema, as it is stored in DESK (D_SCHEMA).
+// Returns the number of a schema, 1, 2 or 3, as DESK stores it (D_SCHEMA).
 fn schema_number(schema: Schema) -> i64
     ensures { result ≡ pos (abstract_schema schema).number }
 {
@@ -24,8 +24,8 @@ fn schema_number(schema: Schema) -> i64
     }
 }
 
-// Returns true only if the column is the INTEGER `wanted`, and false only if it is not or does not
-// exist.
+// Returns true only if the column `at` is the INTEGER `wanted`, and false only if it is not or does
+// not exist.
 fn column_equals_integer(row: &Row, at: usize, wanted: i64) -> bool
     ensures if_true { IsTrue result → column row.now at ≡ Int wanted }
     ensures if_false { result ≡ false → at < length row.now → column row.now at ≢ Int wanted }
@@ -36,7 +36,8 @@ fn column_equals_integer(row: &Row, at: usize, wanted: i64) -> bool
     }
 }
 
-// Returns true if the row is one of DESK with the id 1 and the number of the schema.
+// Returns true if the row has three columns: the id 1, the number of the schema, and any value as
+// the stamp.
 #[tactic(auto, using(crate::proofs::Firsts::is_row, crate::proofs::Firsts::not_three, crate::proofs::Firsts::not_id, crate::proofs::Firsts::not_schema))]
 fn is_desk_row_of_schema(schema: Schema, row: &Row) -> bool
     ensures if_true { IsTrue result → IsDeskRowOfSchema (abstract_schema schema) row.now }
@@ -48,7 +49,8 @@ fn is_desk_row_of_schema(schema: Schema, row: &Row) -> bool
     column_equals_integer(row, 0, 1) && column_equals_integer(row, 1, schema_number(schema))
 }
 
-// Returns true if the rows of DESK are exactly one, with the id 1 and the number of the schema.
+// Returns true if the rows are exactly one row of DESK, with the id 1 and the number of the schema;
+// its stamp may be any value.
 #[tactic(auto, using(crate::proofs::Firsts::says_one, crate::proofs::Firsts::first_of))]
 fn has_one_desk_row_of_schema(schema: Schema, rows: &[Row]) -> bool
     ensures if_true { IsTrue result → IsOneDeskRowOfSchema (abstract_schema schema) rows.now }
@@ -60,12 +62,12 @@ fn has_one_desk_row_of_schema(schema: Schema, rows: &[Row]) -> bool
     }
 }
 
-/// Returns true if the database has a desk of `schema`: each table of the schema with exactly its
-/// columns, none that a later schema adds, and in DESK one row with the schema's number. Changes
-/// nothing.
+/// Returns true if the database has the schema `schema`: each of its tables by name, with exactly
+/// its columns, no table that a later schema adds, and in DESK exactly one row, with the number of
+/// the schema. Changes nothing.
 ///
-/// Fails with `Store` only. The result is specified only if tables of these names and columns are
-/// defined as a desk defines them.
+/// Fails with `Store` only. The result is specified only if the tables with these names and
+/// columns, if all exist, are defined as a desk defines them (`NamedTablesMatchSchemaDefinitions`).
 pub fn has_desk_of_schema<S: Alter>(
     tx: &mut Transaction<'_, S>,
     schema: Schema,

@@ -12,12 +12,12 @@ use brk_money::Fault;
 use sqlite::{Alter, Transaction};
 use std::alloc::Global;
 
-/// Reads the tables of `schema` as typed rows, each list sorted by key, ascending. Returns `None`
+/// Reads all tables of `schema` as typed rows, each list sorted by key, ascending. Returns `None`
 /// only if a row is malformed or a text is not UTF-8, and only after all tables were read. Changes
 /// nothing.
 ///
-/// Fails with `Memory` or `Store`. The result is specified only if the database has a desk of
-/// `schema` (`has_desk_of_schema`) whose tables are defined as a desk defines them.
+/// Fails with `Memory` or `Store`. The result is specified only if the database has the schema
+/// `schema` (`has_desk_of_schema`) and its tables are defined as a desk defines them.
 pub fn read_sheets<S: Alter>(
     tx: &mut Transaction<'_, S>,
     alloc: Global,

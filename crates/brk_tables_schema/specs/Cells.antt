@@ -1,4 +1,4 @@
--- Written by tools/tables.py: the columns of each row.
+-- Written by tools/tables.py: the SQL values of the rows of each table.
 use Rattle.std.specs.Prelude.{ℕ, pos, Bool, if◌then◌else◌, [], ◌∷◌, Option}
 use Rattle.sqlite_value.specs.declared.value.Value.{Value}
 use Rattle.sqlite_value.specs.declared.value.Value.TheVariants.{Int, Text as Words}
@@ -6,15 +6,18 @@ use Rattle.sqlite_value.specs.Order.{Row}
 use Rattle.sqlite.specs.Values.{or_null}
 use Rattle.brk_money.specs.Kinds.{trade_type_code, trade_status_code, tax_status_number}
 use Rattle.brk_model.specs.Records.{Customer, Permission, Charge, Band, TaxRate, CustomerTax, Kept}
-use Rattle.brk_model.specs.Tables.{BrokerRow, AccountRow, SecurityRow, LastTradeRow, TradeRow, HistoryRow, RequestRow, HoldingRow, SummaryRow, HoldingHistoryRow, SettlementRow, CashRow, MoveRow}
+use Rattle.brk_model.specs.Tables.{BrokerRow, AccountRow, SecurityRow, LastTradeRow, TradeRow, HistoryRow, RequestRow, HoldingRow, SummaryRow}
+use Rattle.brk_model.specs.Tables.{HoldingHistoryRow, SettlementRow, CashRow, MoveRow}
 
--- The row of DESK: D_ID, D_SCHEMA, D_LAST.
+-- The row of DESK: its id, which is 1 (D_ID), the number of the schema (D_SCHEMA), and the stamp of
+-- the last accepted command in milliseconds since 1970-01-01 UTC, or `None` (D_LAST).
 pub record DeskRow : Type 0 where
   pub id : ℕ
   pub schema : ℕ
   pub last : Option ℕ
 
--- A row of SETTLE_RULE: SR_ID, SR_DAY.
+-- A row of SETTLE_RULE: its id, which is 1 (SR_ID), and the settlement day in days since 1970-01-01
+-- (SR_DAY).
 pub record RuleRow : Type 0 where
   pub id : ℕ
   pub day : ℕ
@@ -23,11 +26,11 @@ pub record RuleRow : Type 0 where
 abbrev pub natural_as_value : ℕ → Value
 natural_as_value n = Int (pos n)
 
--- The SQL value of a natural number, or NULL for `None`.
+-- The SQL value of an optional natural number: an INTEGER, or NULL for `None`.
 abbrev pub optional_as_value : Option ℕ → Value
 optional_as_value = or_null (λ n. Int (pos n))
 
--- The SQL value of a Boolean: 1 for true, 0 for false.
+-- The SQL value of a Boolean: the INTEGER 1 for true, 0 for false.
 abbrev pub flag_as_value : Bool → Value
 flag_as_value b = Int (pos (if b then 1 else 0))
 
@@ -49,7 +52,9 @@ customer_cells r = natural_as_value r.id ∷ natural_as_value r.tier ∷ Words r
 
 -- The SQL values of a row of CUSTOMER_ACCOUNT, in the order of its columns.
 abbrev pub account_cells : AccountRow → Row
-account_cells r = natural_as_value r.id ∷ natural_as_value r.customer ∷ natural_as_value r.broker ∷ Words r.name ∷ natural_as_value (tax_status_number r.tax_status) ∷ Int r.opening ∷ Int r.balance ∷ []
+account_cells r =
+    natural_as_value r.id ∷ natural_as_value r.customer ∷ natural_as_value r.broker ∷ Words r.name ∷ natural_as_value (tax_status_number r.tax_status)
+    ∷ Int r.opening ∷ Int r.balance ∷ []
 
 -- The SQL values of a row of ACCOUNT_PERMISSION, in the order of its columns.
 abbrev pub permission_cells : Permission → Row
@@ -69,7 +74,9 @@ charge_cells r = Words (trade_type_code r.kind) ∷ natural_as_value r.tier ∷ 
 
 -- The SQL values of a row of COMMISSION_RATE, in the order of its columns.
 abbrev pub band_cells : Band → Row
-band_cells r = natural_as_value r.tier ∷ Words (trade_type_code r.kind) ∷ Words r.exchange ∷ natural_as_value r.from_qty ∷ natural_as_value r.to_qty ∷ natural_as_value r.rate ∷ []
+band_cells r =
+    natural_as_value r.tier ∷ Words (trade_type_code r.kind) ∷ Words r.exchange ∷ natural_as_value r.from_qty ∷ natural_as_value r.to_qty
+    ∷ natural_as_value r.rate ∷ []
 
 -- The SQL values of a row of TAXRATE, in the order of its columns.
 abbrev pub tax_rate_cells : TaxRate → Row
@@ -81,7 +88,10 @@ customer_tax_cells r = natural_as_value r.customer ∷ natural_as_value r.tax �
 
 -- The SQL values of a row of TRADE, in the order of its columns.
 abbrev pub trade_cells : TradeRow → Row
-trade_cells r = natural_as_value r.id ∷ natural_as_value r.stamp ∷ Words (trade_status_code r.status) ∷ Words (trade_type_code r.kind) ∷ flag_as_value r.is_cash ∷ Words r.symbol ∷ natural_as_value r.qty ∷ natural_as_value r.bid ∷ natural_as_value r.account ∷ Words r.executor ∷ optional_as_value r.price ∷ natural_as_value r.charge ∷ natural_as_value r.commission ∷ natural_as_value r.tax ∷ flag_as_value r.is_lifo ∷ []
+trade_cells r =
+    natural_as_value r.id ∷ natural_as_value r.stamp ∷ Words (trade_status_code r.status) ∷ Words (trade_type_code r.kind) ∷ flag_as_value r.is_cash
+    ∷ Words r.symbol ∷ natural_as_value r.qty ∷ natural_as_value r.bid ∷ natural_as_value r.account ∷ Words r.executor ∷ optional_as_value r.price
+    ∷ natural_as_value r.charge ∷ natural_as_value r.commission ∷ natural_as_value r.tax ∷ flag_as_value r.is_lifo ∷ []
 
 -- The SQL values of a row of TRADE_HISTORY, in the order of its columns.
 abbrev pub history_cells : HistoryRow → Row
@@ -89,11 +99,14 @@ history_cells r = natural_as_value r.trade ∷ Words (trade_status_code r.status
 
 -- The SQL values of a row of TRADE_REQUEST, in the order of its columns.
 abbrev pub request_cells : RequestRow → Row
-request_cells r = natural_as_value r.trade ∷ Words (trade_type_code r.kind) ∷ Words r.symbol ∷ natural_as_value r.qty ∷ natural_as_value r.bid ∷ natural_as_value r.broker ∷ []
+request_cells r =
+    natural_as_value r.trade ∷ Words (trade_type_code r.kind) ∷ Words r.symbol ∷ natural_as_value r.qty ∷ natural_as_value r.bid
+    ∷ natural_as_value r.broker ∷ []
 
 -- The SQL values of a row of HOLDING, in the order of its columns.
 abbrev pub holding_cells : HoldingRow → Row
-holding_cells r = natural_as_value r.trade ∷ natural_as_value r.account ∷ Words r.symbol ∷ natural_as_value r.stamp ∷ natural_as_value r.price ∷ Int r.qty ∷ []
+holding_cells r =
+    natural_as_value r.trade ∷ natural_as_value r.account ∷ Words r.symbol ∷ natural_as_value r.stamp ∷ natural_as_value r.price ∷ Int r.qty ∷ []
 
 -- The SQL values of a row of HOLDING_SUMMARY, in the order of its columns.
 abbrev pub summary_cells : SummaryRow → Row
@@ -113,7 +126,8 @@ cash_cells r = natural_as_value r.trade ∷ natural_as_value r.stamp ∷ Int r.a
 
 -- The SQL values of a row of CASH_MOVE, in the order of its columns.
 abbrev pub move_cells : MoveRow → Row
-move_cells r = natural_as_value r.id ∷ natural_as_value r.account ∷ optional_as_value r.trade ∷ natural_as_value r.stamp ∷ Int r.amount ∷ Words r.name ∷ []
+move_cells r =
+    natural_as_value r.id ∷ natural_as_value r.account ∷ optional_as_value r.trade ∷ natural_as_value r.stamp ∷ Int r.amount ∷ Words r.name ∷ []
 
 -- The SQL values of a row of SETTLE_RULE, in the order of its columns.
 abbrev pub rule_cells : RuleRow → Row

@@ -5,14 +5,23 @@ use Rattle.sqlite_value.specs.Order.{Row}
 use Rattle.sqlite_schema.specs.declared.schema.Table.{Table}
 use Rattle.brk_model.specs.Records.{Customer, Permission, Charge, Band, TaxRate, CustomerTax, Kept}
 use Rattle.brk_model.specs.Schemas.{Schema, third_schema}
-use Rattle.brk_model.specs.Tables.{Tables, BrokerRow, AccountRow, SecurityRow, LastTradeRow, TradeRow, HistoryRow, RequestRow, HoldingRow, SummaryRow, HoldingHistoryRow, SettlementRow, CashRow, MoveRow}
-use Rattle.brk_model.specs.Keys.{KeyPart, number, kept_key, broker_key, customer_key, account_key, permission_key, security_key, last_trade_key, charge_key, band_key, tax_rate_key, customer_tax_key, trade_key, history_key, request_key, holding_key, summary_key, holding_history_key, settlement_key, cash_key, move_key}
+use Rattle.brk_model.specs.Tables.{Tables, BrokerRow, AccountRow, SecurityRow, LastTradeRow, TradeRow, HistoryRow, RequestRow, HoldingRow, SummaryRow}
+use Rattle.brk_model.specs.Tables.{HoldingHistoryRow, SettlementRow, CashRow, MoveRow}
+use Rattle.brk_model.specs.Keys.{KeyPart, number, kept_key, broker_key, customer_key, account_key, permission_key, security_key, last_trade_key}
+use Rattle.brk_model.specs.Keys.{charge_key, band_key, tax_rate_key, customer_tax_key, trade_key, history_key, request_key, holding_key, summary_key}
+use Rattle.brk_model.specs.Keys.{holding_history_key, settlement_key, cash_key, move_key}
 use Rattle.brk_sql.specs.Desk.{ProgramTables}
-use Rattle.brk_tables_schema.specs.Shapes.{desk_row_table, kept_table, broker_table, customer_table, account_table, permission_table, security_table, last_trade_table, charge_table, band_table, tax_rate_table, customer_tax_table, trade_table, history_table, request_table, holding_table, summary_table, holding_history_table, settlement_table, cash_table, move_table, rule_table}
-use Rattle.brk_tables_schema.specs.Cells.{DeskRow, RuleRow, desk_row_cells, kept_cells, broker_cells, customer_cells, account_cells, permission_cells, security_cells, last_trade_cells, charge_cells, band_cells, tax_rate_cells, customer_tax_cells, trade_cells, history_cells, request_cells, holding_cells, summary_cells, holding_history_cells, settlement_cells, cash_cells, move_cells, rule_cells}
+use Rattle.brk_tables_schema.specs.Shapes.{desk_row_table, kept_table, broker_table, customer_table, account_table, permission_table, security_table}
+use Rattle.brk_tables_schema.specs.Shapes.{last_trade_table, charge_table, band_table, tax_rate_table, customer_tax_table, trade_table, history_table}
+use Rattle.brk_tables_schema.specs.Shapes.{request_table, holding_table, summary_table, holding_history_table, settlement_table, cash_table}
+use Rattle.brk_tables_schema.specs.Shapes.{move_table, rule_table}
+use Rattle.brk_tables_schema.specs.Cells.{DeskRow, RuleRow, desk_row_cells, kept_cells, broker_cells, customer_cells, account_cells, permission_cells}
+use Rattle.brk_tables_schema.specs.Cells.{security_cells, last_trade_cells, charge_cells, band_cells, tax_rate_cells, customer_tax_cells, trade_cells}
+use Rattle.brk_tables_schema.specs.Cells.{history_cells, request_cells, holding_cells, summary_cells, holding_history_cells, settlement_cells}
+use Rattle.brk_tables_schema.specs.Cells.{cash_cells, move_cells, rule_cells}
 use Rattle.brk_tables_schema.specs.Order.{ordering_by_key}
 
--- The tables of a desk, by name. `table_name` is the SQL name of each.
+-- The tables of a desk, in all schemas. `table_name` is the SQL name of each.
 pub data DeskTable : Type 0 where
   TheDesk : DeskTable
   KeptRows : DeskTable
@@ -37,30 +46,32 @@ pub data DeskTable : Type 0 where
   CashMoves : DeskTable
   SettleRules : DeskTable
 
--- The single row of DESK in a schema, with the stamp `last` of the last command, or without one.
+-- The rows of DESK in the schema `schema`: exactly one, with the stamp `last` of the last accepted
+-- command, or without a stamp.
 abbrev pub desk_rows : Schema → Option ℕ → List DeskRow
 desk_rows schema last = record { id = 1; schema = schema.number; last = last } ∷ []
 
--- The primary key of the row of DESK: D_ID.
+-- The primary key of a row of DESK: its id (D_ID).
 abbrev pub desk_key : DeskRow → List KeyPart
 desk_key r = number r.id ∷ []
 
--- The single row of SETTLE_RULE with the settlement day, or no row if none is set.
+-- The rows of SETTLE_RULE: one row with the settlement day, or no row if none is set.
 abbrev pub rule_rows : Option ℕ → List RuleRow
 rule_rows None = []
 rule_rows (Some day) = record { id = 1; day = day } ∷ []
 
--- The primary key of the row of SETTLE_RULE: SR_ID.
+-- The primary key of a row of SETTLE_RULE: its id (SR_ID).
 abbrev pub rule_key : RuleRow → List KeyPart
 rule_key r = number r.id ∷ []
 
--- True if the schema has the table.
+-- True if the schema `schema` has the table. Only CASH_MOVE and SETTLE_RULE depend on it.
 abbrev pub schema_has_table : Schema → DeskTable → Bool
 schema_has_table schema CashMoves = schema.has_cash_move_table
 schema_has_table schema SettleRules = schema.has_settle_rule_table
 schema_has_table schema w = true
 
--- The definition of a table with its rows at a tree: its name, columns, keys and foreign keys.
+-- The definition of a table of a desk, with its rows at the given tree: its SQL name, columns, keys
+-- and foreign keys.
 abbrev pub table_definition_at : DeskTable → ℕ → Table
 table_definition_at TheDesk = desk_row_table
 table_definition_at KeptRows = kept_table
@@ -85,7 +96,7 @@ table_definition_at CashRows = cash_table
 table_definition_at CashMoves = move_table
 table_definition_at SettleRules = rule_table
 
--- The definition of a table with its rows at the tree `tree` has this tree.
+-- The definition of the table `w` with its rows at the tree `tree` has this tree.
 abbrev pub table_definition_has_tree : (w : DeskTable) (tree : ℕ) → (table_definition_at w tree).tree ≡ tree
 table_definition_has_tree TheDesk tree = refl
 table_definition_has_tree KeptRows tree = refl
@@ -110,7 +121,7 @@ table_definition_has_tree CashRows tree = refl
 table_definition_has_tree CashMoves tree = refl
 table_definition_has_tree SettleRules tree = refl
 
--- The type of the records of a table.
+-- The type of the records of a table of a desk.
 abbrev pub RecordOfTable : DeskTable → Type 0
 RecordOfTable TheDesk = DeskRow
 RecordOfTable KeptRows = Kept
@@ -160,7 +171,7 @@ encoded_row CashRows = cash_cells
 encoded_row CashMoves = move_cells
 encoded_row SettleRules = rule_cells
 
--- The primary key of a record of a table.
+-- The primary key of a record of a table: its parts, in the order of the key's columns.
 abbrev pub primary_key_of_record : (w : DeskTable) → RecordOfTable w → List KeyPart
 primary_key_of_record TheDesk = desk_key
 primary_key_of_record KeptRows = kept_key
@@ -185,7 +196,7 @@ primary_key_of_record CashRows = cash_key
 primary_key_of_record CashMoves = move_key
 primary_key_of_record SettleRules = rule_key
 
--- Compares two records of a table by their primary keys.
+-- The ordering of two records of the table `w` by their primary keys.
 abbrev pub ordering_by_primary_key : (w : DeskTable) → RecordOfTable w → RecordOfTable w → Ordering
 ordering_by_primary_key w = ordering_by_key (primary_key_of_record w)
 
@@ -219,26 +230,37 @@ rows_in_schema schema SettleRules t = rule_rows t.rule
 abbrev pub rows_of_table : (w : DeskTable) → Tables → List (RecordOfTable w)
 rows_of_table = rows_in_schema third_schema
 
--- All tables of a desk, with the number of the given schema in the row of DESK.
+-- All tables of a desk as the tables of a program: their definitions, records, encodings and
+-- orders. The row of DESK has the number of the schema `schema`.
 abbrev pub desk_tables_of_schema : Schema → ProgramTables DeskTable Tables
-desk_tables_of_schema schema = record { shape = table_definition_at; placed = table_definition_has_tree; Item = RecordOfTable; encode = encoded_row; order = ordering_by_primary_key; list = rows_in_schema schema }
+desk_tables_of_schema schema = record {
+  shape = table_definition_at;
+  placed = table_definition_has_tree;
+  Item = RecordOfTable;
+  encode = encoded_row;
+  order = ordering_by_primary_key;
+  list = rows_in_schema schema;
+}
 
--- All tables of a desk in schema 3.
+-- All tables of a desk in schema 3 as the tables of a program: their definitions, records,
+-- encodings and orders.
 abbrev pub desk_tables : ProgramTables DeskTable Tables
 desk_tables = desk_tables_of_schema third_schema
 
--- The list of all tables of a desk: the tables of schema 3.
+-- The list of all tables of a desk, which are the tables of schema 3.
 abbrev pub all_tables : List DeskTable
-all_tables = TheDesk ∷ KeptRows ∷ Brokers ∷ Customers ∷ Accounts ∷ Permissions ∷ Securities ∷ LastTrades ∷ Charges ∷ Bands ∷ TaxRates ∷ CustomerTaxes ∷ Trades ∷ TradeHistory ∷ Requests ∷ Holdings ∷ Summaries ∷ HoldingHistory ∷ Settlements ∷ CashRows ∷ CashMoves ∷ SettleRules ∷ []
+all_tables =
+    TheDesk ∷ KeptRows ∷ Brokers ∷ Customers ∷ Accounts ∷ Permissions ∷ Securities ∷ LastTrades ∷ Charges ∷ Bands ∷ TaxRates ∷ CustomerTaxes ∷ Trades
+    ∷ TradeHistory ∷ Requests ∷ Holdings ∷ Summaries ∷ HoldingHistory ∷ Settlements ∷ CashRows ∷ CashMoves ∷ SettleRules ∷ []
 
--- The list of the tables that a schema has.
+-- The list of the tables that the schema `schema` has.
 abbrev pub tables_in_schema : Schema → List DeskTable
 tables_in_schema schema = filter (schema_has_table schema) all_tables
 
--- The SQL name of a table.
+-- The SQL name of the table `w`, in ASCII.
 abbrev pub table_name : DeskTable → List ℕ
 table_name w = (table_definition_at w 0).name
 
--- The SQL names of all tables.
+-- The SQL names of all tables of a desk.
 abbrev pub all_table_names : List (List ℕ)
 all_table_names = map table_name all_tables

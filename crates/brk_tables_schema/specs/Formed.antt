@@ -20,12 +20,12 @@ use Rattle.brk_changes.specs.declared.cash_type.CashType.TheVariants.{CashAccoun
 
 -- ---- The check of one column
 
--- True if the value is an INTEGER of at least 0 that passes the check `form`.
+-- True if the value is an INTEGER of at least 0 whose number passes the check `form`.
 abbrev pub is_natural_cell : (ℕ → Bool) → Value → Bool
 is_natural_cell form (Int (pos n)) = form n
 is_natural_cell form _ = false
 
--- True if the value is NULL, or an INTEGER of at least 0 that passes the check `form`.
+-- True if the value is NULL, or an INTEGER of at least 0 whose number passes the check `form`.
 abbrev pub is_null_or_natural_cell : (ℕ → Bool) → Value → Bool
 is_null_or_natural_cell form Null = true
 is_null_or_natural_cell form (Int (pos n)) = form n
@@ -36,12 +36,13 @@ abbrev pub is_integer_cell : Value → Bool
 is_integer_cell (Int n) = true
 is_integer_cell _ = false
 
--- True if the value is an INTEGER within the limits of an amount of cents, of either sign.
+-- True if the value is an INTEGER within the limits of an amount in cents, of either sign: at most
+-- 10^17 in absolute value.
 abbrev pub is_cents_cell : Value → Bool
 is_cents_cell (Int n) = is_within_amount_limit n
 is_cents_cell _ = false
 
--- True if the value is a TEXT that passes the check `form`.
+-- True if the value is a TEXT whose bytes pass the check `form`.
 abbrev pub is_text_cell : (List ℕ → Bool) → Value → Bool
 is_text_cell form (Words s) = form s
 is_text_cell form _ = false
@@ -62,7 +63,7 @@ is_trade_type_code s = is_some (trade_type_with_code s)
 abbrev pub all_statuses : List Status
 all_statuses = Completed ∷ Active ∷ Submitted ∷ Pending ∷ Canceled ∷ []
 
--- True if the text is the code of some status.
+-- True if the text is the code of some status of a trade.
 abbrev pub is_status_code : List ℕ → Bool
 is_status_code s = list_any (λ status. bytes_eq (trade_status_code status) s) all_statuses
 
@@ -70,19 +71,20 @@ is_status_code s = list_any (λ status. bytes_eq (trade_status_code status) s) a
 abbrev pub all_cash_types : List CashType
 all_cash_types = CashAccount ∷ Cash ∷ Margin ∷ MarginAccount ∷ []
 
--- True if the text is the text of some cash type.
+-- True if the text is the text of some cash type of a settlement.
 abbrev pub is_cash_type_text : List ℕ → Bool
 is_cash_type_text s = list_any (λ kind. bytes_eq (cash_type_text kind) s) all_cash_types
 
--- True if the number is the number of some tax status.
+-- True if the number is the number of some tax status of an account.
 abbrev pub is_tax_status_number : ℕ → Bool
 is_tax_status_number n = is_some (tax_status_with_number n)
 
--- True if the value is an INTEGER within the limits of an id.
+-- True if the value is an INTEGER within the limits of an id: from 1 to the greatest id.
 abbrev pub is_id_cell : Value → Bool
 is_id_cell = is_natural_cell is_id
 
--- True if the value is an INTEGER within the limits of the number of a cash row.
+-- True if the value is an INTEGER within the limits of the number of a cash row: from 1 to the
+-- greatest number.
 abbrev pub is_cash_row_number_cell : Value → Bool
 is_cash_row_number_cell = is_natural_cell is_cash_row_number
 
@@ -98,7 +100,7 @@ is_tax_id_cell = is_text_cell is_tax_id
 abbrev pub is_symbol_cell : Value → Bool
 is_symbol_cell = is_text_cell is_symbol
 
--- True if the value is a TEXT in the format of an exchange.
+-- True if the value is a TEXT in the format of the name of an exchange.
 abbrev pub is_exchange_cell : Value → Bool
 is_exchange_cell = is_text_cell is_exchange
 
@@ -106,40 +108,45 @@ is_exchange_cell = is_text_cell is_exchange
 abbrev pub is_trade_type_cell : Value → Bool
 is_trade_type_cell = is_text_cell is_trade_type_code
 
--- True if the value is a TEXT that is the code of a status.
+-- True if the value is a TEXT that is the code of a trade's status.
 abbrev pub is_status_cell : Value → Bool
 is_status_cell = is_text_cell is_status_code
 
--- True if the value is an INTEGER that is a tier.
+-- True if the value is an INTEGER that is a customer tier: from 1 to 3.
 abbrev pub is_tier_cell : Value → Bool
 is_tier_cell = is_natural_cell is_tier
 
--- True if the value is an INTEGER within the limits of a quantity in schema 3.
+-- True if the value is an INTEGER within the limits of a quantity in schema 3: from 1 share to the
+-- greatest quantity.
 abbrev pub is_quantity_cell : Value → Bool
 is_quantity_cell = is_natural_cell (is_quantity_in_schema third_schema)
 
--- True if the value is an INTEGER within the limits of a price.
+-- True if the value is an INTEGER within the limits of a price: from 1 cent to the greatest price.
 abbrev pub is_price_cell : Value → Bool
 is_price_cell = is_natural_cell is_price
 
--- True if the value is an INTEGER of at least 0 and at most the greatest stamp.
+-- True if the value is an INTEGER of at least 0 and at most the greatest stamp, in milliseconds
+-- since 1970-01-01 UTC.
 abbrev pub is_stamp_cell : Value → Bool
 is_stamp_cell = is_natural_cell (λ n. nat_le n greatest_stamp)
 
--- True if the value is an INTEGER of at least 0 and at most the greatest amount: a sum of cents or
--- a volume.
+-- True if the value is an INTEGER of at least 0 and at most the greatest amount: an amount in cents
+-- or a volume in shares.
 abbrev pub is_amount_cell : Value → Bool
 is_amount_cell = is_natural_cell (λ n. nat_le n greatest_amount)
 
--- True if the value is an INTEGER of at least 0 and at most the greatest commission rate.
+-- True if the value is an INTEGER of at least 0 and at most the greatest commission rate, in
+-- hundredths of a percent.
 abbrev pub is_commission_rate_cell : Value → Bool
 is_commission_rate_cell = is_natural_cell (λ n. nat_le n greatest_commission_rate)
 
--- True if the value is an INTEGER of at least 0 and at most the greatest tax rate.
+-- True if the value is an INTEGER of at least 0 and at most the greatest tax rate, in
+-- hundred-thousandths.
 abbrev pub is_tax_rate_cell : Value → Bool
 is_tax_rate_cell = is_natural_cell (λ n. nat_le n greatest_tax_rate)
 
--- True if the value is an INTEGER of at least 0 and at most the greatest day.
+-- True if the value is an INTEGER of at least 0 and at most the greatest day, in days since
+-- 1970-01-01.
 abbrev pub is_day_cell : Value → Bool
 is_day_cell = is_natural_cell (λ n. nat_le n greatest_day)
 
@@ -147,11 +154,12 @@ is_day_cell = is_natural_cell (λ n. nat_le n greatest_day)
 abbrev pub is_tax_status_cell : Value → Bool
 is_tax_status_cell = is_natural_cell is_tax_status_number
 
--- True if the value is an INTEGER of at least 0 and at most the greatest charge.
+-- True if the value is an INTEGER of at least 0 and at most the greatest charge, in cents.
 abbrev pub is_charge_cell : Value → Bool
 is_charge_cell = is_natural_cell (λ n. nat_le n greatest_charge)
 
--- True if the value is NULL, or an INTEGER of at least 0 and at most the greatest stamp.
+-- True if the value is NULL, or an INTEGER of at least 0 and at most the greatest stamp, in
+-- milliseconds since 1970-01-01 UTC.
 abbrev pub is_null_or_stamp_cell : Value → Bool
 is_null_or_stamp_cell = is_null_or_natural_cell (λ n. nat_le n greatest_stamp)
 
@@ -163,99 +171,101 @@ passes_all_cell_checks [] [] = true
 passes_all_cell_checks (has_form ∷ forms) (v ∷ row) = has_form v && passes_all_cell_checks forms row
 passes_all_cell_checks _ _ = false
 
--- The checks of the columns of DESK, with the number of `schema`, in the order of the columns.
+-- The checks of the columns of DESK in the schema `schema`, in the order of the columns: the id 1,
+-- the number of the schema, and NULL or the last stamp.
 abbrev pub desk_column_cell_checks : Schema → List (Value → Bool)
 desk_column_cell_checks schema = is_natural_cell (λ n. n == 1) ∷ is_natural_cell (λ n. n == schema.number) ∷ is_null_or_stamp_cell ∷ []
 
--- True if there is exactly one row of DESK, and it passes the checks of the schema.
+-- True if there is exactly one row of DESK, and it passes the checks of its columns in the schema
+-- `schema`.
 abbrev pub has_one_valid_desk_row : Schema → List Row → Bool
 has_one_valid_desk_row schema (row ∷ []) = passes_all_cell_checks (desk_column_cell_checks schema) row
 has_one_valid_desk_row schema _ = false
 
--- The checks of the columns of KEPT.
+-- The checks of the columns of KEPT, in the order of the columns.
 abbrev pub kept_column_cell_checks : List (Value → Bool)
 kept_column_cell_checks = is_text_cell is_batch_name ∷ is_id_cell ∷ is_utf8_cell ∷ is_utf8_cell ∷ []
 
--- The checks of the columns of BROKER.
+-- The checks of the columns of BROKER, in the order of the columns.
 abbrev pub broker_column_cell_checks : List (Value → Bool)
 broker_column_cell_checks = is_id_cell ∷ is_name_cell ∷ is_integer_cell ∷ is_natural_cell (λ n. true) ∷ []
 
--- The checks of the columns of CUSTOMER.
+-- The checks of the columns of CUSTOMER, in the order of the columns.
 abbrev pub customer_column_cell_checks : List (Value → Bool)
 customer_column_cell_checks = is_id_cell ∷ is_tier_cell ∷ is_tax_id_cell ∷ is_name_cell ∷ is_name_cell ∷ []
 
--- The checks of the columns of CUSTOMER_ACCOUNT.
+-- The checks of the columns of CUSTOMER_ACCOUNT, in the order of the columns.
 abbrev pub account_column_cell_checks : List (Value → Bool)
 account_column_cell_checks = is_id_cell ∷ is_id_cell ∷ is_id_cell ∷ is_name_cell ∷ is_tax_status_cell ∷ is_cents_cell ∷ is_cents_cell ∷ []
 
--- The checks of the columns of ACCOUNT_PERMISSION.
+-- The checks of the columns of ACCOUNT_PERMISSION, in the order of the columns.
 abbrev pub permission_column_cell_checks : List (Value → Bool)
 permission_column_cell_checks = is_id_cell ∷ is_tax_id_cell ∷ is_text_cell is_acl ∷ is_name_cell ∷ is_name_cell ∷ []
 
--- The checks of the columns of SECURITY.
+-- The checks of the columns of SECURITY, in the order of the columns.
 abbrev pub security_column_cell_checks : List (Value → Bool)
 security_column_cell_checks = is_symbol_cell ∷ is_name_cell ∷ is_exchange_cell ∷ is_name_cell ∷ []
 
--- The checks of the columns of LAST_TRADE.
+-- The checks of the columns of LAST_TRADE, in the order of the columns.
 abbrev pub last_trade_column_cell_checks : List (Value → Bool)
 last_trade_column_cell_checks = is_symbol_cell ∷ is_stamp_cell ∷ is_price_cell ∷ is_amount_cell ∷ []
 
--- The checks of the columns of CHARGE.
+-- The checks of the columns of CHARGE, in the order of the columns.
 abbrev pub charge_column_cell_checks : List (Value → Bool)
 charge_column_cell_checks = is_trade_type_cell ∷ is_tier_cell ∷ is_charge_cell ∷ []
 
--- The checks of the columns of COMMISSION_RATE.
+-- The checks of the columns of COMMISSION_RATE, in the order of the columns.
 abbrev pub band_column_cell_checks : List (Value → Bool)
 band_column_cell_checks = is_tier_cell ∷ is_trade_type_cell ∷ is_exchange_cell ∷ is_quantity_cell ∷ is_quantity_cell ∷ is_commission_rate_cell ∷ []
 
--- The checks of the columns of TAXRATE.
+-- The checks of the columns of TAXRATE, in the order of the columns.
 abbrev pub tax_rate_column_cell_checks : List (Value → Bool)
 tax_rate_column_cell_checks = is_id_cell ∷ is_name_cell ∷ is_tax_rate_cell ∷ []
 
--- The checks of the columns of CUSTOMER_TAXRATE.
+-- The checks of the columns of CUSTOMER_TAXRATE, in the order of the columns.
 abbrev pub customer_tax_column_cell_checks : List (Value → Bool)
 customer_tax_column_cell_checks = is_id_cell ∷ is_id_cell ∷ []
 
--- The checks of the columns of TRADE.
+-- The checks of the columns of TRADE, in the order of the columns.
 abbrev pub trade_column_cell_checks : List (Value → Bool)
 trade_column_cell_checks =
     is_id_cell ∷ is_stamp_cell ∷ is_status_cell ∷ is_trade_type_cell ∷ is_flag_cell ∷ is_symbol_cell ∷ is_quantity_cell ∷ is_price_cell ∷ is_id_cell
     ∷ is_utf8_cell ∷ is_null_or_natural_cell is_price ∷ is_charge_cell
     ∷ is_amount_cell ∷ is_amount_cell ∷ is_flag_cell ∷ []
 
--- The checks of the columns of TRADE_HISTORY.
+-- The checks of the columns of TRADE_HISTORY, in the order of the columns.
 abbrev pub history_column_cell_checks : List (Value → Bool)
 history_column_cell_checks = is_id_cell ∷ is_status_cell ∷ is_stamp_cell ∷ []
 
--- The checks of the columns of TRADE_REQUEST.
+-- The checks of the columns of TRADE_REQUEST, in the order of the columns.
 abbrev pub request_column_cell_checks : List (Value → Bool)
 request_column_cell_checks = is_id_cell ∷ is_trade_type_cell ∷ is_symbol_cell ∷ is_quantity_cell ∷ is_price_cell ∷ is_id_cell ∷ []
 
--- The checks of the columns of HOLDING.
+-- The checks of the columns of HOLDING, in the order of the columns.
 abbrev pub holding_column_cell_checks : List (Value → Bool)
 holding_column_cell_checks = is_id_cell ∷ is_id_cell ∷ is_symbol_cell ∷ is_stamp_cell ∷ is_price_cell ∷ is_integer_cell ∷ []
 
--- The checks of the columns of HOLDING_SUMMARY.
+-- The checks of the columns of HOLDING_SUMMARY, in the order of the columns.
 abbrev pub summary_column_cell_checks : List (Value → Bool)
 summary_column_cell_checks = is_id_cell ∷ is_symbol_cell ∷ is_integer_cell ∷ []
 
--- The checks of the columns of HOLDING_HISTORY.
+-- The checks of the columns of HOLDING_HISTORY, in the order of the columns.
 abbrev pub holding_history_column_cell_checks : List (Value → Bool)
 holding_history_column_cell_checks = is_id_cell ∷ is_id_cell ∷ is_integer_cell ∷ is_integer_cell ∷ []
 
--- The checks of the columns of SETTLEMENT.
+-- The checks of the columns of SETTLEMENT, in the order of the columns.
 abbrev pub settlement_column_cell_checks : List (Value → Bool)
 settlement_column_cell_checks = is_id_cell ∷ is_text_cell is_cash_type_text ∷ is_day_cell ∷ is_cents_cell ∷ []
 
--- The checks of the columns of CASH_TRANSACTION.
+-- The checks of the columns of CASH_TRANSACTION, in the order of the columns.
 abbrev pub cash_column_cell_checks : List (Value → Bool)
 cash_column_cell_checks = is_id_cell ∷ is_stamp_cell ∷ is_cents_cell ∷ is_utf8_cell ∷ []
 
--- The checks of the columns of CASH_MOVE.
+-- The checks of the columns of CASH_MOVE, in the order of the columns.
 abbrev pub move_column_cell_checks : List (Value → Bool)
 move_column_cell_checks = is_cash_row_number_cell ∷ is_id_cell ∷ is_null_or_natural_cell is_id ∷ is_stamp_cell ∷ is_cents_cell ∷ is_utf8_cell ∷ []
 
--- The checks of the columns of SETTLE_RULE.
+-- The checks of the columns of SETTLE_RULE, in the order of the columns.
 abbrev pub rule_column_cell_checks : List (Value → Bool)
 rule_column_cell_checks = is_natural_cell (λ n. n == 1) ∷ is_day_cell ∷ []
 

@@ -7,7 +7,7 @@ use Rattle.sqlite_value.specs.declared.value.Value.TheVariants.{Int, Text as Wor
 use Rattle.sqlite_value.specs.Order.{Row, value_cmp}
 use Rattle.brk_model.specs.Keys.{KeyPart, number, word}
 
--- The SQL value of a part of a key: an INTEGER for a number, a TEXT for a word.
+-- The SQL value of one part of a key: an INTEGER for a number, a TEXT for a text.
 abbrev pub key_part_value : KeyPart → Value
 key_part_value (number n) = Int (pos n)
 key_part_value (word s) = Words s
@@ -16,6 +16,7 @@ key_part_value (word s) = Words s
 abbrev pub key_values : List KeyPart → Row
 key_values = map key_part_value
 
--- Compares two records by their keys, part by part, in the order of SQL values.
+-- The ordering of two records `x` and `y` by their keys, which `key` returns: part by part, in the
+-- order of SQL values.
 abbrev pub ordering_by_key : {X : Type 0} → (X → List KeyPart) → X → X → Ordering
 ordering_by_key key x y = slice_cmp value_cmp (key_values (key x)) (key_values (key y))

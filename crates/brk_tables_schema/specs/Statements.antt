@@ -8,37 +8,40 @@ use Rattle.brk_sql.specs.Model.{WritesTables, ReadsTables}
 use Rattle.brk_tables_schema.specs.Desk.{DeskTable, RecordOfTable, desk_tables, rows_of_table}
 
 -- If the call succeeds, it changes the rows of a desk's tables from `t` to `f t`, for all `t`, and
--- leaves other tables unchanged. It commits nothing. Nothing is said of the tables if the disk
--- assumption fails, outside a transaction, or if the database does not contain all tables of a
--- desk.
+-- no other table, unless a foreign key of that table changes or deletes its rows. It commits
+-- nothing. Nothing is said of the tables if the disk assumption fails, outside a transaction, or if
+-- the database does not contain all tables of a desk.
 abbrev pub WritesDeskTables : {S V E : Type 0} → Ghosts S → Transaction S → Transaction S → Result V E → (Tables → Tables) → Type 0
 WritesDeskTables g old new result f = WritesTables desk_tables g old new result f
 
--- If the call succeeds, it changes nothing, and `Told` relates its value to the rows of a desk's
--- tables. Nothing is said of them if the disk assumption fails, outside a transaction, or if the
--- database does not contain all tables of a desk.
+-- If the call succeeds, it changes nothing, and `Told` relates the returned value to the rows of a
+-- desk's tables. Nothing is said of them if the disk assumption fails, outside a transaction, or if
+-- the database does not contain all tables of a desk.
 abbrev pub ReadsDeskTables : {S V E : Type 0} → Ghosts S → Transaction S → Transaction S → Result V E → (V → Tables → Type 0) → Type 0
 ReadsDeskTables g old new result Told = ReadsTables desk_tables g old new result Told
 
--- `o` is, through `of`, the first record of the table `w` that passes `is`, or `None` if no record
--- passes.
+-- The value of `o`, converted to a record by `of`, is the first record of the table `w` in `t` that
+-- passes the test `is`. If no record passes, `o` is `None`.
 abbrev pub IsFirstMatch : {X : Type 0} (w : DeskTable) → (X → RecordOfTable w) → (RecordOfTable w → Bool) → Option X → Tables → Type 0
 IsFirstMatch w of is o t = option_map of o ≡ find is (rows_of_table w t)
 
--- `all` are, through `of`, all records of the table `w` that pass `is`, in the order of the table.
+-- The values `all`, converted to records by `of`, are all records of the table `w` in `t` that pass
+-- the test `is`, in the order of the table.
 abbrev pub AreMatchingRows : {X : Type 0} (w : DeskTable) → (X → RecordOfTable w) → (RecordOfTable w → Bool) → Vec X → Tables → Type 0
 AreMatchingRows w of is all t = map of all.items ≡ filter is (rows_of_table w t)
 
 -- If the call succeeds, it changes nothing and returns the first record of the table `w` that
--- passes `is`, or `None` if no record passes. Nothing is said of the result if the disk assumption
--- fails, outside a transaction, or if the database does not contain all tables of a desk.
+-- passes the test `is`, or `None` if no record passes; `of` converts a returned value to a record
+-- of the table. Nothing is said of the result if the disk assumption fails, outside a transaction,
+-- or if the database does not contain all tables of a desk.
 abbrev pub ReadsFirstMatch : {S X E : Type 0} → Ghosts S → Transaction S → Transaction S → Result (Option X) E → (w : DeskTable) → (X → RecordOfTable w)
     → (RecordOfTable w → Bool) → Type 0
 ReadsFirstMatch g old new result w of is = ReadsDeskTables g old new result (IsFirstMatch w of is)
 
--- If the call succeeds, it changes nothing and returns all records of the table `w` that pass `is`,
--- sorted by the key of the table. Nothing is said of the result if the disk assumption fails,
--- outside a transaction, or if the database does not contain all tables of a desk.
+-- If the call succeeds, it changes nothing and returns all records of the table `w` that pass the
+-- test `is`, sorted by the key of the table; `of` converts a returned value to a record of the
+-- table. Nothing is said of the result if the disk assumption fails, outside a transaction, or if
+-- the database does not contain all tables of a desk.
 abbrev pub ReadsMatchingRows : {S X E : Type 0} → Ghosts S → Transaction S → Transaction S → Result (Vec X) E → (w : DeskTable) → (X → RecordOfTable w)
     → (RecordOfTable w → Bool) → Type 0
 ReadsMatchingRows g old new result w of is = ReadsDeskTables g old new result (AreMatchingRows w of is)

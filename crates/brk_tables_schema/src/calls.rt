@@ -1,4 +1,5 @@
-//! Calls of the database within a transaction. Each fails with the fault `Store` only.
+//! Calls of the database within a transaction. Each fails with the fault `Store` only, for any
+//! error of the database.
 
 ghost use Rattle.std.specs.Prelude.{◌≡◌, ℕ, List, map, Ok, None, Err, OnErr, IsTrue};
 ghost use Rattle.std.specs.Borrow.{Bor};
@@ -14,7 +15,8 @@ use brk_money::Fault;
 use sqlite::{Alter, Row, Transaction};
 use sqlite_value::value::ValueRef;
 
-/// Executes a statement that creates a table or changes rows. Fails with `Store` only.
+/// Executes the statement `text`, which creates a table or changes rows, with the parameters
+/// `params`. Fails with `Store` only.
 pub fn execute_statement<S: Alter>(
     tx: &mut Transaction<'_, S>,
     text: &str,
@@ -30,7 +32,8 @@ pub fn execute_statement<S: Alter>(
     }
 }
 
-/// Returns the rows that a statement without a RETURNING clause selects. Fails with `Store` only.
+/// Returns the rows that the statement `text`, which has no RETURNING clause, selects with the
+/// parameters `params`, in the order of its result. Fails with `Store` only.
 pub fn select_rows<S: Alter>(
     tx: &mut Transaction<'_, S>,
     text: &str,
@@ -47,8 +50,9 @@ pub fn select_rows<S: Alter>(
     }
 }
 
-/// Returns true if the statement compiles, and false if it names a table that does not exist. The
-/// database is unchanged. Fails with `Store` only.
+/// Returns true if the statement `text` compiles, and false if it names a table that does not
+/// exist. The database is unchanged. Fails with `Store` only, also if the statement does not
+/// compile for another reason.
 pub fn statement_compiles<S: Alter>(tx: &mut Transaction<'_, S>, text: &str) -> Result<bool, Fault>
     ensures same_reference { tx.new.conn.ghost_name ≡ tx.old.conn.ghost_name }
     ensures step { IsConnectionStep S.Store tx.old tx.new result (λ has a b. IsTrue a.is_open × (b.now ≡ a.now)
@@ -61,8 +65,8 @@ pub fn statement_compiles<S: Alter>(tx: &mut Transaction<'_, S>, text: &str) -> 
     }
 }
 
-/// Returns true if the columns of the statement's result are exactly `names`, in order. The
-/// database is unchanged. Fails with `Store` only.
+/// Returns true if the columns of the result of the statement `text` are exactly `names`, in order.
+/// The database is unchanged. Fails with `Store` only.
 pub fn statement_has_columns<S: Alter>(
     tx: &mut Transaction<'_, S>,
     text: &str,

@@ -1,4 +1,5 @@
-//! The columns of a row as typed values. A malformed column is `DecodeError::Form`.
+//! The columns of a row as typed values. Each function reads the column with the index `at`, from
+//! 0. A missing or malformed column is the error `DecodeError::Form`.
 
 ghost use Rattle.std.specs.Prelude.{◌≡◌, ◌≢◌, ◌<◌, ◌^◌, Err, IfOk, MatchOption, OnOk, bytes_eq, length, nat_lt, pos, string_bytes, true, false};
 ghost use Rattle.sqlite_value.specs.declared.value.Value.TheVariants.{Int, Text};
@@ -7,7 +8,11 @@ ghost use Rattle.brk_money.specs.Kinds.{trade_status_code, tax_status_number, tr
 ghost use Rattle.brk_changes.specs.Rows.{cash_type_text};
 ghost use Rattle.brk_model.specs.Form.{is_id, is_price};
 ghost use Rattle.brk_tables_schema.specs.Cells.{flag_as_value, optional_as_value};
-ghost use Rattle.brk_tables_schema.specs.Formed.{is_cents_cell, is_charge_cell, is_day_cell, is_flag_cell, is_id_cell, is_cash_type_text, is_status_code, is_tax_status_number, is_null_or_stamp_cell, is_null_or_natural_cell, is_cash_row_number_cell, is_natural_cell, is_integer_cell, is_price_cell, is_quantity_cell, is_commission_rate_cell, is_stamp_cell, is_status_cell, is_amount_cell, is_tax_rate_cell, is_tax_status_cell, is_utf8_cell, is_tier_cell, is_trade_type_cell, is_text_cell};
+ghost use Rattle.brk_tables_schema.specs.Formed.{is_cents_cell, is_charge_cell, is_day_cell, is_flag_cell, is_id_cell, is_cash_type_text};
+ghost use Rattle.brk_tables_schema.specs.Formed.{is_status_code, is_tax_status_number, is_null_or_stamp_cell, is_null_or_natural_cell};
+ghost use Rattle.brk_tables_schema.specs.Formed.{is_cash_row_number_cell, is_natural_cell, is_integer_cell, is_price_cell, is_quantity_cell};
+ghost use Rattle.brk_tables_schema.specs.Formed.{is_commission_rate_cell, is_stamp_cell, is_status_cell, is_amount_cell, is_tax_rate_cell};
+ghost use Rattle.brk_tables_schema.specs.Formed.{is_tax_status_cell, is_utf8_cell, is_tier_cell, is_trade_type_cell, is_text_cell};
 ghost use Rattle.brk_tables_schema.specs.declared.decode_error.DecodeError.TheVariants.{Form as Formless};
 
 use crate::decode_error::{DecodeError, decode_error_of_read_error};
@@ -20,8 +25,8 @@ use sqlite::Row;
 use sqlite::types::FromSql;
 use sqlite_value::value::ValueRef;
 
-/// Returns `Ok` only if the row has exactly `count` columns. Fails with `Form` only if it has not,
-/// or with `Memory`.
+/// Returns `Ok` if the row has exactly `count` columns. Fails with `Form` only if it has more or
+/// fewer, or with `Memory`.
 pub fn check_column_count(row: &Row, count: usize) -> Result<(), DecodeError>
     ensures columns { OnOk result (length row.now ≡ count) }
     ensures form { result ≡ Err Formless → length row.now ≢ count }
@@ -33,8 +38,8 @@ pub fn check_column_count(row: &Row, count: usize) -> Result<(), DecodeError>
     }
 }
 
-// Reads a column as the type `T`. Fails with `Form` only if the column is missing or malformed, or
-// with `Memory`.
+// Reads the column `at` as a value of the type `T`. Fails with `Form` only if the column is missing
+// or malformed, or with `Memory`.
 fn read_column<T: FromSql>(row: &Row, at: usize) -> Result<T, DecodeError>
     ensures value { IfOk result (T.FromSql.reads_as (column row.now at)) }
     ensures form { result ≡ Err Formless → at < length row.now → ¬ T.FromSql.is_readable (column row.now at) }
@@ -45,8 +50,8 @@ fn read_column<T: FromSql>(row: &Row, at: usize) -> Result<T, DecodeError>
     }
 }
 
-// Reads the bytes of a text. Fails with `Form` only if the column is missing or malformed, or with
-// `Memory`.
+// Reads the bytes of the TEXT in the column `at`. Fails with `Form` only if the column is missing
+// or malformed, or with `Memory`.
 fn text_bytes_in_column(row: &Row, at: usize) -> Result<&[u8], DecodeError>
     ensures value { IfOk result (λ bytes. column row.now at ≡ Text bytes.now) }
     ensures form { result ≡ Err Formless → at < length row.now → is_text_cell (λ _. true) (column row.now at) ≡ false }
@@ -57,8 +62,8 @@ fn text_bytes_in_column(row: &Row, at: usize) -> Result<&[u8], DecodeError>
     }
 }
 
-/// Reads an integer. Fails with `Form` only if the column is missing or malformed, or with
-/// `Memory`.
+/// Reads an integer of 64 bits, of either sign, from the column `at`. Fails with `Form` only if the
+/// column is missing or malformed, or with `Memory`.
 pub fn integer_in_column(row: &Row, at: usize) -> Result<i64, DecodeError>
     ensures value { IfOk result (λ number. column row.now at ≡ Int number) }
     ensures form { result ≡ Err Formless → at < length row.now → is_integer_cell (column row.now at) ≡ false }
@@ -66,8 +71,8 @@ pub fn integer_in_column(row: &Row, at: usize) -> Result<i64, DecodeError>
     read_column(row, at)
 }
 
-/// Reads an integer that is not below 0. Fails with `Form` only if the column is missing or
-/// malformed, or with `Memory`.
+/// Reads an integer that is not below 0 from the column `at`. Fails with `Form` only if the column
+/// is missing or malformed, or with `Memory`.
 pub fn natural_in_column(row: &Row, at: usize) -> Result<u64, DecodeError>
     ensures value { IfOk result (λ number. column row.now at ≡ Int (pos number)) }
     ensures form { result ≡ Err Formless → at < length row.now → is_natural_cell (λ _. true) (column row.now at) ≡ false }
@@ -75,8 +80,8 @@ pub fn natural_in_column(row: &Row, at: usize) -> Result<u64, DecodeError>
     read_column(row, at)
 }
 
-/// Reads an integer that is not below 0 and fits 32 bits. Fails with `Form` only if the column is
-/// missing or malformed, or with `Memory`.
+/// Reads an integer from 0 to 2^32 - 1 from the column `at`. Fails with `Form` only if the column
+/// is missing or malformed, or with `Memory`.
 pub fn u32_in_column(row: &Row, at: usize) -> Result<u32, DecodeError>
     ensures value { IfOk result (λ number. column row.now at ≡ Int (pos number)) }
     ensures form { result ≡ Err Formless → at < length row.now → is_natural_cell (λ n. nat_lt n (2 ^ 32)) (column row.now at) ≡ false }
@@ -84,8 +89,8 @@ pub fn u32_in_column(row: &Row, at: usize) -> Result<u32, DecodeError>
     read_column(row, at)
 }
 
-/// Reads a text of UTF-8. Fails with `Form` only if the column is missing or malformed, or with
-/// `Memory`.
+/// Reads a text of UTF-8 from the column `at`. Fails with `Form` only if the column is missing or
+/// malformed, or with `Memory`.
 #[tactic(auto, using(crate::proofs::Unformed::no_text))]
 pub fn text_in_column(row: &Row, at: usize) -> Result<String, DecodeError>
     ensures value { IfOk result (λ text. column row.now at ≡ Text (string_bytes text)) }
@@ -94,8 +99,8 @@ pub fn text_in_column(row: &Row, at: usize) -> Result<String, DecodeError>
     read_column(row, at)
 }
 
-/// Reads a text of the format `F`. Fails with `Form` only if the column is missing or malformed, or
-/// with `Memory`.
+/// Reads a text of the format `F` from the column `at`. Fails with `Form` only if the column is
+/// missing or malformed, or with `Memory`.
 #[tactic(auto, using(crate::proofs::Unformed::no_formed_text))]
 pub fn formatted_text_in_column<F: Form>(row: &Row, at: usize) -> Result<FormedText<F>, DecodeError>
     ensures value { IfOk result (λ text. column row.now at ≡ Text text) }
@@ -104,8 +109,8 @@ pub fn formatted_text_in_column<F: Form>(row: &Row, at: usize) -> Result<FormedT
     FormedText::new(text_in_column(row, at)?).ok_or(DecodeError::Form)
 }
 
-/// Reads the number of a row of a batch. Fails with `Form` only if the column is missing or
-/// malformed, or with `Memory`.
+/// Reads the number of a row of a batch, from 1, from the column `at`. Fails with `Form` only if
+/// the column is missing or malformed, or with `Memory`.
 pub fn row_number_in_column(row: &Row, at: usize) -> Result<RowNumber, DecodeError>
     ensures value { IfOk result (λ number. column row.now at ≡ Int (pos number)) }
     ensures form { result ≡ Err Formless → at < length row.now → is_id_cell (column row.now at) ≡ false }
@@ -113,7 +118,8 @@ pub fn row_number_in_column(row: &Row, at: usize) -> Result<RowNumber, DecodeErr
     RowNumber::new(natural_in_column(row, at)?).ok_or(DecodeError::Form)
 }
 
-/// Reads an id. Fails with `Form` only if the column is missing or malformed, or with `Memory`.
+/// Reads an id, from 1 to 10^12, from the column `at`. Fails with `Form` only if the column is
+/// missing or malformed, or with `Memory`.
 pub fn id_in_column(row: &Row, at: usize) -> Result<Id, DecodeError>
     ensures value { IfOk result (λ id. column row.now at ≡ Int (pos id)) }
     ensures form { result ≡ Err Formless → at < length row.now → is_id_cell (column row.now at) ≡ false }
@@ -121,8 +127,8 @@ pub fn id_in_column(row: &Row, at: usize) -> Result<Id, DecodeError>
     Id::new(natural_in_column(row, at)?).ok_or(DecodeError::Form)
 }
 
-/// Reads the id of a cash row. Fails with `Form` only if the column is missing or malformed, or
-/// with `Memory`.
+/// Reads the number of a cash row (CM_ID), from 1, from the column `at`. Fails with `Form` only if
+/// the column is missing or malformed, or with `Memory`.
 pub fn cash_row_id_in_column(row: &Row, at: usize) -> Result<MoveId, DecodeError>
     ensures value { IfOk result (λ id. column row.now at ≡ Int (pos id)) }
     ensures form { result ≡ Err Formless → at < length row.now → is_cash_row_number_cell (column row.now at) ≡ false }
@@ -130,8 +136,8 @@ pub fn cash_row_id_in_column(row: &Row, at: usize) -> Result<MoveId, DecodeError
     MoveId::new(natural_in_column(row, at)?).ok_or(DecodeError::Form)
 }
 
-/// Reads an id, or `None` if the column is null. Fails with `Form` only if the column is missing or
-/// malformed, or with `Memory`.
+/// Reads an id from the column `at`, or returns `None` if the column is null. Fails with `Form`
+/// only if the column is missing or malformed, or with `Memory`.
 pub fn optional_id_in_column(row: &Row, at: usize) -> Result<Option<Id>, DecodeError>
     ensures value { IfOk result (λ id. column row.now at ≡ optional_as_value id) }
     ensures form { result ≡ Err Formless → at < length row.now → is_null_or_natural_cell is_id (column row.now at) ≡ false }
@@ -143,7 +149,8 @@ pub fn optional_id_in_column(row: &Row, at: usize) -> Result<Option<Id>, DecodeE
     Ok(Some(Id::new(number).ok_or(DecodeError::Form)?))
 }
 
-/// Reads a tier. Fails with `Form` only if the column is missing or malformed, or with `Memory`.
+/// Reads a customer tier, from 1 to 3, from the column `at`. Fails with `Form` only if the column
+/// is missing or malformed, or with `Memory`.
 pub fn tier_in_column(row: &Row, at: usize) -> Result<Tier, DecodeError>
     ensures value { IfOk result (λ tier. column row.now at ≡ Int (pos tier)) }
     ensures form { result ≡ Err Formless → at < length row.now → is_tier_cell (column row.now at) ≡ false }
@@ -151,8 +158,8 @@ pub fn tier_in_column(row: &Row, at: usize) -> Result<Tier, DecodeError>
     Tier::new(natural_in_column(row, at)?).ok_or(DecodeError::Form)
 }
 
-/// Reads an amount of cents that is not below 0. Fails with `Form` only if the column is missing or
-/// malformed, or with `Memory`.
+/// Reads an amount in cents that is not below 0 from the column `at`. Fails with `Form` only if the
+/// column is missing or malformed, or with `Memory`.
 pub fn amount_in_column(row: &Row, at: usize) -> Result<Amount, DecodeError>
     ensures value { IfOk result (λ amount. column row.now at ≡ Int (pos amount)) }
     ensures form { result ≡ Err Formless → at < length row.now → is_amount_cell (column row.now at) ≡ false }
@@ -160,7 +167,8 @@ pub fn amount_in_column(row: &Row, at: usize) -> Result<Amount, DecodeError>
     Amount::new(natural_in_column(row, at)?).ok_or(DecodeError::Form)
 }
 
-/// Reads a volume. Fails with `Form` only if the column is missing or malformed, or with `Memory`.
+/// Reads a volume, in shares, from the column `at`. Fails with `Form` only if the column is missing
+/// or malformed, or with `Memory`.
 pub fn volume_in_column(row: &Row, at: usize) -> Result<Volume, DecodeError>
     ensures value { IfOk result (λ volume. column row.now at ≡ Int (pos volume)) }
     ensures form { result ≡ Err Formless → at < length row.now → is_amount_cell (column row.now at) ≡ false }
@@ -168,8 +176,8 @@ pub fn volume_in_column(row: &Row, at: usize) -> Result<Volume, DecodeError>
     Volume::new(natural_in_column(row, at)?).ok_or(DecodeError::Form)
 }
 
-/// Reads a quantity. Fails with `Form` only if the column is missing or malformed, or with
-/// `Memory`.
+/// Reads a quantity, in shares, from the column `at`. Fails with `Form` only if the column is
+/// missing or malformed, or with `Memory`.
 pub fn quantity_in_column(row: &Row, at: usize) -> Result<Qty, DecodeError>
     ensures value { IfOk result (λ qty. column row.now at ≡ Int (pos qty)) }
     ensures form { result ≡ Err Formless → at < length row.now → is_quantity_cell (column row.now at) ≡ false }
@@ -177,7 +185,8 @@ pub fn quantity_in_column(row: &Row, at: usize) -> Result<Qty, DecodeError>
     Qty::new(u32_in_column(row, at)?).ok_or(DecodeError::Form)
 }
 
-/// Reads a price. Fails with `Form` only if the column is missing or malformed, or with `Memory`.
+/// Reads the price of a share, in cents, from the column `at`. Fails with `Form` only if the column
+/// is missing or malformed, or with `Memory`.
 pub fn price_in_column(row: &Row, at: usize) -> Result<Price, DecodeError>
     ensures value { IfOk result (λ price. column row.now at ≡ Int (pos price)) }
     ensures form { result ≡ Err Formless → at < length row.now → is_price_cell (column row.now at) ≡ false }
@@ -185,8 +194,8 @@ pub fn price_in_column(row: &Row, at: usize) -> Result<Price, DecodeError>
     Price::new(u32_in_column(row, at)?).ok_or(DecodeError::Form)
 }
 
-/// Reads a commission rate. Fails with `Form` only if the column is missing or malformed, or with
-/// `Memory`.
+/// Reads a commission rate, in hundredths of a percent, from the column `at`. Fails with `Form`
+/// only if the column is missing or malformed, or with `Memory`.
 pub fn commission_rate_in_column(row: &Row, at: usize) -> Result<Rate, DecodeError>
     ensures value { IfOk result (λ rate. column row.now at ≡ Int (pos rate)) }
     ensures form { result ≡ Err Formless → at < length row.now → is_commission_rate_cell (column row.now at) ≡ false }
@@ -194,8 +203,8 @@ pub fn commission_rate_in_column(row: &Row, at: usize) -> Result<Rate, DecodeErr
     Rate::new(u32_in_column(row, at)?).ok_or(DecodeError::Form)
 }
 
-/// Reads a tax rate. Fails with `Form` only if the column is missing or malformed, or with
-/// `Memory`.
+/// Reads a tax rate, in hundred-thousandths, from the column `at`. Fails with `Form` only if the
+/// column is missing or malformed, or with `Memory`.
 pub fn tax_rate_in_column(row: &Row, at: usize) -> Result<TaxRate, DecodeError>
     ensures value { IfOk result (λ rate. column row.now at ≡ Int (pos rate)) }
     ensures form { result ≡ Err Formless → at < length row.now → is_tax_rate_cell (column row.now at) ≡ false }
@@ -203,7 +212,8 @@ pub fn tax_rate_in_column(row: &Row, at: usize) -> Result<TaxRate, DecodeError>
     TaxRate::new(u32_in_column(row, at)?).ok_or(DecodeError::Form)
 }
 
-/// Reads a charge. Fails with `Form` only if the column is missing or malformed, or with `Memory`.
+/// Reads a charge, in cents, from the column `at`. Fails with `Form` only if the column is missing
+/// or malformed, or with `Memory`.
 pub fn charge_amount_in_column(row: &Row, at: usize) -> Result<ChargeAmount, DecodeError>
     ensures value { IfOk result (λ amount. column row.now at ≡ Int (pos amount)) }
     ensures form { result ≡ Err Formless → at < length row.now → is_charge_cell (column row.now at) ≡ false }
@@ -211,8 +221,8 @@ pub fn charge_amount_in_column(row: &Row, at: usize) -> Result<ChargeAmount, Dec
     ChargeAmount::new(u32_in_column(row, at)?).ok_or(DecodeError::Form)
 }
 
-/// Reads an amount of cents, of either sign. Fails with `Form` only if the column is missing or
-/// malformed, or with `Memory`.
+/// Reads an amount in cents, of either sign, from the column `at`. Fails with `Form` only if the
+/// column is missing or malformed, or with `Memory`.
 pub fn cents_in_column(row: &Row, at: usize) -> Result<Cents, DecodeError>
     ensures value { IfOk result (λ cents. column row.now at ≡ Int cents) }
     ensures form { result ≡ Err Formless → at < length row.now → is_cents_cell (column row.now at) ≡ false }
@@ -220,7 +230,8 @@ pub fn cents_in_column(row: &Row, at: usize) -> Result<Cents, DecodeError>
     Cents::new(integer_in_column(row, at)?).ok_or(DecodeError::Form)
 }
 
-/// Reads a stamp. Fails with `Form` only if the column is missing or malformed, or with `Memory`.
+/// Reads a stamp, in milliseconds since 1970-01-01 UTC, from the column `at`. Fails with `Form`
+/// only if the column is missing or malformed, or with `Memory`.
 pub fn stamp_in_column(row: &Row, at: usize) -> Result<Stamp, DecodeError>
     ensures value { IfOk result (λ stamp. column row.now at ≡ Int (pos stamp)) }
     ensures form { result ≡ Err Formless → at < length row.now → is_stamp_cell (column row.now at) ≡ false }
@@ -228,7 +239,8 @@ pub fn stamp_in_column(row: &Row, at: usize) -> Result<Stamp, DecodeError>
     Stamp::new(integer_in_column(row, at)?).ok_or(DecodeError::Form)
 }
 
-/// Reads a day. Fails with `Form` only if the column is missing or malformed, or with `Memory`.
+/// Reads a day, as the number of days since 1970-01-01, from the column `at`. Fails with `Form`
+/// only if the column is missing or malformed, or with `Memory`.
 pub fn day_in_column(row: &Row, at: usize) -> Result<Day, DecodeError>
     ensures value { IfOk result (λ day. column row.now at ≡ Int (pos day)) }
     ensures form { result ≡ Err Formless → at < length row.now → is_day_cell (column row.now at) ≡ false }
@@ -236,8 +248,9 @@ pub fn day_in_column(row: &Row, at: usize) -> Result<Day, DecodeError>
     Day::new(read_column(row, at)?).ok_or(DecodeError::Form)
 }
 
-/// Reads a stamp, or `None` if the column is null. Fails with `Form` only if the column is missing
-/// or malformed, or with `Memory`.
+/// Reads a stamp, in milliseconds since 1970-01-01 UTC, from the column `at`, or returns `None` if
+/// the column is null. Fails with `Form` only if the column is missing or malformed, or with
+/// `Memory`.
 pub fn optional_stamp_in_column(row: &Row, at: usize) -> Result<Option<Stamp>, DecodeError>
     ensures value { IfOk result (λ stamp. column row.now at ≡ optional_as_value stamp) }
     ensures form { result ≡ Err Formless → at < length row.now → is_null_or_stamp_cell (column row.now at) ≡ false }
@@ -249,8 +262,8 @@ pub fn optional_stamp_in_column(row: &Row, at: usize) -> Result<Option<Stamp>, D
     Ok(Some(Stamp::new(millis).ok_or(DecodeError::Form)?))
 }
 
-/// Reads a price, or `None` if the column is null. Fails with `Form` only if the column is missing
-/// or malformed, or with `Memory`.
+/// Reads the price of a share, in cents, from the column `at`, or returns `None` if the column is
+/// null. Fails with `Form` only if the column is missing or malformed, or with `Memory`.
 pub fn optional_price_in_column(row: &Row, at: usize) -> Result<Option<Price>, DecodeError>
     ensures value { IfOk result (λ price. column row.now at ≡ optional_as_value price) }
     ensures form { result ≡ Err Formless → at < length row.now → is_null_or_natural_cell is_price (column row.now at) ≡ false }
@@ -262,8 +275,8 @@ pub fn optional_price_in_column(row: &Row, at: usize) -> Result<Option<Price>, D
     Ok(Some(Price::new(cents).ok_or(DecodeError::Form)?))
 }
 
-/// Reads a tax status by its number. Fails with `Form` only if the column is missing or malformed,
-/// or with `Memory`.
+/// Reads the tax status with the number in the column `at`. Fails with `Form` only if the column is
+/// missing or malformed, or with `Memory`.
 pub fn tax_status_in_column(row: &Row, at: usize) -> Result<TaxStatus, DecodeError>
     ensures value { IfOk result (λ tax_status. column row.now at ≡ Int (pos (tax_status_number tax_status))) }
     ensures form { result ≡ Err Formless → at < length row.now → is_tax_status_cell (column row.now at) ≡ false }
@@ -271,8 +284,8 @@ pub fn tax_status_in_column(row: &Row, at: usize) -> Result<TaxStatus, DecodeErr
     TaxStatus::from_number(natural_in_column(row, at)?).ok_or(DecodeError::Form)
 }
 
-/// Reads a flag: 1 as true and 0 as false. Fails with `Form` only if the column is missing or
-/// malformed, or with `Memory`.
+/// Reads a flag from the column `at`: 1 as true and 0 as false. Fails with `Form` only if the
+/// column is missing or malformed, or with `Memory`.
 pub fn flag_in_column(row: &Row, at: usize) -> Result<bool, DecodeError>
     ensures value { IfOk result (λ is. column row.now at ≡ flag_as_value is) }
     ensures form { result ≡ Err Formless → at < length row.now → is_flag_cell (column row.now at) ≡ false }
@@ -284,8 +297,8 @@ pub fn flag_in_column(row: &Row, at: usize) -> Result<bool, DecodeError>
     }
 }
 
-/// Reads a trade type by its code. Fails with `Form` only if the column is missing or malformed, or
-/// with `Memory`.
+/// Reads the trade type with the code in the column `at`, such as TMB. Fails with `Form` only if
+/// the column is missing or malformed, or with `Memory`.
 pub fn trade_type_in_column(row: &Row, at: usize) -> Result<TradeType, DecodeError>
     ensures value { IfOk result (λ kind. column row.now at ≡ Text (trade_type_code kind)) }
     ensures form { result ≡ Err Formless → at < length row.now → is_trade_type_cell (column row.now at) ≡ false }
@@ -293,14 +306,14 @@ pub fn trade_type_in_column(row: &Row, at: usize) -> Result<TradeType, DecodeErr
     parse_trade_type(text_bytes_in_column(row, at)?).ok_or(DecodeError::Form)
 }
 
-// Returns true if the bytes are the code of the status.
+// Returns true if `bytes` are the code of the status.
 fn is_code_of_status(status: Status, bytes: &[u8]) -> bool
     ensures { result ≡ bytes_eq (trade_status_code status) bytes.now }
 {
     status.code().as_bytes() == bytes
 }
 
-// Returns the status with this code, or `None` if no status has it.
+// Returns the status of a trade with this code, or `None` if no status has it.
 fn parse_status(bytes: &[u8]) -> Option<Status>
     ensures { MatchOption result (is_status_code bytes.now ≡ false) (λ status. trade_status_code status ≡ bytes.now) }
 {
@@ -322,8 +335,8 @@ fn parse_status(bytes: &[u8]) -> Option<Status>
     None
 }
 
-/// Reads a status by its code. Fails with `Form` only if the column is missing or malformed, or
-/// with `Memory`.
+/// Reads the status with the code in the column `at`, such as CMPT. Fails with `Form` only if the
+/// column is missing or malformed, or with `Memory`.
 pub fn status_in_column(row: &Row, at: usize) -> Result<Status, DecodeError>
     ensures value { IfOk result (λ status. column row.now at ≡ Text (trade_status_code status)) }
     ensures form { result ≡ Err Formless → at < length row.now → is_status_cell (column row.now at) ≡ false }
@@ -331,14 +344,14 @@ pub fn status_in_column(row: &Row, at: usize) -> Result<Status, DecodeError>
     parse_status(text_bytes_in_column(row, at)?).ok_or(DecodeError::Form)
 }
 
-// Returns true if the bytes are the text of the cash type.
+// Returns true if `bytes` are the text of the cash type.
 fn is_text_of_cash_type(kind: CashType, bytes: &[u8]) -> bool
     ensures { result ≡ bytes_eq (cash_type_text kind) bytes.now }
 {
     kind.word().as_bytes() == bytes
 }
 
-// Returns the cash type with this text, or `None` if no cash type has it.
+// Returns the cash type of a settlement with this text, or `None` if no cash type has it.
 fn parse_cash_type(bytes: &[u8]) -> Option<CashType>
     ensures { MatchOption result (is_cash_type_text bytes.now ≡ false) (λ kind. cash_type_text kind ≡ bytes.now) }
 {
@@ -357,8 +370,8 @@ fn parse_cash_type(bytes: &[u8]) -> Option<CashType>
     None
 }
 
-/// Reads a cash type by its text. Fails with `Form` only if the column is missing or malformed, or
-/// with `Memory`.
+/// Reads the cash type of a settlement with the text in the column `at`. Fails with `Form` only if
+/// the column is missing or malformed, or with `Memory`.
 pub fn cash_type_in_column(row: &Row, at: usize) -> Result<CashType, DecodeError>
     ensures value { IfOk result (λ kind. column row.now at ≡ Text (cash_type_text kind)) }
     ensures form { result ≡ Err Formless → at < length row.now → is_text_cell is_cash_type_text (column row.now at) ≡ false }

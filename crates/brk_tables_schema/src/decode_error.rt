@@ -22,6 +22,7 @@ impl From<AllocError> for DecodeError {
 
     ghost from_gives = { λ _ decode_error. decode_error ≡ Refused };
 
+    /// Converts an error of an allocation to `Memory`.
     fn from(_: AllocError) -> DecodeError {
         DecodeError::Memory
     }
@@ -33,22 +34,24 @@ impl<T: Drop> From<AllocFailed<T>> for DecodeError {
 
     ghost from_gives = { λ _ decode_error. decode_error ≡ Refused };
 
+    /// Converts an error of an allocation that returns a value to `Memory`.
     fn from(_: AllocFailed<T>) -> DecodeError {
         DecodeError::Memory
     }
 }
 
-/// Every decoding error becomes the fault `Store`. A consistent store has no malformed row.
+/// The conversion of a decoding error to a fault. A consistent store has no malformed row.
 impl From<DecodeError> for Fault {
     ghost from_gives = { λ _ fault. fault ≡ Store };
 
+    /// Converts every decoding error, `Memory` included, to the fault `Store`.
     fn from(_: DecodeError) -> Fault {
         Fault::Store
     }
 }
 
-/// Returns the reason why a row cannot be decoded after an error of a read: `Form` only if the
-/// error was not out of memory.
+/// Converts an error of the read of a column to a decoding error: `Form` only if the error is not
+/// out of memory.
 pub(crate) fn decode_error_of_read_error(error: Error) -> DecodeError
     ensures { result ≡ DecodeError.Form → error ≢ Error.SqliteFailure ErrorCode.OutOfMemory }
 {

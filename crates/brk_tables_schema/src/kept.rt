@@ -42,6 +42,8 @@ impl Record for Kept {
 
     ghost forms = { kept_column_cell_checks };
 
+    /// Decodes a row of KEPT. Fails with `Form` only if a column is malformed or the number of
+    /// columns is not 4, or with `Memory`.
     fn from_row(row: &Row) -> Result<Kept, DecodeError> {
         check_column_count(row, 4)?;
         let key = Key {
@@ -56,8 +58,8 @@ impl Record for Kept {
     }
 }
 
-/// Returns the row of KEPT under this key, or `None` if there is none. Changes nothing. Fails with
-/// `Store` only.
+/// Returns the row of KEPT with the key `key`, or `None` if there is none. Changes nothing. Fails
+/// with `Store` only.
 pub fn kept_row_by_key<S: Alter>(
     tx: &mut Transaction<'_, S>,
     key: &Key,

@@ -14,12 +14,12 @@ use brk_money::Fault;
 use sqlite::Row;
 use std::alloc::Global;
 
-/// A typed record that a table row encodes.
+/// A typed record that a row of a table encodes.
 pub trait Record: Drop {
-    /// The row that encodes the record.
+    /// The values of the row that encodes the record, in the order of the columns.
     ghost cells: { Self → Cells };
 
-    /// The check of each column of such a row, in order.
+    /// The check of each column of a row that encodes a record, in the order of the columns.
     ghost forms: { List (Value → Bool) };
 
     /// Decodes a row. Fails with `Form` only if a column is malformed or the number of columns is
@@ -29,7 +29,8 @@ pub trait Record: Drop {
         ensures form { result ≡ Err Formless → passes_all_cell_checks forms row.now ≡ false };
 }
 
-/// Decodes the first row, or returns `None` if there is none. Fails with `Store` only.
+/// Decodes the first of the rows, or returns `None` if there are no rows. Fails with `Store` only,
+/// also if the row is malformed.
 pub fn decode_first_row<T: Record>(rows: &[Row]) -> Result<Option<T>, Fault>
     ensures value { IfOk result (λ o. option_map T.cells o ≡ slice_get rows.now 0) }
     ensures fault { OnErr result (result ≡ Err Store) }
@@ -40,7 +41,8 @@ pub fn decode_first_row<T: Record>(rows: &[Row]) -> Result<Option<T>, Fault>
     }
 }
 
-/// Decodes all rows, in order. Fails with `Memory` or `Store` only.
+/// Decodes all rows, in order. Fails with `Memory` or `Store` only; with `Store` if a row is
+/// malformed.
 pub fn decode_rows<T: Record>(alloc: Global, rows: &[Row]) -> Result<Vec<T>, Fault>
     ensures value { IfOk result (λ all. map T.cells all.items ≡ rows.now) }
     ensures fault { IfErr result IsCallFault }

@@ -1,8 +1,12 @@
 //! The decoding of the rows of reference data, column by column.
 
-ghost use Rattle.brk_ref.specs.Records.{abstract_account_row, abstract_band, abstract_broker_row, abstract_charge, abstract_customer, abstract_customer_tax, abstract_permission, abstract_security_row, abstract_tax_rate};
-ghost use Rattle.brk_tables_schema.specs.Cells.{account_cells, band_cells, broker_cells, charge_cells, customer_cells, customer_tax_cells, permission_cells, security_cells, tax_rate_cells};
-ghost use Rattle.brk_tables_schema.specs.Formed.{account_column_cell_checks, band_column_cell_checks, broker_column_cell_checks, charge_column_cell_checks, customer_column_cell_checks, customer_tax_column_cell_checks, permission_column_cell_checks, security_column_cell_checks, tax_rate_column_cell_checks};
+ghost use Rattle.brk_ref.specs.Records.{abstract_account_row, abstract_band, abstract_broker_row, abstract_charge, abstract_customer};
+ghost use Rattle.brk_ref.specs.Records.{abstract_customer_tax, abstract_permission, abstract_security_row, abstract_tax_rate};
+ghost use Rattle.brk_tables_schema.specs.Cells.{account_cells, band_cells, broker_cells, charge_cells, customer_cells};
+ghost use Rattle.brk_tables_schema.specs.Cells.{customer_tax_cells, permission_cells, security_cells, tax_rate_cells};
+ghost use Rattle.brk_tables_schema.specs.Formed.{account_column_cell_checks, band_column_cell_checks, broker_column_cell_checks};
+ghost use Rattle.brk_tables_schema.specs.Formed.{charge_column_cell_checks, customer_column_cell_checks, customer_tax_column_cell_checks};
+ghost use Rattle.brk_tables_schema.specs.Formed.{permission_column_cell_checks, security_column_cell_checks, tax_rate_column_cell_checks};
 
 use crate::cells::{
     cents_in_column, charge_amount_in_column, check_column_count, commission_rate_in_column,
@@ -23,6 +27,8 @@ impl Record for AccountRow {
 
     ghost forms = { account_column_cell_checks };
 
+    /// Decodes a row of CUSTOMER_ACCOUNT. Fails with `Form` only if a column is malformed or the
+    /// number of columns is not 7, or with `Memory`.
     fn from_row(row: &Row) -> Result<AccountRow, DecodeError> {
         check_column_count(row, 7)?;
         Ok(AccountRow {
@@ -44,6 +50,8 @@ impl Record for Band {
 
     ghost forms = { band_column_cell_checks };
 
+    /// Decodes a row of COMMISSION_RATE. Fails with `Form` only if a column is malformed or the
+    /// number of columns is not 6, or with `Memory`.
     fn from_row(row: &Row) -> Result<Band, DecodeError> {
         check_column_count(row, 6)?;
         Ok(Band {
@@ -62,6 +70,8 @@ impl Record for BrokerRow {
 
     ghost forms = { broker_column_cell_checks };
 
+    /// Decodes a row of BROKER. Fails with `Form` only if a column is malformed or the number of
+    /// columns is not 4, or with `Memory`.
     fn from_row(row: &Row) -> Result<BrokerRow, DecodeError> {
         check_column_count(row, 4)?;
         Ok(BrokerRow {
@@ -80,6 +90,8 @@ impl Record for Charge {
 
     ghost forms = { charge_column_cell_checks };
 
+    /// Decodes a row of CHARGE. Fails with `Form` only if a column is malformed or the number of
+    /// columns is not 3, or with `Memory`.
     fn from_row(row: &Row) -> Result<Charge, DecodeError> {
         check_column_count(row, 3)?;
         Ok(Charge {
@@ -95,6 +107,8 @@ impl Record for Customer {
 
     ghost forms = { customer_column_cell_checks };
 
+    /// Decodes a row of CUSTOMER. Fails with `Form` only if a column is malformed or the number of
+    /// columns is not 5, or with `Memory`.
     fn from_row(row: &Row) -> Result<Customer, DecodeError> {
         check_column_count(row, 5)?;
         Ok(Customer {
@@ -112,6 +126,8 @@ impl Record for Permission {
 
     ghost forms = { permission_column_cell_checks };
 
+    /// Decodes a row of ACCOUNT_PERMISSION. Fails with `Form` only if a column is malformed or the
+    /// number of columns is not 5, or with `Memory`.
     fn from_row(row: &Row) -> Result<Permission, DecodeError> {
         check_column_count(row, 5)?;
         Ok(Permission {
@@ -129,6 +145,8 @@ impl Record for Security {
 
     ghost forms = { security_column_cell_checks };
 
+    /// Decodes a row of SECURITY. Fails with `Form` only if a column is malformed or the number of
+    /// columns is not 4, or with `Memory`.
     fn from_row(row: &Row) -> Result<Security, DecodeError> {
         check_column_count(row, 4)?;
         Ok(Security {
@@ -145,6 +163,8 @@ impl Record for Tax {
 
     ghost forms = { tax_rate_column_cell_checks };
 
+    /// Decodes a row of TAXRATE. Fails with `Form` only if a column is malformed or the number of
+    /// columns is not 3, or with `Memory`.
     fn from_row(row: &Row) -> Result<Tax, DecodeError> {
         check_column_count(row, 3)?;
         Ok(Tax {
@@ -160,6 +180,8 @@ impl Record for CustomerTax {
 
     ghost forms = { customer_tax_column_cell_checks };
 
+    /// Decodes a row of CUSTOMER_TAXRATE. Fails with `Form` only if a column is malformed or the
+    /// number of columns is not 2, or with `Memory`.
     fn from_row(row: &Row) -> Result<CustomerTax, DecodeError> {
         check_column_count(row, 2)?;
         Ok(CustomerTax {

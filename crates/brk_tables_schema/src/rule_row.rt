@@ -1,4 +1,4 @@
-//! The row of SETTLE_RULE.
+//! The decoding of the row of SETTLE_RULE.
 
 ghost use Rattle.std.specs.Prelude.{◌≡◌, ◌∷◌, [], Err, IfOk, Some, false, map};
 ghost use Rattle.brk_tables_schema.specs.Cells.{rule_cells};
@@ -11,8 +11,8 @@ use crate::decode_error::DecodeError;
 use brk_money::Day;
 use sqlite::Row;
 
-// Decodes the settlement day from a row of SETTLE_RULE. Fails with `Form` only if the row is
-// malformed, or with `Memory`.
+// Decodes the settlement day, in days since 1970-01-01, from a row of SETTLE_RULE. Fails with
+// `Form` only if the row is malformed, or with `Memory`.
 fn settlement_day_in_rule_row(row: &Row) -> Result<Day, DecodeError>
     ensures value { IfOk result (λ day. map rule_cells (rule_rows (Some day)) ≡ row.now ∷ []) }
     ensures form { result ≡ Err Formless → passes_all_cell_checks rule_column_cell_checks row.now ≡ false }
@@ -24,8 +24,9 @@ fn settlement_day_in_rule_row(row: &Row) -> Result<Day, DecodeError>
     day_in_column(row, 1)
 }
 
-/// Decodes the settlement day from the rows of SETTLE_RULE, or returns `None` if there is no row.
-/// Fails with `Form` only if there are two rows or a malformed one, or with `Memory`.
+/// Decodes the settlement day, in days since 1970-01-01, from all rows of SETTLE_RULE, or returns
+/// `None` if there is no row. Fails with `Form` only if there are two rows or more, or a malformed
+/// one, or with `Memory`.
 pub fn settlement_day_in_rule_rows(rows: &[Row]) -> Result<Option<Day>, DecodeError>
     ensures value { IfOk result (λ day. map rule_cells (rule_rows day) ≡ rows.now) }
     ensures form { result ≡ Err Formless → has_at_most_one_valid_rule_row rows.now ≡ false }

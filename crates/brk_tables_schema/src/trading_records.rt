@@ -2,9 +2,14 @@
 
 ghost use Rattle.std.specs.Prelude.{◌∷◌, []};
 ghost use Rattle.brk_ref.specs.Records.{abstract_last_trade_row};
-ghost use Rattle.brk_changes.specs.Rows.{abstract_cash_row, abstract_history_row, abstract_holding_row, abstract_lot_change_row, abstract_move_row, abstract_request_row, abstract_settlement_row, abstract_summary_row, abstract_trade_row};
-ghost use Rattle.brk_tables_schema.specs.Cells.{cash_cells, history_cells, holding_cells, holding_history_cells, last_trade_cells, move_cells, natural_as_value, request_cells, settlement_cells, summary_cells, trade_cells};
-ghost use Rattle.brk_tables_schema.specs.Formed.{cash_column_cell_checks, history_column_cell_checks, holding_column_cell_checks, holding_history_column_cell_checks, is_id_cell, last_trade_column_cell_checks, move_column_cell_checks, request_column_cell_checks, settlement_column_cell_checks, summary_column_cell_checks, trade_column_cell_checks};
+ghost use Rattle.brk_changes.specs.Rows.{abstract_cash_row, abstract_history_row, abstract_holding_row, abstract_lot_change_row, abstract_move_row};
+ghost use Rattle.brk_changes.specs.Rows.{abstract_request_row, abstract_settlement_row, abstract_summary_row, abstract_trade_row};
+ghost use Rattle.brk_tables_schema.specs.Cells.{cash_cells, history_cells, holding_cells, holding_history_cells, last_trade_cells, move_cells};
+ghost use Rattle.brk_tables_schema.specs.Cells.{natural_as_value, request_cells, settlement_cells, summary_cells, trade_cells};
+ghost use Rattle.brk_tables_schema.specs.Formed.{cash_column_cell_checks, history_column_cell_checks, holding_column_cell_checks};
+ghost use Rattle.brk_tables_schema.specs.Formed.{holding_history_column_cell_checks, is_id_cell, last_trade_column_cell_checks};
+ghost use Rattle.brk_tables_schema.specs.Formed.{move_column_cell_checks, request_column_cell_checks, settlement_column_cell_checks};
+ghost use Rattle.brk_tables_schema.specs.Formed.{summary_column_cell_checks, trade_column_cell_checks};
 
 use crate::cells::{
     amount_in_column, cash_row_id_in_column, cash_type_in_column, cents_in_column,
@@ -28,6 +33,8 @@ impl Record for HoldingRow {
 
     ghost forms = { holding_column_cell_checks };
 
+    /// Decodes a row of HOLDING. Fails with `Form` only if a column is malformed or the number of
+    /// columns is not 6, or with `Memory`.
     fn from_row(row: &Row) -> Result<HoldingRow, DecodeError> {
         check_column_count(row, 6)?;
         Ok(HoldingRow {
@@ -46,6 +53,8 @@ impl Record for SummaryRow {
 
     ghost forms = { summary_column_cell_checks };
 
+    /// Decodes a row of HOLDING_SUMMARY. Fails with `Form` only if a column is malformed or the
+    /// number of columns is not 3, or with `Memory`.
     fn from_row(row: &Row) -> Result<SummaryRow, DecodeError> {
         check_column_count(row, 3)?;
         Ok(SummaryRow {
@@ -61,6 +70,8 @@ impl Record for LastTrade {
 
     ghost forms = { last_trade_column_cell_checks };
 
+    /// Decodes a row of LAST_TRADE. Fails with `Form` only if a column is malformed or the number
+    /// of columns is not 4, or with `Memory`.
     fn from_row(row: &Row) -> Result<LastTrade, DecodeError> {
         check_column_count(row, 4)?;
         Ok(LastTrade {
@@ -77,6 +88,8 @@ impl Record for RequestRow {
 
     ghost forms = { request_column_cell_checks };
 
+    /// Decodes a row of TRADE_REQUEST. Fails with `Form` only if a column is malformed or the
+    /// number of columns is not 6, or with `Memory`.
     fn from_row(row: &Row) -> Result<RequestRow, DecodeError> {
         check_column_count(row, 6)?;
         Ok(RequestRow {
@@ -95,6 +108,8 @@ impl Record for TradeRow {
 
     ghost forms = { trade_column_cell_checks };
 
+    /// Decodes a row of TRADE. Fails with `Form` only if a column is malformed or the number of
+    /// columns is not 15, or with `Memory`.
     fn from_row(row: &Row) -> Result<TradeRow, DecodeError> {
         check_column_count(row, 15)?;
         Ok(TradeRow {
@@ -122,6 +137,8 @@ impl Record for HistoryRow {
 
     ghost forms = { history_column_cell_checks };
 
+    /// Decodes a row of TRADE_HISTORY. Fails with `Form` only if a column is malformed or the
+    /// number of columns is not 3, or with `Memory`.
     fn from_row(row: &Row) -> Result<HistoryRow, DecodeError> {
         check_column_count(row, 3)?;
         Ok(HistoryRow {
@@ -137,6 +154,8 @@ impl Record for LotChange {
 
     ghost forms = { holding_history_column_cell_checks };
 
+    /// Decodes a row of HOLDING_HISTORY. Fails with `Form` only if a column is malformed or the
+    /// number of columns is not 4, or with `Memory`.
     fn from_row(row: &Row) -> Result<LotChange, DecodeError> {
         check_column_count(row, 4)?;
         Ok(LotChange {
@@ -153,6 +172,8 @@ impl Record for SettlementRow {
 
     ghost forms = { settlement_column_cell_checks };
 
+    /// Decodes a row of SETTLEMENT. Fails with `Form` only if a column is malformed or the number
+    /// of columns is not 4, or with `Memory`.
     fn from_row(row: &Row) -> Result<SettlementRow, DecodeError> {
         check_column_count(row, 4)?;
         Ok(SettlementRow {
@@ -169,6 +190,8 @@ impl Record for CashRow {
 
     ghost forms = { cash_column_cell_checks };
 
+    /// Decodes a row of CASH_TRANSACTION. Fails with `Form` only if a column is malformed or the
+    /// number of columns is not 4, or with `Memory`.
     fn from_row(row: &Row) -> Result<CashRow, DecodeError> {
         check_column_count(row, 4)?;
         Ok(CashRow {
@@ -185,6 +208,8 @@ impl Record for MoveRow {
 
     ghost forms = { move_column_cell_checks };
 
+    /// Decodes a row of CASH_MOVE. Fails with `Form` only if a column is malformed or the number of
+    /// columns is not 6, or with `Memory`.
     fn from_row(row: &Row) -> Result<MoveRow, DecodeError> {
         check_column_count(row, 6)?;
         Ok(MoveRow {
@@ -203,6 +228,8 @@ impl Record for Id {
 
     ghost forms = { is_id_cell ∷ [] };
 
+    /// Decodes a row whose only column is an id. Fails with `Form` only if the column is malformed
+    /// or the number of columns is not 1, or with `Memory`.
     fn from_row(row: &Row) -> Result<Id, DecodeError> {
         check_column_count(row, 1)?;
         id_in_column(row, 0)

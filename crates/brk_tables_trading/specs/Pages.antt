@@ -12,6 +12,7 @@ page_size = 16
 abbrev pub page_after_skipped : {X : Type 0} → ℕ → List X → List X
 page_after_skipped skipped xs = take page_size (drop skipped xs)
 
--- The rows of the lots of `account` in the security `symbol`, sorted by age, the oldest first.
+-- The rows of the lots of `account` in the security `symbol`, sorted by the stamp of their opening
+-- and then by trade, the oldest first.
 abbrev pub position_lots_by_age : ℕ → Text → Tables → List HoldingRow
 position_lots_by_age account symbol t = lots_oldest_first (filter (λ r. (r.account == account) && bytes_eq r.symbol symbol) t.holdings)

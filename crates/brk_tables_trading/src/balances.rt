@@ -8,7 +8,8 @@ use brk_tables_schema::calls::execute_statement;
 use brk_tables_schema::values::{cents_as_parameter, id_as_parameter};
 use sqlite::{Alter, Transaction};
 
-/// Sets the balance of an account. Fails with `Store` only.
+/// Sets the balance of an account (CA_BAL), in cents. Changes nothing if the account does not
+/// exist. Fails with `Store` only.
 pub fn set_account_balance<S: Alter>(
     tx: &mut Transaction<'_, S>,
     account: Id,

@@ -9,8 +9,9 @@ use brk_tables_schema::calls::execute_statement;
 use brk_tables_schema::values::{amount_as_parameter, id_as_parameter, integer_as_parameter};
 use sqlite::{Alter, Transaction};
 
-/// Sets a broker's totals: the number of its completed trades and the sum of their commissions.
-/// Fails with `Store` only.
+/// Sets the totals of a broker: the number of its completed trades (B_NUM_TRADES) and the sum of
+/// their commissions in cents (B_COMM_TOTAL). Changes nothing if the broker does not exist. Fails
+/// with `Store` only.
 pub fn set_broker_totals<S: Alter>(
     tx: &mut Transaction<'_, S>,
     broker: Id,

@@ -10,8 +10,8 @@ use brk_tables_schema::calls::execute_statement;
 use brk_tables_schema::values::{id_as_parameter, stamp_as_parameter, status_as_parameter};
 use sqlite::{Alter, Transaction};
 
-/// Inserts a row of TRADE_HISTORY: a status that a trade reached, and its stamp. Fails with `Store`
-/// only, also if the trade has the status.
+/// Inserts a row of TRADE_HISTORY: a status that a trade reached, and the stamp of this change.
+/// Fails with `Store` only, also if the trade has a row with this status.
 pub fn add_trade_history_row<S: Alter>(
     tx: &mut Transaction<'_, S>,
     mark: &HistoryRow,

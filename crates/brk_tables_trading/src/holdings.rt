@@ -1,4 +1,5 @@
-//! The holdings of accounts: their lots, and the number of shares of each security in all.
+//! Reads of the holdings of accounts: of their lots (HOLDING), and of the number of shares of each
+//! security in total (HOLDING_SUMMARY).
 
 ghost use Rattle.std.specs.Prelude.{◌≡◌, ◌==◌, ◌&&◌, Err, IfErr, OnErr, bytes_eq, map, pos, reverse};
 ghost use Rattle.sqlite_value.specs.Value.{owned};
@@ -20,7 +21,7 @@ use sqlite::{Alter, Transaction};
 use sqlite_value::value::ValueRef;
 use std::alloc::Global;
 
-// Converts the number of rows to skip to a statement parameter, an INTEGER.
+// Converts the number of rows to skip to an INTEGER, as the parameter of a statement.
 fn skipped_rows_as_parameter<'a>(skipped: u32) -> ValueRef<'a>
     ensures { owned result ≡ Int (pos skipped) }
 {
@@ -28,8 +29,8 @@ fn skipped_rows_as_parameter<'a>(skipped: u32) -> ValueRef<'a>
 }
 
 /// Returns a page of the lots of an account in a security: at most 16 lots after the first
-/// `skipped`, sorted by stamp of opening and then by trade, the oldest first. Changes nothing.
-/// Fails with `Memory` or `Store`.
+/// `skipped`, sorted by the stamp of their opening and then by trade, the oldest first. Changes
+/// nothing. Fails with `Memory` or `Store`.
 pub fn page_of_lots_oldest_first<S: Alter>(
     tx: &mut Transaction<'_, S>,
     alloc: Global,
@@ -55,8 +56,8 @@ pub fn page_of_lots_oldest_first<S: Alter>(
 }
 
 /// Returns a page of the lots of an account in a security: at most 16 lots after the first
-/// `skipped`, sorted by stamp of opening and then by trade, the newest first. Changes nothing.
-/// Fails with `Memory` or `Store`.
+/// `skipped`, sorted by the stamp of their opening and then by trade, the newest first. Changes
+/// nothing. Fails with `Memory` or `Store`.
 pub fn page_of_lots_newest_first<S: Alter>(
     tx: &mut Transaction<'_, S>,
     alloc: Global,
@@ -81,8 +82,8 @@ pub fn page_of_lots_newest_first<S: Alter>(
     decode_rows(alloc, &rows)
 }
 
-/// Returns the holding summaries of an account, sorted by symbol, ascending. Changes nothing. Fails
-/// with `Memory` or `Store` only.
+/// Returns the holding summaries of an account, one for each security that it holds, sorted by
+/// symbol, ascending. Changes nothing. Fails with `Memory` or `Store` only.
 pub fn holding_summaries_of_account<S: Alter>(
     tx: &mut Transaction<'_, S>,
     alloc: Global,
@@ -100,8 +101,8 @@ pub fn holding_summaries_of_account<S: Alter>(
     decode_rows(alloc, &rows)
 }
 
-/// Returns the holding summary of an account in a security, or `None` if there is none. Changes
-/// nothing. Fails with `Store` only.
+/// Returns the holding summary of an account in a security, its number of shares in total, or
+/// `None` if there is none. Changes nothing. Fails with `Store` only.
 pub fn holding_summary_by_account_and_symbol<S: Alter>(
     tx: &mut Transaction<'_, S>,
     account: Id,

@@ -14,7 +14,8 @@ use brk_tables_schema::values::{
 };
 use sqlite::{Alter, Transaction};
 
-/// Sets the last trade of a security that has one. Fails with `Store` only.
+/// Sets the stamp, the price and the volume of the last trade of a security on the market
+/// (LAST_TRADE). Changes nothing if the security has no last trade. Fails with `Store` only.
 pub fn set_last_trade<S: Alter>(
     tx: &mut Transaction<'_, S>,
     last_trade: &LastTrade,
@@ -35,8 +36,8 @@ pub fn set_last_trade<S: Alter>(
     )
 }
 
-/// Returns the last trade of the security with this symbol, or `None` if there is none. Changes
-/// nothing. Fails with `Store` only.
+/// Returns the last trade on the market of the security with the symbol `symbol`, or `None` if
+/// there is none. Changes nothing. Fails with `Store` only.
 pub fn last_trade_by_symbol<S: Alter>(
     tx: &mut Transaction<'_, S>,
     symbol: &Symbol,

@@ -1,5 +1,5 @@
-//! The trades of an account for its views: the last ones, and the stamps at which they reached
-//! their statuses.
+//! Reads of the trades of an account for its views: its most recent trades, and the statuses that a
+//! trade reached.
 
 ghost use Rattle.std.specs.Prelude.{◌≡◌, ◌==◌, IfErr, map, take};
 ghost use Rattle.brk_model.specs.Joins.{trade_rows_recent_first, trade_rows_of_account};
@@ -16,7 +16,8 @@ use brk_tables_schema::values::id_as_parameter;
 use sqlite::{Alter, Transaction};
 use std::alloc::Global;
 
-/// Returns the last ten trades of an account, the most recent first. Changes nothing. Fails with
+/// Returns the ten most recent trades of an account, or all if it has fewer, sorted by the stamp of
+/// their last status change and then by id, the most recent first. Changes nothing. Fails with
 /// `Memory` or `Store`.
 pub fn last_ten_trades_of_account<S: Alter>(
     tx: &mut Transaction<'_, S>,
@@ -36,7 +37,8 @@ pub fn last_ten_trades_of_account<S: Alter>(
     decode_rows(alloc, &rows)
 }
 
-/// Returns the last fifty trades of an account, the most recent first. Changes nothing. Fails with
+/// Returns the fifty most recent trades of an account, or all if it has fewer, sorted by the stamp
+/// of their last status change and then by id, the most recent first. Changes nothing. Fails with
 /// `Memory` or `Store`.
 pub fn last_fifty_trades_of_account<S: Alter>(
     tx: &mut Transaction<'_, S>,
@@ -56,8 +58,8 @@ pub fn last_fifty_trades_of_account<S: Alter>(
     decode_rows(alloc, &rows)
 }
 
-/// Returns the statuses that a trade reached, sorted by code, ascending. Changes nothing. Fails
-/// with `Memory` or `Store`.
+/// Returns the rows of TRADE_HISTORY of a trade: the statuses that it reached and their stamps,
+/// sorted by the code of the status, ascending. Changes nothing. Fails with `Memory` or `Store`.
 pub fn history_of_trade<S: Alter>(
     tx: &mut Transaction<'_, S>,
     alloc: Global,

@@ -1,4 +1,4 @@
-//! The lots of accounts, and their changes by trades.
+//! Writes of the lots of accounts (HOLDING), and of their changes by trades (HOLDING_HISTORY).
 
 ghost use Rattle.std.specs.Prelude.{◌≡◌, Err, OnErr};
 ghost use Rattle.brk_money.specs.declared.fault.Fault.TheVariants.{Store};
@@ -15,7 +15,8 @@ use brk_tables_schema::values::{
 };
 use sqlite::{Alter, Transaction};
 
-/// Inserts the lot that a trade opened. Fails with `Store` only, also if the trade has one.
+/// Inserts the lot that a trade opened (HOLDING). Fails with `Store` only, also if a lot of this
+/// trade exists.
 pub fn add_lot<S: Alter>(tx: &mut Transaction<'_, S>, lot: &HoldingRow) -> Result<(), Fault>
     ensures same_reference { tx.new.conn.ghost_name ≡ tx.old.conn.ghost_name }
     ensures step { WritesDeskTables S.Store tx.old tx.new result (tables_with_lot (abstract_holding_row lot.now)) }
@@ -35,7 +36,8 @@ pub fn add_lot<S: Alter>(tx: &mut Transaction<'_, S>, lot: &HoldingRow) -> Resul
     )
 }
 
-/// Sets the quantity of the lot that a trade opened. Fails with `Store` only.
+/// Sets the number of shares of the lot that a trade opened (H_QTY), below 0 if they were sold
+/// short. Changes nothing if there is no such lot. Fails with `Store` only.
 pub fn set_lot_quantity<S: Alter>(
     tx: &mut Transaction<'_, S>,
     trade: Id,
@@ -52,7 +54,8 @@ pub fn set_lot_quantity<S: Alter>(
     )
 }
 
-/// Deletes the lot that a trade opened. Fails with `Store` only.
+/// Deletes the lot that a trade opened. Changes nothing if there is no such lot. Fails with `Store`
+/// only.
 pub fn remove_lot<S: Alter>(tx: &mut Transaction<'_, S>, trade: Id) -> Result<(), Fault>
     ensures same_reference { tx.new.conn.ghost_name ≡ tx.old.conn.ghost_name }
     ensures step { WritesDeskTables S.Store tx.old tx.new result (tables_without_lot trade) }
@@ -65,8 +68,8 @@ pub fn remove_lot<S: Alter>(tx: &mut Transaction<'_, S>, trade: Id) -> Result<()
     )
 }
 
-/// Inserts the change that a trade made to a lot. Fails with `Store` only, also if the trade has
-/// one of this lot.
+/// Inserts the change that a trade made to a lot (HOLDING_HISTORY): its number of shares before and
+/// after the trade. Fails with `Store` only, also if a change of this lot by this trade exists.
 pub fn add_lot_change<S: Alter>(
     tx: &mut Transaction<'_, S>,
     change: &LotChange,

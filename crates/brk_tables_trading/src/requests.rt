@@ -19,7 +19,8 @@ use brk_tables_schema::values::{
 use sqlite::{Alter, Transaction};
 use std::alloc::Global;
 
-/// Inserts the request of a trade. Fails with `Store` only, also if the trade has one.
+/// Inserts the request of a pending trade (TRADE_REQUEST). Fails with `Store` only, also if the
+/// trade has a request.
 pub fn add_request<S: Alter>(tx: &mut Transaction<'_, S>, request: &RequestRow) -> Result<(), Fault>
     ensures same_reference { tx.new.conn.ghost_name ≡ tx.old.conn.ghost_name }
     ensures step { WritesDeskTables S.Store tx.old tx.new result (tables_with_request (abstract_request_row request.now)) }
@@ -39,7 +40,7 @@ pub fn add_request<S: Alter>(tx: &mut Transaction<'_, S>, request: &RequestRow) 
     )
 }
 
-/// Deletes the request of a trade. Fails with `Store` only.
+/// Deletes the request of a trade. Changes nothing if it has none. Fails with `Store` only.
 pub fn remove_request<S: Alter>(tx: &mut Transaction<'_, S>, trade: Id) -> Result<(), Fault>
     ensures same_reference { tx.new.conn.ghost_name ≡ tx.old.conn.ghost_name }
     ensures step { WritesDeskTables S.Store tx.old tx.new result (tables_without_request trade) }
@@ -52,8 +53,8 @@ pub fn remove_request<S: Alter>(tx: &mut Transaction<'_, S>, trade: Id) -> Resul
     )
 }
 
-/// Returns the requests of a symbol and a type whose bid is at least `price`, sorted by trade,
-/// ascending. Changes nothing. Fails with `Memory` or `Store`.
+/// Returns the requests of a symbol and a trade type whose bid is at least `price`, in cents,
+/// sorted by trade, ascending. Changes nothing. Fails with `Memory` or `Store`.
 pub fn requests_with_bid_at_least<S: Alter>(
     tx: &mut Transaction<'_, S>,
     alloc: Global,
@@ -78,8 +79,8 @@ pub fn requests_with_bid_at_least<S: Alter>(
     decode_rows(alloc, &rows)
 }
 
-/// Returns the requests of a symbol and a type whose bid is at most `price`, sorted by trade,
-/// ascending. Changes nothing. Fails with `Memory` or `Store`.
+/// Returns the requests of a symbol and a trade type whose bid is at most `price`, in cents, sorted
+/// by trade, ascending. Changes nothing. Fails with `Memory` or `Store`.
 pub fn requests_with_bid_at_most<S: Alter>(
     tx: &mut Transaction<'_, S>,
     alloc: Global,

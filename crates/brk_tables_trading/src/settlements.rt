@@ -14,7 +14,8 @@ use brk_tables_schema::values::{
 };
 use sqlite::{Alter, Transaction};
 
-/// Inserts the settlement of a trade. Fails with `Store` only, also if the trade has one.
+/// Inserts the settlement of a completed trade (SETTLEMENT): its cash type, due day and amount in
+/// cents. Fails with `Store` only, also if the trade has a settlement.
 pub fn add_settlement<S: Alter>(
     tx: &mut Transaction<'_, S>,
     settlement: &SettlementRow,

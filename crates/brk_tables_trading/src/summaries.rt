@@ -1,4 +1,5 @@
-//! The number of shares of each security that accounts hold in all.
+//! Writes of holding summaries (HOLDING_SUMMARY): the number of shares of each security that an
+//! account holds in total.
 
 ghost use Rattle.std.specs.Prelude.{◌≡◌, Err, OnErr};
 ghost use Rattle.brk_money.specs.declared.fault.Fault.TheVariants.{Store};
@@ -13,8 +14,8 @@ use brk_tables_schema::calls::execute_statement;
 use brk_tables_schema::values::{id_as_parameter, integer_as_parameter, text_as_parameter};
 use sqlite::{Alter, Transaction};
 
-/// Inserts the holding summary of an account in a security. Fails with `Store` only, also if there
-/// is one.
+/// Inserts the holding summary of an account in a security. Fails with `Store` only, also if one
+/// exists.
 pub fn add_holding_summary<S: Alter>(
     tx: &mut Transaction<'_, S>,
     summary: &SummaryRow,
@@ -34,8 +35,8 @@ pub fn add_holding_summary<S: Alter>(
     )
 }
 
-/// Sets the number of shares in the holding summary of an account in a security. Fails with `Store`
-/// only.
+/// Sets the number of shares in the holding summary of an account in a security (HS_QTY). Changes
+/// nothing if there is no such summary. Fails with `Store` only.
 pub fn set_holding_summary_quantity<S: Alter>(
     tx: &mut Transaction<'_, S>,
     summary: &SummaryRow,
@@ -55,7 +56,8 @@ pub fn set_holding_summary_quantity<S: Alter>(
     )
 }
 
-/// Deletes the holding summary of an account in a security. Fails with `Store` only.
+/// Deletes the holding summary of an account in a security. Changes nothing if there is none. Fails
+/// with `Store` only.
 pub fn remove_holding_summary<S: Alter>(
     tx: &mut Transaction<'_, S>,
     account: Id,

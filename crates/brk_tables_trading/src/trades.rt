@@ -20,7 +20,7 @@ use brk_tables_schema::values::{
 use sqlite::{Alter, Transaction};
 use std::alloc::Global;
 
-/// Inserts the row of a trade. Fails with `Store` only, also if the id exists.
+/// Inserts the row of a trade (TRADE). Fails with `Store` only, also if the id exists.
 pub fn add_trade<S: Alter>(tx: &mut Transaction<'_, S>, trade: &TradeRow) -> Result<(), Fault>
     ensures same_reference { tx.new.conn.ghost_name ≡ tx.old.conn.ghost_name }
     ensures step { WritesDeskTables S.Store tx.old tx.new result (tables_with_trade (abstract_trade_row trade.now)) }
@@ -49,7 +49,8 @@ pub fn add_trade<S: Alter>(tx: &mut Transaction<'_, S>, trade: &TradeRow) -> Res
     )
 }
 
-/// Sets the status of a trade and the stamp at which the trade reached it. Fails with `Store` only.
+/// Sets the status of a trade (T_ST_ID) and the stamp at which the trade reached it (T_DTS).
+/// Changes nothing if the trade does not exist. Fails with `Store` only.
 pub fn set_trade_status<S: Alter>(
     tx: &mut Transaction<'_, S>,
     id: Id,
@@ -71,8 +72,9 @@ pub fn set_trade_status<S: Alter>(
     )
 }
 
-/// Sets the status of a trade to completed and its stamp, its price per share, its commission and
-/// its tax. Fails with `Store` only.
+/// Sets the status of a trade to completed, its stamp to `stamp`, its price per share, and its
+/// commission and tax, all three in cents. Changes nothing if the trade does not exist. Fails with
+/// `Store` only.
 pub fn complete_trade<S: Alter>(
     tx: &mut Transaction<'_, S>,
     trade: Id,
@@ -99,8 +101,8 @@ pub fn complete_trade<S: Alter>(
     )
 }
 
-/// Returns the trade with this id, or `None` if there is none. Changes nothing. Fails with `Store`
-/// only.
+/// Returns the trade with the id `id`, or `None` if there is none. Changes nothing. Fails with
+/// `Store` only.
 pub fn trade_by_id<S: Alter>(tx: &mut Transaction<'_, S>, id: Id) -> Result<Option<TradeRow>, Fault>
     ensures same_reference { tx.new.conn.ghost_name ≡ tx.old.conn.ghost_name }
     ensures step { ReadsFirstMatch S.Store tx.old tx.new result Trades abstract_trade_row (λ r. r.id == id) }
@@ -125,8 +127,8 @@ pub fn greatest_trade_id<S: Alter>(tx: &mut Transaction<'_, S>) -> Result<Option
     decode_first_row(&rows)
 }
 
-/// Returns the submitted trades, sorted by id, ascending. Changes nothing. Fails with `Memory` or
-/// `Store`.
+/// Returns the trades with the status submitted, sorted by id, ascending. Changes nothing. Fails
+/// with `Memory` or `Store`.
 pub fn submitted_trades<S: Alter>(
     tx: &mut Transaction<'_, S>,
     alloc: Global,

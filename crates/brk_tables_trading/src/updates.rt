@@ -21,8 +21,9 @@ use brk_tables_schema::values::{
 use sqlite::{Alter, Transaction};
 use std::alloc::Global;
 
-/// Returns the first twenty trades of an account that were completed between two stamps, both
-/// included, the oldest first. Changes nothing. Fails with `Memory` or `Store`.
+/// Returns the first trades of an account, at most twenty, that were completed from the stamp
+/// `first` to `last`, both included, the oldest first. Changes nothing. Fails with `Memory` or
+/// `Store`.
 pub fn first_twenty_completed_trades_of_account<S: Alter>(
     tx: &mut Transaction<'_, S>,
     alloc: Global,
@@ -48,8 +49,9 @@ pub fn first_twenty_completed_trades_of_account<S: Alter>(
     decode_rows(alloc, &rows)
 }
 
-/// Returns the first twenty cash trades of a symbol that were completed between two stamps, both
-/// included, the oldest first. Changes nothing. Fails with `Memory` or `Store`.
+/// Returns the first cash trades of a symbol, at most twenty, that were completed from the stamp
+/// `first` to `last`, both included, the oldest first. Changes nothing. Fails with `Memory` or
+/// `Store`.
 pub fn first_twenty_completed_cash_trades_of_symbol<S: Alter>(
     tx: &mut Transaction<'_, S>,
     alloc: Global,
@@ -94,7 +96,8 @@ pub fn settlement_by_trade<S: Alter>(
     decode_first_row(&rows)
 }
 
-/// Sets the name of a trade's executor (T_EXEC_NAME). Fails with `Store` only.
+/// Sets the name of the executor of a trade (T_EXEC_NAME). Changes nothing if the trade does not
+/// exist. Fails with `Store` only.
 pub fn set_executor<S: Alter>(
     tx: &mut Transaction<'_, S>,
     trade: Id,
@@ -111,7 +114,8 @@ pub fn set_executor<S: Alter>(
     )
 }
 
-/// Sets the cash type in the settlement of a trade (SE_CASH_TYPE). Fails with `Store` only.
+/// Sets the cash type in the settlement of a trade (SE_CASH_TYPE). Changes nothing if the trade has
+/// no settlement. Fails with `Store` only.
 pub fn set_cash_type<S: Alter>(
     tx: &mut Transaction<'_, S>,
     trade: Id,

@@ -14,8 +14,8 @@ use Rattle.brk_tables_schema.specs.Desk.{DeskTable, desk_tables, desk_tables_of_
 use Rattle.brk_tables_schema.specs.Made.{IsTableOfSchema, LacksOtherDeskTables}
 use Rattle.brk_tables_cash.specs.Upgrade.{tables_without_cash_transactions}
 
--- The rows of CASH_TRANSACTION, sorted by stamp, ascending. Rows with equal stamps stay in the
--- order of the table.
+-- The rows of CASH_TRANSACTION, sorted by stamp, ascending. Rows with equal stamps are in the order
+-- of the table.
 abbrev pub cash_transactions_by_stamp : Tables → List CashRow
 cash_transactions_by_stamp t = sort_by_key (λ r. r.stamp) t.cash
 
@@ -24,8 +24,8 @@ cash_transactions_by_stamp t = sort_by_key (λ r. r.stamp) t.cash
 abbrev pub tables_with_numbered_cash_row : ℕ → CashRow → Tables → Tables
 tables_with_numbered_cash_row id c t = tables_with_cash_row (cash_move_row id (posting_of_cash_row t c)) t
 
--- The tables `t` with the given rows of CASH_TRANSACTION inserted into CASH_MOVE, in order,
--- numbered from `n`.
+-- The tables `t` with the given rows of CASH_TRANSACTION inserted into CASH_MOVE, in order, under
+-- the numbers `n`, `n + 1` and so on.
 abbrev pub tables_with_cash_rows_numbered_from : ℕ → List CashRow → Tables → Tables
 tables_with_cash_rows_numbered_from n [] t = t
 tables_with_cash_rows_numbered_from n (c ∷ cs) t = tables_with_cash_rows_numbered_from (n + 1) cs (tables_with_numbered_cash_row n c t)
@@ -35,24 +35,25 @@ tables_with_cash_rows_numbered_from n (c ∷ cs) t = tables_with_cash_rows_numbe
 abbrev pub tables_with_all_cash_rows_numbered : Tables → Tables
 tables_with_all_cash_rows_numbered t = tables_without_cash_transactions (tables_with_cash_rows_numbered_from 1 (cash_transactions_by_stamp t) t)
 
--- Each table of `old` is in `new` at the same position. Its rows are unchanged if it is at none of
--- the trees of the tables that are `In`, and none of its own foreign keys changes or deletes its
--- rows.
+-- Each table of `old` is in `new`, at the same index. Its rows are unchanged if it is at none of
+-- the trees of the tables `w` for which `In w` holds, and none of its own foreign keys changes or
+-- deletes its rows.
 pub record PreservesTablesOutside (In : DeskTable → Type 0) (tree : DeskTable → ℕ) (old new : Database) : Type 0 where
   pub more : List Table
   pub tables : new.schema.tables ≡ old.schema.tables ++ more
   pub rows : AllByRecursion (λ k. ((w : DeskTable) → In w → k.tree ≢ tree w) → HasNoWritingForeignKeysAt old.schema k.tree
       → new.trees k.tree ≡ old.trees k.tree) old.schema.tables
 
--- The database `new` contains the tables of schema 3 with the rows `t`, and the other tables of
--- `old` are unchanged (`PreservesTablesOutside`).
+-- The database `new` contains the tables of schema 3 with the rows `t`. Other tables of `old` than
+-- those of the schema `desk_before`, whose trees in `old` are `before`, are unchanged
+-- (`PreservesTablesOutside`).
 pub record HasUpgradedTables (desk_before : Schema) (before : DeskTable → ℕ) (t : Tables) (old new : Database) : Type 0 where
   pub tree : DeskTable → ℕ
   pub rows : HasTables desk_tables t tree new
   pub others : PreservesTablesOutside (IsTableOfSchema desk_before) before old new
-  -- A table of `old` that is not one of the desk's is at none of their trees.
+  -- A table of `old` that is not one of the desk's is at none of the trees of schema 3's tables.
   pub apart : AllByRecursion (λ k. ((w : DeskTable) → IsTableOfSchema desk_before w → k.tree ≢ before w) → (w : DeskTable) → k.tree ≢ tree w) old.schema.tables
-  -- A tree whose tables have no foreign keys that write rows remains so.
+  -- If no foreign key of a table at a tree changes or deletes rows in `old`, none does in `new`.
   pub calm : (tree : ℕ) → HasNoWritingForeignKeysAt old.schema tree → HasNoWritingForeignKeysAt new.schema tree
 
 -- If the database `old` contains the tables of `schema` with the rows `t`, and no table that a

@@ -1,4 +1,4 @@
-//! Cash rows of schema 1, inserted under numbers.
+//! The insertion of the cash rows of schema 1 into CASH_MOVE, under numbers.
 
 ghost use Rattle.std.specs.Prelude.{◌≡◌, IfErr, map};
 ghost use Rattle.brk_model.specs.Run.{IsCallFault};
@@ -12,8 +12,9 @@ use brk_money::{Fault, MoveId};
 use brk_tables_cash::add_cash_row;
 use sqlite::{Alter, Transaction};
 
-// Inserts the cash row of a trade into CASH_MOVE under a number. Fails with `Memory` or `Store`
-// only; with `Store` also if the number exists or the trade does not.
+// Inserts the cash row of a trade (a row of CASH_TRANSACTION) into CASH_MOVE under the number `id`,
+// with the account of the trade. Fails with `Memory` or `Store` only; with `Store` also if the
+// number exists or the trade does not.
 fn add_numbered_cash_row<S: Alter>(
     tx: &mut Transaction<'_, S>,
     id: MoveId,
@@ -37,7 +38,7 @@ fn add_numbered_cash_row<S: Alter>(
     add_cash_row(tx, &numbered)
 }
 
-/// Inserts the cash rows of trades into CASH_MOVE, in order, numbered from 1. Fails with `Memory`
+/// Inserts rows of CASH_TRANSACTION into CASH_MOVE, in order, numbered from 1. Fails with `Memory`
 /// or `Store` only.
 pub fn add_numbered_cash_rows<S: Alter>(
     tx: &mut Transaction<'_, S>,

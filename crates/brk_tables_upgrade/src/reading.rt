@@ -33,8 +33,8 @@ pub fn cash_transactions_by_trade<S: Alter>(
     decode_rows(alloc, &rows)
 }
 
-/// Returns the account of a trade, or `None` if the trade does not exist. Changes nothing. Fails
-/// with `Store` only.
+/// Returns the id of the account of a trade, or `None` if the trade does not exist. Changes
+/// nothing. Fails with `Store` only.
 pub fn account_of_trade<S: Alter>(
     tx: &mut Transaction<'_, S>,
     trade: Id,

@@ -1,4 +1,4 @@
-//! The upgrade of the tables.
+//! The upgrade of the tables of an older schema to schema 3.
 
 ghost use Rattle.std.specs.Prelude.{◌≡◌, IfErr, true};
 ghost use Rattle.brk_model.specs.Run.{IsCallFault};
@@ -17,9 +17,9 @@ use brk_tables_create::create_tables_of_later_schemas;
 use sqlite::{Alter, Transaction};
 use std::alloc::Global;
 
-// Creates the tables that a schema does not have, and sets the number of the schema to 3. The
-// effect is specified only if the tables of the schema exist, and none that a later schema adds.
-// Fails with `Memory` or `Store` only.
+// Creates the tables that `schema` does not have and later schemas add, without rows, and sets the
+// number of the schema in DESK to 3. Fails with `Memory` or `Store` only. The effect is specified
+// only if the tables of `schema` exist, and none that a later schema adds.
 fn add_tables_of_later_schemas<S: Alter>(
     tx: &mut Transaction<'_, S>,
     schema: Schema,
@@ -48,8 +48,10 @@ fn move_cash_transactions_to_cash_moves<S: Alter>(
     remove_cash_transactions(tx)
 }
 
-/// Upgrades the tables of `schema` to schema 3, with any rows. The effect is specified only if
-/// these tables exist, and none that a later schema adds. Fails with `Memory` or `Store`.
+/// Upgrades the tables of `schema`, with any rows, to schema 3: creates the tables that are
+/// missing, sets the number of the schema, and numbers the cash rows of schema 1. Fails with
+/// `Memory` or `Store`. The effect is specified only if the tables of `schema` exist, and none that
+/// a later schema adds.
 pub fn upgrade_tables<S: Alter>(
     tx: &mut Transaction<'_, S>,
     alloc: Global,

@@ -16,7 +16,7 @@ use brk_tables_schema::values::{id_as_parameter, text_as_parameter};
 use sqlite::{Alter, Transaction};
 use std::alloc::Global;
 
-/// Returns the brokers with this name, sorted by id, ascending. Changes nothing. Fails with
+/// Returns the brokers with the name `name`, sorted by id, ascending. Changes nothing. Fails with
 /// `Memory` or `Store`.
 pub fn brokers_with_name<S: Alter>(
     tx: &mut Transaction<'_, S>,
@@ -35,8 +35,8 @@ pub fn brokers_with_name<S: Alter>(
     decode_rows(alloc, &rows)
 }
 
-/// Returns the requests of a broker, sorted by trade, ascending. Changes nothing. Fails with
-/// `Memory` or `Store`.
+/// Returns the requests of pending trades with this broker (TRADE_REQUEST), sorted by trade,
+/// ascending. Changes nothing. Fails with `Memory` or `Store`.
 pub fn requests_of_broker<S: Alter>(
     tx: &mut Transaction<'_, S>,
     alloc: Global,

@@ -1,4 +1,4 @@
-//! Trades of any status, sorted by the stamp at which they reached it.
+//! Reads of trades of any status, sorted by the stamp of their last status change and then by id.
 
 ghost use Rattle.std.specs.Prelude.{◌≡◌, ◌==◌, ◌&&◌, Err, IfErr, OnErr, bytes_eq, filter, map, nat_le, option_map, option_to_list, take};
 ghost use Rattle.brk_money.specs.declared.fault.Fault.TheVariants.{Store};
@@ -17,8 +17,9 @@ use brk_tables_schema::values::{id_as_parameter, stamp_as_parameter, text_as_par
 use sqlite::{Alter, Transaction};
 use std::alloc::Global;
 
-/// Returns the first twenty trades of an account between two stamps, both included, the oldest
-/// first. Changes nothing. Fails with `Memory` or `Store`.
+/// Returns the first trades of an account, at most twenty, whose last status change has a stamp
+/// from `first` to `last`, both included, the oldest first. Changes nothing. Fails with `Memory` or
+/// `Store`.
 pub fn first_twenty_trades_of_account<S: Alter>(
     tx: &mut Transaction<'_, S>,
     alloc: Global,
@@ -43,8 +44,9 @@ pub fn first_twenty_trades_of_account<S: Alter>(
     decode_rows(alloc, &rows)
 }
 
-/// Returns the first twenty trades in a security between two stamps, both included, the oldest
-/// first. Changes nothing. Fails with `Memory` or `Store`.
+/// Returns the first trades in a security, at most twenty, whose last status change has a stamp
+/// from `first` to `last`, both included, the oldest first. Changes nothing. Fails with `Memory` or
+/// `Store`.
 pub fn first_twenty_trades_of_symbol<S: Alter>(
     tx: &mut Transaction<'_, S>,
     alloc: Global,
@@ -69,8 +71,8 @@ pub fn first_twenty_trades_of_symbol<S: Alter>(
     decode_rows(alloc, &rows)
 }
 
-/// Returns the oldest trade of an account at or after the stamp `first`, or `None` if there is
-/// none. Changes nothing. Fails with `Store` only.
+/// Returns the oldest trade of an account whose last status change has a stamp of at least `first`,
+/// or `None` if there is none. Changes nothing. Fails with `Store` only.
 pub fn first_trade_of_account_from_stamp<S: Alter>(
     tx: &mut Transaction<'_, S>,
     account: Id,

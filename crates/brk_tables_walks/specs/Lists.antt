@@ -1,4 +1,5 @@
--- The rows of each walk, in order. The sort key ends with the key of the row, so it is unique.
+-- The list of rows that each walk passes, in its order. Each sort key ends with the key of the row,
+-- so no two rows have equal sort keys.
 use Rattle.std.specs.Prelude.{ℕ, Bool, ◌==◌, ◌&&◌, List, [], ◌∷◌, filter}
 use Rattle.brk_model.specs.Limits.{is_in_range}
 use Rattle.brk_model.specs.Keys.{KeyPart, number, word, rows_sorted_by_key}
@@ -6,12 +7,12 @@ use Rattle.brk_model.specs.Tables.{Tables, HoldingRow, MoveRow, TradeRow}
 use Rattle.brk_money.specs.Kinds.{is_same_trade_status}
 use Rattle.brk_money.specs.declared.status.Status.TheVariants.{Completed}
 
--- The sort key of a lot: its symbol, then the stamp at which it was opened, then the trade that
--- opened it.
+-- The sort key of a lot: its symbol, then the stamp of its opening, then the trade that opened it.
 abbrev pub lot_sort_key : HoldingRow → List KeyPart
 lot_sort_key r = word r.symbol ∷ number r.stamp ∷ number r.trade ∷ []
 
--- The lots of an account, sorted by symbol, then by opening stamp, then by trade, ascending.
+-- The lots of `account`, sorted by symbol, then by the stamp of their opening, then by trade,
+-- ascending.
 abbrev pub lots_by_symbol : ℕ → Tables → List HoldingRow
 lots_by_symbol account t = rows_sorted_by_key lot_sort_key (filter (λ row. row.account == account) t.holdings)
 
@@ -19,7 +20,7 @@ lots_by_symbol account t = rows_sorted_by_key lot_sort_key (filter (λ row. row.
 abbrev pub cash_sort_key : MoveRow → List KeyPart
 cash_sort_key r = number r.stamp ∷ number r.id ∷ []
 
--- True if the cash row is of `account` and its stamp is from `from` to `to`, both included.
+-- True if the cash row belongs to `account` and its stamp is from `from` to `to`, both included.
 abbrev pub is_cash_row_between : ℕ → ℕ → ℕ → MoveRow → Bool
 is_cash_row_between account from to row = (row.account == account) && is_in_range from to row.stamp
 
@@ -28,7 +29,8 @@ is_cash_row_between account from to row = (row.account == account) && is_in_rang
 abbrev pub cash_rows_between : ℕ → ℕ → ℕ → Tables → List MoveRow
 cash_rows_between account from to t = rows_sorted_by_key cash_sort_key (filter (is_cash_row_between account from to) t.moves)
 
--- The sort key of a trade: the stamp of its last status change, then its id.
+-- The sort key of a trade: the stamp of its last status change (for a completed trade that of its
+-- completion), then its id.
 abbrev pub stamp_and_id_key : TradeRow → List KeyPart
 stamp_and_id_key r = number r.stamp ∷ number r.id ∷ []
 

@@ -12,32 +12,35 @@ use Rattle.brk_tables_walks.specs.declared.walking.WalkError.{WalkError}
 use Rattle.brk_tables_walks.specs.declared.walking.WalkError.TheVariants.{Failed, Cause}
 
 -- The visitor took some records, in order, which changed it from `before` to `after`, and `So`
--- holds of the list of these records.
+-- holds for the list of these records, each converted by `of`.
 abbrev pub TakesListSatisfying : {X M V : Type 0} → (List M → Type 0) → (X → M) → (V → X → V → Type 0) → V → V → Type 0
 TakesListSatisfying {X} So of takes before after = (taken : List X) × FoldsTo takes before taken after × So (map of taken)
 
--- The walk failed. At a fault, which is `Memory` or `Store`, `Begins` holds of the records that the
--- visitor took. At the visitor's error `Begins` holds of the records that it took, followed by the
--- one at which it stopped.
+-- The walk failed. At a fault, which is `Memory` or `Store`, `Begins` holds for the list of the
+-- records that the visitor took. At the visitor's error `Begins` holds for the list of the records
+-- that it took, followed by the one at which it stopped. Each record of these lists is converted by
+-- `of`.
 abbrev pub TableWalkEndsEarly : {X M V E : Type 0} → (List M → Type 0) → (X → M) → (V → X → V → Type 0) → (V → X → E → V → Type 0) → V → V → WalkError E
     → Type 0
 TableWalkEndsEarly {X} Begins of takes stops before after (Failed fault) = IsCallFault fault × TakesListSatisfying Begins of takes before after
 TableWalkEndsEarly {X} {M} {V} Begins of takes stops before after (Cause e) =
     (taken : List X) × (next : X) × (at : V) × FoldsTo takes before taken at × stops at next e after × Begins (map of (taken ++ next ∷ []))
 
--- The database is open, and the records `all` equal the whole `list` of the rows that it contains.
--- The last part is vacuous if it does not contain all tables of a desk.
+-- The database `db` is open, and the records `all` equal the whole list that `list` selects from
+-- the rows that it contains. The last part is vacuous if it does not contain all tables of a desk.
 abbrev pub AreAllRecordsOfList : {M : Type 0} → State → (Tables → List M) → List M → Type 0
 AreAllRecordsOfList db list all = IsTrue db.is_open × ((t : Tables) → HasDeskTables t db.now → all ≡ list t)
 
--- The records `first` are a prefix of the `list` of the rows that the open database contains, or
--- there are none. Vacuous if the open database does not contain all tables of a desk.
+-- There are no records in `first`; or the database `db` is open, and `first` is a prefix of the
+-- list that `list` selects from the rows that it contains. The last part is vacuous if it does not
+-- contain all tables of a desk.
 abbrev pub IsPrefixOfList : {M : Type 0} → State → (Tables → List M) → List M → Type 0
 IsPrefixOfList {M} db list first = (first ≡ []) ⊎ (IsTrue db.is_open × ((t : Tables) → HasDeskTables t db.now → (rest : List M) × (first ++ rest ≡ list t)))
 
--- The postcondition of a walk, which writes nothing: it passes the records of `list` to a visitor,
--- in order, one at a time, until the visitor stops. The clauses on records and on the database are
--- vacuous if the disk assumption fails.
+-- The postcondition of a walk, which writes nothing: it passes the records that `list` selects from
+-- a desk's tables to a visitor, in order, one at a time, until the visitor stops. `takes` and
+-- `stops` relate the visitor before and after it takes a record or stops at one. The clauses on
+-- records and on the database are vacuous if the disk assumption fails.
 pub record TableWalkPost {S X M V E : Type 0} (g : Ghosts S) (old new : Held S) (of : X → M) (list : Tables → List M) (takes : V → X → V → Type 0)
     (stops : V → X → E → V → Type 0)
     (before after : V) (result : Result (Unit {0}) (WalkError E)) : Type 0 where

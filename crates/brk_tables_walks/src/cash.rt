@@ -12,11 +12,11 @@ use brk_money::{Id, Stamp};
 use brk_tables_schema::values::{id_as_parameter, stamp_as_parameter};
 use sqlite::{Alter, Connection};
 
-/// Passes the cash rows of an account from the stamp `from` to `to`, both included, to the visitor,
-/// sorted by stamp and then by number.
+/// Passes the cash rows of an account with stamps from `from` to `to`, both included, to the
+/// visitor, sorted by stamp and then by number, ascending.
 ///
-/// Stops at the first error and returns it: `Failed` with `Memory` or `Store`, or the visitor's
-/// `Cause`. Returns `Ok` only after the last row. Writes nothing.
+/// Stops at the first error and returns it: `Failed` with `Memory` or `Store`, or `Cause` with the
+/// visitor's error. Returns `Ok` only after the last row. Writes nothing.
 pub fn walk_cash_rows_of_account<S: Alter, E, V: Visitor<MoveRow, E>>(
     conn: &mut Connection<S>,
     account: Id,
@@ -29,8 +29,11 @@ pub fn walk_cash_rows_of_account<S: Alter, E, V: Visitor<MoveRow, E>>(
     ensures mode { conn.new.in_transaction ≡ false }
     ensures ready { V.ready visitor.new }
     ensures leads { V.leads visitor.old visitor.new }
-    ensures walked { TableWalkPost S.Store conn.old conn.new abstract_move_row (cash_rows_between account from to) V.takes V.stops visitor.old visitor.new result }
+    ensures walked { TableWalkPost S.Store conn.old conn.new abstract_move_row
+        (cash_rows_between account from to) V.takes V.stops visitor.old visitor.new result }
 {
+    // The value is not needed: the call shows that an open database outside a transaction is in its
+    // committed state.
     let _settled = conn.is_autocommit();
     walk_query_rows::<S, MoveRow, E, V>(
         conn,

@@ -12,11 +12,11 @@ use brk_money::Id;
 use brk_tables_schema::values::id_as_parameter;
 use sqlite::{Alter, Connection};
 
-/// Passes the lots of an account to the visitor, sorted by symbol and then by stamp of opening, the
-/// oldest first.
+/// Passes the lots of an account to the visitor, sorted by symbol, then by the stamp of their
+/// opening, then by trade, ascending.
 ///
-/// Stops at the first error and returns it: `Failed` with `Memory` or `Store`, or the visitor's
-/// `Cause`. Returns `Ok` only after the last lot. Writes nothing.
+/// Stops at the first error and returns it: `Failed` with `Memory` or `Store`, or `Cause` with the
+/// visitor's error. Returns `Ok` only after the last lot. Writes nothing.
 pub fn walk_lots<S: Alter, E, V: Visitor<HoldingRow, E>>(
     conn: &mut Connection<S>,
     account: Id,
@@ -29,6 +29,8 @@ pub fn walk_lots<S: Alter, E, V: Visitor<HoldingRow, E>>(
     ensures leads { V.leads visitor.old visitor.new }
     ensures walked { TableWalkPost S.Store conn.old conn.new abstract_holding_row (lots_by_symbol account) V.takes V.stops visitor.old visitor.new result }
 {
+    // The value is not needed: the call shows that an open database outside a transaction is in its
+    // committed state.
     let _settled = conn.is_autocommit();
     walk_query_rows::<S, HoldingRow, E, V>(
         conn,

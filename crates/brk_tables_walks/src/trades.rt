@@ -15,8 +15,8 @@ use sqlite::{Alter, Connection};
 /// Passes the completed trades of all accounts to the visitor, sorted by the stamp of completion
 /// and then by id, both ascending.
 ///
-/// Stops at the first error and returns it: `Failed` with `Memory` or `Store`, or the visitor's
-/// `Cause`. Returns `Ok` only after the last trade. Writes nothing.
+/// Stops at the first error and returns it: `Failed` with `Memory` or `Store`, or `Cause` with the
+/// visitor's error. Returns `Ok` only after the last trade. Writes nothing.
 pub fn walk_completed_trades<S: Alter, E, V: Visitor<TradeRow, E>>(
     conn: &mut Connection<S>,
     visitor: &mut V,
@@ -26,8 +26,11 @@ pub fn walk_completed_trades<S: Alter, E, V: Visitor<TradeRow, E>>(
     ensures mode { conn.new.in_transaction ≡ false }
     ensures ready { V.ready visitor.new }
     ensures leads { V.leads visitor.old visitor.new }
-    ensures walked { TableWalkPost S.Store conn.old conn.new abstract_trade_row completed_trades_by_stamp_and_id V.takes V.stops visitor.old visitor.new result }
+    ensures walked { TableWalkPost S.Store conn.old conn.new abstract_trade_row
+        completed_trades_by_stamp_and_id V.takes V.stops visitor.old visitor.new result }
 {
+    // The value is not needed: the call shows that an open database outside a transaction is in its
+    // committed state.
     let _settled = conn.is_autocommit();
     walk_query_rows::<S, TradeRow, E, V>(
         conn,

@@ -1,12 +1,13 @@
 ghost use Rattle.std.specs.Prelude.{OnOk, IfErr};
 
-/// A receiver of records, one at a time.
+/// A receiver of records of the type `R`, one at a time, which may stop with an error of the type
+/// `E`.
 pub trait Visitor<R, E> {
-    /// The visitor is ready for a record.
+    /// The condition under which the visitor may be called; a call preserves it.
     ghost ready: { Self → Type 0 };
 
-    /// Relates the visitor to each state of the visitor, and of the values that it holds, that
-    /// calls can lead to.
+    /// Relates the visitor to each of its later states, including the states of the values that it
+    /// holds, to which calls can lead.
     ghost leads: { Self → Self → Type 0 };
 
     /// Relates the visitor to its state after a record that it takes.
@@ -16,7 +17,7 @@ pub trait Visitor<R, E> {
     /// visitor after it.
     ghost stops: { Self → R → E → Self → Type 0 };
 
-    /// Takes a record, or returns the error with which the walk stops.
+    /// Takes a record, or returns the error with which it stops the walk.
     fn visit(&mut self, item: &R) -> Result<(), E>
         requires ready { ready self.old }
         ensures ready { ready self.new }

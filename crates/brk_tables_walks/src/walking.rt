@@ -12,7 +12,7 @@ use brk_tables_schema::record::Record;
 use sqlite::{Alter, Connection, Row};
 use sqlite_value::value::ValueRef;
 
-/// The reason why a walk ended early.
+/// The reason why a walk ended before its last record.
 #[derive(Debug, Drop)]
 pub enum WalkError<E> {
     /// A fault: out of memory, or an error of the database.
@@ -21,7 +21,8 @@ pub enum WalkError<E> {
     Cause(E),
 }
 
-// Decodes the record in a row. Fails with `Memory` or `Store` only.
+// Decodes the record in a row of a query. Fails with `Memory` or `Store` only; with `Store` if the
+// row is malformed.
 fn decode_record<R: Record>(row: &Row) -> Result<R, Fault>
     ensures value { IfOk result (λ r. R.cells r ≡ row.now) }
     ensures fault { IfErr result IsCallFault }
@@ -33,9 +34,9 @@ fn decode_record<R: Record>(row: &Row) -> Result<R, Fault>
     }
 }
 
-/// Passes the records in the rows of a query to the visitor, in order, until all are passed or an
-/// error occurs. Fails with `Failed` and the fault `Memory` or `Store`, or with `Cause` and the
-/// visitor's error.
+/// Passes the records in the rows of the query `sql` with the parameters `params` to the visitor,
+/// in the order of its result, until all are passed or an error occurs. Fails with `Failed` and the
+/// fault `Memory` or `Store`, or with `Cause` and the visitor's error.
 pub fn walk_query_rows<S: Alter, R: Record, E, V: Visitor<R, E>>(
     conn: &mut Connection<S>,
     sql: &str,
@@ -49,8 +50,8 @@ pub fn walk_query_rows<S: Alter, R: Record, E, V: Visitor<R, E>>(
     // If it returns `Ok`, the visitor took all records of the result, in order.
     ensures all { HasCleanDisk (state S.Store conn.new)
         → OnOk result (TakesAllRecords R.cells V.takes sql.now (bound params.now) (state S.Store conn.old) visitor.old visitor.new) }
-    // At the visitor's error, it took the records before the one at which it stopped. Otherwise it
-    // took the first records, possibly none.
+    // At its own error, the visitor took the records before the one at which it stopped. At a fault
+    // it took a prefix of the records, possibly none.
     ensures early { HasCleanDisk (state S.Store conn.new)
         → IfErr result (WalkEndsEarly R.cells V.takes V.stops sql.now (bound params.now) (state S.Store conn.old) visitor.old visitor.new) }
     // The error is `Memory` or `Store`, or that of the visitor, whether or not the disk assumption

@@ -18,8 +18,9 @@ use brk_trade::{Plan, TextUpdate, plan_update};
 use sqlite::Alter;
 use std::alloc::Global;
 
-// Returns the trades that an update selects, or `None` if a trade, account or security of the
-// update does not exist. Changes nothing. Fails with `Memory` or `Store` only.
+// Returns the trades that the update selects, with their texts, or `None` if a trade, account or
+// security that it names does not exist. Changes nothing. Fails with `Memory` or `Store` only; with
+// `Store` also if a completed trade has no settlement, or a completed cash trade no cash row.
 fn read_trades_of_update<S: Alter>(
     alloc: Global,
     store: &mut Store<S>,
@@ -53,6 +54,7 @@ pub fn decide_update<S: Alter>(
     ensures read { ReadPost S.Store store.old store.new result (DecidesCommand now (text_update_command update.now)) }
     ensures fault { IfErr result IsCallFault }
 {
+    // The value is not needed: the call shows that the stamp is at most the greatest stamp.
     let _moment = now.get();
     let last = store.last_stamp()?;
     let found = read_trades_of_update(alloc, store, update)?;

@@ -18,15 +18,17 @@ use brk_trade::{CashText, SettlementText, TextUpdate};
 use sqlite::Alter;
 use std::alloc::Global;
 
-// Returns the trades of an account that an update with this span selects, each with the cash type
-// of its settlement. Changes nothing. Fails with `Memory` or `Store` only.
+// Returns the trades of an account that an update of cash types selects, the first twenty that were
+// completed in the span, each with the cash type of its settlement. Changes nothing. Fails with
+// `Memory` or `Store` only; with `Store` also if one of them has no settlement.
 fn read_trades_with_cash_types<S: Alter>(
     alloc: Global,
     store: &mut Store<S>,
     account: Id,
     span: Span,
 ) -> Result<Vec<SettlementText>, Fault>
-    ensures read { ReadPost S.Store store.old store.new result (λ settled t. SettlementTextsMatchTables t (chosen.first_twenty_completed_trade_rows_of_account account span.first span.last t) settled.items) }
+    ensures read { ReadPost S.Store store.old store.new result
+        (λ settled t. SettlementTextsMatchTables t (chosen.first_twenty_completed_trade_rows_of_account account span.first span.last t) settled.items) }
     ensures fault { IfErr result IsCallFault }
 {
     let trades = store.first_twenty_completed_trades_of_account(alloc, account, span)?;
@@ -42,15 +44,17 @@ fn read_trades_with_cash_types<S: Alter>(
     Ok(settled)
 }
 
-// Returns the cash trades of a symbol that an update with this span selects, each with the name of
-// its cash row. Changes nothing. Fails with `Memory` or `Store` only.
+// Returns the cash trades of a symbol that an update of cash names selects, the first twenty that
+// were completed in the span, each with the name of its cash row. Changes nothing. Fails with
+// `Memory` or `Store` only; with `Store` also if one of them has no cash row.
 fn read_cash_trades_with_names<S: Alter>(
     alloc: Global,
     store: &mut Store<S>,
     symbol: &Symbol,
     span: Span,
 ) -> Result<Vec<CashText>, Fault>
-    ensures read { ReadPost S.Store store.old store.new result (λ paid t. CashTextsMatchTables t (chosen.first_twenty_completed_cash_trade_rows_of_symbol symbol.now span.first span.last t) paid.items) }
+    ensures read { ReadPost S.Store store.old store.new result
+        (λ paid t. CashTextsMatchTables t (chosen.first_twenty_completed_cash_trade_rows_of_symbol symbol.now span.first span.last t) paid.items) }
     ensures fault { IfErr result IsCallFault }
 {
     let trades = store.first_twenty_completed_cash_trades_of_symbol(alloc, symbol, span)?;
@@ -67,8 +71,8 @@ fn read_cash_trades_with_names<S: Alter>(
     Ok(paid)
 }
 
-// Returns the trades with these ids, for an update of their executors, or `None` if one of them
-// does not exist. Changes nothing. Fails with `Memory` or `Store` only.
+// Returns the trades with these ids, for an update of the names of their executors, or `None` if
+// one of them does not exist. Changes nothing. Fails with `Memory` or `Store` only.
 pub(crate) fn read_trades_of_executor_update<S: Alter>(
     alloc: Global,
     store: &mut Store<S>,
@@ -83,7 +87,8 @@ pub(crate) fn read_trades_of_executor_update<S: Alter>(
     }
 }
 
-// Returns true if the account exists. Changes nothing. Fails with `Memory` or `Store` only.
+// Returns true if the account with the id `account` exists. Changes nothing. Fails with `Memory` or
+// `Store` only.
 fn account_row_exists<S: Alter>(store: &mut Store<S>, account: Id) -> Result<bool, Fault>
     ensures read { ReadPost S.Store store.old store.new result (λ there t. there ≡ is_some (account_row_with_id t account)) }
     ensures fault { IfErr result IsCallFault }
@@ -91,8 +96,9 @@ fn account_row_exists<S: Alter>(store: &mut Store<S>, account: Id) -> Result<boo
     Ok(store.account(account)?.is_some())
 }
 
-// Returns the trades of an account that an update of cash types selects, or `None` if the account
-// does not exist. Changes nothing. Fails with `Memory` or `Store` only.
+// Returns the trades of an account that an update of cash types selects, each with its cash type,
+// or `None` if the account does not exist. Changes nothing. Fails with `Memory` or `Store` only;
+// with `Store` also if one of the trades has no settlement.
 pub(crate) fn read_trades_of_cash_type_update<S: Alter>(
     alloc: Global,
     store: &mut Store<S>,
@@ -109,8 +115,8 @@ pub(crate) fn read_trades_of_cash_type_update<S: Alter>(
     Ok(Some(TextUpdate::CashTypes(settled)))
 }
 
-// Returns the name of the security with a symbol, or `None` if the security does not exist. Changes
-// nothing. Fails with `Memory` or `Store` only.
+// Returns the name of the security with the symbol `symbol`, or `None` if the security does not
+// exist. Changes nothing. Fails with `Memory` or `Store` only.
 fn read_security_name<S: Alter>(
     store: &mut Store<S>,
     symbol: &Symbol,
@@ -125,8 +131,10 @@ fn read_security_name<S: Alter>(
     }
 }
 
-// Returns the trades of a symbol that an update of cash names selects, or `None` if the security
-// does not exist. Changes nothing. Fails with `Memory` or `Store` only.
+// Returns the cash trades of a symbol that an update of cash names selects, each with the name of
+// its cash row, and the name of the security, or `None` if the security does not exist. Changes
+// nothing. Fails with `Memory` or `Store` only; with `Store` also if one of the trades has no cash
+// row.
 pub(crate) fn read_trades_of_cash_name_update<S: Alter>(
     alloc: Global,
     store: &mut Store<S>,

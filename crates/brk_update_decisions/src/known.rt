@@ -1,5 +1,5 @@
-//! Reads of texts of a completed trade. They fail with `Store` if the row with the text does not
-//! exist.
+//! Reads of the texts of a completed trade, in rows that must exist. Each fails with `Store` if its
+//! row does not exist.
 
 ghost use Rattle.std.specs.Prelude.{◌≡◌, IfErr, Some, option_map, string_bytes};
 ghost use Rattle.brk_changes.specs.Rows.{cash_type_text};
@@ -12,8 +12,8 @@ use brk_store::Store;
 use brk_trade::CashType;
 use sqlite::Alter;
 
-// Returns the cash type of a trade's settlement. Changes nothing. Fails with `Memory` or `Store`
-// only; with `Store` also if the trade has none.
+// Returns the cash type of a trade's settlement (SE_CASH_TYPE). Changes nothing. Fails with
+// `Memory` or `Store` only; with `Store` also if the trade has no settlement.
 pub(crate) fn require_cash_type<S: Alter>(
     store: &mut Store<S>,
     trade: Id,
@@ -29,7 +29,7 @@ pub(crate) fn require_cash_type<S: Alter>(
 }
 
 // Returns the name of a trade's cash row (CM_NAME). Changes nothing. Fails with `Memory` or `Store`
-// only; with `Store` also if the trade has none.
+// only; with `Store` also if the trade has no cash row.
 pub(crate) fn require_cash_name<S: Alter>(store: &mut Store<S>, trade: Id) -> Result<String, Fault>
     ensures read { ReadPost S.Store store.old store.new result (λ name t. Some (string_bytes name) ≡ option_map (λ c. c.name) (cash_row_of_trade t trade)) }
     ensures fault { IfErr result IsCallFault }
