@@ -501,8 +501,8 @@ abbrev pub natural_as_value : ℕ → Value
 natural_as_value n = Int (pos n)
 
 -- The SQL value of an optional natural number: an INTEGER, or NULL for `None`.
-abbrev pub optional_as_value : Option ℕ → Value
-optional_as_value = or_null (λ n. Int (pos n))
+abbrev pub optional_natural_as_value : Option ℕ → Value
+optional_natural_as_value = or_null (λ n. Int (pos n))
 
 -- The SQL value of a Boolean: the INTEGER 1 for true, 0 for false.
 abbrev pub flag_as_value : Bool → Value

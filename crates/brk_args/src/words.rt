@@ -104,7 +104,7 @@ fn view_name_argument<'a>(alloc: Global) -> Arg<'a> {
 }
 
 // Returns the argument that takes the arguments of a view, any number of texts.
-fn view_arguments<'a>(alloc: Global) -> Arg<'a> {
+fn repeated_view_argument<'a>(alloc: Global) -> Arg<'a> {
     Arg::new(alloc, "arguments")
         .value_name("ARGUMENT")
         .num_args(0..)
@@ -125,7 +125,7 @@ fn ask_command<'a>(alloc: Global) -> Result<Command<'a>, AllocError> {
             "Prints the names of the fields first, where all records have the same",
         ))?
         .arg(view_name_argument(alloc))?
-        .arg(view_arguments(alloc))
+        .arg(repeated_view_argument(alloc))
 }
 
 // Returns the subcommand `explain`, which prints an explanation, with its arguments. Fails only if

@@ -18,14 +18,14 @@ field_names_of_view (VolumeOf sector names) = codes "broker" ∷ codes "id" ∷ 
 field_names_of_view query = []
 
 -- A list with one record, the names `names`, or an empty list if there is no name.
-abbrev pub record_of_names : List Text → View
-record_of_names [] = []
-record_of_names (name ∷ names) = (name ∷ names) ∷ []
+abbrev pub names_as_records : List Text → View
+names_as_records [] = []
+names_as_records (name ∷ names) = (name ∷ names) ∷ []
 
 -- A list with one record, the names of the fields of a query's view, or an empty list if the
 -- records of this view have different fields.
 abbrev pub field_name_records : Query → View
-field_name_records query = record_of_names (field_names_of_view query)
+field_name_records query = names_as_records (field_names_of_view query)
 
 -- The bytes of the records as rows of CSV, each as the default writer of the `csv` crate writes it,
 -- with its line end.

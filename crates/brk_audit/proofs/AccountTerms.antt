@@ -10,7 +10,7 @@ use Rattle.brk_ref.specs.Records.{abstract_account_row}
 use Rattle.brk_ref.specs.declared.account.AccountRow.{AccountRow}
 use Rattle.brk_changes.specs.Sheets.{abstract_sheets}
 use Rattle.brk_changes.specs.declared.sheets.Sheets.{Sheets}
-use Rattle.brk_audit.specs.AccountTerms.{broker_in_terms, tax_status_in_terms, terms_of_account_row}
+use Rattle.brk_audit.specs.AccountTerms.{account_broker_in_terms, account_tax_status_in_terms, terms_of_account_row}
 use Rattle.brk_audit.specs.Settling.{account_broker_or_zero, account_tax_status_or_untaxed}
 use Rattle.brk_audit.specs.declared.account_terms.AccountTerms.{AccountTerms}
 
@@ -18,7 +18,7 @@ use Rattle.brk_audit.specs.declared.account_terms.AccountTerms.{AccountTerms}
 abbrev pub HasTerms : BTreeMap ℕ AccountTerms → List AccountRow → Type 0
 HasTerms terms accounts = (id : ℕ) → get nat_cmp terms id ≡ option_map terms_of_account_row (find (λ a. a.account.id == id) accounts)
 
-pub same_brokers : (s : Sheets) (terms : BTreeMap ℕ AccountTerms) → HasTerms terms s.accounts.items → (id : ℕ) → broker_in_terms terms id ≡ account_broker_or_zero (abstract_sheets s) id
+pub same_brokers : (s : Sheets) (terms : BTreeMap ℕ AccountTerms) → HasTerms terms s.accounts.items → (id : ℕ) → account_broker_in_terms terms id ≡ account_broker_or_zero (abstract_sheets s) id
 same_brokers s terms h id =
     ap (λ o. option_map_or (λ x. x.broker) o 0) (h id) ∙ of_row (find (λ a. a.account.id == id) s.accounts.items)
     ∙ sym (ap (λ o. option_map_or (λ a. a.broker) o 0) (find-map (λ a. a.id == id) abstract_account_row s.accounts.items))
@@ -27,7 +27,7 @@ same_brokers s terms h id =
     of_row None = refl
     of_row (Some a) = refl
 
-pub same_tax_statuses : (s : Sheets) (terms : BTreeMap ℕ AccountTerms) → HasTerms terms s.accounts.items → (id : ℕ) → tax_status_in_terms terms id ≡ account_tax_status_or_untaxed (abstract_sheets s) id
+pub same_tax_statuses : (s : Sheets) (terms : BTreeMap ℕ AccountTerms) → HasTerms terms s.accounts.items → (id : ℕ) → account_tax_status_in_terms terms id ≡ account_tax_status_or_untaxed (abstract_sheets s) id
 same_tax_statuses s terms h id =
     ap (λ o. option_map_or (λ x. x.tax_status) o Untaxed) (h id) ∙ of_row (find (λ a. a.account.id == id) s.accounts.items)
     ∙ sym (ap (λ o. option_map_or (λ a. a.tax_status) o Untaxed) (find-map (λ a. a.id == id) abstract_account_row s.accounts.items))

@@ -19,7 +19,7 @@ use Rattle.brk_changes.specs.declared.sheets.Sheets.{Sheets}
 use Rattle.brk_changes.specs.declared.trade_row.TradeRow as trade
 use Rattle.brk_changes.specs.declared.move_row.MoveRow as move
 use Rattle.brk_changes.specs.declared.cash_row.CashRow as cash
-use Rattle.brk_audit.specs.AccountTerms.{tax_status_in_terms}
+use Rattle.brk_audit.specs.AccountTerms.{account_tax_status_in_terms}
 use Rattle.brk_audit.specs.Conditions.{HasValidStatuses}
 use Rattle.brk_audit.specs.Posted.{abstract_posted_figures}
 use Rattle.brk_audit.specs.Settling.{MoveRowFigures, settlement_amount_at_tax_status, is_completed_cash_trade, is_numbered_by_stamp, posted_figures_of_trade, posted_figures_of_row, account_tax_status_or_untaxed}
@@ -60,7 +60,7 @@ sorted_own s rows sorted ms e a p n =
 pub record AreTold (s : Sheets) (terms : BTreeMap ℕ AccountTerms) (own : List MoveRowFigures) (ms : List move.MoveRow) (ts : List trade.TradeRow) : Type 0 where
   pub no_others : s.cash.items ≡ []
   pub turn : is_numbered_by_stamp 1 0 (map abstract_move_row ms) ≡ true
-  pub posted : map (λ p. p) own ≡ map (posted_figures_of_trade (tax_status_in_terms terms)) (filter is_completed_cash_trade (map abstract_trade_row ts))
+  pub posted : map (λ p. p) own ≡ map (posted_figures_of_trade (account_tax_status_in_terms terms)) (filter is_completed_cash_trade (map abstract_trade_row ts))
 
 pub moves_hold : (schema : Schema) (s : Sheets) (terms : BTreeMap ℕ AccountTerms) (own : List MoveRowFigures) (ms : List move.MoveRow) (ts : List trade.TradeRow) → schema.has_cash_move_table ≡ true
     → satisfies_form_condition schema (abstract_sheets s) ≡ true → HasValidStatuses s → HasTerms terms s.accounts.items → IsSortedOwn s own → ms ≡ s.moves.items → ts ≡ s.trades.items
@@ -70,9 +70,9 @@ moves_hold schema s terms own ms ts n f w h o e g =
     let law = cash_by_moves schema t own n f w o.permutation o.order in
     let turn : is_numbered_by_stamp 1 0 (map abstract_move_row ms) ≡ is_numbered_by_stamp 1 0 t.moves = ap (λ rs. is_numbered_by_stamp 1 0 (map abstract_move_row rs)) e in
     let rows : List TradeRow = filter is_completed_cash_trade (map abstract_trade_row s.trades.items) in
-    let right : map (posted_figures_of_trade (tax_status_in_terms terms)) (filter is_completed_cash_trade (map abstract_trade_row ts)) ≡ map (posted_figures_of_trade (account_tax_status_or_untaxed t)) rows =
-    ap (λ xs. map (posted_figures_of_trade (tax_status_in_terms terms)) (filter is_completed_cash_trade (map abstract_trade_row xs))) g
-    ∙ map-same (posted_figures_of_trade (tax_status_in_terms terms)) (posted_figures_of_trade (account_tax_status_or_untaxed t)) rows
+    let right : map (posted_figures_of_trade (account_tax_status_in_terms terms)) (filter is_completed_cash_trade (map abstract_trade_row ts)) ≡ map (posted_figures_of_trade (account_tax_status_or_untaxed t)) rows =
+    ap (λ xs. map (posted_figures_of_trade (account_tax_status_in_terms terms)) (filter is_completed_cash_trade (map abstract_trade_row xs))) g
+    ∙ map-same (posted_figures_of_trade (account_tax_status_in_terms terms)) (posted_figures_of_trade (account_tax_status_or_untaxed t)) rows
     (All-of rows (λ r i. record { account = r.account; trade = r.id; stamp = r.stamp; amount = settlement_amount_at_tax_status (same_tax_statuses s terms h r.account i) r })) in (
       (λ k. law.0 (record { no_others = no_cash s.cash.items k.no_others; turn = sym turn ∙ k.turn; posted = sym (map-id own) ∙ k.posted ∙ right })),
       (λ k. let m = law.1 k in record { no_others = cash_back s.cash.items m.no_others; turn = turn ∙ m.turn; posted = map-id own ∙ m.posted ∙ sym right }),

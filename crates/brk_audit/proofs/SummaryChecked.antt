@@ -29,7 +29,7 @@ use Rattle.brk_audit_theorems.proofs.Members.{FoundIn, found_in}
 use Rattle.brk_model_theorems.proofs.FormParts.{form_parts}
 use Rattle.brk_model_theorems.proofs.Conjunctions.{parts10, parts3}
 use Rattle.brk_audit.specs.Completed.{is_completed_row}
-use Rattle.brk_audit.specs.PositionSums.{SummariesMatchTrades, HasNonzeroQuantity, posting_with_owned_symbol, position_cmp, share_posting_of_trade, shares_left_by_trades, shares_in_summaries, share_posting_of_summary}
+use Rattle.brk_audit.specs.PositionSums.{SummariesMatchTrades, HasNonzeroQuantity, posting_with_owned_symbol, position_cmp, share_posting_of_trade, share_sum_of_completed_trades, share_sum_of_summaries, share_posting_of_summary}
 use Rattle.brk_audit.specs.Tally.{sum_at_key, total_amount_at_key}
 use Rattle.brk_audit.specs.declared.tally.Posting.{Posting}
 use Rattle.brk_audit.proofs.Checked.{rows_back, rows_hold}
@@ -55,7 +55,7 @@ is_same_place m n s u = both_equal (nat_cmp m n) (slice_cmp nat_cmp s u) ∙ (λ
 -- ---- sums
 
 sum_there : (s : Sheets) (ps : List (Posting Place)) (q : Place) → map posting_with_owned_symbol ps ≡ filter_map (λ r. share_posting_of_trade (abstract_trade_row r)) s.trades.items
-    → total_amount_at_key position_cmp ps q ≡ shares_left_by_trades (abstract_sheets s) q.0 q.1.now
+    → total_amount_at_key position_cmp ps q ≡ share_sum_of_completed_trades (abstract_sheets s) q.0 q.1.now
 unfolding plain_cmp
 sum_there s ps q e =
     let at : ℕ × Text = (q.0, q.1.now) in
@@ -69,7 +69,7 @@ sum_there s ps q e =
     ∙ sym (total_mapped f (λ r. is_completed_row r && ((r.account == q.0) && bytes_eq r.symbol q.1.now)) abstract_trade_row s.trades.items)
 
 told_there : (s : Sheets) (cs : List (Posting Place)) (q : Place) → map posting_with_owned_symbol cs ≡ map (λ r. share_posting_of_summary (abstract_summary_row r)) s.summaries.items
-    → total_amount_at_key position_cmp cs q ≡ shares_in_summaries (abstract_sheets s).summaries q.0 q.1.now
+    → total_amount_at_key position_cmp cs q ≡ share_sum_of_summaries (abstract_sheets s).summaries q.0 q.1.now
 unfolding plain_cmp
 told_there s cs q e =
     let at : ℕ × Text = (q.0, q.1.now) in
@@ -137,29 +137,29 @@ module _ (s : Sheets) (sums told : BTreeMap Place ℤ) (ps cs : List (Posting Pl
   abbrev t : Tables
   t = abstract_sheets s
 
-  sum_is : (q : Place) → sum_at_key position_cmp sums q ≡ shares_left_by_trades t q.0 q.1.now
+  sum_is : (q : Place) → sum_at_key position_cmp sums q ≡ share_sum_of_completed_trades t q.0 q.1.now
   sum_is q = w.of_trades q ∙ sum_there s ps q w.posted
 
-  told_is : (q : Place) → sum_at_key position_cmp told q ≡ shares_in_summaries t.summaries q.0 q.1.now
+  told_is : (q : Place) → sum_at_key position_cmp told q ≡ share_sum_of_summaries t.summaries q.0 q.1.now
   told_is q = w.of_rows q ∙ told_there s cs q w.claimed
 
   -- they agree at a position that one of some postings names
   named : (xs : List (Posting Place)) (q : Place) → AllByRecursion (Agree sums told) xs → is_some (find (λ p. is_eq (position_cmp p.key q)) xs) ≡ true
-      → shares_left_by_trades t q.0 q.1.now ≡ shares_in_summaries t.summaries q.0 q.1.now
+      → share_sum_of_completed_trades t q.0 q.1.now ≡ share_sum_of_summaries t.summaries q.0 q.1.now
   named xs q a e =
       let f : FoundIn (Posting Place) (λ p. is_eq (position_cmp p.key q)) xs = found_in (λ p. is_eq (position_cmp p.key q)) xs e in
       let k = and_parts (f.item.key.0 == q.0) (bytes_eq f.item.key.1.now q.1.now) (sym (is_same_place f.item.key.0 q.0 f.item.key.1.now q.1.now) ∙ f.passes) in
       let m : f.item.key.0 ≡ q.0 = eqb-true f.item.key.0 q.0 k.0 in
       let n : f.item.key.1.now ≡ q.1.now = (bytes_eq-Decides f.item.key.1.now q.1.now).0 k.1 in
-      let g : shares_left_by_trades t f.item.key.0 f.item.key.1.now ≡ shares_in_summaries t.summaries f.item.key.0 f.item.key.1.now =
+      let g : share_sum_of_completed_trades t f.item.key.0 f.item.key.1.now ≡ share_sum_of_summaries t.summaries f.item.key.0 f.item.key.1.now =
       sym (sum_is f.item.key) ∙ of_all (Agree sums told) xs f.item a f.there ∙ told_is f.item.key in
-      (λ i. shares_left_by_trades t (sym m i) (sym n i)) ∙ g ∙ (λ i. shares_in_summaries t.summaries (m i) (n i))
+      (λ i. share_sum_of_completed_trades t (sym m i) (sym n i)) ∙ g ∙ (λ i. share_sum_of_summaries t.summaries (m i) (n i))
 
-  agreed : AllByRecursion (Agree sums told) ps → AllByRecursion (Agree sums told) cs → (q : Place) → shares_left_by_trades t q.0 q.1.now ≡ shares_in_summaries t.summaries q.0 q.1.now
+  agreed : AllByRecursion (Agree sums told) ps → AllByRecursion (Agree sums told) cs → (q : Place) → share_sum_of_completed_trades t q.0 q.1.now ≡ share_sum_of_summaries t.summaries q.0 q.1.now
   agreed a b q = by_tests (is_some (find (λ p. is_eq (position_cmp p.key q)) ps)) (is_some (find (λ p. is_eq (position_cmp p.key q)) cs)) refl refl
     where
       by_tests : (b c : Bool) → is_some (find (λ p. is_eq (position_cmp p.key q)) ps) ≡ b → is_some (find (λ p. is_eq (position_cmp p.key q)) cs) ≡ c
-          → shares_left_by_trades t q.0 q.1.now ≡ shares_in_summaries t.summaries q.0 q.1.now
+          → share_sum_of_completed_trades t q.0 q.1.now ≡ share_sum_of_summaries t.summaries q.0 q.1.now
       by_tests true d e f = named ps q a e
       by_tests false true e f = named cs q b f
       by_tests false false e f = sym (sum_there s ps q w.posted) ∙ none_there ps q e ∙ sym (none_there cs q f) ∙ told_there s cs q w.claimed

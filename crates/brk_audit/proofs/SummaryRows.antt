@@ -36,7 +36,7 @@ use Rattle.brk_model_theorems.proofs.FormParts.{form_parts}
 use Rattle.brk_model_theorems.proofs.Conjunctions.{parts3}
 use Rattle.brk_audit_theorems.proofs.Sorted.{All-block, All-rows}
 use Rattle.brk_audit.specs.Completed.{completed_trade_rows, is_completed_row}
-use Rattle.brk_audit.specs.PositionSums.{SummariesMatchTrades, HasNonzeroQuantity, shares_left_by_trades, shares_in_summaries}
+use Rattle.brk_audit.specs.PositionSums.{SummariesMatchTrades, HasNonzeroQuantity, share_sum_of_completed_trades, share_sum_of_summaries}
 use Rattle.brk_audit.proofs.Completed.{completed_rows}
 use Rattle.brk_audit.proofs.Postings.{total_mapped}
 use Rattle.brk_audit.proofs.Settling.{filter-filter}
@@ -48,7 +48,7 @@ use Rattle.brk_model.specs.Schemas.{Schema}
 abbrev done_of : Tables → List Trade
 done_of t = completed_trades (base_of_tables t)
 
-position_sum : (t : Tables) (account : ℕ) (symbol : Text) → satisfies_status_condition t ≡ true → holding_summary_quantity (done_of t) account symbol ≡ shares_left_by_trades t account symbol
+position_sum : (t : Tables) (account : ℕ) (symbol : Text) → satisfies_status_condition t ≡ true → holding_summary_quantity (done_of t) account symbol ≡ share_sum_of_completed_trades t account symbol
 unfolding holding_summary_quantity
 position_sum t account symbol s =
     let f : Trade → ℤ = λ u. signed_by_side (side_of_trade_type u.kind) u.qty in
@@ -92,7 +92,7 @@ elsewhere_too h x b = by_test (is_at h.account h.symbol x) refl
         absurd (not_itself (summary_key x) (summary_key h) (same_summary_key x.account h.account x.symbol h.symbol k.0 k.1) b)
 
 -- of a row's own position they tell what it tells
-told_itself : (rows : List SummaryRow) (h : SummaryRow) → Climbs summary_key rows → In h rows → shares_in_summaries rows h.account h.symbol ≡ h.qty
+told_itself : (rows : List SummaryRow) (h : SummaryRow) → Climbs summary_key rows → In h rows → share_sum_of_summaries rows h.account h.symbol ≡ h.qty
 unfolding total_by
 told_itself [] h c m = absurd m
 told_itself (x ∷ rows) h c (inl e) =
@@ -106,7 +106,7 @@ told_itself (x ∷ rows) h c (inr m) =
     ∙ told_itself rows h c.1 m
 
 -- where they tell of shares at a position, a row is there
-told_is_there : (rows : List SummaryRow) (account : ℕ) (symbol : Text) → is_zero (shares_in_summaries rows account symbol) ≡ false → is_some (find (is_at account symbol) rows) ≡ true
+told_is_there : (rows : List SummaryRow) (account : ℕ) (symbol : Text) → is_zero (share_sum_of_summaries rows account symbol) ≡ false → is_some (find (is_at account symbol) rows) ≡ true
 unfolding total_by
 told_is_there rows account symbol e = by_test (is_some (find (is_at account symbol) rows)) refl
   where
@@ -114,7 +114,7 @@ told_is_there rows account symbol e = by_test (is_some (find (is_at account symb
     by_test true f = f
     by_test false f =
         let n : filter (is_at account symbol) rows ≡ [] = filter-none (is_at account symbol) rows (find-none (is_at account symbol) rows f) in
-        let z : is_zero (shares_in_summaries rows account symbol) ≡ true = ap (λ zs. is_zero (total_by (λ h. h.qty) zs)) n in
+        let z : is_zero (share_sum_of_summaries rows account symbol) ≡ true = ap (λ zs. is_zero (total_by (λ h. h.qty) zs)) n in
         absurd (cc)
 
 same_row : (h y : SummaryRow) → y.account ≡ h.account → y.symbol ≡ h.symbol → y.qty ≡ h.qty → h ≡ y
@@ -122,12 +122,12 @@ same_row h y a s q = λ i. record { account = sym a i; symbol = sym s i; qty = s
 
 -- two lists that climb and tell the same, of some shares each, have the same rows
 told_alike : (xs ys : List SummaryRow) (h : SummaryRow) → Climbs summary_key xs → Climbs summary_key ys → HasNonzeroQuantity h → In h xs
-    → shares_in_summaries xs h.account h.symbol ≡ shares_in_summaries ys h.account h.symbol → In h ys
+    → share_sum_of_summaries xs h.account h.symbol ≡ share_sum_of_summaries ys h.account h.symbol → In h ys
 told_alike xs ys h c d n m e =
-    let q : shares_in_summaries ys h.account h.symbol ≡ h.qty = sym e ∙ told_itself xs h c m in
+    let q : share_sum_of_summaries ys h.account h.symbol ≡ h.qty = sym e ∙ told_itself xs h c m in
     let f : FoundIn SummaryRow (is_at h.account h.symbol) ys = found_in (is_at h.account h.symbol) ys (told_is_there ys h.account h.symbol (ap is_zero q ∙ n)) in
     let k = same_place h.account h.symbol f.item f.passes in
-    let w : f.item.qty ≡ h.qty = sym (told_itself ys f.item d f.there) ∙ (λ i. shares_in_summaries ys (k.0 i) (k.1 i)) ∙ q in
+    let w : f.item.qty ≡ h.qty = sym (told_itself ys f.item d f.there) ∙ (λ i. share_sum_of_summaries ys (k.0 i) (k.1 i)) ∙ q in
     subst (λ z. In z ys) (sym (same_row h f.item k.0 k.1 w)) f.there
 
 -- ---- the rows that are expected
@@ -253,7 +253,7 @@ security_there t symbol e =
     )
 
 wanted_told : (t : Tables) → BooksInvariant (base_of_tables t) → satisfies_status_condition t ≡ true → (account : ℕ) (symbol : Text) → has_account t account ≡ true → has_security t symbol ≡ true
-    → shares_in_summaries (wanted t) account symbol ≡ shares_left_by_trades t account symbol
+    → share_sum_of_summaries (wanted t) account symbol ≡ share_sum_of_completed_trades t account symbol
 wanted_told t books s account symbol e f =
     let a = account_there t account e in
     let u = security_there t symbol f in
@@ -267,7 +267,7 @@ both_all P Q [] g h = tt
 both_all P Q (x ∷ xs) g h = ((g.0, h.0), both_all P Q xs g.1 h.1)
 
 each_alike : (t : Tables) (xs ys : List SummaryRow) → Climbs summary_key xs → Climbs summary_key ys → AllByRecursion HasNonzeroQuantity xs → AllByRecursion (IsKnown t) xs
-    → ((account : ℕ) (symbol : Text) → has_account t account ≡ true → has_security t symbol ≡ true → shares_in_summaries xs account symbol ≡ shares_in_summaries ys account symbol)
+    → ((account : ℕ) (symbol : Text) → has_account t account ≡ true → has_security t symbol ≡ true → share_sum_of_summaries xs account symbol ≡ share_sum_of_summaries ys account symbol)
     → AllByRecursion (λ h. In h ys) xs
 each_alike t xs ys c d n k e =
     All-map xs (λ h m. told_alike xs ys h c d m.1.0 m.0 (e h.account h.symbol m.1.1.0 m.1.1.1))
@@ -282,7 +282,7 @@ summaries_by_rows schema t f s =
     let known : AllByRecursion (IsKnown t) t.summaries = All-map t.summaries (summary_known f.schema t) (list_all_true (is_well_formed_summary_row f.schema t) t.summaries p.summaries) in
     let e : (expected_tables schema t).summaries ≡ wanted t = wanted_is schema t k in (
       (λ h. let g : wanted t ≡ t.summaries = sym (h ∙ e) in record {
-        sums = λ account symbol i j. sym (told account symbol i j) ∙ ap (λ rows. shares_in_summaries rows account symbol) g;
+        sums = λ account symbol i j. sym (told account symbol i j) ∙ ap (λ rows. share_sum_of_summaries rows account symbol) g;
         nonzero = subst (AllByRecursion HasNonzeroQuantity) g (wanted_tells t);
       }),
       (λ w. same_rows summary_key t.summaries (wanted t) k.summaries (wanted_climbs t k)

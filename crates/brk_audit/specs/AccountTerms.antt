@@ -13,10 +13,10 @@ abbrev pub terms_of_account_row : AccountRow → AccountTerms
 terms_of_account_row a = record { broker = a.account.broker; tax_status = a.account.tax_status }
 
 -- The broker of the account in the map `terms`, or 0 if the map does not contain the account.
-abbrev pub broker_in_terms : BTreeMap ℕ AccountTerms → ℕ → ℕ
-broker_in_terms terms account = option_map_or (λ x. x.broker) (get nat_cmp terms account) 0
+abbrev pub account_broker_in_terms : BTreeMap ℕ AccountTerms → ℕ → ℕ
+account_broker_in_terms terms account = option_map_or (λ x. x.broker) (get nat_cmp terms account) 0
 
 -- The tax status of the account in the map `terms`, or `Untaxed` if the map does not contain the
 -- account.
-abbrev pub tax_status_in_terms : BTreeMap ℕ AccountTerms → ℕ → TaxStatus
-tax_status_in_terms terms account = option_map_or (λ x. x.tax_status) (get nat_cmp terms account) Untaxed
+abbrev pub account_tax_status_in_terms : BTreeMap ℕ AccountTerms → ℕ → TaxStatus
+account_tax_status_in_terms terms account = option_map_or (λ x. x.tax_status) (get nat_cmp terms account) Untaxed

@@ -16,14 +16,14 @@ use Rattle.brk_audit.specs.declared.tally.Posting.{Posting}
 
 -- The number of shares that remain after the completed trades of the account in the symbol:
 -- purchases minus sales, below 0 if they are sold short.
-abbrev pub shares_left_by_trades : Tables → ℕ → Text → ℤ
-shares_left_by_trades t account symbol =
+abbrev pub share_sum_of_completed_trades : Tables → ℕ → Text → ℤ
+share_sum_of_completed_trades t account symbol =
     total_by (λ r. signed_by_side (side_of_trade_type r.kind) r.qty) (filter (λ r. is_completed_row r
     && ((r.account == account) && bytes_eq r.symbol symbol)) t.trades)
 
 -- The sum of the quantities, in shares, of the holding summaries of the account in the symbol.
-abbrev pub shares_in_summaries : List SummaryRow → ℕ → Text → ℤ
-shares_in_summaries rows account symbol = total_by (λ h. h.qty) (filter (λ h. (h.account == account) && bytes_eq h.symbol symbol) rows)
+abbrev pub share_sum_of_summaries : List SummaryRow → ℕ → Text → ℤ
+share_sum_of_summaries rows account symbol = total_by (λ h. h.qty) (filter (λ h. (h.account == account) && bytes_eq h.symbol symbol) rows)
 
 -- The quantity of the holding summary `h` is not 0.
 abbrev pub HasNonzeroQuantity : SummaryRow → Type 0
@@ -33,7 +33,7 @@ HasNonzeroQuantity h = is_zero h.qty ≡ false
 -- quantities of the completed trades, purchases minus sales. No summary has the quantity 0.
 pub record SummariesMatchTrades (t : Tables) : Type 0 where
   pub sums : (account : ℕ) (symbol : Text) → has_account t account ≡ true → has_security t symbol ≡ true
-      → shares_left_by_trades t account symbol ≡ shares_in_summaries t.summaries account symbol
+      → share_sum_of_completed_trades t account symbol ≡ share_sum_of_summaries t.summaries account symbol
   pub nonzero : AllByRecursion HasNonzeroQuantity t.summaries
 
 -- The order of positions: by account, then by the bytes of the symbol.

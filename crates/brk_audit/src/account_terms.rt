@@ -4,7 +4,7 @@ ghost use Rattle.std.specs.Prelude.{◌≡◌, ℕ, ◌==◌, IfErr, IfOk, find,
 ghost use Rattle.std.specs.Ordering.{nat_cmp};
 ghost use Rattle.std.specs.BTreeMap.{get};
 ghost use Rattle.brk_money.specs.declared.fault.Fault.TheVariants.{Memory};
-ghost use Rattle.brk_audit.specs.AccountTerms.{broker_in_terms, tax_status_in_terms, terms_of_account_row};
+ghost use Rattle.brk_audit.specs.AccountTerms.{account_broker_in_terms, account_tax_status_in_terms, terms_of_account_row};
 
 use brk_money::{Fault, Id, TaxStatus};
 use brk_ref::AccountRow;
@@ -43,7 +43,7 @@ pub(crate) fn account_terms_by_id(
 
 /// Returns the id of the account's broker in the map, or 0 if the map does not contain the account.
 pub(crate) fn account_broker_id(terms: &BTreeMap<u64, AccountTerms>, account: Id) -> u64
-    ensures { result ≡ broker_in_terms terms.now account }
+    ensures { result ≡ account_broker_in_terms terms.now account }
 {
     let id = account.get();
     match terms.get(&id) {
@@ -55,7 +55,7 @@ pub(crate) fn account_broker_id(terms: &BTreeMap<u64, AccountTerms>, account: Id
 /// Returns the tax status of the account in the map, or `Untaxed` if the map does not contain the
 /// account.
 pub(crate) fn account_tax_status(terms: &BTreeMap<u64, AccountTerms>, account: Id) -> TaxStatus
-    ensures { result ≡ tax_status_in_terms terms.now account }
+    ensures { result ≡ account_tax_status_in_terms terms.now account }
 {
     let id = account.get();
     match terms.get(&id) {

@@ -8,7 +8,7 @@ ghost use Rattle.brk_model.specs.Audit.{ConditionHolds};
 ghost use Rattle.brk_model.specs.Schemas.{Schema};
 ghost use Rattle.brk_changes.specs.Rows.{abstract_move_row, abstract_trade_row};
 ghost use Rattle.brk_changes.specs.Sheets.{abstract_sheets};
-ghost use Rattle.brk_audit.specs.AccountTerms.{tax_status_in_terms};
+ghost use Rattle.brk_audit.specs.AccountTerms.{account_tax_status_in_terms};
 ghost use Rattle.brk_audit.specs.Conditions.{HasWellFormedRows, HasValidStatuses};
 ghost use Rattle.brk_audit.specs.Sums.{cash_posting_of_row, movement_posting_of_row};
 ghost use Rattle.brk_audit.specs.Tally.{sum_at_key};
@@ -29,7 +29,7 @@ fn cash_posting_of_trade(
     terms: &BTreeMap<u64, AccountTerms>,
     trade: &TradeRow,
 ) -> Option<Posting<u64>>
-    ensures { result ≡ cash_posting_of_row (tax_status_in_terms terms.now) (abstract_trade_row trade.now) }
+    ensures { result ≡ cash_posting_of_row (account_tax_status_in_terms terms.now) (abstract_trade_row trade.now) }
 {
     if !is_completed(trade.status) || !trade.is_cash {
         return None;
@@ -46,7 +46,7 @@ fn cash_postings_of_trades(
     terms: &BTreeMap<u64, AccountTerms>,
     trades: &[TradeRow],
 ) -> Result<Vec<Posting<u64>>, Fault>
-    ensures all { IfOk result (λ all. all.items ≡ filter_map (λ r. cash_posting_of_row (tax_status_in_terms terms.now) (abstract_trade_row r)) trades.now) }
+    ensures all { IfOk result (λ all. all.items ≡ filter_map (λ r. cash_posting_of_row (account_tax_status_in_terms terms.now) (abstract_trade_row r)) trades.now) }
     ensures fault { IfErr result (λ fault. fault ≡ Memory) }
 {
     let all = trades

@@ -4,7 +4,7 @@ ghost use Rattle.std.specs.Prelude.{◌≡◌, ◌↔◌, ◌==◌, ◌&&◌, ma
 ghost use Rattle.brk_money.specs.declared.fault.Condition.TheVariants.{Cash, Form};
 ghost use Rattle.brk_money.specs.declared.fault.Fault.TheVariants.{Memory};
 ghost use Rattle.brk_model.specs.Audit.{ConditionHolds};
-ghost use Rattle.brk_audit.specs.AccountTerms.{tax_status_in_terms};
+ghost use Rattle.brk_audit.specs.AccountTerms.{account_tax_status_in_terms};
 ghost use Rattle.brk_audit.specs.Conditions.{HasValidStatuses};
 ghost use Rattle.brk_audit.specs.Settling.{RowsCannotMatchTrades, RowsMatchTradesIffOthersDo, settlement_amount_at_tax_status, is_completed_cash_trade};
 ghost use Rattle.brk_audit.specs.Settling.{is_numbered_by_stamp, cash_figures_of_trade, cash_figures_of_row, posted_figures_of_trade, posted_figures_of_row};
@@ -49,9 +49,9 @@ fn cash_rows_after_trade<'a>(
     terms: &BTreeMap<u64, AccountTerms>,
 ) -> Option<&'a [CashRow]>
     ensures { MatchOption result
-        (RowsCannotMatchTrades cash_figures_of_row (cash_figures_of_trade (tax_status_in_terms terms.now)) is_completed_cash_trade
+        (RowsCannotMatchTrades cash_figures_of_row (cash_figures_of_trade (account_tax_status_in_terms terms.now)) is_completed_cash_trade
         (map abstract_cash_row cash.now) (abstract_trade_row trade.now))
-        (λ others. RowsMatchTradesIffOthersDo cash_figures_of_row (cash_figures_of_trade (tax_status_in_terms terms.now)) is_completed_cash_trade
+        (λ others. RowsMatchTradesIffOthersDo cash_figures_of_row (cash_figures_of_trade (account_tax_status_in_terms terms.now)) is_completed_cash_trade
         (map abstract_cash_row cash.now) (abstract_trade_row trade.now) (map abstract_cash_row others.now)) }
 {
     if !is_completed_cash_trade_row(trade) {
@@ -76,7 +76,7 @@ fn cash_rows_match_trades(
 ) -> bool
     ensures { IsTrue result
         ↔ (map cash_figures_of_row (map abstract_cash_row cash.now)
-        ≡ map (cash_figures_of_trade (tax_status_in_terms terms.now)) (filter is_completed_cash_trade (map abstract_trade_row trades.now))) }
+        ≡ map (cash_figures_of_trade (account_tax_status_in_terms terms.now)) (filter is_completed_cash_trade (map abstract_trade_row trades.now))) }
 {
     let mut rest = cash;
     for trade in trades {
@@ -148,9 +148,9 @@ fn posted_rows_after_trade<'a>(
     terms: &BTreeMap<u64, AccountTerms>,
 ) -> Option<&'a [Posted]>
     ensures { MatchOption result
-        (RowsCannotMatchTrades (λ p. p) (posted_figures_of_trade (tax_status_in_terms terms.now)) is_completed_cash_trade
+        (RowsCannotMatchTrades (λ p. p) (posted_figures_of_trade (account_tax_status_in_terms terms.now)) is_completed_cash_trade
         (map abstract_posted_figures rows.now) (abstract_trade_row trade.now))
-        (λ others. RowsMatchTradesIffOthersDo (λ p. p) (posted_figures_of_trade (tax_status_in_terms terms.now)) is_completed_cash_trade
+        (λ others. RowsMatchTradesIffOthersDo (λ p. p) (posted_figures_of_trade (account_tax_status_in_terms terms.now)) is_completed_cash_trade
         (map abstract_posted_figures rows.now) (abstract_trade_row trade.now) (map abstract_posted_figures others.now)) }
 {
     if !is_completed_cash_trade_row(trade) {
@@ -175,7 +175,7 @@ fn posted_rows_match_trades(
 ) -> bool
     ensures { IsTrue result
         ↔ (map (λ p. p) (map abstract_posted_figures rows.now)
-        ≡ map (posted_figures_of_trade (tax_status_in_terms terms.now)) (filter is_completed_cash_trade (map abstract_trade_row trades.now))) }
+        ≡ map (posted_figures_of_trade (account_tax_status_in_terms terms.now)) (filter is_completed_cash_trade (map abstract_trade_row trades.now))) }
 {
     let mut rest = rows;
     for trade in trades {

@@ -8,7 +8,7 @@ ghost use Rattle.brk_model.specs.Audit.{ConditionHolds};
 ghost use Rattle.brk_model.specs.Schemas.{Schema};
 ghost use Rattle.brk_changes.specs.Rows.{abstract_trade_row};
 ghost use Rattle.brk_changes.specs.Sheets.{abstract_sheets};
-ghost use Rattle.brk_audit.specs.AccountTerms.{broker_in_terms};
+ghost use Rattle.brk_audit.specs.AccountTerms.{account_broker_in_terms};
 ghost use Rattle.brk_audit.specs.Conditions.{HasWellFormedRows, HasValidStatuses};
 ghost use Rattle.brk_audit.specs.Sums.{count_posting_of_row};
 ghost use Rattle.brk_audit.specs.Tally.{sum_at_key};
@@ -28,7 +28,7 @@ fn count_posting_of_trade(
     terms: &BTreeMap<u64, AccountTerms>,
     trade: &TradeRow,
 ) -> Option<Posting<u64>>
-    ensures { result ≡ count_posting_of_row (broker_in_terms terms.now) (abstract_trade_row trade.now) }
+    ensures { result ≡ count_posting_of_row (account_broker_in_terms terms.now) (abstract_trade_row trade.now) }
 {
     if !is_completed(trade.status) {
         return None;
@@ -44,7 +44,7 @@ fn count_postings_of_trades(
     terms: &BTreeMap<u64, AccountTerms>,
     trades: &[TradeRow],
 ) -> Result<Vec<Posting<u64>>, Fault>
-    ensures all { IfOk result (λ all. all.items ≡ filter_map (λ r. count_posting_of_row (broker_in_terms terms.now) (abstract_trade_row r)) trades.now) }
+    ensures all { IfOk result (λ all. all.items ≡ filter_map (λ r. count_posting_of_row (account_broker_in_terms terms.now) (abstract_trade_row r)) trades.now) }
     ensures fault { IfErr result (λ fault. fault ≡ Memory) }
 {
     let all = trades

@@ -4,7 +4,7 @@ ghost use Rattle.brk_money.specs.declared.fault.Fault.TheVariants.{Memory};
 ghost use Rattle.brk_model.specs.Audit.{ConditionHolds};
 ghost use Rattle.brk_model.specs.Schemas.{Schema};
 ghost use Rattle.brk_model.specs.Derived.{due_day_of_completion_stamp};
-ghost use Rattle.brk_audit.specs.AccountTerms.{tax_status_in_terms};
+ghost use Rattle.brk_audit.specs.AccountTerms.{account_tax_status_in_terms};
 ghost use Rattle.brk_audit.specs.Completed.{is_completed_row};
 ghost use Rattle.brk_audit.specs.Conditions.{HasWellFormedRows, HasValidStatuses};
 ghost use Rattle.brk_audit.specs.Settling.{RowsCannotMatchTrades, RowsMatchTradesIffOthersDo, settlement_amount_at_tax_status};
@@ -55,9 +55,9 @@ fn settlements_after_trade<'a>(
     terms: &BTreeMap<u64, AccountTerms>,
 ) -> Option<&'a [SettlementRow]>
     ensures { MatchOption result
-        (RowsCannotMatchTrades settlement_figures_of_row (settlement_figures_of_trade rule.now (tax_status_in_terms terms.now)) is_completed_row
+        (RowsCannotMatchTrades settlement_figures_of_row (settlement_figures_of_trade rule.now (account_tax_status_in_terms terms.now)) is_completed_row
         (map abstract_settlement_row settlements.now) (abstract_trade_row trade.now))
-        (λ others. RowsMatchTradesIffOthersDo settlement_figures_of_row (settlement_figures_of_trade rule.now (tax_status_in_terms terms.now)) is_completed_row
+        (λ others. RowsMatchTradesIffOthersDo settlement_figures_of_row (settlement_figures_of_trade rule.now (account_tax_status_in_terms terms.now)) is_completed_row
         (map abstract_settlement_row settlements.now) (abstract_trade_row trade.now) (map abstract_settlement_row others.now)) }
 {
     if !is_completed(trade.status) {
@@ -88,7 +88,7 @@ fn settlements_match_trades(
 ) -> bool
     ensures { IsTrue result
         ↔ (map settlement_figures_of_row (map abstract_settlement_row settlements.now)
-        ≡ map (settlement_figures_of_trade rule.now (tax_status_in_terms terms.now)) (filter is_completed_row (map abstract_trade_row trades.now))) }
+        ≡ map (settlement_figures_of_trade rule.now (account_tax_status_in_terms terms.now)) (filter is_completed_row (map abstract_trade_row trades.now))) }
 {
     let mut rest = settlements;
     for trade in trades {

@@ -32,7 +32,7 @@ fn security_name<'a>(sheets: &'a Sheets, symbol: &Symbol) -> &'a str
 
 // Appends a space, the quantity in decimal digits, and `words` to `name`. Fails if an allocation is
 // refused.
-fn append_quantity_words(name: &mut String, qty: Qty, words: &str) -> Result<(), AllocError>
+fn append_quantity_and_text(name: &mut String, qty: Qty, words: &str) -> Result<(), AllocError>
     ensures { OnOk result (string_bytes name.new ≡ string_bytes name.old ++ (32 ∷ decimal qty ++ words.now)) }
 {
     write!(name, " {}{}", qty.get(), words)
@@ -50,7 +50,7 @@ fn format_cash_text_of_trade(
     ensures fault { IfErr result (λ fault. fault ≡ Memory) }
 {
     let mut name = String::from_str(alloc, trade.kind.name())?;
-    append_quantity_words(&mut name, trade.qty, words)?;
+    append_quantity_and_text(&mut name, trade.qty, words)?;
     name.push_str(security)?;
     Ok(name)
 }

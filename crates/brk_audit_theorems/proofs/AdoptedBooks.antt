@@ -24,7 +24,7 @@ use Rattle.brk_model.specs.Adopted.{account_of_row, base_of_tables, movement_of_
 use Rattle.brk_model.specs.Form.{is_well_formed_account_row, is_well_formed_band_row, has_account, has_broker, has_customer, satisfies_form_condition, has_security, has_trade, is_well_formed_history_row, has_cash_row_name_of_trade, is_id, is_cash_row_number, is_movement_name_and_amount, is_price, is_quantity_in_schema, is_at_most_last_stamp, is_tier, is_well_formed_last_trade_row, is_well_formed_move_row, bands_are_disjoint, price_matches_completion, are_equal_number_lists, is_well_formed_trade_row}
 use Rattle.brk_model.specs.Ways.{completion_stamps, satisfies_status_condition, movement_stamps, has_valid_status_history}
 use Rattle.brk_model.specs.Names.{AccountOfTradeExists, BrokerOfAccountExists, CustomerOfAccountExists, SecurityOfTradeExists, TradesAreNumberedFrom}
-use Rattle.brk_book_theorems.specs.Books.{MovementBooksInvariant, HasDisjointBands, HasNoCompletionIfSubmitted, HasDistinctAccountIds, HasDistinctSymbols, HasOrderedBounds, MovementAccountExists, HasVolumeWithinLimit, BooksInvariant, TradeStampIsAtMostLast, MovementStampIsAtMostLast, HasLastStatusAtOtherStamp, HasDistinctLastStatusStamps, HasDistinctMovementStamps, HasDistinctPermissions, HasOneStatusChangeIfPending}
+use Rattle.brk_book_theorems.specs.Books.{MovementBooksInvariant, HasDisjointBands, HasNoCompletionIfSubmitted, HasDistinctAccountIds, HasDistinctSymbols, HasOrderedBounds, MovementAccountExists, HasVolumeWithinLimit, BooksInvariant, TradeStampIsAtMostLastStamp, MovementStampIsAtMostLastStamp, HasLastStatusAtOtherStamp, HasDistinctLastStatusStamps, HasDistinctMovementStamps, HasDistinctPermissions, HasOneStatusChangeIfPending}
 use Rattle.brk_book_theorems.proofs.Bools.{numbers_back}
 use Rattle.brk_book_theorems.proofs.Same.{All-map, All-mapped, All-of, any-none, find-All}
 use Rattle.brk_book_theorems.proofs.Reading.{find-map, is_some-map, some-is-any}
@@ -245,14 +245,14 @@ moments_apart t (r ∷ rows) d c h = (others rows c.0 h.1, moments_apart t rows 
     others [] b k = tt
     others (u ∷ us) b k = (other u b.0 k.0, others us b.1 k.1)
 
-early_at : (o : Option ℕ) (u : Trade) (n : ℕ) → n ≡ last_status_stamp_of_trade u → option_map_or (λ last. nat_le n last) o false ≡ true → TradeStampIsAtMostLast o u
+early_at : (o : Option ℕ) (u : Trade) (n : ℕ) → n ≡ last_status_stamp_of_trade u → option_map_or (λ last. nat_le n last) o false ≡ true → TradeStampIsAtMostLastStamp o u
 early_at None u n e h = false_true h
 early_at (Some last) u n e h = let k : n ≤ last = leb-true n last h in omega arith
 
 stamp_of : (t : Tables) (h : HistoryRow) → is_well_formed_history_row t h ≡ true → is_at_most_last_stamp t h.stamp ≡ true
 stamp_of t h e = (parts3 (has_trade t h.trade) (is_at_most_last_stamp t h.stamp) (not (is_same_trade_status h.status Completed) || nat_le (due_day_of_completion_stamp t.rule h.stamp) greatest_day) e).1
 
-early_of : (t : Tables) (r : TradeRow) → AllByRecursion (λ h. is_well_formed_history_row t h ≡ true) t.history → IsDone t r → TradeStampIsAtMostLast t.last (trade_of_row t r)
+early_of : (t : Tables) (r : TradeRow) → AllByRecursion (λ h. is_well_formed_history_row t h ≡ true) t.history → IsDone t r → TradeStampIsAtMostLastStamp t.last (trade_of_row t r)
 early_of t r f k = early_at t.last (trade_of_row t r) k.row.stamp k.stamp (stamp_of t k.row (of_all (λ h. is_well_formed_history_row t h ≡ true) t.history k.row f k.there))
 
 done_all : (t : Tables) → AllByRecursion (λ r. has_valid_status_history t r ≡ true) t.trades → AllByRecursion (IsDone t) (done_rows t)
@@ -314,7 +314,7 @@ none_at_completion t ds h done =
     (of_all (λ row. contains_number row.stamp (movement_stamps t) ≡ false) (completions t) k.row
     (of_mapped (λ n. contains_number n (movement_stamps t) ≡ false) (λ row. row.stamp) (completions t) h) k.counted)) done
 
-made_at : (o : Option ℕ) (n : ℕ) (m : Movement) → n ≡ m.stamp → option_map_or (λ last. nat_le n last) o false ≡ true → MovementStampIsAtMostLast o m
+made_at : (o : Option ℕ) (n : ℕ) (m : Movement) → n ≡ m.stamp → option_map_or (λ last. nat_le n last) o false ≡ true → MovementStampIsAtMostLastStamp o m
 made_at None n m e h = false_true h
 made_at (Some last) n m e h = let k : n ≤ last = leb-true n last h in omega arith
 
@@ -331,7 +331,7 @@ adopted_movements t ds f h d =
     record {
       holders = All-mapped (MovementAccountExists (map account_of_row t.accounts)) movement_of_row rows
           (All-map rows (λ r e. found_mapped (λ a. a.id == r.account) account_of_row t.accounts ∙ (move_parts t r e).0) formed);
-      early = All-mapped (MovementStampIsAtMostLast t.last) movement_of_row rows (All-map rows (λ r e. made_at t.last r.stamp (movement_of_row r) refl (move_parts t r e).1) formed);
+      early = All-mapped (MovementStampIsAtMostLastStamp t.last) movement_of_row rows (All-map rows (λ r e. made_at t.last r.stamp (movement_of_row r) refl (move_parts t r e).1) formed);
       apart = movements_apart t ds rows h d;
     }
   where
@@ -373,8 +373,8 @@ adopted_books schema t f s =
         completions = All-mapped HasNoCompletionIfSubmitted (trade_of_row t) t.trades (All-map t.trades (completes_first t) ways);
       };
       times = record {
-        early = subst (AllByRecursion (TradeStampIsAtMostLast t.last)) (sym (filter-map is_completed (trade_of_row t) t.trades))
-            (All-mapped (TradeStampIsAtMostLast t.last) (trade_of_row t) (done_rows t)
+        early = subst (AllByRecursion (TradeStampIsAtMostLastStamp t.last)) (sym (filter-map is_completed (trade_of_row t) t.trades))
+            (All-mapped (TradeStampIsAtMostLastStamp t.last) (trade_of_row t) (done_rows t)
             (All-map (done_rows t) (λ r d. early_of t r (list_all_true (is_well_formed_history_row t) t.history p.history) d) done));
         moments = subst HasDistinctLastStatusStamps (sym (filter-map is_completed (trade_of_row t) t.trades))
             (moments_apart t (done_rows t) apart_stamps.first (climbs_filter trade_key (λ r. is_completed (trade_of_row t r)) t.trades k.trades) done);

@@ -20,7 +20,7 @@ use Rattle.brk_batch_engine.specs.Script.{RowCallRelation, RowCalls, recording_s
 use Rattle.brk_io.proofs.Calls.{made_then}
 use Rattle.brk_io.specs.Moments.{ClockReturnsInOrder}
 use Rattle.brk_io.specs.declared.batch_fault.FaultKind.TheVariants as kinds
-use Rattle.brk_io.specs.Span.{ClockAndWriterChange, EnvironmentChange, change_with_bases}
+use Rattle.brk_io.specs.Span.{ClockAndWriterChange, EnvironmentChange, environment_change_with_bases}
 use Rattle.brk_batch_engine.specs.Counts.{counts_with_answer, counts_of_answers}
 use Rattle.brk_io.specs.declared.batch_fault.BatchFault.{BatchFault}
 use Rattle.brk_batch_engine.specs.declared.counts.Counts.{Counts}
@@ -233,10 +233,10 @@ pub comes : {D S X C R : Type 0} (honest : D → Type 0) (stands : D → S → T
     (r : HasReachedPosition honest (RepresentsDurably stands leaves) acts form step gives rem first head desk place)
     (last : D) (text : Option Text) (outside : ClockAndWriterChange C) (result : Result Counts BatchFault) → (honest last → honest desk) → PreservesRepresentedBases honest stands desk last
     → ((T : Type 0) (other : RowStep T X) (base after : T) → CallsHaveAnswers other base (calls_of_rows head.name r.answered.moments (well_formed_rows_from form 1 r.rows)) r.answered.replies after
-    → IsBatchResult form other gives text (change_with_bases base after outside) result)
+    → IsBatchResult form other gives text (environment_change_with_bases base after outside) result)
     → ChangesOnlyByRowCalls acts form gives text first last outside result
     → (honest last → (base after : S) → CallsHaveAnswers step base (calls_of_rows head.name r.answered.moments (well_formed_rows_from form 1 r.rows)) r.answered.replies after → stands desk after → leaves desk after after
-    → BoundsBatchCrashStates form step gives leaves text (change_with_bases base after outside) last result)
+    → BoundsBatchCrashStates form step gives leaves text (environment_change_with_bases base after outside) last result)
     → BatchPost honest stands leaves acts form step gives text first last outside result
 comes {S = S} honest stands leaves acts form step gives rem first head desk place r last text outside result earlier keeps so told stops = record {
   changed_only_by_calls = told;

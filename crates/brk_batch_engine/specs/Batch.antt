@@ -22,7 +22,7 @@ use Rattle.brk_batch_engine.specs.Counts.{counts_of_answers}
 use Rattle.brk_batch_engine.specs.Script.{RowCallRelation, RowCalls, RowCallScript, recording_step}
 use Rattle.brk_io.specs.Calls.{IsCallSequence}
 use Rattle.brk_io.specs.Moments.{ReadsClockAtMostOnce, ClockReturnsInOrder}
-use Rattle.brk_io.specs.Span.{IsUnchangedEnvironment, ClockAndWriterChange, EnvironmentChange, change_with_bases}
+use Rattle.brk_io.specs.Span.{IsUnchangedEnvironment, ClockAndWriterChange, EnvironmentChange, environment_change_with_bases}
 use Rattle.brk_io.specs.declared.batch_fault.BatchFault.{BatchFault}
 use Rattle.brk_io.specs.declared.batch_fault.FaultKind.{FaultKind}
 use Rattle.brk_io.specs.declared.batch_fault.FaultKind.TheVariants as kinds
@@ -174,7 +174,7 @@ abbrev pub BatchMatchesAnsweredScript : {X C : Type 0} → (Fields → ReadResul
     → Result Counts BatchFault → Type 0
 BatchMatchesAnsweredScript form gives text script outside result =
     (answers : List Answer) × (script.1 ≡ map Did answers)
-    × IsBatchResult form recording_step gives text (change_with_bases (answers, []) ([], script.0) outside) result
+    × IsBatchResult form recording_step gives text (environment_change_with_bases (answers, []) ([], script.0) outside) result
     × IfErr result (λ fault. DeskFaultIsMemory fault.kind)
 
 -- The last call of `script` failed with a fault, which ended the batch. It is the call of the row
@@ -185,7 +185,7 @@ abbrev pub BatchMatchesFailedScript : {X C : Type 0} → (Fields → ReadResult 
 BatchMatchesFailedScript form gives text script outside (Ok counts) = ⊥
 BatchMatchesFailedScript {X = X} form gives text script outside (Err fault) =
     (answers : List Answer) × (calls : RowCalls X)
-    × (failed : NextRowFails form recording_step gives text (change_with_bases (answers, []) ([], calls) outside) fault)
+    × (failed : NextRowFails form recording_step gives text (environment_change_with_bases (answers, []) ([], calls) outside) fault)
     × (script.0 ≡ calls ++ ((failed.moment, (failed.command, record { batch = failed.stopped.name; row = fault.rows + 1 })) ∷ []))
     × (script.1 ≡ map Did answers ++ (Failed failed.cause ∷ []))
 
@@ -214,7 +214,7 @@ abbrev pub BatchRefinesModel : {D S X C : Type 0} → (D → Type 0) → (D → 
     → D → D → ClockAndWriterChange C → Result Counts BatchFault → Type 0
 BatchRefinesModel {S = S} honest stands form step gives text first last outside result =
     honest last → (base : S) → stands first base
-    → (after : S) × stands last after × IsBatchResult form step gives text (change_with_bases base after outside) result
+    → (after : S) × stands last after × IsBatchResult form step gives text (environment_change_with_bases base after outside) result
 
 -- The call of the row after the decided rows failed (`NextRowFails`), and a crash exposes only the
 -- base after the decided rows, or the base after the command of this row.
@@ -240,8 +240,8 @@ abbrev pub IsBatchCrashSafe : {D S X C : Type 0} → (D → Type 0) → (D → S
     → (C → ℕ → C → Type 0) → Option Text → D → D → ClockAndWriterChange C → Result Counts BatchFault → Type 0
 IsBatchCrashSafe {S = S} honest stands leaves form step gives text first last outside result =
     honest last → (base : S) → stands first base → leaves first base base → (after : S) × stands last after
-    × IsBatchResult form step gives text (change_with_bases base after outside) result
-    × BoundsBatchCrashStates form step gives leaves text (change_with_bases base after outside) last result
+    × IsBatchResult form step gives text (environment_change_with_bases base after outside) result
+    × BoundsBatchCrashStates form step gives leaves text (environment_change_with_bases base after outside) last result
 
 -- The postcondition of a run of a batch: the desk changed only by the calls of its rows, the batch
 -- refines the model, and it is crash-safe.

@@ -17,7 +17,7 @@ use Rattle.brk_model.specs.Sheets.{sheets, tables_sorted_by_key}
 use Rattle.brk_model.specs.Tables.{tables_of_base_in_schema}
 use Rattle.brk_model.specs.Tests.{bands_overlap}
 use Rattle.brk_book_theorems.specs.Books.{BooksInvariant, HasDisjointBands}
-use Rattle.brk_book_theorems.specs.TradeReads.{band_of_quantity}
+use Rattle.brk_book_theorems.specs.TradeReads.{commission_band_of_quantity}
 use Rattle.brk_book_theorems.proofs.Same.{NonePass, All-map, any-none}
 use Rattle.brk_book_theorems.proofs.Reading.{any-sorted}
 use Rattle.brk_book_theorems.proofs.NewKeys.{both, and_both, not_both, same_bytes, same_codes, code_same}
@@ -114,7 +114,7 @@ only_band tier kind exchange qty (b ∷ bs) h = (
     other c apart e false g = g
     other c apart e true g = absurd (not_both (bands_overlap b c) (both_meet tier kind exchange qty b c e g) apart)
 
-pub reads_band : (base : Base) (tier : ℕ) (kind : TradeType) (exchange : Text) (qty : ℕ) → BooksInvariant base → band_of_quantity (sheets base) tier kind exchange qty ≡ commission_band_for_quantity base tier kind exchange qty
+pub reads_band : (base : Base) (tier : ℕ) (kind : TradeType) (exchange : Text) (qty : ℕ) → BooksInvariant base → commission_band_of_quantity (sheets base) tier kind exchange qty ≡ commission_band_for_quantity base tier kind exchange qty
 unfolding tables_of_base_in_schema tables_sorted_by_key
 reads_band base tier kind exchange qty books =
     find-filter (λ r. (r.tier == tier) && is_same_trade_type r.kind kind && bytes_eq r.exchange exchange) (λ r. nat_le r.from_qty qty && nat_le qty r.to_qty) (rows_sorted_by_key band_key base.bands)

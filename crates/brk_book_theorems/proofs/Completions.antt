@@ -16,7 +16,7 @@ use Rattle.brk_model.specs.Feed.{is_triggered_by_tick, is_triggering_price, base
 use Rattle.brk_model.specs.Tests.{stamp_of_next_command, status_check}
 use Rattle.brk_money.specs.declared.refusal.Refusal.TheVariants.{NoTrade}
 use Rattle.brk_model.specs.Names.{TradesAreNumberedFrom}
-use Rattle.brk_book_theorems.specs.Books.{CompletionBooksInvariant, HasNoCompletionIfSubmitted, TradeStampIsAtMostLast, IsNotCompletion, HasOneStatusChange, HasOneStatusChangeIfPending}
+use Rattle.brk_book_theorems.specs.Books.{CompletionBooksInvariant, HasNoCompletionIfSubmitted, TradeStampIsAtMostLastStamp, IsNotCompletion, HasOneStatusChange, HasOneStatusChangeIfPending}
 use Rattle.brk_book_theorems.proofs.Same.{All-append, All-map, All-of}
 use Rattle.brk_book_theorems.proofs.Places.{FoundAt, find-at}
 use Rattle.brk_book_theorems.proofs.Numbering.{numbered_after, pending_not_completed, status_of_marked}
@@ -24,11 +24,11 @@ use Rattle.brk_book_theorems.proofs.Tested.{not_not}
 
 -- ---- the last stamp moves on
 
-early_then : (last : Option ℕ) (now : ℕ) (t : Trade) → TradeStampIsAtMostLast last t → TradeStampIsAtMostLast (Some (option_map_or (λ l. max now (l + 1)) last now)) t
+early_then : (last : Option ℕ) (now : ℕ) (t : Trade) → TradeStampIsAtMostLastStamp last t → TradeStampIsAtMostLastStamp (Some (option_map_or (λ l. max now (l + 1)) last now)) t
 early_then None now t e = absurd e
 early_then (Some l) now t e = omega arith
 
-pub later : (base : Base) (now : ℕ) → AllByRecursion (TradeStampIsAtMostLast base.last) (completed_trades base) → AllByRecursion (TradeStampIsAtMostLast (Some (stamp_of_next_command base now))) (completed_trades base)
+pub later : (base : Base) (now : ℕ) → AllByRecursion (TradeStampIsAtMostLastStamp base.last) (completed_trades base) → AllByRecursion (TradeStampIsAtMostLastStamp (Some (stamp_of_next_command base now))) (completed_trades base)
 later base now h = All-map (completed_trades base) (λ t e. early_then base.last now t e) h
 
 -- moments stay in order where a stamp comes and no completion

@@ -7,13 +7,13 @@ use Rattle.std.proofs.lemmas.Bool.Decides.{nat_tests}
 use Rattle.brk_model.specs.Records.{Account, Movement, Trade}
 use Rattle.brk_model.specs.Base.{Base, completed_trades, last_status_stamp_of_trade}
 use Rattle.brk_model.specs.Tests.{stamp_of_next_command}
-use Rattle.brk_book_theorems.specs.Books.{MovementBooksInvariant, MovementAccountExists, MovementStampIsAtMostLast, HasLastStatusAtOtherStamp, HasDistinctMovementStamps}
+use Rattle.brk_book_theorems.specs.Books.{MovementBooksInvariant, MovementAccountExists, MovementStampIsAtMostLastStamp, HasLastStatusAtOtherStamp, HasDistinctMovementStamps}
 use Rattle.brk_book_theorems.proofs.Same.{All-append, All-map, find-more}
 use Rattle.brk_book_theorems.proofs.Tested.{All-back, All-front}
 
 -- ---- the last stamp moves on
 
-made_then : (last : Option ℕ) (now : ℕ) (m : Movement) → MovementStampIsAtMostLast last m → MovementStampIsAtMostLast (Some (option_map_or (λ l. max now (l + 1)) last now)) m
+made_then : (last : Option ℕ) (now : ℕ) (m : Movement) → MovementStampIsAtMostLastStamp last m → MovementStampIsAtMostLastStamp (Some (option_map_or (λ l. max now (l + 1)) last now)) m
 made_then None now m e = absurd e
 made_then (Some l) now m e = omega arith
 
@@ -21,7 +21,7 @@ pub movements_later : {accounts : List Account} {done : List Trade} {ms : List M
     → MovementBooksInvariant accounts (Some (stamp_of_next_command base now)) done ms
 movements_later {ms = ms} base now k = record { holders = k.holders; early = All-map ms (λ m e. made_then base.last now m e) k.early; apart = k.apart }
 
-made_before : (last : Option ℕ) (now : ℕ) (m : Movement) → MovementStampIsAtMostLast last m → m.stamp < option_map_or (λ l. max now (l + 1)) last now
+made_before : (last : Option ℕ) (now : ℕ) (m : Movement) → MovementStampIsAtMostLastStamp last m → m.stamp < option_map_or (λ l. max now (l + 1)) last now
 made_before None now m e = absurd e
 made_before (Some l) now m e = omega arith
 
@@ -84,6 +84,6 @@ pub movements_more : {accounts : List Account} {done : List Trade} {ms : List Mo
     → MovementBooksInvariant accounts (Some m.stamp) done (ms ++ m ∷ [])
 movements_more {accounts = accounts} {done = done} {ms = ms} m there g h k = record {
   holders = All-append (MovementAccountExists accounts) ms (m ∷ []) k.holders (there, tt);
-  early = All-append (MovementStampIsAtMostLast (Some m.stamp)) ms (m ∷ []) k.early (no_later m.stamp, tt);
+  early = All-append (MovementStampIsAtMostLastStamp (Some m.stamp)) ms (m ∷ []) k.early (no_later m.stamp, tt);
   apart = apart_movement done ms m g h k.apart;
 }

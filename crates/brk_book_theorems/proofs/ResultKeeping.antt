@@ -16,7 +16,7 @@ use Rattle.brk_model.specs.Step.{base_after_command_unstamped, base_after_result
 use Rattle.brk_model.specs.Tests.{stamp_of_next_command, refusal_of_command, checks_of_result, checks_of_command}
 use Rattle.brk_lots.specs.Position.{AreOpenedByOtherTrades}
 use Rattle.brk_model.specs.Names.{AccountOfTradeExists, SecurityOfTradeExists, TradesAreNumberedFrom}
-use Rattle.brk_book_theorems.specs.Books.{HasNoCompletionIfSubmitted, BooksInvariant, TradeStampIsAtMostLast, IsNotCompletion, HasDistinctLastStatusStamps, HasOneStatusChangeIfPending}
+use Rattle.brk_book_theorems.specs.Books.{HasNoCompletionIfSubmitted, BooksInvariant, TradeStampIsAtMostLastStamp, IsNotCompletion, HasDistinctLastStatusStamps, HasOneStatusChangeIfPending}
 use Rattle.brk_book_theorems.specs.Steps.{HasTableEffect, PreservesBooksInvariant}
 use Rattle.brk_book_theorems.specs.Results.{tables_after_result, result_rows_of_trade}
 use Rattle.brk_book_theorems.specs.TradeReads.{lots_of_position}
@@ -32,7 +32,7 @@ use Rattle.brk_book_theorems.proofs.ResultRows.{IsResult, done_now, done_then, m
 
 -- ---- what an accepted result finds
 
-before_next : (last : Option ℕ) (now : ℕ) (t : Trade) → TradeStampIsAtMostLast last t → last_status_stamp_of_trade t < option_map_or (λ l. max now (l + 1)) last now
+before_next : (last : Option ℕ) (now : ℕ) (t : Trade) → TradeStampIsAtMostLastStamp last t → last_status_stamp_of_trade t < option_map_or (λ l. max now (l + 1)) last now
 before_next None now t e = absurd e
 before_next (Some l) now t e = omega arith
 
@@ -151,7 +151,7 @@ books_then base now id price t k e accepted =
     let done : completed_trades base ≡ A ++ Z = done_now base stamp price t f.front f.back f.result in
     let after : completed_trades (base_after_result base stamp price t) ≡ A ++ u ∷ Z = done_then base stamp price t f.front f.back f.result in
     let moment : last_status_stamp_of_trade u ≡ stamp = moment_then base stamp price t in
-    let early : AllByRecursion (TradeStampIsAtMostLast (Some stamp)) (A ++ Z) = subst (AllByRecursion (TradeStampIsAtMostLast (Some stamp))) done (later base now k.early) in
+    let early : AllByRecursion (TradeStampIsAtMostLastStamp (Some stamp)) (A ++ Z) = subst (AllByRecursion (TradeStampIsAtMostLastStamp (Some stamp))) done (later base now k.early) in
     let last : AllByRecursion (λ v. last_status_stamp_of_trade v < last_status_stamp_of_trade u) (A ++ Z) =
     subst (λ (m : ℕ). AllByRecursion (λ v. last_status_stamp_of_trade v < m) (A ++ Z)) (sym moment) (subst (AllByRecursion (λ v. last_status_stamp_of_trade v < stamp)) done (all_before base now k)) in
     record {
@@ -165,8 +165,8 @@ books_then base now id price t k e accepted =
         completions = All-updated HasNoCompletionIfSubmitted (λ v. v.id == t.id) (completed_trade base stamp price) base.trades (λ v h. not_at_market base stamp price v) k.completions;
       };
       times = record {
-        early = subst (AllByRecursion (TradeStampIsAtMostLast (Some stamp))) (sym after)
-            (All-append (TradeStampIsAtMostLast (Some stamp)) A (u ∷ Z) (All-front (TradeStampIsAtMostLast (Some stamp)) A Z early) (no_later (last_status_stamp_of_trade u) stamp moment, All-back (TradeStampIsAtMostLast (Some stamp)) A Z early));
+        early = subst (AllByRecursion (TradeStampIsAtMostLastStamp (Some stamp))) (sym after)
+            (All-append (TradeStampIsAtMostLastStamp (Some stamp)) A (u ∷ Z) (All-front (TradeStampIsAtMostLastStamp (Some stamp)) A Z early) (no_later (last_status_stamp_of_trade u) stamp moment, All-back (TradeStampIsAtMostLastStamp (Some stamp)) A Z early));
         moments = subst HasDistinctLastStatusStamps (sym after) (moments_more A u Z last (subst HasDistinctLastStatusStamps done k.moments));
         clock = in_time base now (CompleteTrade id price) accepted;
       };

@@ -19,7 +19,7 @@ use Rattle.brk_model.specs.Step.{base_after_accepted_command, base_after_command
 use Rattle.brk_model.specs.Tests.{stamp_of_next_command, refusal_of_command}
 use Rattle.brk_model.specs.Updates.{updated_cash_row_name, updated_cash_type, updated_executor_name, selected_ids_of_account, selected_ids_of_symbol}
 use Rattle.brk_model.specs.Names.{AccountOfTradeExists, SecurityOfTradeExists}
-use Rattle.brk_book_theorems.specs.Books.{HasNoCompletionIfSubmitted, BooksInvariant, TradeStampIsAtMostLast, HasLastStatusAtOtherStamp, HasDistinctLastStatusStamps, HasDistinctMovementStamps, HasOneStatusChangeIfPending}
+use Rattle.brk_book_theorems.specs.Books.{HasNoCompletionIfSubmitted, BooksInvariant, TradeStampIsAtMostLastStamp, HasLastStatusAtOtherStamp, HasDistinctLastStatusStamps, HasDistinctMovementStamps, HasOneStatusChangeIfPending}
 use Rattle.brk_book_theorems.specs.Steps.{PreservesBooksInvariant, base_after_command}
 use Rattle.brk_book_theorems.proofs.MovementOrder.{movements_later}
 use Rattle.brk_book_theorems.proofs.Completions.{later}
@@ -72,7 +72,7 @@ done_changed P p f (t ∷ ts) s c h =
     by_test true k h ih = (c t (cond (p t) (f t) t) k h.0, ih h.1)
     by_test false k h ih = ih h
 
-early_same : (last : Option ℕ) (t u : Trade) → IsSame t u → TradeStampIsAtMostLast last t → TradeStampIsAtMostLast last u
+early_same : (last : Option ℕ) (t u : Trade) → IsSame t u → TradeStampIsAtMostLastStamp last t → TradeStampIsAtMostLastStamp last u
 early_same None t u s e = absurd e
 early_same (Some l) t u s e = subst (λ (m : ℕ). m ≤ l) (sym (same_moment t u s)) e
 
@@ -114,7 +114,7 @@ books_changed base now command p f s k e = record {
     completions = All-updated HasNoCompletionIfSubmitted p f base.trades (λ t h. subst (λ ms. HasNoCompletionIfSubmitted (record t { marks = ms })) (sym (s t).marks) h) k.completions;
   };
   times = record {
-    early = done_changed (TradeStampIsAtMostLast (Some (stamp_of_next_command base now))) p f base.trades s (early_same (Some (stamp_of_next_command base now))) (later base now k.early);
+    early = done_changed (TradeStampIsAtMostLastStamp (Some (stamp_of_next_command base now))) p f base.trades s (early_same (Some (stamp_of_next_command base now))) (later base now k.early);
     moments = moments_changed p f base.trades s k.moments;
     clock = in_time base now command e;
   };

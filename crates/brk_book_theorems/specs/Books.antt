@@ -53,9 +53,9 @@ HasNoCompletionIfSubmitted t = has_status Submitted t ≡ true → AllByRecursio
 
 -- The stamp of the last status change of the trade `t` is at most the last stamp `last`. False if
 -- `last` is `None`.
-abbrev pub TradeStampIsAtMostLast : Option ℕ → Trade → Type 0
-TradeStampIsAtMostLast None t = ⊥
-TradeStampIsAtMostLast (Some last) t = last_status_stamp_of_trade t ≤ last
+abbrev pub TradeStampIsAtMostLastStamp : Option ℕ → Trade → Type 0
+TradeStampIsAtMostLastStamp None t = ⊥
+TradeStampIsAtMostLastStamp (Some last) t = last_status_stamp_of_trade t ≤ last
 
 -- No two trades of the list have the same stamp in their last status changes.
 abbrev pub HasDistinctLastStatusStamps : List Trade → Type 0
@@ -68,9 +68,9 @@ abbrev pub MovementAccountExists : List Account → Movement → Type 0
 MovementAccountExists accounts m = is_some (account_with_id_in_list accounts m.account) ≡ true
 
 -- The stamp of the movement is at most the last stamp `last`. False if `last` is `None`.
-abbrev pub MovementStampIsAtMostLast : Option ℕ → Movement → Type 0
-MovementStampIsAtMostLast None m = ⊥
-MovementStampIsAtMostLast (Some last) m = m.stamp ≤ last
+abbrev pub MovementStampIsAtMostLastStamp : Option ℕ → Movement → Type 0
+MovementStampIsAtMostLastStamp None m = ⊥
+MovementStampIsAtMostLastStamp (Some last) m = m.stamp ≤ last
 
 -- The stamp of the last status change of the trade `t` is not `stamp`.
 abbrev pub HasLastStatusAtOtherStamp : ℕ → Trade → Type 0
@@ -90,7 +90,7 @@ pub record MovementBooksInvariant (all_accounts : List Account) (last : Option �
   -- The account of each movement exists.
   pub holders : AllByRecursion (MovementAccountExists all_accounts) all_movements
   -- None has a stamp after the last stamp, so the next cash row is the last one.
-  pub early : AllByRecursion (MovementStampIsAtMostLast last) all_movements
+  pub early : AllByRecursion (MovementStampIsAtMostLastStamp last) all_movements
   -- Each has a stamp of its own, so the order of the cash rows is unique.
   pub apart : HasDistinctMovementStamps done all_movements
 
@@ -165,7 +165,7 @@ pub record TradeBooksInvariant (all_accounts : List Account) (all_securities : L
 pub record CompletionBooksInvariant (last : Option ℕ) (done : List Trade) : Type 0 where
   -- No trade was completed after the last stamp, so the next completion is the last of its
   -- position.
-  pub early : AllByRecursion (TradeStampIsAtMostLast last) done
+  pub early : AllByRecursion (TradeStampIsAtMostLastStamp last) done
   -- No two trades were completed at one stamp, so the order of a position's lots is unique.
   pub moments : HasDistinctLastStatusStamps done
   -- The last stamp, if there is one, is within the range of stamps.

@@ -27,13 +27,13 @@ contains_charge t kind tier = is_some (find (λ r. is_same_trade_type r.kind kin
 
 -- The commission bands of the customer tier `tier`, the trade type `kind` and the exchange
 -- `exchange`, in the order of the table.
-abbrev pub bands_of_tier_type_and_exchange : Tables → ℕ → TradeType → Text → List Band
-bands_of_tier_type_and_exchange t tier kind exchange = filter (λ r. (r.tier == tier) && is_same_trade_type r.kind kind && bytes_eq r.exchange exchange) t.bands
+abbrev pub commission_bands_of_tier_type_and_exchange : Tables → ℕ → TradeType → Text → List Band
+commission_bands_of_tier_type_and_exchange t tier kind exchange = filter (λ r. (r.tier == tier) && is_same_trade_type r.kind kind && bytes_eq r.exchange exchange) t.bands
 
 -- True if a band in the tables with the tier, type and exchange of the band `b` shares a quantity
 -- with `b`.
 abbrev pub overlaps_some_band : Tables → Band → Bool
-overlaps_some_band t b = list_any (bands_overlap b) (bands_of_tier_type_and_exchange t b.tier b.kind b.exchange)
+overlaps_some_band t b = list_any (bands_overlap b) (commission_bands_of_tier_type_and_exchange t b.tier b.kind b.exchange)
 
 -- The row of the tax rate with the id `id`, or `None` if there is none.
 abbrev pub tax_rate_with_id : Tables → ℕ → Option TaxRate

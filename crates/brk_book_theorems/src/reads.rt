@@ -29,7 +29,7 @@ ghost use Rattle.brk_ref.specs.declared.tax.Tax.{Tax};
 ghost use Rattle.brk_book_theorems.specs.Books.{BooksInvariant};
 ghost use Rattle.brk_book_theorems.specs.Reads.{account_count_of_customer, overlaps_some_band, contains_tax_id, customer_tax_rate_sum, tax_rate_with_id};
 ghost use Rattle.brk_book_theorems.specs.Sums.{completed_trade_rows_of_broker};
-ghost use Rattle.brk_book_theorems.specs.TradeReads.{band_of_quantity, last_cash_row_number_or_zero, trade_id_in_last_row_or_zero, shares_of_lot_row};
+ghost use Rattle.brk_book_theorems.specs.TradeReads.{commission_band_of_quantity, last_cash_row_number_or_zero, trade_id_in_last_row_or_zero, shares_of_lot_row};
 ghost use Rattle.brk_book_theorems.specs.TradeReads.{holding_rows_of_position, permission_list_for_tax_id, permissions_of_account, lots_of_position};
 ghost use Rattle.brk_book_theorems.specs.TradeReads.{summary_row_if_nonzero, summary_quantity_or_zero, summary_row_of_position};
 ghost use Rattle.brk_book_theorems.specs.Trading.{trade_ids_triggered_by_tick};
@@ -167,7 +167,7 @@ pub fn account_permissions_match_the_base()
 /// `None` if no band contains the quantity.
 pub fn commission_bands_match_the_base()
     ensures { (base : Base) (tier : ℕ) (kind : TradeType) (exchange : Text) (qty : ℕ) → BooksInvariant base
-        → band_of_quantity (sheets base) tier kind exchange qty ≡ commission_band_for_quantity base tier kind exchange qty }
+        → commission_band_of_quantity (sheets base) tier kind exchange qty ≡ commission_band_for_quantity base tier kind exchange qty }
 {}
 
 /// Proves that the assets of an account in the base equal the balance of its row plus the market

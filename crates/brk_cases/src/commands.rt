@@ -12,7 +12,7 @@ use brk_import::{Clock, FaultKind, run_batch};
 use brk_money::{Fault, Refusal, Stamp, parse_day};
 use brk_orders::parse_stamp;
 use brk_ref::parse_id;
-use brk_report::{ReportFault, write_statement};
+use brk_report::{ReportFault, statement};
 use sqlite::{Connection, MemStore};
 use std::alloc::{AllocError, Global};
 
@@ -134,7 +134,7 @@ fn execute_statement_command(
         return append_refusal_line(out, Refusal::BadText);
     };
     let mut lines = Vec::new(alloc);
-    let ended = write_statement(alloc, desk, account, from, to, &mut lines);
+    let ended = statement(alloc, desk, account, from, to, &mut lines);
     append_written_bytes(out, &lines)?;
     match ended {
         Ok(()) => Ok(()),

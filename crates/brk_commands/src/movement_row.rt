@@ -55,7 +55,7 @@ pub fn movement_row_text(alloc: Global, movement: &Movement) -> Result<String, A
 
 // Returns the row of the kind `oneday` with `day`, the text of a day: the two fields joined by byte
 // 31. Fails if memory runs out.
-fn oneday_row_of_day_text(alloc: Global, day: &str) -> Result<String, AllocError>
+fn settlement_day_row_from_day_text(alloc: Global, day: &str) -> Result<String, AllocError>
     ensures { IfOk result (λ row. string_bytes row ≡ join_with_byte 31 (codes "oneday" ∷ day.now ∷ [])) }
 {
     format!(in alloc; "oneday\x1f{day}")
@@ -68,6 +68,6 @@ pub fn settlement_day_row_text(alloc: Global, day: Day) -> Result<String, Fault>
     ensures fault { OnErr result (result ≡ Err Memory) }
 {
     let text = day_text(alloc, day)?;
-    let row = oneday_row_of_day_text(alloc, text.as_str())?;
+    let row = settlement_day_row_from_day_text(alloc, text.as_str())?;
     Ok(row)
 }

@@ -8,7 +8,7 @@ ghost use Rattle.brk_ref.specs.Fields.{ParsesAs, texts_of_fields};
 ghost use Rattle.brk_commands.specs.Commands.{abstract_command};
 
 use crate::command::Command;
-use crate::parse_order::parse_trading_or_later_kind;
+use crate::parse_order::parse_trade_or_cash_command;
 use brk_money::{Planned, Refusal};
 use brk_plans::Reference;
 use brk_ref::{
@@ -126,11 +126,7 @@ fn parse_customer_tax_command(fields: &[&[u8]]) -> Result<Command, Refusal>
 // Parses a command of a kind other than `broker`, `customer` and `account` from the fields after
 // the kind. Refuses an unknown kind, and these three, with `BadText`, and malformed fields with the
 // refusal of their format check. Fails with `Memory` only.
-fn parse_other_reference_or_later_kind(
-    alloc: Global,
-    kind: &[u8],
-    fields: &[&[u8]],
-) -> Planned<Command>
+fn parse_command_except_parties(alloc: Global, kind: &[u8], fields: &[&[u8]]) -> Planned<Command>
     ensures read { IfOk result (λ read. ParsesAs abstract_command read (parse_by_first_field (other_reference_row_parsers ++ order_row_parsers
         ++ result_row_parsers ++ update_row_parsers ++ movement_row_parsers) (kind.now
         ∷ texts_of_fields fields.now))) }
@@ -154,7 +150,7 @@ fn parse_other_reference_or_later_kind(
     if kind == b"custtax".as_slice() {
         return Ok(parse_customer_tax_command(fields));
     }
-    parse_trading_or_later_kind(alloc, kind, fields)
+    parse_trade_or_cash_command(alloc, kind, fields)
 }
 
 // Parses a command of the kind `kind` from the fields after it. Refuses an unknown kind with
@@ -172,7 +168,7 @@ fn parse_command_of_kind(alloc: Global, kind: &[u8], fields: &[&[u8]]) -> Planne
     if kind == b"account".as_slice() {
         return parse_account_command(alloc, fields);
     }
-    parse_other_reference_or_later_kind(alloc, kind, fields)
+    parse_command_except_parties(alloc, kind, fields)
 }
 
 /// Parses the command of a row from its fields, the kind first.

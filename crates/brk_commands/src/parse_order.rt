@@ -7,7 +7,7 @@ ghost use Rattle.brk_ref.specs.Fields.{ParsesAs, texts_of_fields};
 ghost use Rattle.brk_commands.specs.Commands.{abstract_command};
 
 use crate::command::Command;
-use crate::parse_update::parse_update_or_later_kind;
+use crate::parse_update::parse_update_or_movement_command;
 use brk_money::{Planned, Refusal};
 use brk_orders::{parse_canceled_trade_id, parse_completion, parse_market_feed, parse_trade_order};
 use std::alloc::Global;
@@ -62,7 +62,7 @@ fn parse_completion_command(fields: &[&[u8]]) -> Result<Command, Refusal>
 // Parses a command of a kind that is not reference data: `order`, `feed`, `cancel`, `result`, a
 // text update, a deposit, a withdrawal or `oneday`. Refuses any other kind with `BadText`, and
 // malformed fields with the refusal of their format check. Fails with `Memory` only.
-pub(crate) fn parse_trading_or_later_kind(
+pub(crate) fn parse_trade_or_cash_command(
     alloc: Global,
     kind: &[u8],
     fields: &[&[u8]],
@@ -84,5 +84,5 @@ pub(crate) fn parse_trading_or_later_kind(
     if kind == b"result".as_slice() {
         return Ok(parse_completion_command(fields));
     }
-    parse_update_or_later_kind(alloc, kind, fields)
+    parse_update_or_movement_command(alloc, kind, fields)
 }

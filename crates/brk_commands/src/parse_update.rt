@@ -53,7 +53,7 @@ fn parse_cash_text_update_command(alloc: Global, fields: &[&[u8]]) -> Planned<Co
 // Parses a command of the kind `upname`, `upcash`, `uptext`, `deposit`, `withdraw` or `oneday` from
 // the fields after the kind. Refuses any other kind with `BadText`, and malformed fields with the
 // refusal of their format check. Fails with `Memory` only.
-pub(crate) fn parse_update_or_later_kind(
+pub(crate) fn parse_update_or_movement_command(
     alloc: Global,
     kind: &[u8],
     fields: &[&[u8]],

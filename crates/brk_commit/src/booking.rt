@@ -66,7 +66,7 @@ pub fn execute_and_commit_command<S: Alter>(
     match decide_command(alloc, store, now, command)? {
         Ok(plan) => {
             let plan = plan_with_stored_reply(alloc, plan, command, key)?;
-            store.apply_changes(&plan.changes)?;
+            store.apply(&plan.changes)?;
             Ok(Answer::Done(plan.reply))
         }
         Err(refusal) => Ok(Answer::Refused(refusal)),

@@ -22,9 +22,9 @@ use Rattle.brk_changes.specs.declared.summary_row.SummaryRow.{SummaryRow}
 use Rattle.brk_book_theorems.specs.OrderReads.{CustomerOfAccountSatisfies, charge_of_type_and_tier}
 use Rattle.brk_trade_theorems.specs.OrderPlans.{EstimateFactsMatchTables, order_account_of_row}
 use Rattle.brk_book_theorems.specs.Reads.{customer_tax_rate_sum}
-use Rattle.brk_book_theorems.specs.TradeReads.{band_of_quantity, permission_list_for_tax_id}
+use Rattle.brk_book_theorems.specs.TradeReads.{commission_band_of_quantity, permission_list_for_tax_id}
 use Rattle.brk_decisions.specs.OrderFactReads.{EstimateAmountsMatchTables, CustomerOrderFactsMatchTables, IsCustomerWithId, EstimateFactsMatchIfAccountOfOrder, order_facts_with_account, order_facts_without_account, market_value_of_summary}
-use Rattle.brk_decisions.specs.declared.tested.OrderFacts.{OrderFacts}
+use Rattle.brk_decisions.specs.declared.tested.OrderTestFacts.{OrderTestFacts}
 use Rattle.brk_decisions.specs.declared.amounts.Amounts.{Amounts}
 
 not_none : {X : Type 0} (x : X) → Some x ≡ None → ⊥
@@ -49,7 +49,7 @@ module _ (t : Tables) (account : ℕ) (a : ref.AccountRow) (c : customer.Custome
   if_customer : (holds : Customer → Type 0) → holds (abstract_customer c) → CustomerOfAccountSatisfies t account holds
   if_customer holds h = if_account (λ a. IfSome (find (λ r. r.id == a.customer) t.customers) holds) (subst (λ x. IfSome x holds) (sym k) h)
 
-pub all_found : (t : Tables) (order : Order) (a : ref.AccountRow) (c : customer.Customer) (tested : OrderFacts) (amounts : Amounts) → IsCustomerWithId t a.account.customer c
+pub all_found : (t : Tables) (order : Order) (a : ref.AccountRow) (c : customer.Customer) (tested : OrderTestFacts) (amounts : Amounts) → IsCustomerWithId t a.account.customer c
     → CustomerOrderFactsMatchTables t order c tested → EstimateAmountsMatchTables t a order amounts → EstimateFactsMatchIfAccountOfOrder t order a (order_facts_with_account a tested amounts)
 all_found t order a c tested amounts k x y there = record {
   account = ap (option_map order_account_of_row) there;
@@ -58,7 +58,7 @@ all_found t order a c tested amounts k x y there = record {
       (λ c. tested.is_permitted ≡ is_customer_or_has_permission c (permission_list_for_tax_id t order.account order.executor.tax_id) (abstract_executor order.executor)) x.is_permitted;
   charge = λ p. if_customer t order.account a c there k (λ c. tested.charge ≡ charge_of_type_and_tier t (trade_type_of_order order.order_type) c.tier) x.charge;
   rate = λ p. if_customer t order.account a c there k
-      (λ c. IfSome (security_row_with_symbol t order.symbol) (λ s. tested.rate ≡ option_map (λ b. b.rate) (band_of_quantity t c.tier (trade_type_of_order order.order_type) s.exchange order.qty))) x.rate;
+      (λ c. IfSome (security_row_with_symbol t order.symbol) (λ s. tested.rate ≡ option_map (λ b. b.rate) (commission_band_of_quantity t c.tier (trade_type_of_order order.order_type) s.exchange order.qty))) x.rate;
   rates = λ p. if_account t order.account a c there k (λ a. amounts.rates ≡ customer_tax_rate_sum t a.customer) y.rates;
   assets = λ p. if_account t order.account a c there k (λ a. amounts.assets ≡ a.balance +ℤ market_value_of_account_row t a) y.assets;
   summary = λ p. y.summary;

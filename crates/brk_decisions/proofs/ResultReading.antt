@@ -15,10 +15,10 @@ use Rattle.brk_changes.specs.declared.summary_row.SummaryRow as summary
 use Rattle.brk_changes.specs.declared.trade_row.TradeRow.{TradeRow}
 use Rattle.brk_book_theorems.specs.Reads.{customer_tax_rate_sum}
 use Rattle.brk_trade_theorems.specs.ResultPlans.{result_account_of_row}
-use Rattle.brk_book_theorems.specs.TradeReads.{band_of_quantity, summary_row_of_position}
+use Rattle.brk_book_theorems.specs.TradeReads.{commission_band_of_quantity, summary_row_of_position}
 use Rattle.brk_decisions.specs.OrderFactReads.{IsCustomerWithId}
 use Rattle.brk_decisions.specs.ResultFactReads.{AreTotalsOfBroker, PartyFactsMatchTables, AreResultFactsOfTradeWithId, AreResultFactsOfTrade, SecurityFactsMatchTables, PostingFactsMatchTables}
-use Rattle.brk_decisions.specs.declared.parties.Parties.{Parties}
+use Rattle.brk_decisions.specs.declared.parties.PartyFacts.{PartyFacts}
 use Rattle.brk_decisions.specs.declared.result_finding.SecurityFacts.{SecurityFacts}
 use Rattle.brk_decisions.specs.declared.result_finding.Posting.{Posting}
 
@@ -29,7 +29,7 @@ if_there (Some x) P Q f p = f x p
 
 -- The facts of an account's row, its customer, the sum of the customer's tax rates, and the totals
 -- of its broker.
-abbrev pub parties_of_rows : ref.AccountRow → customer.Customer → ℕ → BrokerTotals → Parties
+abbrev pub parties_of_rows : ref.AccountRow → customer.Customer → ℕ → BrokerTotals → PartyFacts
 parties_of_rows row customer rates broker = record {
   account = record { broker = row.account.broker; tax_status = row.account.tax_status; balance = row.balance };
   broker = broker;
@@ -48,7 +48,7 @@ parties_known t row customer rates broker k e n = record {
 
 -- The facts for the decision on a result: the trade, its parties, its security, the shares that the
 -- account holds of it, and the facts of its posting.
-abbrev pub result_facts_with : TradeRow → Parties → SecurityFacts → Option ℤ → Posting → ResultPlanFacts
+abbrev pub result_facts_with : TradeRow → PartyFacts → SecurityFacts → Option ℤ → Posting → ResultPlanFacts
 result_facts_with trade parties listed summary posting = record {
   trade = trade;
   account = parties.account;
@@ -61,7 +61,7 @@ result_facts_with trade parties listed summary posting = record {
   next = posting.next;
 }
 
-module _ (t : Tables) (trade : TradeRow) (parties : Parties) (listed : SecurityFacts) (held : Option ℤ) where
+module _ (t : Tables) (trade : TradeRow) (parties : PartyFacts) (listed : SecurityFacts) (held : Option ℤ) where
   -- If the account of the trade exists, the facts of its parties equal those of the tables. Vacuous
   -- otherwise.
   abbrev pub PartyFactsMatchIfAccountExists : Type 0
@@ -80,12 +80,12 @@ module _ (t : Tables) (trade : TradeRow) (parties : Parties) (listed : SecurityF
   -- If the security of the trade exists, its rate is that of the band for the customer's tier.
   -- Vacuous otherwise.
   abbrev RateMatchesForCustomer : Customer → Type 0
-  RateMatchesForCustomer c = IfSome (security_row_with_symbol t trade.symbol) (λ s. listed.rate ≡ option_map (λ b. b.rate) (band_of_quantity t c.tier trade.kind s.exchange trade.qty))
+  RateMatchesForCustomer c = IfSome (security_row_with_symbol t trade.symbol) (λ s. listed.rate ≡ option_map (λ b. b.rate) (commission_band_of_quantity t c.tier trade.kind s.exchange trade.qty))
 
   rate_at : SecurityFactsMatchIfSecurityExists → (c : Customer) → parties.tier ≡ c.tier → RateMatchesForCustomer c
   rate_at k c e =
-      of_security k (λ s. listed.rate ≡ option_map (λ b. b.rate) (band_of_quantity t c.tier trade.kind s.exchange trade.qty))
-      (λ s l. l.rate ∙ ap (λ tier. option_map (λ b. b.rate) (band_of_quantity t tier trade.kind s.exchange trade.qty)) e)
+      of_security k (λ s. listed.rate ≡ option_map (λ b. b.rate) (commission_band_of_quantity t c.tier trade.kind s.exchange trade.qty))
+      (λ s l. l.rate ∙ ap (λ tier. option_map (λ b. b.rate) (commission_band_of_quantity t tier trade.kind s.exchange trade.qty)) e)
 
   -- `held` is the number of shares of the summary of the trade's account and security, or `None` if
   -- there is no summary.

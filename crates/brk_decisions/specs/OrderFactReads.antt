@@ -13,8 +13,8 @@ use Rattle.brk_trade.specs.declared.order.OrderPlanFacts.{OrderPlanFacts}
 use Rattle.brk_trade_theorems.specs.OrderPlans.{EstimateFactsMatchTables}
 use Rattle.brk_book_theorems.specs.OrderReads.{charge_of_type_and_tier, last_price_of_symbol}
 use Rattle.brk_book_theorems.specs.Reads.{customer_tax_rate_sum}
-use Rattle.brk_book_theorems.specs.TradeReads.{band_of_quantity, permission_list_for_tax_id, summary_row_of_position}
-use Rattle.brk_decisions.specs.declared.tested.OrderFacts.{OrderFacts}
+use Rattle.brk_book_theorems.specs.TradeReads.{commission_band_of_quantity, permission_list_for_tax_id, summary_row_of_position}
+use Rattle.brk_decisions.specs.declared.tested.OrderTestFacts.{OrderTestFacts}
 use Rattle.brk_decisions.specs.declared.amounts.Amounts.{Amounts}
 
 -- The customer with the id `id` exists in the tables `t`, and its row equals `customer`.
@@ -24,14 +24,14 @@ IsCustomerWithId t id customer = find (λ r. r.id == id) t.customers ≡ Some (a
 -- The facts `tested` that decide on the order `order` of the customer equal those of the tables
 -- `t`: the last price, whether the executor is permitted, the charge and the commission rate. The
 -- rate is specified only if the security of the order exists.
-pub record CustomerOrderFactsMatchTables (t : Tables) (order : Order) (customer : Customer) (tested : OrderFacts) : Type 0 where
+pub record CustomerOrderFactsMatchTables (t : Tables) (order : Order) (customer : Customer) (tested : OrderTestFacts) : Type 0 where
   pub last_price : tested.last_price ≡ last_price_of_symbol t order.symbol
   pub is_permitted : tested.is_permitted
       ≡ is_customer_or_has_permission (abstract_customer customer) (permission_list_for_tax_id t order.account order.executor.tax_id)
       (abstract_executor order.executor)
   pub charge : tested.charge ≡ charge_of_type_and_tier t (trade_type_of_order order.order_type) customer.tier
   pub rate : IfSome (security_row_with_symbol t order.symbol) (λ s. tested.rate
-      ≡ option_map (λ b. b.rate) (band_of_quantity t customer.tier (trade_type_of_order order.order_type) s.exchange order.qty))
+      ≡ option_map (λ b. b.rate) (commission_band_of_quantity t customer.tier (trade_type_of_order order.order_type) s.exchange order.qty))
 
 -- The market value of a holding summary in cents: its number of shares times the last price of its
 -- symbol. It is below 0 for shares that were sold short.
@@ -59,7 +59,7 @@ order_facts_without_account =
 -- The facts for the decision on an order of the account `account`: its broker and its tax status,
 -- the facts `tested`, the amounts `amounts`, and no greatest trade id, which an estimate does not
 -- need.
-abbrev pub order_facts_with_account : AccountRow → OrderFacts → Amounts → OrderPlanFacts
+abbrev pub order_facts_with_account : AccountRow → OrderTestFacts → Amounts → OrderPlanFacts
 order_facts_with_account account tested amounts = record {
   account = Some (record { broker = account.account.broker; tax_status = account.account.tax_status });
   last_price = tested.last_price;

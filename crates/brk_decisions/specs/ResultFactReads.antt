@@ -15,8 +15,8 @@ use Rattle.brk_trade.specs.declared.result_found.ResultPlanFacts.{ResultPlanFact
 use Rattle.brk_changes.specs.declared.trade_row.TradeRow.{TradeRow}
 use Rattle.brk_book_theorems.specs.Reads.{customer_tax_rate_sum}
 use Rattle.brk_trade_theorems.specs.ResultPlans.{ResultFactsMatchTables, result_account_of_row}
-use Rattle.brk_book_theorems.specs.TradeReads.{band_of_quantity, last_cash_row_number_or_zero, lots_of_position}
-use Rattle.brk_decisions.specs.declared.parties.Parties.{Parties}
+use Rattle.brk_book_theorems.specs.TradeReads.{commission_band_of_quantity, last_cash_row_number_or_zero, lots_of_position}
+use Rattle.brk_decisions.specs.declared.parties.PartyFacts.{PartyFacts}
 use Rattle.brk_decisions.specs.declared.result_finding.SecurityFacts.{SecurityFacts}
 use Rattle.brk_decisions.specs.declared.result_finding.Posting.{Posting}
 
@@ -36,7 +36,7 @@ AreTotalsOfBroker t id numbers = IfSome (find (λ r. r.id == id) t.brokers) (λ 
 -- The facts `parties` of the account in the row `row` equal those of the tables `t`: the fields of
 -- the row, the tier and the tax rates of its customer, and the totals of its broker. The tier is
 -- specified only if the customer exists, and the totals only if the broker exists.
-pub record PartyFactsMatchTables (t : Tables) (row : AccountRow) (parties : Parties) : Type 0 where
+pub record PartyFactsMatchTables (t : Tables) (row : AccountRow) (parties : PartyFacts) : Type 0 where
   pub account : parties.account ≡ result_account_of_row row
   pub tier : IfSome (find (λ r. r.id == row.customer) t.customers) (λ c. parties.tier ≡ c.tier)
   pub rates : parties.rates ≡ customer_tax_rate_sum t row.customer
@@ -47,7 +47,7 @@ pub record PartyFactsMatchTables (t : Tables) (row : AccountRow) (parties : Part
 -- exchange at the customer tier `tier`.
 pub record SecurityFactsMatchTables (t : Tables) (trade : TradeRow) (tier : ℕ) (row : SecurityRow) (listed : SecurityFacts) : Type 0 where
   pub name : listed.name ≡ row.name
-  pub rate : listed.rate ≡ option_map (λ b. b.rate) (band_of_quantity t tier trade.kind row.exchange trade.qty)
+  pub rate : listed.rate ≡ option_map (λ b. b.rate) (commission_band_of_quantity t tier trade.kind row.exchange trade.qty)
 
 -- The facts for the cash row of a result equal those of the tables `t`: the settlement day, or
 -- `None` if none is set, and the number of the next cash row.

@@ -8,7 +8,7 @@ ghost use Rattle.brk_store.specs.Holds.{ReadPost};
 
 use crate::amounts::{Amounts, read_estimate_amounts};
 use crate::known::require_customer;
-use crate::tested::{OrderFacts, read_order_test_facts};
+use crate::tested::{OrderTestFacts, read_order_test_facts};
 use brk_money::{Fault, TaxRate, Wide};
 use brk_orders::Order;
 use brk_ref::AccountRow;
@@ -38,7 +38,7 @@ fn facts_without_account() -> OrderPlanFacts
 // `amounts`. The greatest trade id, which an estimate does not need, is `None`.
 fn order_facts_with_account(
     account: &AccountRow,
-    tested: OrderFacts,
+    tested: OrderTestFacts,
     amounts: Amounts,
 ) -> OrderPlanFacts
     ensures { result ≡ order_facts_with_account account.now tested amounts }

@@ -18,7 +18,7 @@ use std::alloc::Global;
 
 /// The facts of a trade's account, its customer and its broker that decide on a result.
 #[derive(Clone, Copy)]
-pub struct Parties {
+pub struct PartyFacts {
     /// The broker, the tax status and the balance of the account.
     pub account: ResultAccount,
     /// The totals of the account's broker: completed trades, and their commissions in cents.
@@ -36,7 +36,7 @@ fn read_parties_of_account<S: Alter>(
     alloc: Global,
     store: &mut Store<S>,
     row: &AccountRow,
-) -> Result<Parties, Fault>
+) -> Result<PartyFacts, Fault>
     ensures read { ReadPost S.Store store.old store.new result (λ parties t. PartyFactsMatchTables t (abstract_account_row row.now) parties) }
     ensures fault { IfErr result IsCallFault }
 {
@@ -48,7 +48,7 @@ fn read_parties_of_account<S: Alter>(
         tax_status: row.account.tax_status,
         balance: row.balance,
     };
-    Ok(Parties {
+    Ok(PartyFacts {
         account,
         broker,
         tier: customer.tier,
@@ -62,7 +62,7 @@ pub(crate) fn read_parties<S: Alter>(
     alloc: Global,
     store: &mut Store<S>,
     account: Id,
-) -> Result<Parties, Fault>
+) -> Result<PartyFacts, Fault>
     ensures read { ReadPost S.Store store.old store.new result (λ parties t. IfSome (account_row_with_id t account) (λ a. PartyFactsMatchTables t a parties)) }
     ensures fault { IfErr result IsCallFault }
 {

@@ -3,7 +3,7 @@
 ghost use Rattle.std.specs.Prelude.{◌≡◌, IfErr, IfSome, option_map};
 ghost use Rattle.brk_money.specs.OrderTypes.{trade_type_of_order};
 ghost use Rattle.brk_book_theorems.specs.OrderReads.{charge_of_type_and_tier, last_price_of_symbol};
-ghost use Rattle.brk_book_theorems.specs.TradeReads.{band_of_quantity, permission_list_for_tax_id};
+ghost use Rattle.brk_book_theorems.specs.TradeReads.{commission_band_of_quantity, permission_list_for_tax_id};
 ghost use Rattle.brk_decisions.specs.OrderFactReads.{CustomerOrderFactsMatchTables};
 ghost use Rattle.brk_model.specs.Joins.{security_row_with_symbol};
 ghost use Rattle.brk_model.specs.Orders.{is_customer_or_has_permission};
@@ -15,13 +15,13 @@ use brk_money::{Fault, Id, Price, Qty, Rate, TradeType};
 use brk_orders::Order;
 use brk_ref::{ChargeAmount, Customer, Exchange, Executor, Symbol, Tier, band_for};
 use brk_store::Store;
-use brk_trade::executor_may_place_orders;
+use brk_trade::permitted;
 use sqlite::Alter;
 use std::alloc::Global;
 
 /// The facts that the checks of an order test, if its account exists.
 #[derive(Clone, Copy)]
-pub struct OrderFacts {
+pub struct OrderTestFacts {
     /// The last price of the order's security, in cents, or `None` if the security does not exist.
     pub last_price: Option<Price>,
     /// True if the order's executor may order for the account.
@@ -64,7 +64,7 @@ fn is_executor_permitted<S: Alter>(
     ensures fault { IfErr result IsCallFault }
 {
     let permission = store.permission(account, &executor.tax_id)?;
-    Ok(executor_may_place_orders(customer, permission.as_slice(), executor))
+    Ok(permitted(customer, permission.as_slice(), executor))
 }
 
 // Returns the charge of a trade type and a customer tier, in cents, or `None` if there is none.
@@ -94,7 +94,7 @@ pub(crate) fn read_commission_rate_of_band<S: Alter>(
     exchange: &Exchange,
     qty: Qty,
 ) -> Result<Option<Rate>, Fault>
-    ensures read { ReadPost S.Store store.old store.new result (λ rate t. rate ≡ option_map (λ b. b.rate) (band_of_quantity t tier kind exchange.now qty)) }
+    ensures read { ReadPost S.Store store.old store.new result (λ rate t. rate ≡ option_map (λ b. b.rate) (commission_band_of_quantity t tier kind exchange.now qty)) }
     ensures fault { IfErr result IsCallFault }
 {
     let bands = store.commission_bands(alloc, tier, kind, exchange)?;
@@ -112,7 +112,7 @@ fn read_commission_rate_of_order<S: Alter>(
 ) -> Result<Option<Rate>, Fault>
     ensures read { ReadPost S.Store store.old store.new result (λ rate t.
         IfSome (security_row_with_symbol t order.now.symbol) (λ s. rate
-        ≡ option_map (λ b. b.rate) (band_of_quantity t tier (trade_type_of_order order.now.order_type) s.exchange order.now.qty))) }
+        ≡ option_map (λ b. b.rate) (commission_band_of_quantity t tier (trade_type_of_order order.now.order_type) s.exchange order.now.qty))) }
     ensures fault { IfErr result IsCallFault }
 {
     match store.security(&order.symbol)? {
@@ -138,7 +138,7 @@ pub(crate) fn read_order_test_facts<S: Alter>(
     store: &mut Store<S>,
     order: &Order,
     customer: &Customer,
-) -> Result<OrderFacts, Fault>
+) -> Result<OrderTestFacts, Fault>
     ensures read { ReadPost S.Store store.old store.new result (λ tested t. CustomerOrderFactsMatchTables t order.now customer.now tested) }
     ensures fault { IfErr result IsCallFault }
 {
@@ -147,7 +147,7 @@ pub(crate) fn read_order_test_facts<S: Alter>(
     let is_permitted = is_executor_permitted(store, order.account, customer, &order.executor)?;
     let charge = read_charge_of_tier(store, order.order_type.kind(), tier)?;
     let rate = read_commission_rate_of_order(alloc, store, order, tier)?;
-    Ok(OrderFacts {
+    Ok(OrderTestFacts {
         last_price,
         is_permitted,
         charge,

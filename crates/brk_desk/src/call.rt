@@ -34,7 +34,7 @@ pub enum Outcome {
 impl Outcome {
     // Returns the outcome of a command with this result: `Did` with its answer, or `Failed` with
     // its fault.
-    pub(crate) fn of_command(answered: Result<CommandAnswer, Fault>) -> Outcome
+    pub(crate) fn from_command_result(answered: Result<CommandAnswer, Fault>) -> Outcome
         ensures { result ≡ outcome_of_command answered }
     {
         match answered {
@@ -45,7 +45,7 @@ impl Outcome {
 
     // Returns the outcome of a query with this result: `Saw` with its view, `NoView` with its
     // refusal, or `Failed` with its fault.
-    pub(crate) fn of_query(seen: Planned<View>) -> Outcome
+    pub(crate) fn from_query_result(seen: Planned<View>) -> Outcome
         ensures { result ≡ outcome_of_query seen }
     {
         match seen {

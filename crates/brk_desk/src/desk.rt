@@ -4,10 +4,10 @@ use brk_changes::{HoldingRow, MoveRow, TradeRow};
 use brk_commands::Command;
 use brk_commit::{CommandAnswer, execute_and_commit_command};
 use brk_explain_reads::{
-    read_account_story, read_broker_story, read_holding_story, read_trade_story,
+    read_account_details, read_broker_details, read_holding_details, read_trade_details,
     visit_completed_trades,
 };
-use brk_explain_rows::{AccountStory, BrokerStory, HoldingStory, TradeStory};
+use brk_explain_rows::{AccountDetails, BrokerDetails, HoldingDetails, TradeDetails};
 use brk_lots::Lot;
 use brk_money::{Fault, Id, Planned, Stamp};
 use brk_queries::{StatementHead, read_statement_head};
@@ -61,7 +61,7 @@ impl<S: Alter> Desk<S> {
     ghost use Rattle.brk_changes.specs.Rows.{abstract_holding_row, abstract_move_row, abstract_trade_row};
     ghost use Rattle.brk_queries.specs.Heads.{IsStatementHeadOfAccount};
     ghost use Rattle.brk_explain_model.specs.BrokerLines.{completed_trades_of_broker};
-    ghost use Rattle.brk_explain_rows.specs.Stories.{IsStoryOfAccount, IsStoryOfBroker, IsStoryOfHolding, IsStoryOfTrade};
+    ghost use Rattle.brk_explain_rows.specs.Details.{AreDetailsOfAccount, AreDetailsOfBroker, AreDetailsOfHolding, AreDetailsOfTrade};
     ghost use Rattle.brk_model.specs.Run.{IsCallFault};
     ghost use Rattle.brk_model.specs.Statement.{holding_rows_of_account};
     ghost use Rattle.brk_store.specs.Calling.{IsClosureCallWithLot};
@@ -157,9 +157,9 @@ impl<S: Alter> Desk<S> {
     {
         match call {
             Call::Do(command, key) => {
-                Outcome::of_command(self.call(alloc, now, command, key.as_ref()))
+                Outcome::from_command_result(self.call(alloc, now, command, key.as_ref()))
             }
-            Call::Ask(query) => Outcome::of_query(self.ask(alloc, query)),
+            Call::Ask(query) => Outcome::from_query_result(self.ask(alloc, query)),
         }
     }
 
@@ -191,11 +191,7 @@ impl<S: Alter> Desk<S> {
     /// whatever the result.
     ///
     /// A crash exposes only states that a crash before the call could expose.
-    pub fn statement_head(
-        &mut self,
-        alloc: Global,
-        account: Id,
-    ) -> Result<Option<StatementHead>, Fault>
+    pub fn head(&mut self, alloc: Global, account: Id) -> Result<Option<StatementHead>, Fault>
         ensures read { ReadPost S.Store self.old self.new result (IsStatementHeadOfAccount account) }
         ensures fault { IfErr result IsCallFault }
     {
@@ -214,11 +210,11 @@ impl<S: Alter> Desk<S> {
         &mut self,
         alloc: Global,
         trade: Id,
-    ) -> Result<Option<TradeStory>, Fault>
-        ensures read { ReadPost S.Store self.old self.new result (IsStoryOfTrade trade) }
+    ) -> Result<Option<TradeDetails>, Fault>
+        ensures read { ReadPost S.Store self.old self.new result (AreDetailsOfTrade trade) }
         ensures fault { IfErr result IsCallFault }
     {
-        read_trade_story(alloc, &mut self.store, trade)
+        read_trade_details(alloc, &mut self.store, trade)
     }
 
     /// Returns the row of an account and its holding summaries with last prices, or `None` if the
@@ -232,11 +228,11 @@ impl<S: Alter> Desk<S> {
         &mut self,
         alloc: Global,
         account: Id,
-    ) -> Result<Option<AccountStory>, Fault>
-        ensures read { ReadPost S.Store self.old self.new result (IsStoryOfAccount account) }
+    ) -> Result<Option<AccountDetails>, Fault>
+        ensures read { ReadPost S.Store self.old self.new result (AreDetailsOfAccount account) }
         ensures fault { IfErr result IsCallFault }
     {
-        read_account_story(alloc, &mut self.store, account)
+        read_account_details(alloc, &mut self.store, account)
     }
 
     /// Returns the rows and totals that the explanation of the holding of an account in a security
@@ -253,11 +249,11 @@ impl<S: Alter> Desk<S> {
         alloc: Global,
         account: Id,
         symbol: &Symbol,
-    ) -> Planned<HoldingStory>
-        ensures read { ReadPost S.Store self.old self.new result (IsStoryOfHolding account symbol.now) }
+    ) -> Planned<HoldingDetails>
+        ensures read { ReadPost S.Store self.old self.new result (AreDetailsOfHolding account symbol.now) }
         ensures fault { IfErr result IsCallFault }
     {
-        read_holding_story(alloc, &mut self.store, account, symbol)
+        read_holding_details(alloc, &mut self.store, account, symbol)
     }
 
     /// Returns the row of a broker and the number of its accounts, or `None` if the broker does not
@@ -271,11 +267,11 @@ impl<S: Alter> Desk<S> {
         &mut self,
         alloc: Global,
         broker: Id,
-    ) -> Result<Option<BrokerStory>, Fault>
-        ensures read { ReadPost S.Store self.old self.new result (IsStoryOfBroker broker) }
+    ) -> Result<Option<BrokerDetails>, Fault>
+        ensures read { ReadPost S.Store self.old self.new result (AreDetailsOfBroker broker) }
         ensures fault { IfErr result IsCallFault }
     {
-        read_broker_story(alloc, &mut self.store, broker)
+        read_broker_details(alloc, &mut self.store, broker)
     }
 
     /// Passes the completed trades of a broker's accounts to a visitor, sorted by the stamp of
@@ -369,7 +365,7 @@ impl<S: Alter> Desk<S> {
     /// is called with each row, in order, until its first error.
     ///
     /// A crash exposes only states that a crash before the call could expose.
-    pub fn walk_cash_rows<E: From<Fault>, F: FnMut(&MoveRow) -> Result<(), E> + Drop>(
+    pub fn walk_cash<E: From<Fault>, F: FnMut(&MoveRow) -> Result<(), E> + Drop>(
         &mut self,
         account: Id,
         from: Stamp,
@@ -380,7 +376,7 @@ impl<S: Alter> Desk<S> {
         ensures called { CallsClosureWithEachRecord S.Store self.old self.new abstract_move_row
             (cash_rows_in_span account from to) (CalledAt F.FnMut) E.from_gives call result }
     {
-        self.store.walk_cash_rows::<E, F>(account, from, to, call)
+        self.store.walk_cash::<E, F>(account, from, to, call)
     }
 
     /// Calls a closure with each lot of an account and its symbol, sorted by symbol, then by

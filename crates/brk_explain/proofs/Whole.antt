@@ -14,21 +14,21 @@ use Rattle.brk_model.specs.Statement.{text_of_lines, holding_rows_of_account}
 use Rattle.brk_model.specs.Tables.{AccountRow, BrokerRow, SecurityRow, Tables}
 use Rattle.brk_ref.specs.Records.{abstract_account_row, abstract_broker_row, abstract_security_row}
 use Rattle.brk_explain_model.specs.AccountLines.{PricedHolding, holding_and_total_lines, account_total_lines, account_explanation_lines, account_header_lines, balance_header_lines, priced_holdings_of_account, holding_line, open_lot_line, account_cash_rows_by_stamp, cash_posting_lines}
-use Rattle.brk_explain_model.specs.BrokerLines.{accounts_with_broker, broker_total_lines, broker_explanation_lines, broker_row_with_id, broker_story_lines, broker_header_lines, trade_commission_lines, completed_trades_of_broker}
+use Rattle.brk_explain_model.specs.BrokerLines.{accounts_with_broker, broker_total_lines, broker_explanation_lines, broker_row_with_id, broker_lines_from_trades, broker_header_lines, trade_commission_lines, completed_trades_of_broker}
 use Rattle.brk_explain_model.specs.Explain.{AccountOf, BrokerOf, HoldingOf, TradeOf, explanation}
-use Rattle.brk_explain_model.specs.HoldingLines.{holding_explanation_lines, holding_story_lines, holding_header_lines}
+use Rattle.brk_explain_model.specs.HoldingLines.{holding_explanation_lines, holding_lines_from_trades_and_lots, holding_header_lines}
 use Rattle.brk_explain_model.specs.Holdings.{completed_trades_in_symbol, lots_opened_in_symbol, summary_quantity_in_symbol}
 use Rattle.brk_explain_model.specs.TradeLines.{order_and_status_lines, title_and_party_lines, trade_explanation_lines}
-use Rattle.brk_explain_model.specs.Trades.{TradeStory}
-use Rattle.brk_explain_rows.specs.Stories.{IsStoryOfAccount, IsStoryOfBroker, IsStoryOfHolding, IsStoryOfTrade, abstract_priced_holding, abstract_trade_story}
-use Rattle.brk_explain_rows.specs.declared.account_story.AccountStory as account_story
-use Rattle.brk_explain_rows.specs.declared.broker_story.BrokerStory as broker_story
-use Rattle.brk_explain_rows.specs.declared.holding_story.HoldingStory as holding_story
-use Rattle.brk_explain_rows.specs.declared.story.TradeStory as trade_story
+use Rattle.brk_explain_model.specs.Trades.{TradeDetails}
+use Rattle.brk_explain_rows.specs.Details.{AreDetailsOfAccount, AreDetailsOfBroker, AreDetailsOfHolding, AreDetailsOfTrade, abstract_priced_holding, abstract_trade_details}
+use Rattle.brk_explain_rows.specs.declared.account_details.AccountDetails as account_details
+use Rattle.brk_explain_rows.specs.declared.broker_details.BrokerDetails as broker_details
+use Rattle.brk_explain_rows.specs.declared.holding_details.HoldingDetails as holding_details
+use Rattle.brk_explain_rows.specs.declared.details.TradeDetails as trade_details
 use Rattle.brk_report_lines.specs.Written.{FailsWithinLines}
 use Rattle.brk_report_lines.specs.declared.fault.LinesFault.TheVariants.{Desk, Write}
 use Rattle.brk_report_lines.specs.declared.fault.ReportFault.TheVariants as report
-use Rattle.brk_explain_sums.specs.HoldingStories.{lines_of_holding_story}
+use Rattle.brk_explain_sums.specs.HoldingTexts.{lines_of_holding_details}
 use Rattle.brk_explain.specs.Sections.{all_broker_lines, all_account_lines}
 use Rattle.brk_explain.specs.Told.{WritesLinesOrRefuses}
 use Rattle.brk_explain.proofs.Some.{HasFirst, first_behind}
@@ -43,15 +43,15 @@ passes_found p (y ∷ ys) x e = go (passes_found p ys x) (p y) refl
 
 -- ---- a trade
 
-pub trade_told : (t : Tables) (trade : ℕ) (story : trade_story.TradeStory) → IsStoryOfTrade trade (Some story) t → explanation t (TradeOf trade) ≡ Ok (trade_explanation_lines (abstract_trade_story story))
+pub trade_told : (t : Tables) (trade : ℕ) (details : trade_details.TradeDetails) → AreDetailsOfTrade trade (Some details) t → explanation t (TradeOf trade) ≡ Ok (trade_explanation_lines (abstract_trade_details details))
 unfolding explanation
-trade_told t trade story h = rw h.1 (ap (λ (s : TradeStory). Ok (trade_explanation_lines s)) (sym h.2))
+trade_told t trade details h = rw h.1 (ap (λ (s : TradeDetails). Ok (trade_explanation_lines s)) (sym h.2))
 
 pub no_trade : (t : Tables) (trade : ℕ) → trade_row_with_id t trade ≡ None → explanation t (TradeOf trade) ≡ Err NoTrade
 unfolding explanation
 no_trade t trade none = rw none refl
 
-pub trade_first : (s : TradeStory) → HasFirst (trade_explanation_lines s)
+pub trade_first : (s : TradeDetails) → HasFirst (trade_explanation_lines s)
 unfolding trade_explanation_lines order_and_status_lines title_and_party_lines
 trade_first s = (_, _, refl)
 
@@ -60,10 +60,10 @@ trade_first s = (_, _, refl)
 five_parts : (a b c d e : List Text) → (((a ++ b) ++ c) ++ d) ++ e ≡ a ++ (b ++ (c ++ (d ++ e)))
 five_parts a b c d e = append_assoc ((a ++ b) ++ c) d e ∙ append_assoc (a ++ b) c (d ++ e) ∙ append_assoc a b (c ++ (d ++ e))
 
-pub account_told : (t : Tables) (account : ℕ) (story : account_story.AccountStory) → IsStoryOfAccount account (Some story) t → explanation t (AccountOf account) ≡ Ok (all_account_lines t account story)
+pub account_told : (t : Tables) (account : ℕ) (details : account_details.AccountDetails) → AreDetailsOfAccount account (Some details) t → explanation t (AccountOf account) ≡ Ok (all_account_lines t account details)
 unfolding explanation account_explanation_lines
-account_told t account story h =
-    let a = abstract_account_row story.account in
+account_told t account details h =
+    let a = abstract_account_row details.account in
     let id : a.id ≡ account = eqb-true a.id account (passes_found (λ (r : AccountRow). r.id == account) t.accounts a h.0) in
     let lines : ℕ → List PricedHolding → List Text =
     λ n held.
@@ -72,7 +72,7 @@ account_told t account story h =
     (ap (λ (n : ℕ). Ok (lines n (priced_holdings_of_account t n))) id ∙ ap (λ (held : List PricedHolding). Ok (lines account held)) (sym h.1)
     ∙ ap (λ (l : List Text). Ok l)
     (five_parts (account_header_lines a) (cash_posting_lines a.opening (account_cash_rows_by_stamp t account)) (balance_header_lines a) (map open_lot_line (holding_rows_of_account t account))
-    (holding_and_total_lines a (map abstract_priced_holding story.held.items) (length (account_cash_rows_by_stamp t account)) (length (holding_rows_of_account t account)))))
+    (holding_and_total_lines a (map abstract_priced_holding details.held.items) (length (account_cash_rows_by_stamp t account)) (length (holding_rows_of_account t account)))))
 
 pub no_account : (t : Tables) (account : ℕ) → account_row_with_id t account ≡ None → explanation t (AccountOf account) ≡ Err NoAccount
 unfolding explanation
@@ -92,39 +92,39 @@ bottom_first a held cash lots = first_behind (map holding_line held) _ (_, _, re
 
 -- ---- a holding
 
-pub holding_told : (t : Tables) (account : ℕ) (symbol : Text) (story : holding_story.HoldingStory) → IsStoryOfHolding account symbol (Ok story) t
-    → explanation t (HoldingOf account symbol) ≡ Ok (lines_of_holding_story story)
+pub holding_told : (t : Tables) (account : ℕ) (symbol : Text) (details : holding_details.HoldingDetails) → AreDetailsOfHolding account symbol (Ok details) t
+    → explanation t (HoldingOf account symbol) ≡ Ok (lines_of_holding_details details)
 unfolding explanation holding_explanation_lines
-holding_told t account symbol story h =
-    let a = abstract_account_row story.account in
-    let s = abstract_security_row story.security in
+holding_told t account symbol details h =
+    let a = abstract_account_row details.account in
+    let s = abstract_security_row details.security in
     let id : a.id ≡ account = eqb-true a.id account (passes_found (λ (r : AccountRow). r.id == account) t.accounts a h.0) in
     let named : s.symbol ≡ symbol = (bytes_eq-Decides s.symbol symbol).0 (passes_found (λ (r : SecurityRow). bytes_eq r.symbol symbol) t.securities s h.1) in
-    let lines : ℕ → Text → List Text = λ n x. holding_story_lines a s (completed_trades_in_symbol t n x) (lots_opened_in_symbol t n x) (summary_quantity_in_symbol t n x) (last_price_in_tables t x) in
+    let lines : ℕ → Text → List Text = λ n x. holding_lines_from_trades_and_lots a s (completed_trades_in_symbol t n x) (lots_opened_in_symbol t n x) (summary_quantity_in_symbol t n x) (last_price_in_tables t x) in
     rw (h.0, h.1)
     (ap (λ (n : ℕ). Ok (lines n s.symbol)) id ∙ ap (λ (x : Text). Ok (lines account x)) named
-    ∙ (λ i. Ok (holding_story_lines a s (sym h.2 i) (sym h.3 i) (sym h.4 i) (sym h.5 i))))
+    ∙ (λ i. Ok (holding_lines_from_trades_and_lots a s (sym h.2 i) (sym h.3 i) (sym h.4 i) (sym h.5 i))))
 
-pub no_holding : (t : Tables) (account : ℕ) (symbol : Text) (refusal : Refusal) → IsStoryOfHolding account symbol (Err refusal) t → explanation t (HoldingOf account symbol) ≡ Err refusal
+pub no_holding : (t : Tables) (account : ℕ) (symbol : Text) (refusal : Refusal) → AreDetailsOfHolding account symbol (Err refusal) t → explanation t (HoldingOf account symbol) ≡ Err refusal
 unfolding explanation
 no_holding t account symbol refusal (inl h) = rw (h.0, h.1) refl
 no_holding t account symbol refusal (inr h) = rw (h.1, h.2, h.3) refl
 
-pub holding_first : (story : holding_story.HoldingStory) → HasFirst (lines_of_holding_story story)
-unfolding holding_story_lines holding_header_lines
-holding_first story = (_, _, refl)
+pub holding_first : (details : holding_details.HoldingDetails) → HasFirst (lines_of_holding_details details)
+unfolding holding_lines_from_trades_and_lots holding_header_lines
+holding_first details = (_, _, refl)
 
 -- ---- a broker
 
-pub broker_told : (t : Tables) (broker : ℕ) (story : broker_story.BrokerStory) → IsStoryOfBroker broker (Some story) t → explanation t (BrokerOf broker) ≡ Ok (all_broker_lines t broker story)
-unfolding explanation broker_explanation_lines broker_story_lines
-broker_told t broker story h =
-    let b = abstract_broker_row story.broker in
+pub broker_told : (t : Tables) (broker : ℕ) (details : broker_details.BrokerDetails) → AreDetailsOfBroker broker (Some details) t → explanation t (BrokerOf broker) ≡ Ok (all_broker_lines t broker details)
+unfolding explanation broker_explanation_lines broker_lines_from_trades
+broker_told t broker details h =
+    let b = abstract_broker_row details.broker in
     let done = completed_trades_of_broker t broker in
     let id : b.id ≡ broker = eqb-true b.id broker (passes_found (λ (r : BrokerRow). r.id == broker) t.brokers b h.0) in
     rw h.0
-    (ap (λ (n : ℕ). Ok (broker_story_lines b (length (accounts_with_broker t n)) (completed_trades_of_broker t n))) id ∙ ap (λ (n : ℕ). Ok (broker_story_lines b n done)) (sym h.1)
-    ∙ ap (λ (l : List Text). Ok l) (append_assoc (broker_header_lines b) (trade_commission_lines done) (broker_total_lines b story.accounts (length done))))
+    (ap (λ (n : ℕ). Ok (broker_lines_from_trades b (length (accounts_with_broker t n)) (completed_trades_of_broker t n))) id ∙ ap (λ (n : ℕ). Ok (broker_lines_from_trades b n done)) (sym h.1)
+    ∙ ap (λ (l : List Text). Ok l) (append_assoc (broker_header_lines b) (trade_commission_lines done) (broker_total_lines b details.accounts (length done))))
 
 pub no_broker : (t : Tables) (broker : ℕ) → broker_row_with_id t broker ≡ None → explanation t (BrokerOf broker) ≡ Err NoBroker
 unfolding explanation

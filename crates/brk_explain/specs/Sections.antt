@@ -8,9 +8,9 @@ use Rattle.brk_ref.specs.Records.{abstract_account_row, abstract_broker_row}
 use Rattle.brk_explain_model.specs.AccountLines.{holding_and_total_lines, account_header_lines, balance_header_lines}
 use Rattle.brk_explain_model.specs.AccountLines.{open_lot_line, account_cash_rows_by_stamp, cash_posting_lines}
 use Rattle.brk_explain_model.specs.BrokerLines.{broker_total_lines, broker_header_lines, trade_commission_lines, completed_trades_of_broker}
-use Rattle.brk_explain_rows.specs.Stories.{abstract_priced_holding}
-use Rattle.brk_explain_rows.specs.declared.account_story.AccountStory.{AccountStory}
-use Rattle.brk_explain_rows.specs.declared.broker_story.BrokerStory.{BrokerStory}
+use Rattle.brk_explain_rows.specs.Details.{abstract_priced_holding}
+use Rattle.brk_explain_rows.specs.declared.account_details.AccountDetails.{AccountDetails}
+use Rattle.brk_explain_rows.specs.declared.broker_details.BrokerDetails.{BrokerDetails}
 use Rattle.brk_report_lines.specs.Written.{FailsWithinFirstLines}
 use Rattle.brk_report_lines.specs.declared.fault.LinesFault.{LinesFault}
 
@@ -31,15 +31,15 @@ account_cash_lines t account opening = cash_posting_lines opening (account_cash_
 abbrev pub account_lot_lines : Tables → ℕ → List Text
 account_lot_lines t account = map open_lot_line (holding_rows_of_account t account)
 
--- All lines of the explanation of `account`, from its row and its holdings in `story` and from its
+-- All lines of the explanation of `account`, from its row and its holdings in `details` and from its
 -- cash rows and lots in the tables `t`.
-abbrev pub all_account_lines : Tables → ℕ → AccountStory → List Text
-all_account_lines t account story =
-    account_header_lines (abstract_account_row story.account)
-    ++ (account_cash_lines t account story.account.account.opening
-    ++ (balance_header_lines (abstract_account_row story.account)
+abbrev pub all_account_lines : Tables → ℕ → AccountDetails → List Text
+all_account_lines t account details =
+    account_header_lines (abstract_account_row details.account)
+    ++ (account_cash_lines t account details.account.account.opening
+    ++ (balance_header_lines (abstract_account_row details.account)
     ++ (account_lot_lines t account
-    ++ holding_and_total_lines (abstract_account_row story.account) (map abstract_priced_holding story.held.items)
+    ++ holding_and_total_lines (abstract_account_row details.account) (map abstract_priced_holding details.held.items)
     (length (account_cash_rows_by_stamp t account)) (length (holding_rows_of_account t account)))))
 
 -- The lines of the completed trades of the accounts of `broker`, each with the running total of the
@@ -47,9 +47,9 @@ all_account_lines t account story =
 abbrev pub broker_trade_lines : Tables → ℕ → List Text
 broker_trade_lines t broker = trade_commission_lines (completed_trades_of_broker t broker)
 
--- All lines of the explanation of `broker`, from its row and its number of accounts in `story` and
+-- All lines of the explanation of `broker`, from its row and its number of accounts in `details` and
 -- from the completed trades of its accounts in the tables `t`.
-abbrev pub all_broker_lines : Tables → ℕ → BrokerStory → List Text
-all_broker_lines t broker story =
-    broker_header_lines (abstract_broker_row story.broker)
-    ++ (broker_trade_lines t broker ++ broker_total_lines (abstract_broker_row story.broker) story.accounts (length (completed_trades_of_broker t broker)))
+abbrev pub all_broker_lines : Tables → ℕ → BrokerDetails → List Text
+all_broker_lines t broker details =
+    broker_header_lines (abstract_broker_row details.broker)
+    ++ (broker_trade_lines t broker ++ broker_total_lines (abstract_broker_row details.broker) details.accounts (length (completed_trades_of_broker t broker)))

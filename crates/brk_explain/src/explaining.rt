@@ -13,7 +13,7 @@ use brk_desk::Desk;
 use brk_explain_lines::{
     account_header_text, balance_header_text, holding_and_total_text, trade_explanation_text,
 };
-use brk_explain_rows::{AccountStory, BrokerStory};
+use brk_explain_rows::{AccountDetails, BrokerDetails};
 use brk_explain_sums::{broker_header_text, broker_total_text, holding_explanation_text};
 use brk_money::{Id, Refusal};
 use brk_ref::Symbol;
@@ -34,40 +34,40 @@ fn write_trade_explanation<W: Write, S: Alter>(
 ) -> Result<(), ReportFault>
     ensures told { WriteLinesPost S.Store desk.old desk.new (λ t. explanation t (TradeOf trade)) (W.contents writer.old) (W.contents writer.new) result }
 {
-    let story = match desk.trade_explanation_rows(alloc, trade) {
-        Ok(Some(story)) => story,
+    let details = match desk.trade_explanation_rows(alloc, trade) {
+        Ok(Some(details)) => details,
         Ok(None) => return Err(ReportFault::Refused(Refusal::NoTrade)),
         Err(fault) => return Err(ReportFault::Desk(fault)),
     };
-    match write_lines(writer, trade_explanation_text(alloc, &story)) {
+    match write_lines(writer, trade_explanation_text(alloc, &details)) {
         Ok(()) => Ok(()),
         Err(LinesFault::Desk(fault)) => Err(ReportFault::Desk(fault)),
         Err(LinesFault::Write) => Err(ReportFault::Write),
     }
 }
 
-// Writes all lines of the explanation of an account, from its row and holdings in `story` and from
+// Writes all lines of the explanation of an account, from its row and holdings in `details` and from
 // its cash rows and lots, which it reads. Fails with `Desk` if a read fails, memory runs out or an
 // amount does not fit, and with `Write` if the writer fails. The open database is unchanged.
 fn write_account_lines<W: Write, S: Alter>(
     alloc: Global,
     desk: &mut Desk<S>,
     account: Id,
-    story: &AccountStory,
+    details: &AccountDetails,
     writer: &mut W,
 ) -> Result<(), LinesFault>
     ensures keeps { PreservesDesk S.Store desk.old desk.new }
     ensures written { HoldsForStoredTables S.Store desk.old desk.new
-        (λ t. WritesLines (all_account_lines t account story.now) (W.contents writer.old) (W.contents writer.new) result) }
+        (λ t. WritesLines (all_account_lines t account details.now) (W.contents writer.old) (W.contents writer.new) result) }
 {
-    let row = &story.account;
+    let row = &details.account;
     write_lines(writer, account_header_text(alloc, row))?;
     let cash = write_cash_posting_lines(alloc, desk, account, row.account.opening, writer)?;
     write_lines(writer, balance_header_text(alloc, row))?;
     let lots = write_open_lot_lines(alloc, desk, account, writer)?;
     write_lines(
         writer,
-        holding_and_total_text(alloc, row, &story.held, cash, lots),
+        holding_and_total_text(alloc, row, &details.held, cash, lots),
     )
 }
 
@@ -83,12 +83,12 @@ fn write_account_explanation<W: Write, S: Alter>(
 ) -> Result<(), ReportFault>
     ensures told { WriteLinesPost S.Store desk.old desk.new (λ t. explanation t (AccountOf account)) (W.contents writer.old) (W.contents writer.new) result }
 {
-    let story = match desk.account_explanation_rows(alloc, account) {
-        Ok(Some(story)) => story,
+    let details = match desk.account_explanation_rows(alloc, account) {
+        Ok(Some(details)) => details,
         Ok(None) => return Err(ReportFault::Refused(Refusal::NoAccount)),
         Err(fault) => return Err(ReportFault::Desk(fault)),
     };
-    match write_account_lines(alloc, desk, account, &story, writer) {
+    match write_account_lines(alloc, desk, account, &details, writer) {
         Ok(()) => Ok(()),
         Err(LinesFault::Desk(fault)) => Err(ReportFault::Desk(fault)),
         Err(LinesFault::Write) => Err(ReportFault::Write),
@@ -109,19 +109,19 @@ fn write_holding_explanation<W: Write, S: Alter>(
     ensures told { WriteLinesPost S.Store desk.old desk.new (λ t. explanation t (HoldingOf account symbol.now))
         (W.contents writer.old) (W.contents writer.new) result }
 {
-    let story = match desk.holding_explanation_rows(alloc, account, symbol) {
-        Ok(Ok(story)) => story,
+    let details = match desk.holding_explanation_rows(alloc, account, symbol) {
+        Ok(Ok(details)) => details,
         Ok(Err(refusal)) => return Err(ReportFault::Refused(refusal)),
         Err(fault) => return Err(ReportFault::Desk(fault)),
     };
-    match write_lines(writer, holding_explanation_text(alloc, &story)) {
+    match write_lines(writer, holding_explanation_text(alloc, &details)) {
         Ok(()) => Ok(()),
         Err(LinesFault::Desk(fault)) => Err(ReportFault::Desk(fault)),
         Err(LinesFault::Write) => Err(ReportFault::Write),
     }
 }
 
-// Writes all lines of the explanation of a broker, from its row and number of accounts in `story`
+// Writes all lines of the explanation of a broker, from its row and number of accounts in `details`
 // and from the completed trades of its accounts, which it reads. Fails with `Desk` if a read fails,
 // memory runs out or a sum does not fit, and with `Write` if the writer fails. The open database is
 // unchanged.
@@ -129,19 +129,19 @@ fn write_broker_lines<W: Write, S: Alter>(
     alloc: Global,
     desk: &mut Desk<S>,
     broker: Id,
-    story: &BrokerStory,
+    details: &BrokerDetails,
     writer: &mut W,
 ) -> Result<(), LinesFault>
     ensures keeps { PreservesDesk S.Store desk.old desk.new }
     ensures written { HoldsForStoredTables S.Store desk.old desk.new
-        (λ t. WritesLines (all_broker_lines t broker story.now) (W.contents writer.old) (W.contents writer.new) result) }
+        (λ t. WritesLines (all_broker_lines t broker details.now) (W.contents writer.old) (W.contents writer.new) result) }
 {
-    let row = &story.broker;
+    let row = &details.broker;
     write_lines(writer, broker_header_text(alloc, row))?;
     let trades = write_trade_commission_lines(alloc, desk, broker, writer)?;
     write_lines(
         writer,
-        broker_total_text(alloc, row, story.accounts, trades),
+        broker_total_text(alloc, row, details.accounts, trades),
     )
 }
 
@@ -157,12 +157,12 @@ fn write_broker_explanation<W: Write, S: Alter>(
 ) -> Result<(), ReportFault>
     ensures told { WriteLinesPost S.Store desk.old desk.new (λ t. explanation t (BrokerOf broker)) (W.contents writer.old) (W.contents writer.new) result }
 {
-    let story = match desk.broker_explanation_rows(alloc, broker) {
-        Ok(Some(story)) => story,
+    let details = match desk.broker_explanation_rows(alloc, broker) {
+        Ok(Some(details)) => details,
         Ok(None) => return Err(ReportFault::Refused(Refusal::NoBroker)),
         Err(fault) => return Err(ReportFault::Desk(fault)),
     };
-    match write_broker_lines(alloc, desk, broker, &story, writer) {
+    match write_broker_lines(alloc, desk, broker, &details, writer) {
         Ok(()) => Ok(()),
         Err(LinesFault::Desk(fault)) => Err(ReportFault::Desk(fault)),
         Err(LinesFault::Write) => Err(ReportFault::Write),

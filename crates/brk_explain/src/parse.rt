@@ -91,7 +91,7 @@ fn parse_holding_request(alloc: Global, words: &[&[u8]]) -> Planned<ExplainReque
 // the other words `words`. Refuses another first word, and malformed or missing words, with
 // `BadText`. Fails with `Memory` only.
 #[tactic(auto, unfolding(brk_explain_model::specs::Explain::read_explain_request))]
-fn parse_request_form(alloc: Global, form: &[u8], words: &[&[u8]]) -> Planned<ExplainRequest>
+fn parse_request_of_kind(alloc: Global, form: &[u8], words: &[&[u8]]) -> Planned<ExplainRequest>
     ensures read { IfOk result (λ read. ParsesAs abstract_explain_request read (model.read_explain_request (form.now ∷ texts_of_fields words.now))) }
     ensures fault { OnErr result (result ≡ Err Memory) }
 {
@@ -121,5 +121,5 @@ pub fn parse_explain_request(alloc: Global, words: &[&[u8]]) -> Planned<ExplainR
     let [form, rest @ ..] = words else {
         return Ok(Err(Refusal::BadText));
     };
-    parse_request_form(alloc, form, rest)
+    parse_request_of_kind(alloc, form, rest)
 }

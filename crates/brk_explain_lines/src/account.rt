@@ -3,7 +3,7 @@
 ghost use Rattle.std.specs.Prelude.{◌≡◌, ◌++◌, Err, IfErr, IfOk, OnErr, OnOk, map};
 ghost use Rattle.brk_changes.specs.Rows.{abstract_holding_row, abstract_move_row};
 ghost use Rattle.brk_explain_model.specs.AccountLines as lines;
-ghost use Rattle.brk_explain_rows.specs.Stories.{abstract_priced_holding};
+ghost use Rattle.brk_explain_rows.specs.Details.{abstract_priced_holding};
 ghost use Rattle.brk_model.specs.Run.{IsCallFault};
 ghost use Rattle.brk_model.specs.Statement.{right_aligned_text, text_of_lines};
 ghost use Rattle.brk_money.specs.declared.fault.Fault.TheVariants.{Memory};

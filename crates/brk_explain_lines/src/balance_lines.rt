@@ -3,7 +3,7 @@
 ghost use Rattle.std.specs.Prelude.{◌≡◌, ◌++◌, Err, IfErr, OnErr, OnOk, option_map};
 ghost use Rattle.brk_changes.specs.Rows.{abstract_move_row};
 ghost use Rattle.brk_explain_model.specs.TradeLines as lines;
-ghost use Rattle.brk_explain_rows.specs.Stories.{abstract_order_story, abstract_result_story};
+ghost use Rattle.brk_explain_rows.specs.Details.{abstract_order_details, abstract_result_details};
 ghost use Rattle.brk_model.specs.Run.{IsCallFault};
 ghost use Rattle.brk_model.specs.Statement.{text_of_lines};
 ghost use Rattle.brk_money.specs.declared.fault.Fault.TheVariants.{Memory};
@@ -14,7 +14,7 @@ use brk_changes::MoveRow;
 use brk_explain_columns::{
     add_amounts, put_labeled_amount_line, put_labeled_number, put_labeled_value_line, put_number,
 };
-use brk_explain_rows::{OrderStory, ResultStory};
+use brk_explain_rows::{OrderDetails, ResultDetails};
 use brk_money::{Fault, Wide};
 use std::alloc::Global;
 
@@ -42,20 +42,20 @@ fn put_cash_row_line(out: &mut Vec<u8>, row: &Option<MoveRow>) -> Result<(), Fau
 pub(crate) fn put_balance_lines(
     alloc: Global,
     out: &mut Vec<u8>,
-    order: &OrderStory,
-    story: &ResultStory,
+    order: &OrderDetails,
+    details: &ResultDetails,
 ) -> Result<(), Fault>
     ensures ok { OnOk result (out.new.items
-        ≡ out.old.items ++ text_of_lines (lines.trade_balance_lines (abstract_order_story order.now) (abstract_result_story story.now))) }
+        ≡ out.old.items ++ text_of_lines (lines.trade_balance_lines (abstract_order_details order.now) (abstract_result_details details.now))) }
     ensures fault { IfErr result IsCallFault }
 {
     let opening = Wide::from(order.account.account.opening);
-    let moved = balance_change_of_trade(story);
-    let before = add_amounts(opening, story.cash_before)?;
+    let moved = balance_change_of_trade(details);
+    let before = add_amounts(opening, details.cash_before)?;
     let after = add_amounts(before, moved)?;
-    put_cash_row_line(out, &story.cash)?;
+    put_cash_row_line(out, &details.cash)?;
     put_labeled_amount_line(alloc, out, "Opening", opening)?;
-    put_labeled_amount_line(alloc, out, "Cash before", story.cash_before)?;
+    put_labeled_amount_line(alloc, out, "Cash before", details.cash_before)?;
     put_labeled_amount_line(alloc, out, "Balance before", before)?;
     put_labeled_amount_line(alloc, out, "Cash moved", moved)?;
     put_labeled_amount_line(alloc, out, "Balance after", after)?;
@@ -85,23 +85,23 @@ fn put_trade_counts_line(
 }
 
 /// Appends to `out` the last line of the explanation of the completed trade `order` with the
-/// results `story`: the numbers of its status changes, of the lots that it closed, and of the
+/// results `details`: the numbers of its status changes, of the lots that it closed, and of the
 /// earlier cash rows. Fails with `Memory` only.
 #[tactic(auto, unfolding(brk_explain_model::specs::TradeLines::trade_counts_lines))]
-pub(crate) fn put_trade_counts_lines(
+pub(crate) fn put_counts_of_completed_trade(
     out: &mut Vec<u8>,
-    order: &OrderStory,
-    story: &ResultStory,
+    order: &OrderDetails,
+    details: &ResultDetails,
 ) -> Result<(), Fault>
     ensures ok { OnOk result (out.new.items
-        ≡ out.old.items ++ text_of_lines (lines.trade_counts_lines (abstract_order_story order.now) (abstract_result_story story.now))) }
+        ≡ out.old.items ++ text_of_lines (lines.trade_counts_lines (abstract_order_details order.now) (abstract_result_details details.now))) }
     ensures fault { OnErr result (result ≡ Err Memory) }
 {
     put_trade_counts_line(
         out,
         order.statuses.len(),
-        story.closings.len(),
-        story.cash_rows,
+        details.closings.len(),
+        details.cash_rows,
     )?;
     Ok(())
 }

@@ -4,7 +4,7 @@ ghost use Rattle.std.specs.Prelude.{◌≡◌, ◌++◌, Err, IfErr, OnErr, OnOk
 ghost use Rattle.brk_changes.specs.Rows.{abstract_lot_change_row, abstract_trade_row};
 ghost use Rattle.brk_explain_model.specs.TradeLines as lines;
 ghost use Rattle.brk_explain_model.specs.Trades as trades;
-ghost use Rattle.brk_explain_rows.specs.Stories.{abstract_closing, abstract_order_story, abstract_result_story};
+ghost use Rattle.brk_explain_rows.specs.Details.{abstract_closing, abstract_order_details, abstract_result_details};
 ghost use Rattle.brk_model.specs.Run.{IsCallFault};
 ghost use Rattle.brk_model.specs.Statement.{text_of_lines};
 ghost use Rattle.brk_money.specs.declared.fault.Fault.TheVariants.{Memory};
@@ -19,7 +19,7 @@ use brk_explain_columns::{
     format_timestamp, put_labeled_amount_line, put_labeled_number_line, put_leading_row_columns,
     put_shares_column, put_text_line, put_value_column,
 };
-use brk_explain_rows::{Closing, OrderStory, ResultStory};
+use brk_explain_rows::{Closing, OrderDetails, ResultDetails};
 use brk_money::{Fault, Price, Side, Wide};
 use std::alloc::Global;
 
@@ -29,12 +29,12 @@ use std::alloc::Global;
 fn put_price_and_lot_header_lines(
     alloc: Global,
     out: &mut Vec<u8>,
-    story: &ResultStory,
+    details: &ResultDetails,
 ) -> Result<(), Fault>
-    ensures ok { OnOk result (out.new.items ≡ out.old.items ++ text_of_lines (lines.price_and_lot_header_lines (abstract_result_story story.now))) }
+    ensures ok { OnOk result (out.new.items ≡ out.old.items ++ text_of_lines (lines.price_and_lot_header_lines (abstract_result_details details.now))) }
     ensures fault { OnErr result (result ≡ Err Memory) }
 {
-    put_labeled_amount_line(alloc, out, "Price", Wide::from(story.price))?;
+    put_labeled_amount_line(alloc, out, "Price", Wide::from(details.price))?;
     put_text_line(
         out,
         b"#      opened                            lot      shares      price       bought for         sold for        left",
@@ -124,7 +124,7 @@ fn put_opened_lot_line(
 // Appends to `out` the line of the lot that `trade` opened at `price`, or nothing if `lot` is
 // `None`. Fails with `Memory` only.
 #[tactic(auto, unfolding(brk_explain_model::specs::TradeLines::opened_lot_lines))]
-fn put_opened_lot_lines(
+fn put_opened_lot_line_if_any(
     alloc: Global,
     out: &mut Vec<u8>,
     trade: &TradeRow,
@@ -142,10 +142,10 @@ fn put_opened_lot_lines(
 }
 
 // Returns the number of shares of the lot that the trade opened; 0 if it opened none.
-fn count_of_opened_shares(story: &ResultStory) -> u64
-    ensures { result ≡ nat_abs (trades.opened_quantity (abstract_result_story story.now)) }
+fn count_of_opened_shares(details: &ResultDetails) -> u64
+    ensures { result ≡ nat_abs (trades.opened_quantity (abstract_result_details details.now)) }
 {
-    match &story.own_lot {
+    match &details.own_lot {
         Some(lot) => lot.after.unsigned_abs(),
         None => 0,
     }
@@ -154,13 +154,13 @@ fn count_of_opened_shares(story: &ResultStory) -> u64
 // Appends to `out` the lines of the number of shares that a trade closed and of the number that it
 // opened. Fails with `Memory` or `Store`; with `Store` if a number does not fit.
 #[tactic(auto, unfolding(brk_explain_model::specs::TradeLines::share_count_lines))]
-fn put_share_count_lines(out: &mut Vec<u8>, story: &ResultStory) -> Result<(), Fault>
-    ensures ok { OnOk result (out.new.items ≡ out.old.items ++ text_of_lines (lines.share_count_lines (abstract_result_story story.now))) }
+fn put_share_count_lines(out: &mut Vec<u8>, details: &ResultDetails) -> Result<(), Fault>
+    ensures ok { OnOk result (out.new.items ≡ out.old.items ++ text_of_lines (lines.share_count_lines (abstract_result_details details.now))) }
     ensures fault { IfErr result IsCallFault }
 {
-    let closed = total_closed_shares(&story.closings)?;
+    let closed = total_closed_shares(&details.closings)?;
     put_labeled_number_line(out, "Shares closed", closed)?;
-    put_labeled_number_line(out, "Shares opened", count_of_opened_shares(story))
+    put_labeled_number_line(out, "Shares opened", count_of_opened_shares(details))
 }
 
 // Appends to `out` the lines of the buy value, the sell value and the realised gain of the shares
@@ -169,17 +169,17 @@ fn put_share_count_lines(out: &mut Vec<u8>, story: &ResultStory) -> Result<(), F
 fn put_realised_gain_lines(
     alloc: Global,
     out: &mut Vec<u8>,
-    order: &OrderStory,
-    story: &ResultStory,
+    order: &OrderDetails,
+    details: &ResultDetails,
 ) -> Result<(), Fault>
     ensures ok { OnOk result (out.new.items
-        ≡ out.old.items ++ text_of_lines (lines.realised_gain_lines (abstract_order_story order.now) (abstract_result_story story.now))) }
+        ≡ out.old.items ++ text_of_lines (lines.realised_gain_lines (abstract_order_details order.now) (abstract_result_details details.now))) }
     ensures fault { IfErr result IsCallFault }
 {
     let side = order.trade.kind.side();
-    let bought = buy_value_of_closings(side, story.price, &story.closings)?;
-    let sold = sell_value_of_closings(side, story.price, &story.closings)?;
-    let gain = realised_gain_of_closings(side, story.price, &story.closings)?;
+    let bought = buy_value_of_closings(side, details.price, &details.closings)?;
+    let sold = sell_value_of_closings(side, details.price, &details.closings)?;
+    let gain = realised_gain_of_closings(side, details.price, &details.closings)?;
     put_labeled_amount_line(alloc, out, "BUY", bought)?;
     put_labeled_amount_line(alloc, out, "SELL", sold)?;
     put_labeled_amount_line(alloc, out, "Realised gain", gain)
@@ -192,17 +192,17 @@ fn put_realised_gain_lines(
 pub(crate) fn put_lot_and_gain_lines(
     alloc: Global,
     out: &mut Vec<u8>,
-    order: &OrderStory,
-    story: &ResultStory,
+    order: &OrderDetails,
+    details: &ResultDetails,
 ) -> Result<(), Fault>
     ensures ok { OnOk result (out.new.items
-        ≡ out.old.items ++ text_of_lines (lines.lot_and_gain_lines (abstract_order_story order.now) (abstract_result_story story.now))) }
+        ≡ out.old.items ++ text_of_lines (lines.lot_and_gain_lines (abstract_order_details order.now) (abstract_result_details details.now))) }
     ensures fault { IfErr result IsCallFault }
 {
     let side = order.trade.kind.side();
-    put_price_and_lot_header_lines(alloc, out, story)?;
-    put_closed_lot_lines(alloc, out, side, story.price, &story.closings)?;
-    put_opened_lot_lines(alloc, out, &order.trade, story.price, &story.own_lot)?;
-    put_share_count_lines(out, story)?;
-    put_realised_gain_lines(alloc, out, order, story)
+    put_price_and_lot_header_lines(alloc, out, details)?;
+    put_closed_lot_lines(alloc, out, side, details.price, &details.closings)?;
+    put_opened_lot_line_if_any(alloc, out, &order.trade, details.price, &details.own_lot)?;
+    put_share_count_lines(out, details)?;
+    put_realised_gain_lines(alloc, out, order, details)
 }

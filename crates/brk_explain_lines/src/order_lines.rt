@@ -3,7 +3,7 @@
 ghost use Rattle.std.specs.Prelude.{◌≡◌, ◌++◌, Err, OnErr, OnOk, map};
 ghost use Rattle.brk_changes.specs.Rows.{abstract_history_row};
 ghost use Rattle.brk_explain_model.specs.TradeLines as lines;
-ghost use Rattle.brk_explain_rows.specs.Stories.{abstract_order_story};
+ghost use Rattle.brk_explain_rows.specs.Details.{abstract_order_details};
 ghost use Rattle.brk_model.specs.Rows.{cash_or_margin_word};
 ghost use Rattle.brk_model.specs.Statement.{text_of_lines};
 ghost use Rattle.brk_money.specs.declared.fault.Fault.TheVariants.{Memory};
@@ -14,7 +14,7 @@ use brk_explain_columns::{
     format_timestamp, put_labeled_amount_line, put_labeled_number, put_labeled_number_line,
     put_labeled_text, put_labeled_text_line, put_number,
 };
-use brk_explain_rows::OrderStory;
+use brk_explain_rows::OrderDetails;
 use brk_money::{Fault, Wide};
 use brk_report_lines::append_left_aligned;
 use std::alloc::Global;
@@ -52,8 +52,8 @@ fn put_status_lines(alloc: Global, out: &mut Vec<u8>, rows: &[HistoryRow]) -> Re
 
 // Appends to `out` the title line of the explanation of a trade, with the trade's id. Fails with
 // `Memory` only.
-fn put_trade_title_line(out: &mut Vec<u8>, order: &OrderStory) -> Result<(), Fault>
-    ensures ok { OnOk result (out.new.items ≡ out.old.items ++ line_with_line_feed (lines.trade_title_line (abstract_order_story order.now))) }
+fn put_trade_title_line(out: &mut Vec<u8>, order: &OrderDetails) -> Result<(), Fault>
+    ensures ok { OnOk result (out.new.items ≡ out.old.items ++ line_with_line_feed (lines.trade_title_line (abstract_order_details order.now))) }
     ensures fault { OnErr result (result ≡ Err Memory) }
 {
     out.extend_from_slice(b"Trade ")?;
@@ -65,8 +65,8 @@ fn put_trade_title_line(out: &mut Vec<u8>, order: &OrderStory) -> Result<(), Fau
 
 // Appends to `out` the line of the account of a trade: its id and its name. Fails with `Memory`
 // only.
-fn put_account_line(out: &mut Vec<u8>, order: &OrderStory) -> Result<(), Fault>
-    ensures ok { OnOk result (out.new.items ≡ out.old.items ++ line_with_line_feed (lines.trade_account_line (abstract_order_story order.now))) }
+fn put_account_line(out: &mut Vec<u8>, order: &OrderDetails) -> Result<(), Fault>
+    ensures ok { OnOk result (out.new.items ≡ out.old.items ++ line_with_line_feed (lines.trade_account_line (abstract_order_details order.now))) }
     ensures fault { OnErr result (result ≡ Err Memory) }
 {
     put_labeled_number(out, "Account", order.trade.account.get())?;
@@ -79,8 +79,8 @@ fn put_account_line(out: &mut Vec<u8>, order: &OrderStory) -> Result<(), Fault>
 // Appends to `out` the title of the explanation of a trade, and the lines of its account, customer,
 // broker and executor. Fails with `Memory` only.
 #[tactic(auto, unfolding(brk_explain_model::specs::TradeLines::title_and_party_lines))]
-fn put_title_and_party_lines(out: &mut Vec<u8>, order: &OrderStory) -> Result<(), Fault>
-    ensures ok { OnOk result (out.new.items ≡ out.old.items ++ text_of_lines (lines.title_and_party_lines (abstract_order_story order.now))) }
+fn put_title_and_party_lines(out: &mut Vec<u8>, order: &OrderDetails) -> Result<(), Fault>
+    ensures ok { OnOk result (out.new.items ≡ out.old.items ++ text_of_lines (lines.title_and_party_lines (abstract_order_details order.now))) }
     ensures fault { OnErr result (result ≡ Err Memory) }
 {
     let account = &order.account.account;
@@ -94,8 +94,8 @@ fn put_title_and_party_lines(out: &mut Vec<u8>, order: &OrderStory) -> Result<()
 
 // Appends to `out` the line of the type of a trade: its code and its name. Fails with `Memory`
 // only.
-fn put_trade_type_line(out: &mut Vec<u8>, order: &OrderStory) -> Result<(), Fault>
-    ensures ok { OnOk result (out.new.items ≡ out.old.items ++ line_with_line_feed (lines.trade_type_line (abstract_order_story order.now))) }
+fn put_trade_type_line(out: &mut Vec<u8>, order: &OrderDetails) -> Result<(), Fault>
+    ensures ok { OnOk result (out.new.items ≡ out.old.items ++ line_with_line_feed (lines.trade_type_line (abstract_order_details order.now))) }
     ensures fault { OnErr result (result ≡ Err Memory) }
 {
     put_labeled_text(out, "Type", order.trade.kind.code().as_bytes())?;
@@ -107,8 +107,8 @@ fn put_trade_type_line(out: &mut Vec<u8>, order: &OrderStory) -> Result<(), Faul
 
 // Appends to `out` the line of the security of a trade: its symbol and its name. Fails with
 // `Memory` only.
-fn put_security_line(alloc: Global, out: &mut Vec<u8>, order: &OrderStory) -> Result<(), Fault>
-    ensures ok { OnOk result (out.new.items ≡ out.old.items ++ line_with_line_feed (lines.trade_security_line (abstract_order_story order.now))) }
+fn put_security_line(alloc: Global, out: &mut Vec<u8>, order: &OrderDetails) -> Result<(), Fault>
+    ensures ok { OnOk result (out.new.items ≡ out.old.items ++ line_with_line_feed (lines.trade_security_line (abstract_order_details order.now))) }
     ensures fault { OnErr result (result ≡ Err Memory) }
 {
     let mut security = Vec::new(alloc);
@@ -121,7 +121,7 @@ fn put_security_line(alloc: Global, out: &mut Vec<u8>, order: &OrderStory) -> Re
 }
 
 // Returns the text `cash` for a cash trade and the text `margin` for a margin trade.
-fn settlement_word(is_cash: bool) -> &'static str
+fn cash_or_margin_text(is_cash: bool) -> &'static str
     ensures { result.now ≡ cash_or_margin_word is_cash }
 {
     if is_cash { "cash" } else { "margin" }
@@ -143,8 +143,12 @@ fn closing_order_words(is_lifo: bool) -> &'static str
 // whether it settles in cash or on margin, and the order in which it closes lots. Fails with
 // `Memory` only.
 #[tactic(auto, unfolding(brk_explain_model::specs::TradeLines::order_terms_lines))]
-fn put_order_terms_lines(alloc: Global, out: &mut Vec<u8>, order: &OrderStory) -> Result<(), Fault>
-    ensures ok { OnOk result (out.new.items ≡ out.old.items ++ text_of_lines (lines.order_terms_lines (abstract_order_story order.now))) }
+fn put_order_terms_lines(
+    alloc: Global,
+    out: &mut Vec<u8>,
+    order: &OrderDetails,
+) -> Result<(), Fault>
+    ensures ok { OnOk result (out.new.items ≡ out.old.items ++ text_of_lines (lines.order_terms_lines (abstract_order_details order.now))) }
     ensures fault { OnErr result (result ≡ Err Memory) }
 {
     let trade = &order.trade;
@@ -152,7 +156,11 @@ fn put_order_terms_lines(alloc: Global, out: &mut Vec<u8>, order: &OrderStory) -
     put_security_line(alloc, out, order)?;
     put_labeled_number_line(out, "Shares", u64::from(trade.qty.get()))?;
     put_labeled_amount_line(alloc, out, "Price asked", Wide::from(trade.bid))?;
-    put_labeled_text_line(out, "Settles by", settlement_word(trade.is_cash).as_bytes())?;
+    put_labeled_text_line(
+        out,
+        "Settles by",
+        cash_or_margin_text(trade.is_cash).as_bytes(),
+    )?;
     put_labeled_text_line(out, "Closes", closing_order_words(trade.is_lifo).as_bytes())?;
     Ok(())
 }
@@ -163,9 +171,9 @@ fn put_order_terms_lines(alloc: Global, out: &mut Vec<u8>, order: &OrderStory) -
 pub(crate) fn put_order_lines(
     alloc: Global,
     out: &mut Vec<u8>,
-    order: &OrderStory,
+    order: &OrderDetails,
 ) -> Result<(), Fault>
-    ensures ok { OnOk result (out.new.items ≡ out.old.items ++ text_of_lines (lines.order_and_status_lines (abstract_order_story order.now))) }
+    ensures ok { OnOk result (out.new.items ≡ out.old.items ++ text_of_lines (lines.order_and_status_lines (abstract_order_details order.now))) }
     ensures fault { OnErr result (result ≡ Err Memory) }
 {
     put_title_and_party_lines(out, order)?;

@@ -3,7 +3,7 @@
 ghost use Rattle.std.specs.Prelude.{◌≡◌, ◌++◌, Err, IfOk, OnErr, OnOk, codes};
 ghost use Rattle.std.specs.Option.{option_map_or};
 ghost use Rattle.brk_explain_model.specs.TradeLines as lines;
-ghost use Rattle.brk_explain_rows.specs.Stories.{abstract_order_story, abstract_result_story};
+ghost use Rattle.brk_explain_rows.specs.Details.{abstract_order_details, abstract_result_details};
 ghost use Rattle.brk_model.specs.Statement.{text_of_lines};
 ghost use Rattle.brk_money.specs.Spelling.{day_text};
 ghost use Rattle.brk_money.specs.declared.fault.Fault.TheVariants.{Memory};
@@ -13,7 +13,7 @@ use brk_changes::days_to_settlement;
 use brk_explain_columns::{
     put_labeled_amount_line, put_labeled_number_line, put_labeled_text_line,
 };
-use brk_explain_rows::{OrderStory, ResultStory};
+use brk_explain_rows::{OrderDetails, ResultDetails};
 use brk_money::{Day, Fault, Wide, day_of, write_day};
 use std::alloc::Global;
 
@@ -24,14 +24,14 @@ use std::alloc::Global;
 pub(crate) fn put_settlement_lines(
     alloc: Global,
     out: &mut Vec<u8>,
-    order: &OrderStory,
-    story: &ResultStory,
+    order: &OrderDetails,
+    details: &ResultDetails,
 ) -> Result<(), Fault>
     ensures ok { OnOk result (out.new.items
-        ≡ out.old.items ++ text_of_lines (lines.trade_settlement_lines (abstract_order_story order.now) (abstract_result_story story.now))) }
+        ≡ out.old.items ++ text_of_lines (lines.trade_settlement_lines (abstract_order_details order.now) (abstract_result_details details.now))) }
     ensures fault { OnErr result (result ≡ Err Memory) }
 {
-    put_labeled_amount_line(alloc, out, "Value", signed_trade_value(order, story))?;
+    put_labeled_amount_line(alloc, out, "Value", signed_trade_value(order, details))?;
     put_labeled_amount_line(alloc, out, "Charge", negated_charge(order))?;
     put_labeled_amount_line(alloc, out, "Commission", negated_commission(order))?;
     put_labeled_amount_line(alloc, out, "Tax withheld", negated_withheld_tax(order))?;
@@ -39,12 +39,12 @@ pub(crate) fn put_settlement_lines(
         alloc,
         out,
         "Settlement",
-        Wide::from(story.settlement.amount),
+        Wide::from(details.settlement.amount),
     )?;
     put_labeled_text_line(
         out,
         "Cash type",
-        story.settlement.cash_type.word().as_bytes(),
+        details.settlement.cash_type.word().as_bytes(),
     )?;
     Ok(())
 }
@@ -78,18 +78,18 @@ fn format_day_or_none(alloc: Global, rule: Option<Day>) -> Result<Vec<u8>, Fault
 pub(crate) fn put_due_day_lines(
     alloc: Global,
     out: &mut Vec<u8>,
-    order: &OrderStory,
-    story: &ResultStory,
+    order: &OrderDetails,
+    details: &ResultDetails,
 ) -> Result<(), Fault>
     ensures ok { OnOk result (out.new.items
-        ≡ out.old.items ++ text_of_lines (lines.due_day_lines (abstract_order_story order.now) (abstract_result_story story.now))) }
+        ≡ out.old.items ++ text_of_lines (lines.due_day_lines (abstract_order_details order.now) (abstract_result_details details.now))) }
     ensures fault { OnErr result (result ≡ Err Memory) }
 {
     let completed = day_of(order.trade.stamp);
-    let days = days_to_settlement(story.rule, completed);
+    let days = days_to_settlement(details.rule, completed);
     let completed = format_day(alloc, completed)?;
-    let first = format_day_or_none(alloc, story.rule)?;
-    let due = format_day(alloc, story.settlement.due_day)?;
+    let first = format_day_or_none(alloc, details.rule)?;
+    let due = format_day(alloc, details.settlement.due_day)?;
     put_labeled_text_line(out, "Completed on", &completed)?;
     put_labeled_text_line(out, "One day from", &first)?;
     put_labeled_number_line(out, "Days to settle", u64::from(days))?;

@@ -3,14 +3,14 @@
 
 ghost use Rattle.std.specs.Prelude.{◌≡◌, IfErr, IfOk, map, neg_ℤ, pos, if◌then◌else◌};
 ghost use Rattle.brk_explain_model.specs.Trades as trades;
-ghost use Rattle.brk_explain_rows.specs.Stories.{abstract_closing, abstract_order_story, abstract_result_story};
+ghost use Rattle.brk_explain_rows.specs.Details.{abstract_closing, abstract_order_details, abstract_result_details};
 ghost use Rattle.brk_model.specs.Base as base;
 ghost use Rattle.brk_model.specs.Run.{IsCallFault};
 ghost use Rattle.brk_money.specs.Amounts as amounts;
 ghost use Rattle.brk_ref.specs.Records.{abstract_tax_rate};
 
 use brk_explain_columns::subtract_amounts;
-use brk_explain_rows::{Closing, OrderStory, ResultStory};
+use brk_explain_rows::{Closing, OrderDetails, ResultDetails};
 use brk_money::{Amount, Cents, Fault, Price, Side, TaxRate, TaxStatus, Wide, commission, tax};
 use brk_ref::{Tax, tax_sum};
 
@@ -179,31 +179,41 @@ fn tax_on_gain(status: TaxStatus, gain: Wide, rates: TaxRate) -> Result<Wide, Fa
 
 /// Returns the tax, in cents, on the realised gain of a trade at its customer's current tax rates;
 /// 0 if the account is not taxable. Fails with `Store` if a value does not fit.
-pub(crate) fn tax_at_current_rates(order: &OrderStory, story: &ResultStory) -> Result<Wide, Fault>
-    ensures tax { IfOk result (λ tax. tax ≡ pos (trades.tax_at_current_rates (abstract_order_story order.now) (abstract_result_story story.now))) }
+pub(crate) fn tax_at_current_rates(
+    order: &OrderDetails,
+    details: &ResultDetails,
+) -> Result<Wide, Fault>
+    ensures tax { IfOk result (λ tax. tax ≡ pos (trades.tax_at_current_rates (abstract_order_details order.now) (abstract_result_details details.now))) }
     ensures fault { IfErr result IsCallFault }
 {
-    let gain = realised_gain_of_closings(order.trade.kind.side(), story.price, &story.closings)?;
-    let rates = sum_of_tax_rates(&story.rates)?;
+    let gain = realised_gain_of_closings(
+        order.trade.kind.side(),
+        details.price,
+        &details.closings,
+    )?;
+    let rates = sum_of_tax_rates(&details.rates)?;
     tax_on_gain(order.account.account.tax_status, gain, rates)
 }
 
 /// Returns the commission of a trade at the rate of its current band, in cents, or `None` if there
 /// is no band.
-pub(crate) fn commission_in_current_band(order: &OrderStory, story: &ResultStory) -> Option<Amount>
-    ensures { result ≡ trades.commission_in_current_band (abstract_order_story order.now) (abstract_result_story story.now) }
+pub(crate) fn commission_in_current_band(
+    order: &OrderDetails,
+    details: &ResultDetails,
+) -> Option<Amount>
+    ensures { result ≡ trades.commission_in_current_band (abstract_order_details order.now) (abstract_result_details details.now) }
 {
-    match &story.band {
-        Some(band) => { Some(commission(band.rate, order.trade.qty, story.price).unsigned_abs()) }
+    match &details.band {
+        Some(band) => { Some(commission(band.rate, order.trade.qty, details.price).unsigned_abs()) }
         None => None,
     }
 }
 
 /// Returns the quantity of a trade times its price, in cents, negated if it is a purchase.
-pub(crate) fn signed_trade_value(order: &OrderStory, story: &ResultStory) -> Wide
-    ensures { result ≡ trades.signed_trade_value (abstract_order_story order.now) (abstract_result_story story.now) }
+pub(crate) fn signed_trade_value(order: &OrderDetails, details: &ResultDetails) -> Wide
+    ensures { result ≡ trades.signed_trade_value (abstract_order_details order.now) (abstract_result_details details.now) }
 {
-    let value = i128::from(u64::from(order.trade.qty.get()) * u64::from(story.price.get()));
+    let value = i128::from(u64::from(order.trade.qty.get()) * u64::from(details.price.get()));
     match order.trade.kind.side() {
         Side::Sell => Wide::new(value),
         Side::Buy => Wide::new(-value),
@@ -211,23 +221,23 @@ pub(crate) fn signed_trade_value(order: &OrderStory, story: &ResultStory) -> Wid
 }
 
 /// Returns the charge of a trade, in cents, negated.
-pub(crate) fn negated_charge(order: &OrderStory) -> Wide
-    ensures { result ≡ neg_ℤ (pos (abstract_order_story order.now).trade.charge) }
+pub(crate) fn negated_charge(order: &OrderDetails) -> Wide
+    ensures { result ≡ neg_ℤ (pos (abstract_order_details order.now).trade.charge) }
 {
     Wide::new(-i128::from(order.trade.charge.get()))
 }
 
 /// Returns the recorded commission of a trade, in cents, negated.
-pub(crate) fn negated_commission(order: &OrderStory) -> Wide
-    ensures { result ≡ neg_ℤ (pos (abstract_order_story order.now).trade.commission) }
+pub(crate) fn negated_commission(order: &OrderDetails) -> Wide
+    ensures { result ≡ neg_ℤ (pos (abstract_order_details order.now).trade.commission) }
 {
     Wide::new(-i128::from(order.trade.commission.get()))
 }
 
 /// Returns the recorded tax of a trade, in cents, negated, if the tax status of its account is
 /// `Withheld`; otherwise 0.
-pub(crate) fn negated_withheld_tax(order: &OrderStory) -> Wide
-    ensures { result ≡ neg_ℤ (pos (trades.withheld_tax_of_trade (abstract_order_story order.now))) }
+pub(crate) fn negated_withheld_tax(order: &OrderDetails) -> Wide
+    ensures { result ≡ neg_ℤ (pos (trades.withheld_tax_of_trade (abstract_order_details order.now))) }
 {
     match order.account.account.tax_status {
         TaxStatus::Withheld => Wide::new(-i128::from(order.trade.tax.get())),
@@ -236,10 +246,10 @@ pub(crate) fn negated_withheld_tax(order: &OrderStory) -> Wide
 }
 
 /// Returns the amount of the cash row of a trade, in cents; 0 if it has none.
-pub(crate) fn balance_change_of_trade(story: &ResultStory) -> Wide
-    ensures { result ≡ trades.balance_change_of_trade (abstract_result_story story.now) }
+pub(crate) fn balance_change_of_trade(details: &ResultDetails) -> Wide
+    ensures { result ≡ trades.balance_change_of_trade (abstract_result_details details.now) }
 {
-    match &story.cash {
+    match &details.cash {
         Some(row) => Wide::from(row.amount),
         None => Wide::new(0),
     }

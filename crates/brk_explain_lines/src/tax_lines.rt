@@ -2,7 +2,7 @@
 
 ghost use Rattle.std.specs.Prelude.{◌≡◌, ◌++◌, Err, IfErr, OnErr, OnOk, map, option_map};
 ghost use Rattle.brk_explain_model.specs.TradeLines as lines;
-ghost use Rattle.brk_explain_rows.specs.Stories.{abstract_order_story, abstract_result_story};
+ghost use Rattle.brk_explain_rows.specs.Details.{abstract_order_details, abstract_result_details};
 ghost use Rattle.brk_model.specs.Run.{IsCallFault};
 ghost use Rattle.brk_model.specs.Statement.{text_of_lines};
 ghost use Rattle.brk_money.specs.declared.fault.Fault.TheVariants.{Memory};
@@ -14,7 +14,7 @@ use brk_explain_columns::{
     put_labeled_amount_line, put_labeled_number, put_labeled_number_line, put_labeled_value_line,
     put_number,
 };
-use brk_explain_rows::{OrderStory, ResultStory};
+use brk_explain_rows::{OrderDetails, ResultDetails};
 use brk_money::{Amount, Fault, Wide};
 use brk_ref::{Band, Tax};
 use brk_report_lines::{append_left_aligned, append_right_aligned};
@@ -55,8 +55,8 @@ fn put_tax_rate_lines(out: &mut Vec<u8>, rates: &[Tax]) -> Result<(), Fault>
 
 // Appends to `out` the line of the number of the account's tax status. Fails with `Memory` only.
 #[tactic(auto, unfolding(brk_explain_model::specs::TradeLines::account_tax_status_lines))]
-fn put_tax_status_lines(out: &mut Vec<u8>, order: &OrderStory) -> Result<(), Fault>
-    ensures ok { OnOk result (out.new.items ≡ out.old.items ++ text_of_lines (lines.account_tax_status_lines (abstract_order_story order.now))) }
+fn put_tax_status_line(out: &mut Vec<u8>, order: &OrderDetails) -> Result<(), Fault>
+    ensures ok { OnOk result (out.new.items ≡ out.old.items ++ text_of_lines (lines.account_tax_status_lines (abstract_order_details order.now))) }
     ensures fault { OnErr result (result ≡ Err Memory) }
 {
     let status = order.account.account.tax_status;
@@ -70,15 +70,15 @@ fn put_tax_status_lines(out: &mut Vec<u8>, order: &OrderStory) -> Result<(), Fau
 fn put_current_and_recorded_tax_lines(
     alloc: Global,
     out: &mut Vec<u8>,
-    order: &OrderStory,
-    story: &ResultStory,
+    order: &OrderDetails,
+    details: &ResultDetails,
 ) -> Result<(), Fault>
     ensures ok { OnOk result (out.new.items
-        ≡ out.old.items ++ text_of_lines (lines.current_and_recorded_tax_lines (abstract_order_story order.now) (abstract_result_story story.now))) }
+        ≡ out.old.items ++ text_of_lines (lines.current_and_recorded_tax_lines (abstract_order_details order.now) (abstract_result_details details.now))) }
     ensures fault { IfErr result IsCallFault }
 {
-    let rates = sum_of_tax_rates(&story.rates)?;
-    let now = tax_at_current_rates(order, story)?;
+    let rates = sum_of_tax_rates(&details.rates)?;
+    let now = tax_at_current_rates(order, details)?;
     put_labeled_number(out, "Rates now", u64::from(rates.get()))?;
     out.extend_from_slice(b" of 100000\n")?;
     put_labeled_amount_line(alloc, out, "Tax now", now)?;
@@ -93,16 +93,16 @@ fn put_current_and_recorded_tax_lines(
 pub(crate) fn put_tax_lines(
     alloc: Global,
     out: &mut Vec<u8>,
-    order: &OrderStory,
-    story: &ResultStory,
+    order: &OrderDetails,
+    details: &ResultDetails,
 ) -> Result<(), Fault>
     ensures ok { OnOk result (out.new.items
-        ≡ out.old.items ++ text_of_lines (lines.trade_tax_lines (abstract_order_story order.now) (abstract_result_story story.now))) }
+        ≡ out.old.items ++ text_of_lines (lines.trade_tax_lines (abstract_order_details order.now) (abstract_result_details details.now))) }
     ensures fault { IfErr result IsCallFault }
 {
-    put_tax_status_lines(out, order)?;
-    put_tax_rate_lines(out, &story.rates)?;
-    put_current_and_recorded_tax_lines(alloc, out, order, story)
+    put_tax_status_line(out, order)?;
+    put_tax_rate_lines(out, &details.rates)?;
+    put_current_and_recorded_tax_lines(alloc, out, order, details)
 }
 
 // Appends to `out` the text after the rate of a commission band: ` of 10000 for `, its lower bound,
@@ -172,13 +172,13 @@ fn put_current_commission_line(
 pub(crate) fn put_band_and_commission_lines(
     alloc: Global,
     out: &mut Vec<u8>,
-    order: &OrderStory,
-    story: &ResultStory,
+    order: &OrderDetails,
+    details: &ResultDetails,
 ) -> Result<(), Fault>
     ensures ok { OnOk result (out.new.items
-        ≡ out.old.items ++ text_of_lines (lines.band_and_commission_lines (abstract_order_story order.now) (abstract_result_story story.now))) }
+        ≡ out.old.items ++ text_of_lines (lines.band_and_commission_lines (abstract_order_details order.now) (abstract_result_details details.now))) }
     ensures fault { OnErr result (result ≡ Err Memory) }
 {
-    put_commission_band_line(out, &story.band)?;
-    put_current_commission_line(alloc, out, commission_in_current_band(order, story))
+    put_commission_band_line(out, &details.band)?;
+    put_current_commission_line(alloc, out, commission_in_current_band(order, details))
 }

@@ -2,17 +2,17 @@
 
 ghost use Rattle.std.specs.Prelude.{◌≡◌, ◌++◌, IfErr, IfOk, OnOk, option_map};
 ghost use Rattle.brk_explain_model.specs.TradeLines as lines;
-ghost use Rattle.brk_explain_rows.specs.Stories.{abstract_order_story, abstract_result_story, abstract_trade_story};
+ghost use Rattle.brk_explain_rows.specs.Details.{abstract_order_details, abstract_result_details, abstract_trade_details};
 ghost use Rattle.brk_model.specs.Run.{IsCallFault};
 ghost use Rattle.brk_model.specs.Statement.{text_of_lines};
 
-use crate::balance_lines::{put_balance_lines, put_trade_counts_lines};
+use crate::balance_lines::{put_balance_lines, put_counts_of_completed_trade};
 use crate::lots_lines::put_lot_and_gain_lines;
 use crate::order_lines::put_order_lines;
 use crate::settlement_lines::{put_due_day_lines, put_settlement_lines};
 use crate::tax_lines::{put_band_and_commission_lines, put_tax_lines};
 use crate::waiting_lines::put_uncompleted_trade_lines;
-use brk_explain_rows::{OrderStory, ResultStory, TradeStory};
+use brk_explain_rows::{OrderDetails, ResultDetails, TradeDetails};
 use brk_money::Fault;
 use std::alloc::Global;
 
@@ -23,38 +23,38 @@ use std::alloc::Global;
 fn put_completed_trade_lines(
     alloc: Global,
     out: &mut Vec<u8>,
-    order: &OrderStory,
-    story: &ResultStory,
+    order: &OrderDetails,
+    details: &ResultDetails,
 ) -> Result<(), Fault>
     ensures ok { OnOk result (out.new.items
-        ≡ out.old.items ++ text_of_lines (lines.completed_trade_lines (abstract_order_story order.now) (abstract_result_story story.now))) }
+        ≡ out.old.items ++ text_of_lines (lines.completed_trade_lines (abstract_order_details order.now) (abstract_result_details details.now))) }
     ensures fault { IfErr result IsCallFault }
 {
-    put_lot_and_gain_lines(alloc, out, order, story)?;
-    put_tax_lines(alloc, out, order, story)?;
-    put_band_and_commission_lines(alloc, out, order, story)?;
-    put_settlement_lines(alloc, out, order, story)?;
-    put_due_day_lines(alloc, out, order, story)?;
-    put_balance_lines(alloc, out, order, story)?;
-    put_trade_counts_lines(out, order, story)
+    put_lot_and_gain_lines(alloc, out, order, details)?;
+    put_tax_lines(alloc, out, order, details)?;
+    put_band_and_commission_lines(alloc, out, order, details)?;
+    put_settlement_lines(alloc, out, order, details)?;
+    put_due_day_lines(alloc, out, order, details)?;
+    put_balance_lines(alloc, out, order, details)?;
+    put_counts_of_completed_trade(out, order, details)
 }
 
 // Appends to `out` those lines of a trade that follow its status changes: the lines of a completed
-// trade if `story` has its results, otherwise the lines of a trade that is not completed. Fails
+// trade if `details` has its results, otherwise the lines of a trade that is not completed. Fails
 // with `Memory` or `Store`; with `Store` if an amount does not fit.
 #[tactic(auto, unfolding(brk_explain_model::specs::TradeLines::lines_after_statuses))]
 fn put_lines_after_statuses(
     alloc: Global,
     out: &mut Vec<u8>,
-    order: &OrderStory,
-    story: &Option<ResultStory>,
+    order: &OrderDetails,
+    details: &Option<ResultDetails>,
 ) -> Result<(), Fault>
     ensures ok { OnOk result (out.new.items
-        ≡ out.old.items ++ text_of_lines (lines.lines_after_statuses (abstract_order_story order.now) (option_map abstract_result_story story.now))) }
+        ≡ out.old.items ++ text_of_lines (lines.lines_after_statuses (abstract_order_details order.now) (option_map abstract_result_details details.now))) }
     ensures fault { IfErr result IsCallFault }
 {
-    match story {
-        Some(story) => put_completed_trade_lines(alloc, out, order, story),
+    match details {
+        Some(details) => put_completed_trade_lines(alloc, out, order, details),
         None => put_uncompleted_trade_lines(alloc, out, order),
     }
 }
@@ -62,12 +62,12 @@ fn put_lines_after_statuses(
 /// Returns all lines of the explanation of a trade as one text. Fails with `Memory` or `Store`;
 /// with `Store` if an amount does not fit.
 #[tactic(auto, unfolding(brk_explain_model::specs::TradeLines::trade_explanation_lines))]
-pub fn trade_explanation_text(alloc: Global, story: &TradeStory) -> Result<Vec<u8>, Fault>
-    ensures text { IfOk result (λ text. text.items ≡ text_of_lines (lines.trade_explanation_lines (abstract_trade_story story.now))) }
+pub fn trade_explanation_text(alloc: Global, details: &TradeDetails) -> Result<Vec<u8>, Fault>
+    ensures text { IfOk result (λ text. text.items ≡ text_of_lines (lines.trade_explanation_lines (abstract_trade_details details.now))) }
     ensures fault { IfErr result IsCallFault }
 {
     let mut text = Vec::new(alloc);
-    put_order_lines(alloc, &mut text, &story.order)?;
-    put_lines_after_statuses(alloc, &mut text, &story.order, &story.result)?;
+    put_order_lines(alloc, &mut text, &details.order)?;
+    put_lines_after_statuses(alloc, &mut text, &details.order, &details.result)?;
     Ok(text)
 }

@@ -3,7 +3,7 @@
 ghost use Rattle.std.specs.Prelude.{◌≡◌, ◌++◌, ◌∷◌, Err, IfOk, OnErr, OnOk, codes, decimal};
 ghost use Rattle.brk_explain_model.specs.Texts.{labeled_amount};
 ghost use Rattle.brk_explain_model.specs.TradeLines as lines;
-ghost use Rattle.brk_explain_rows.specs.Stories.{abstract_order_story};
+ghost use Rattle.brk_explain_rows.specs.Details.{abstract_order_details};
 ghost use Rattle.brk_model.specs.Rows.{nonnegative_cents_text};
 ghost use Rattle.brk_model.specs.Statement.{text_of_lines};
 ghost use Rattle.brk_money.specs.declared.fault.Fault.TheVariants.{Memory};
@@ -13,7 +13,7 @@ use brk_explain_columns::{
     put_labeled_amount, put_labeled_amount_line, put_labeled_number_line, put_labeled_text_line,
     put_number,
 };
-use brk_explain_rows::OrderStory;
+use brk_explain_rows::OrderDetails;
 use brk_money::{Fault, Price, Status, TradeType, Wide, write_cents};
 use std::alloc::Global;
 
@@ -40,7 +40,7 @@ fn commission_remark(status: Status) -> &'static str
 }
 
 // Returns the text `words` followed by the price with two decimal places. Fails with `Memory` only.
-fn format_words_and_price(alloc: Global, words: &str, price: Price) -> Result<Vec<u8>, Fault>
+fn format_text_and_price(alloc: Global, words: &str, price: Price) -> Result<Vec<u8>, Fault>
     ensures ok { IfOk result (λ text. text.items ≡ words.now ++ nonnegative_cents_text price) }
     ensures fault { OnErr result (result ≡ Err Memory) }
 {
@@ -57,12 +57,12 @@ fn trigger_condition_text(alloc: Global, kind: TradeType, price: Price) -> Resul
     ensures fault { OnErr result (result ≡ Err Memory) }
 {
     match kind {
-        TradeType::StopLoss | TradeType::LimitBuy => format_words_and_price(
+        TradeType::StopLoss | TradeType::LimitBuy => format_text_and_price(
             alloc,
             "a tick at or below ",
             price,
         ),
-        TradeType::LimitSell => format_words_and_price(alloc, "a tick at or above ", price),
+        TradeType::LimitSell => format_text_and_price(alloc, "a tick at or above ", price),
         TradeType::MarketBuy | TradeType::MarketSell => Ok(Vec::from_slice(alloc, b"a cancel")?),
     }
 }
@@ -89,7 +89,7 @@ fn awaited_event_text(
 }
 
 // Appends to `out` the line of a label, an amount and the text `words`. Fails with `Memory` only.
-fn put_amount_line_with_words(
+fn put_amount_line_with_remark(
     alloc: Global,
     out: &mut Vec<u8>,
     label: &str,
@@ -124,17 +124,17 @@ fn put_status_count_line(out: &mut Vec<u8>, count: usize) -> Result<(), Fault>
 pub(crate) fn put_uncompleted_trade_lines(
     alloc: Global,
     out: &mut Vec<u8>,
-    order: &OrderStory,
+    order: &OrderDetails,
 ) -> Result<(), Fault>
-    ensures ok { OnOk result (out.new.items ≡ out.old.items ++ text_of_lines (lines.uncompleted_trade_lines (abstract_order_story order.now))) }
+    ensures ok { OnOk result (out.new.items ≡ out.old.items ++ text_of_lines (lines.uncompleted_trade_lines (abstract_order_details order.now))) }
     ensures fault { OnErr result (result ≡ Err Memory) }
 {
     let trade = &order.trade;
     let waits = awaited_event_text(alloc, trade.status, trade.kind, trade.bid)?;
     let charge = Wide::new(i128::from(trade.charge.get()));
-    put_amount_line_with_words(alloc, out, "Charge", charge, charge_remark(trade.status))?;
+    put_amount_line_with_remark(alloc, out, "Charge", charge, charge_remark(trade.status))?;
     let commission = Wide::from(trade.commission);
-    put_amount_line_with_words(
+    put_amount_line_with_remark(
         alloc,
         out,
         "Commission",

@@ -8,9 +8,9 @@ use Rattle.brk_explain_model.specs.Texts.{labeled_value, timestamp_text, labeled
 use Rattle.brk_explain_model.specs.Texts.{labeled_text}
 use Rattle.brk_explain_model.specs.Running.{lines_with_running_total}
 use Rattle.brk_explain_model.specs.Trades.{completion_price_or_zero}
-use Rattle.brk_explain_model.specs.Holdings.{LotChange, LotStory, realised_gain_of_change, count_of_lot_changes, remaining_cost_of_lot, remaining_cost_of_lots}
+use Rattle.brk_explain_model.specs.Holdings.{LotChange, LotDetails, realised_gain_of_change, count_of_lot_changes, remaining_cost_of_lot, remaining_cost_of_lots}
 use Rattle.brk_explain_model.specs.Holdings.{completed_trades_in_symbol, realised_gain_of_lots, remaining_quantity_of_lot, lots_opened_in_symbol}
-use Rattle.brk_explain_model.specs.Holdings.{lots_not_fully_closed, total_purchase_value, total_sale_value, signed_qty, signed_value}
+use Rattle.brk_explain_model.specs.Holdings.{lots_not_fully_closed, total_purchase_value, total_sale_value, signed_quantity_of_trade, signed_value_of_trade}
 use Rattle.brk_explain_model.specs.Holdings.{summary_quantity_in_symbol}
 use Rattle.std.specs.Fmt.{signed_decimal}
 
@@ -32,7 +32,7 @@ holding_header_lines a s =
 -- and signed value, `held`, the quantity of the holding after it, and the code of its type.
 unfoldable pub holding_trade_line : TradeRow → ℤ → Text
 holding_trade_line u held =
-    leading_row_columns (codes "Trade") (timestamp_text u.stamp) u.id (signed_qty u) (completion_price_or_zero u) ++ value_column (signed_value u)
+    leading_row_columns (codes "Trade") (timestamp_text u.stamp) u.id (signed_quantity_of_trade u) (completion_price_or_zero u) ++ value_column (signed_value_of_trade u)
     ++ shares_column held ++ 32
     ∷ trade_type_code u.kind
 
@@ -42,7 +42,7 @@ lot_columns_header = codes "#      opened or changed               trade      sh
 
 -- The line of the opening of `lot`: the word `Lot`, the timestamp and the id of the trade that
 -- opened it, the opened quantity, the price, and their product.
-unfoldable pub lot_opening_line : LotStory → Text
+unfoldable pub lot_opening_line : LotDetails → Text
 lot_opening_line lot =
     leading_row_columns (codes "Lot") (timestamp_text lot.trade.stamp) lot.trade.id lot.opened (completion_price_or_zero lot.trade)
     ++ value_column (lot.opened *ℤ pos (completion_price_or_zero lot.trade))
@@ -57,7 +57,7 @@ lot_change_line price c =
 
 -- The line of the remaining shares of `lot`: the word `Left`, the id of the trade that opened it,
 -- the remaining quantity, the price, and their product.
-unfoldable pub lot_remainder_line : LotStory → Text
+unfoldable pub lot_remainder_line : LotDetails → Text
 lot_remainder_line lot =
     leading_row_columns (codes "Left") blank_timestamp_text lot.trade.id (remaining_quantity_of_lot lot) (completion_price_or_zero lot.trade)
     ++ value_column (remaining_cost_of_lot lot)
@@ -67,7 +67,7 @@ abbrev pub lot_change_lines : ℕ → List LotChange → List Text
 lot_change_lines price changes = map (lot_change_line price) changes
 
 -- The lines of `lot`: its opening, each later change, and its remaining shares.
-unfoldable pub lot_history_lines : LotStory → List Text
+unfoldable pub lot_history_lines : LotDetails → List Text
 lot_history_lines lot = lot_opening_line lot ∷ lot_change_lines (completion_price_or_zero lot.trade) lot.changes ++ lot_remainder_line lot ∷ []
 
 -- The lines of the total purchases `bought`, the total sales `sold`, the realised gain `gain` and
@@ -98,7 +98,7 @@ holding_counts_line trades lots open_count changes =
 -- quantity `shares` and the last price `price`: the total purchases and sales, the realised gain,
 -- the cost basis, the shares, the last price, the market value, the unrealised gain, and the
 -- counts.
-unfoldable pub holding_total_lines : List TradeRow → List LotStory → ℤ → ℕ → List Text
+unfoldable pub holding_total_lines : List TradeRow → List LotDetails → ℤ → ℕ → List Text
 holding_total_lines done lots shares price =
     purchase_sale_and_cost_lines (total_purchase_value done) (total_sale_value done) (realised_gain_of_lots lots) (remaining_cost_of_lots lots)
     ++ holding_value_lines shares price (remaining_cost_of_lots lots)
@@ -107,18 +107,18 @@ holding_total_lines done lots shares price =
 
 -- A line for each of the completed trades `done`, with the quantity of the holding after it.
 abbrev pub holding_trade_lines : List TradeRow → List Text
-holding_trade_lines done = lines_with_running_total signed_qty holding_trade_line (pos 0) done
+holding_trade_lines done = lines_with_running_total signed_quantity_of_trade holding_trade_line (pos 0) done
 
 -- All lines of the explanation of the holding of the account `a` in the security `s`: the first
 -- lines, a line for each of its completed trades `done`, the lines of its `lots`, and the last
 -- lines, from its quantity `shares` and the last price `price`, which is given in cents.
-unfoldable pub holding_story_lines : AccountRow → SecurityRow → List TradeRow → List LotStory → ℤ → ℕ → List Text
-holding_story_lines a s done lots shares price =
+unfoldable pub holding_lines_from_trades_and_lots : AccountRow → SecurityRow → List TradeRow → List LotDetails → ℤ → ℕ → List Text
+holding_lines_from_trades_and_lots a s done lots shares price =
     holding_header_lines a s ++ holding_trade_lines done ++ lot_columns_header ∷ flat_map lot_history_lines lots ++ holding_total_lines done lots shares price
 
 -- All lines of the explanation of the holding of the account `a` in the security `s`: the first
 -- lines, its completed trades, its lots with their changes, and the last lines.
 unfoldable pub holding_explanation_lines : Tables → AccountRow → SecurityRow → List Text
 holding_explanation_lines tables a s =
-    holding_story_lines a s (completed_trades_in_symbol tables a.id s.symbol) (lots_opened_in_symbol tables a.id s.symbol)
+    holding_lines_from_trades_and_lots a s (completed_trades_in_symbol tables a.id s.symbol) (lots_opened_in_symbol tables a.id s.symbol)
     (summary_quantity_in_symbol tables a.id s.symbol) (last_price_in_tables tables s.symbol)

@@ -17,13 +17,13 @@ completed_trades_in_symbol tables account symbol =
     sort_by_key (λ u. u.stamp) (filter (λ u. has_completed_status u && (u.account == account) && bytes_eq u.symbol symbol) tables.trades)
 
 -- The quantity of the trade `u`, negated if it is a sale.
-abbrev pub signed_qty : TradeRow → ℤ
-signed_qty u = signed_by_side (side_of_trade_type u.kind) u.qty
+abbrev pub signed_quantity_of_trade : TradeRow → ℤ
+signed_quantity_of_trade u = signed_by_side (side_of_trade_type u.kind) u.qty
 
 -- The quantity of the trade `u` times its price, in cents, negated if it is a sale; 0 if it has no
 -- price.
-abbrev pub signed_value : TradeRow → ℤ
-signed_value u = signed_qty u *ℤ pos (completion_price_or_zero u)
+abbrev pub signed_value_of_trade : TradeRow → ℤ
+signed_value_of_trade u = signed_quantity_of_trade u *ℤ pos (completion_price_or_zero u)
 
 -- A change of a lot by a later trade: the id of that trade, with its stamp and its price, in cents,
 -- and the lot's quantity before and after the change, below 0 if it was sold short.
@@ -62,7 +62,7 @@ realised_gain_of_change price c = (c.before -ℤ c.after) *ℤ (pos c.price -ℤ
 
 -- A lot that a completed trade opened: the trade, the quantity that it opened, below 0 if it sold
 -- short, and the changes by later trades.
-pub record LotStory : Type 0 where
+pub record LotDetails : Type 0 where
   pub trade : TradeRow
   pub opened : ℤ
   pub changes : List LotChange
@@ -72,31 +72,31 @@ abbrev pub quantity_opened_by_trade : Tables → ℕ → ℤ
 quantity_opened_by_trade tables trade = option_map_or (λ row. row.after) (opened_lot_row tables trade) (pos 0)
 
 -- The lot that the trade `u` opened: the trade, the opened quantity, and the later changes.
-abbrev pub lot_with_later_changes : Tables → TradeRow → LotStory
+abbrev pub lot_with_later_changes : Tables → TradeRow → LotDetails
 lot_with_later_changes tables u = record { trade = u; opened = quantity_opened_by_trade tables u.id; changes = later_changes_of_lot tables u.id }
 
 -- The lots that the completed trades of `account` in `symbol` opened, sorted by the stamp of
 -- completion, ascending.
-abbrev pub lots_opened_in_symbol : Tables → ℕ → Text → List LotStory
+abbrev pub lots_opened_in_symbol : Tables → ℕ → Text → List LotDetails
 lots_opened_in_symbol tables account symbol =
     map (lot_with_later_changes tables) (filter (λ u. is_some (opened_lot_row tables u.id)) (completed_trades_in_symbol tables account symbol))
 
 -- The remaining quantity of `lot`: its quantity after the last change, or the opened quantity if it
 -- has no change.
-abbrev pub remaining_quantity_of_lot : LotStory → ℤ
+abbrev pub remaining_quantity_of_lot : LotDetails → ℤ
 remaining_quantity_of_lot lot = unwrap_or (last_or None (map (λ c. c.after) lot.changes)) lot.opened
 
 -- The remaining quantity of `lot` times the price at which it was opened, in cents: below 0 if it
 -- was sold short.
-abbrev pub remaining_cost_of_lot : LotStory → ℤ
+abbrev pub remaining_cost_of_lot : LotDetails → ℤ
 remaining_cost_of_lot lot = remaining_quantity_of_lot lot *ℤ pos (completion_price_or_zero lot.trade)
 
 -- The sum of the realised gains of the changes of `lot`, in cents.
-abbrev pub realised_gain_of_lot : LotStory → ℤ
+abbrev pub realised_gain_of_lot : LotDetails → ℤ
 realised_gain_of_lot lot = total_by (realised_gain_of_change (completion_price_or_zero lot.trade)) lot.changes
 
 -- The sum of the realised gains of `lots`, in cents.
-abbrev pub realised_gain_of_lots : List LotStory → ℤ
+abbrev pub realised_gain_of_lots : List LotDetails → ℤ
 realised_gain_of_lots lots = total_by realised_gain_of_lot lots
 
 -- The sum of the realised gains of all lots that `account` opened in `symbol`, in cents.
@@ -104,24 +104,24 @@ abbrev pub realised_gain_in_symbol : Tables → ℕ → Text → ℤ
 realised_gain_in_symbol tables account symbol = realised_gain_of_lots (lots_opened_in_symbol tables account symbol)
 
 -- The sum of the costs of the remaining shares of `lots`, in cents.
-abbrev pub remaining_cost_of_lots : List LotStory → ℤ
+abbrev pub remaining_cost_of_lots : List LotDetails → ℤ
 remaining_cost_of_lots lots = total_by remaining_cost_of_lot lots
 
 -- The number of the changes of all `lots` by later trades.
-abbrev pub count_of_lot_changes : List LotStory → ℕ
+abbrev pub count_of_lot_changes : List LotDetails → ℕ
 count_of_lot_changes lots = length (flat_map (λ lot. lot.changes) lots)
 
 -- Those of `lots` whose remaining quantity is not 0.
-abbrev pub lots_not_fully_closed : List LotStory → List LotStory
+abbrev pub lots_not_fully_closed : List LotDetails → List LotDetails
 lots_not_fully_closed lots = filter (λ lot. not (is_zero (remaining_quantity_of_lot lot))) lots
 
 -- The sum of the values of the purchases among the trades `done`, in cents.
 abbrev pub total_purchase_value : List TradeRow → ℤ
-total_purchase_value done = total_by signed_value (filter (λ u. int_lt (pos 0) (signed_value u)) done)
+total_purchase_value done = total_by signed_value_of_trade (filter (λ u. int_lt (pos 0) (signed_value_of_trade u)) done)
 
 -- The sum of the negated values of the sales among the trades `done`, in cents.
 abbrev pub total_sale_value : List TradeRow → ℤ
-total_sale_value done = total_by signed_value (filter (λ u. int_lt (signed_value u) (pos 0)) done)
+total_sale_value done = total_by signed_value_of_trade (filter (λ u. int_lt (signed_value_of_trade u) (pos 0)) done)
 
 -- The quantity of `account` in `symbol` that HOLDING_SUMMARY records; 0 if there is no row.
 abbrev pub summary_quantity_in_symbol : Tables → ℕ → Text → ℤ

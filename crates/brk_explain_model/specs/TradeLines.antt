@@ -15,7 +15,7 @@ use Rattle.brk_model.specs.Tables.{HistoryRow, HoldingHistoryRow, MoveRow, Trade
 use Rattle.brk_model.specs.Statement.{left_aligned_text, right_aligned_text}
 use Rattle.brk_explain_model.specs.Texts.{labeled_number, labeled_value, timestamp_text, labeled_amount, leading_row_columns, shares_column, value_column}
 use Rattle.brk_explain_model.specs.Texts.{labeled_text}
-use Rattle.brk_explain_model.specs.Trades.{Closing, OrderStory, ResultStory, TradeStory, balance_after_trade, balance_before_trade, buy_value_of_closing}
+use Rattle.brk_explain_model.specs.Trades.{Closing, OrderDetails, ResultDetails, TradeDetails, balance_after_trade, balance_before_trade, buy_value_of_closing}
 use Rattle.brk_explain_model.specs.Trades.{buy_value_of_closings, balance_change_of_trade, commission_in_current_band, days_to_settle}
 use Rattle.brk_explain_model.specs.Trades.{realised_gain_of_closings, opened_quantity, sum_of_tax_rates, sell_value_of_closings, sell_value_of_closing}
 use Rattle.brk_explain_model.specs.Trades.{shares_of_closing, total_closed_shares, tax_at_current_rates, signed_trade_value, withheld_tax_of_trade}
@@ -34,15 +34,15 @@ status_change_line row =
     left_aligned_text 6 (codes "Status") ++ 32 ∷ timestamp_text row.stamp ++ 32 ∷ trade_status_code row.status ++ 32 ∷ trade_status_name row.status
 
 -- The title of the explanation of a trade, with its id.
-abbrev pub trade_title_line : OrderStory → Text
+abbrev pub trade_title_line : OrderDetails → Text
 trade_title_line o = codes "Trade " ++ decimal o.trade.id ++ codes ", times in UTC"
 
 -- The line of the account of the trade: its id and its name.
-abbrev pub trade_account_line : OrderStory → Text
+abbrev pub trade_account_line : OrderDetails → Text
 trade_account_line o = labeled_number (codes "Account") o.trade.account ++ 32 ∷ o.account_name
 
 -- The title, and the lines of the account, the customer, the broker and the executor of the trade.
-unfoldable pub title_and_party_lines : OrderStory → List Text
+unfoldable pub title_and_party_lines : OrderDetails → List Text
 title_and_party_lines o =
     trade_title_line o
     ∷ trade_account_line o
@@ -52,16 +52,16 @@ title_and_party_lines o =
     ∷ []
 
 -- The line of the type of the trade: its code and its name.
-abbrev pub trade_type_line : OrderStory → Text
+abbrev pub trade_type_line : OrderDetails → Text
 trade_type_line o = labeled_text (codes "Type") (trade_type_code o.trade.kind) ++ 32 ∷ trade_type_name o.trade.kind
 
 -- The line of the security of the trade: its symbol in 15 places, and its name.
-abbrev pub trade_security_line : OrderStory → Text
+abbrev pub trade_security_line : OrderDetails → Text
 trade_security_line o = labeled_text (codes "Security") (left_aligned_text 15 o.trade.symbol) ++ 32 ∷ o.security_name
 
 -- The lines of the terms of the order: its type, security, quantity and price, `cash` or `margin`,
 -- and the order in which it closes lots.
-unfoldable pub order_terms_lines : OrderStory → List Text
+unfoldable pub order_terms_lines : OrderDetails → List Text
 order_terms_lines o =
     trade_type_line o
     ∷ trade_security_line o
@@ -72,7 +72,7 @@ order_terms_lines o =
     ∷ []
 
 -- The title, the parties, the terms of the order, and the status changes of the trade.
-unfoldable pub order_and_status_lines : OrderStory → List Text
+unfoldable pub order_and_status_lines : OrderDetails → List Text
 order_and_status_lines o = title_and_party_lines o ++ order_terms_lines o ++ map status_change_line o.statuses
 
 -- ---- a trade that is not completed
@@ -109,7 +109,7 @@ awaited_event_text _ kind price = codes "nothing"
 -- The lines after the status changes of a trade that is not completed: its charge and its
 -- commission with their remarks, the event that it waits for, 0 shares and 0.00 of cash moved, and
 -- the number of its statuses.
-unfoldable pub uncompleted_trade_lines : OrderStory → List Text
+unfoldable pub uncompleted_trade_lines : OrderDetails → List Text
 uncompleted_trade_lines o =
     (labeled_amount (codes "Charge") (pos o.trade.charge) ++ 32 ∷ charge_remark o.trade.status)
     ∷ (labeled_amount (codes "Commission") (pos o.trade.commission) ++ 32 ∷ commission_remark o.trade.status)
@@ -141,23 +141,23 @@ opened_lot_lines u price None = []
 opened_lot_lines u price (Some row) = opened_lot_line u price row ∷ []
 
 -- The line of the price of the completed trade, and the column headings of its lots.
-unfoldable pub price_and_lot_header_lines : ResultStory → List Text
+unfoldable pub price_and_lot_header_lines : ResultDetails → List Text
 price_and_lot_header_lines r =
     labeled_amount (codes "Price") (pos r.price)
     ∷ codes "#      opened                            lot      shares      price       bought for         sold for        left"
     ∷ []
 
 -- A line for each lot of which the trade closed shares, in the order of closing.
-unfoldable pub closed_lot_lines : OrderStory → ResultStory → List Text
+unfoldable pub closed_lot_lines : OrderDetails → ResultDetails → List Text
 closed_lot_lines o r = map (closed_lot_line (side_of_trade_type o.trade.kind) r.price) r.closings
 
 -- The lines of the number of closed shares and of the number of opened shares.
-unfoldable pub share_count_lines : ResultStory → List Text
+unfoldable pub share_count_lines : ResultDetails → List Text
 share_count_lines r =
     labeled_number (codes "Shares closed") (total_closed_shares r.closings) ∷ labeled_number (codes "Shares opened") (nat_abs (opened_quantity r)) ∷ []
 
 -- The lines of the buy value, the sell value and the realised gain of the closed shares.
-unfoldable pub realised_gain_lines : OrderStory → ResultStory → List Text
+unfoldable pub realised_gain_lines : OrderDetails → ResultDetails → List Text
 realised_gain_lines o r =
     labeled_amount (codes "BUY") (pos (buy_value_of_closings (side_of_trade_type o.trade.kind) r.price r.closings))
     ∷ labeled_amount (codes "SELL") (pos (sell_value_of_closings (side_of_trade_type o.trade.kind) r.price r.closings))
@@ -166,7 +166,7 @@ realised_gain_lines o r =
 
 -- The lines of the price, of the lots that the trade closed and opened, of the numbers of shares,
 -- and of the realised gain.
-unfoldable pub lot_and_gain_lines : OrderStory → ResultStory → List Text
+unfoldable pub lot_and_gain_lines : OrderDetails → ResultDetails → List Text
 lot_and_gain_lines o r =
     price_and_lot_header_lines r ++ closed_lot_lines o r ++ opened_lot_lines o.trade r.price r.own_lot ++ share_count_lines r ++ realised_gain_lines o r
 
@@ -177,12 +177,12 @@ tax_rate_line rate =
     left_aligned_text 6 (codes "Rate") ++ 32 ∷ right_aligned_text 13 (decimal rate.id) ++ 32 ∷ right_aligned_text 11 (decimal rate.rate) ++ 32 ∷ rate.name
 
 -- The line of the number of the account's tax status, 0 to 2, as a list of one.
-unfoldable pub account_tax_status_lines : OrderStory → List Text
+unfoldable pub account_tax_status_lines : OrderDetails → List Text
 account_tax_status_lines o = labeled_number (codes "Tax status") (tax_status_number o.tax_status) ∷ []
 
 -- The lines of the sum of the customer's current tax rates, of the tax on the realised gain at this
 -- sum (0 if the account is not taxable), and of the tax that the trade records.
-unfoldable pub current_and_recorded_tax_lines : OrderStory → ResultStory → List Text
+unfoldable pub current_and_recorded_tax_lines : OrderDetails → ResultDetails → List Text
 current_and_recorded_tax_lines o r =
     (labeled_number (codes "Rates now") (sum_of_tax_rates r.rates) ++ codes " of 100000")
     ∷ labeled_amount (codes "Tax now") (pos (tax_at_current_rates o r))
@@ -191,7 +191,7 @@ current_and_recorded_tax_lines o r =
 
 -- The lines of the tax status, of each current tax rate of the customer, and of the current and the
 -- recorded tax.
-unfoldable pub trade_tax_lines : OrderStory → ResultStory → List Text
+unfoldable pub trade_tax_lines : OrderDetails → ResultDetails → List Text
 trade_tax_lines o r = account_tax_status_lines o ++ map tax_rate_line r.rates ++ current_and_recorded_tax_lines o r
 
 -- The text after the rate of the commission band `b`: that the rate is of 10000, and the first and
@@ -216,12 +216,12 @@ current_commission_line None = labeled_value (codes "Commission now") (codes "no
 current_commission_line (Some amount) = labeled_amount (codes "Commission now") (pos amount)
 
 -- The line of the current commission band, and the line of the commission at its rate.
-unfoldable pub band_and_commission_lines : OrderStory → ResultStory → List Text
+unfoldable pub band_and_commission_lines : OrderDetails → ResultDetails → List Text
 band_and_commission_lines o r = commission_band_line r.band ∷ current_commission_line (commission_in_current_band o r) ∷ []
 
 -- The lines of the settlement: the signed value, the negated charge, commission and withheld tax,
 -- the settlement amount, and the cash type.
-unfoldable pub trade_settlement_lines : OrderStory → ResultStory → List Text
+unfoldable pub trade_settlement_lines : OrderDetails → ResultDetails → List Text
 trade_settlement_lines o r =
     labeled_amount (codes "Value") (signed_trade_value o r)
     ∷ labeled_amount (codes "Charge") (neg_ℤ (pos o.trade.charge))
@@ -233,7 +233,7 @@ trade_settlement_lines o r =
 
 -- The lines of the day of completion, of the settlement day or `none`, of the number
 -- of days to settle, and of the due day.
-unfoldable pub due_day_lines : OrderStory → ResultStory → List Text
+unfoldable pub due_day_lines : OrderDetails → ResultDetails → List Text
 due_day_lines o r =
     labeled_text (codes "Completed on") (day_text (day_of o.trade.stamp))
     ∷ labeled_text (codes "One day from") (option_map_or day_text r.rule (codes "none"))
@@ -249,7 +249,7 @@ trade_cash_row_line (Some row) = labeled_number (codes "Cash row") row.id ++ 32 
 
 -- The lines of the cash row, of the opening balance, of the sum of the earlier cash rows, of the
 -- balance before the trade, of the amount of its cash row, and of the balance after it.
-unfoldable pub trade_balance_lines : OrderStory → ResultStory → List Text
+unfoldable pub trade_balance_lines : OrderDetails → ResultDetails → List Text
 trade_balance_lines o r =
     trade_cash_row_line r.cash
     ∷ labeled_amount (codes "Opening") o.opening
@@ -268,23 +268,23 @@ trade_counts_line statuses lots cash =
 
 -- The last line of the explanation of a completed trade, as a list of one: the numbers of its
 -- status changes, of the lots of which it closed shares, and of the account's earlier cash rows.
-unfoldable pub trade_counts_lines : OrderStory → ResultStory → List Text
+unfoldable pub trade_counts_lines : OrderDetails → ResultDetails → List Text
 trade_counts_lines o r = trade_counts_line (length o.statuses) (length r.closings) r.cash_rows ∷ []
 
 -- The lines after the status changes of a completed trade: lots and gain, tax, commission,
 -- settlement, due day, balance and counts.
-unfoldable pub completed_trade_lines : OrderStory → ResultStory → List Text
+unfoldable pub completed_trade_lines : OrderDetails → ResultDetails → List Text
 completed_trade_lines o r =
     lot_and_gain_lines o r ++ trade_tax_lines o r ++ band_and_commission_lines o r ++ trade_settlement_lines o r ++ due_day_lines o r ++ trade_balance_lines o r
     ++ trade_counts_lines o r
 
 -- The lines after the status changes of a trade: those of a completed trade if it has results, and
 -- otherwise those of a trade that is not completed.
-unfoldable pub lines_after_statuses : OrderStory → Option ResultStory → List Text
+unfoldable pub lines_after_statuses : OrderDetails → Option ResultDetails → List Text
 lines_after_statuses o None = uncompleted_trade_lines o
 lines_after_statuses o (Some r) = completed_trade_lines o r
 
 -- All lines of the explanation of a trade: those of the order and of the status changes, and those
 -- after them.
-unfoldable pub trade_explanation_lines : TradeStory → List Text
-trade_explanation_lines story = order_and_status_lines story.order ++ lines_after_statuses story.order story.result
+unfoldable pub trade_explanation_lines : TradeDetails → List Text
+trade_explanation_lines details = order_and_status_lines details.order ++ lines_after_statuses details.order details.result

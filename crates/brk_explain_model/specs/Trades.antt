@@ -26,7 +26,7 @@ use Rattle.brk_model.specs.Statement.{cash_move_rows_of_account, cash_row_total}
 -- A trade as ordered, with the name, the customer, the broker, the tax status and the opening
 -- balance, in cents, of its account, the name of its security, and its status changes, the oldest
 -- first.
-pub record OrderStory : Type 0 where
+pub record OrderDetails : Type 0 where
   pub trade : TradeRow
   pub account_name : Text
   pub customer : ℕ
@@ -51,7 +51,7 @@ pub record Closing : Type 0 where
 -- commission band, as they are now; its settlement; its cash row, if any; the sum, in cents, and
 -- the number of the account's cash rows before its completion; and the settlement day as it is now
 -- (`rule`).
-pub record ResultStory : Type 0 where
+pub record ResultDetails : Type 0 where
   pub price : ℕ
   pub closings : List Closing
   pub own_lot : Option HoldingHistoryRow
@@ -65,9 +65,9 @@ pub record ResultStory : Type 0 where
 
 -- The facts that the explanation of a trade reads: the trade as ordered, and its results if it is
 -- completed.
-pub record TradeStory : Type 0 where
-  pub order : OrderStory
-  pub result : Option ResultStory
+pub record TradeDetails : Type 0 where
+  pub order : OrderDetails
+  pub result : Option ResultDetails
 
 -- The completion price of the trade `u`, in cents, or 0 if it has none.
 abbrev pub completion_price_or_zero : TradeRow → ℕ
@@ -83,7 +83,7 @@ sorted_statuses_of_trade tables trade = sort_by (λ a b. nat_lt a.stamp b.stamp)
 
 -- The trade `u` as ordered, with the facts of its account and its security in `tables`. If one of
 -- these does not exist, its names are empty, its numbers are 0 and its tax status is `Untaxed`.
-abbrev pub order_details_of_trade : Tables → TradeRow → OrderStory
+abbrev pub order_details_of_trade : Tables → TradeRow → OrderDetails
 order_details_of_trade tables u = record {
   trade = u;
   account_name = option_map_or (λ a. a.name) (account_row_with_id tables u.account) [];
@@ -168,7 +168,7 @@ abbrev pub cash_rows_before_completion : Tables → TradeRow → List MoveRow
 cash_rows_before_completion tables u = filter (λ row. nat_lt row.stamp u.stamp) (cash_move_rows_of_account tables u.account)
 
 -- The results of the completed trade `u`, from its rows in `tables`.
-abbrev pub result_details_of_trade : Tables → TradeRow → ResultStory
+abbrev pub result_details_of_trade : Tables → TradeRow → ResultDetails
 result_details_of_trade tables u = record {
   price = completion_price_or_zero u;
   closings = closings_of_trade tables u;
@@ -184,7 +184,7 @@ result_details_of_trade tables u = record {
 
 -- The facts that the explanation of the trade `u` reads from `tables`: the trade as ordered, and
 -- its results if it is completed.
-unfoldable pub details_of_trade : Tables → TradeRow → TradeStory
+unfoldable pub details_of_trade : Tables → TradeRow → TradeDetails
 details_of_trade tables u =
     record { order = order_details_of_trade tables u; result = if has_completed_status u then Some (result_details_of_trade tables u) else None }
 
@@ -224,7 +224,7 @@ abbrev pub realised_gain_of_closings : Side → ℕ → List Closing → ℤ
 realised_gain_of_closings side price closings = pos (sell_value_of_closings side price closings) -ℤ pos (buy_value_of_closings side price closings)
 
 -- The quantity of the lot that the trade opened, below 0 if it sold short; 0 if it opened no lot.
-abbrev pub opened_quantity : ResultStory → ℤ
+abbrev pub opened_quantity : ResultDetails → ℤ
 opened_quantity r = option_map_or (λ row. row.after) r.own_lot (pos 0)
 
 -- The sum of the tax rates `rates`, in hundred-thousandths.
@@ -233,38 +233,38 @@ sum_of_tax_rates rates = sum_by (λ rate. rate.rate) rates
 
 -- The tax on the realised gain of the trade at its customer's current tax rates, in cents; 0 if the
 -- account is not taxable.
-abbrev pub tax_at_current_rates : OrderStory → ResultStory → ℕ
+abbrev pub tax_at_current_rates : OrderDetails → ResultDetails → ℕ
 tax_at_current_rates o r =
     if is_taxable_status o.tax_status
     then tax (realised_gain_of_closings (side_of_trade_type o.trade.kind) r.price r.closings) (sum_of_tax_rates r.rates)
     else 0
 
 -- The commission of the trade at the rate of its current band, in cents; none if there is no band.
-abbrev pub commission_in_current_band : OrderStory → ResultStory → Option ℕ
+abbrev pub commission_in_current_band : OrderDetails → ResultDetails → Option ℕ
 commission_in_current_band o r = option_map (λ b. commission b.rate o.trade.qty r.price) r.band
 
 -- The quantity of the trade times its price, in cents, negated if it is a purchase.
-abbrev pub signed_trade_value : OrderStory → ResultStory → ℤ
+abbrev pub signed_trade_value : OrderDetails → ResultDetails → ℤ
 signed_trade_value o r = signed_proceeds (side_of_trade_type o.trade.kind) (o.trade.qty * r.price)
 
 -- The recorded tax of the trade, in cents, if the tax status of its account is that of withheld
 -- tax; otherwise 0.
-abbrev pub withheld_tax_of_trade : OrderStory → ℕ
+abbrev pub withheld_tax_of_trade : OrderDetails → ℕ
 withheld_tax_of_trade o = if is_withholding_status o.tax_status then o.trade.tax else 0
 
 -- The amount of the cash row of the trade, in cents; 0 if it has none.
-abbrev pub balance_change_of_trade : ResultStory → ℤ
+abbrev pub balance_change_of_trade : ResultDetails → ℤ
 balance_change_of_trade r = option_map_or (λ row. row.amount) r.cash (pos 0)
 
 -- The balance before the trade, in cents: the opening balance plus the account's earlier cash rows.
-abbrev pub balance_before_trade : OrderStory → ResultStory → ℤ
+abbrev pub balance_before_trade : OrderDetails → ResultDetails → ℤ
 balance_before_trade o r = o.opening +ℤ r.cash_before
 
 -- The balance after the trade, in cents: the balance before it plus the amount of its cash row.
-abbrev pub balance_after_trade : OrderStory → ResultStory → ℤ
+abbrev pub balance_after_trade : OrderDetails → ResultDetails → ℤ
 balance_after_trade o r = balance_before_trade o r +ℤ balance_change_of_trade r
 
 -- The number of days after its completion on which the trade settles, by the settlement day as it
 -- is now.
-abbrev pub days_to_settle : OrderStory → ResultStory → ℕ
+abbrev pub days_to_settle : OrderDetails → ResultDetails → ℕ
 days_to_settle o r = days_to_settlement r.rule (day_of o.trade.stamp)

@@ -14,7 +14,7 @@ use Rattle.brk_model.specs.Joins.{trade_rows_oldest_first, trade_row_with_id}
 use Rattle.brk_model.specs.Lists.{sort_by_key}
 use Rattle.brk_model.specs.Tables.{HoldingHistoryRow, Tables, TradeRow}
 use Rattle.brk_tables_schema.specs.Made.{HasDeskTables}
-use Rattle.brk_explain_model.specs.Holdings.{LotStory, completed_trades_in_symbol, lot_with_later_changes, lots_opened_in_symbol}
+use Rattle.brk_explain_model.specs.Holdings.{LotDetails, completed_trades_in_symbol, lot_with_later_changes, lots_opened_in_symbol}
 use Rattle.brk_explain_model.specs.Trades.{has_completed_status, opened_lot_row}
 use Rattle.brk_store.proofs.WalkedLists.{IsStrictlyAscendingBy, oldest_same, trades_climb}
 use Rattle.brk_explain_reads.specs.HoldingParts.{lot_if_opened, lot_opened_by_trade}
@@ -78,7 +78,7 @@ rows_back t [] h = refl
 rows_back t (u ∷ rows) h =
     ap (λ o. option_to_list o ++ flat_map (λ id. option_to_list (trade_row_with_id t id)) (map (λ (r : TradeRow). r.id) rows)) h.0 ∙ ap (λ us. u ∷ us) (rows_back t rows h.1)
 
-lot_kept : (f : TradeRow → LotStory) (u : TradeRow) (rows : List TradeRow) (own : Option HoldingHistoryRow)
+lot_kept : (f : TradeRow → LotDetails) (u : TradeRow) (rows : List TradeRow) (own : Option HoldingHistoryRow)
     → option_to_list (lot_if_opened own (Some (f u))) ++ map f rows ≡ map f (cond (is_some own) (u ∷ rows) rows)
 lot_kept f u rows None = refl
 lot_kept f u rows (Some row) = refl

@@ -13,9 +13,9 @@ use Rattle.brk_model.specs.Tables.{HoldingHistoryRow, Tables, TradeRow}
 use Rattle.brk_explain_model.specs.Holdings as model
 use Rattle.brk_explain_model.specs.Holdings.{recorded_lot_change, later_changes_of_lot, lot_with_later_changes, quantity_opened_by_trade}
 use Rattle.brk_explain_model.specs.Trades.{opened_lot_row, completion_price_or_zero}
-use Rattle.brk_explain_rows.specs.Stories.{abstract_priced_lot_change, abstract_lot_story}
-use Rattle.brk_explain_rows.specs.declared.holding_story.PricedLotChange.{PricedLotChange}
-use Rattle.brk_explain_rows.specs.declared.holding_story.LotStory.{LotStory}
+use Rattle.brk_explain_rows.specs.Details.{abstract_priced_lot_change, abstract_lot_details}
+use Rattle.brk_explain_rows.specs.declared.holding_details.PricedLotChange.{PricedLotChange}
+use Rattle.brk_explain_rows.specs.declared.holding_details.LotDetails.{LotDetails}
 use Rattle.brk_explain_reads.specs.HoldingParts.{AreLotChangesByTradeId, lot_if_opened, lot_opened_by_trade}
 use Rattle.brk_explain_reads.specs.declared.lot_changes.OpeningAndLaterChanges.{OpeningAndLaterChanges}
 use Rattle.brk_explain_reads.proofs.Each.{filter_both, find_both, find_same, found_passes, map_map}
@@ -62,16 +62,16 @@ number_is : (m n : ℕ) → (m == n) ≡ true → m ≡ n
 number_is m n e = grind (arith, nat_tests)
 
 -- the lot of a trade that was found
-pub lot_known : (t : Tables) (trade : ℕ) (opening : LotChange) (row : code.TradeRow) (lot : LotStory) → Some (rows.abstract_lot_change_row opening) ≡ opened_lot_row t trade
+pub lot_known : (t : Tables) (trade : ℕ) (opening : LotChange) (row : code.TradeRow) (lot : LotDetails) → Some (rows.abstract_lot_change_row opening) ≡ opened_lot_row t trade
     → trade_row_with_id t trade ≡ Some (abstract_trade_row row) → lot.trade ≡ row → lot.opened ≡ opening.after → map abstract_priced_lot_change lot.changes.items ≡ later_changes_of_lot t trade
-    → Some (abstract_lot_story lot) ≡ lot_opened_by_trade t trade
+    → Some (abstract_lot_details lot) ≡ lot_opened_by_trade t trade
 lot_known t trade opening row lot own found same opened changes =
     let u = abstract_trade_row row in
     let is : u.id ≡ trade = number_is u.id trade (found_passes (λ (r : TradeRow). r.id == trade) t.trades u found) in
     let amount : opening.after ≡ quantity_opened_by_trade t u.id = ap (λ o. option_map_or (λ (r : HoldingHistoryRow). r.after) o (pos 0)) own ∙ ap (quantity_opened_by_trade t) (sym is) in
     let later_changes : map abstract_priced_lot_change lot.changes.items ≡ later_changes_of_lot t u.id = changes ∙ ap (later_changes_of_lot t) (sym is) in
-    let story : abstract_lot_story lot ≡ lot_with_later_changes t u = λ i. record { trade = abstract_trade_row (same i); opened = (opened ∙ amount) i; changes = later_changes i } in
-    ap Some story
+    let details : abstract_lot_details lot ≡ lot_with_later_changes t u = λ i. record { trade = abstract_trade_row (same i); opened = (opened ∙ amount) i; changes = later_changes i } in
+    ap Some details
     ∙ (λ i. lot_if_opened (own i) (option_map (lot_with_later_changes t) (sym found i)))
 
 -- a trade that opened none

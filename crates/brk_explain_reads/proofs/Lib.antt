@@ -4,7 +4,7 @@ pub mod Each
 pub mod Walked
 pub mod LotParts
 pub mod TermParts
-pub mod StoryParts
+pub mod DetailParts
 pub mod Changes
 pub mod ById
 pub mod Skipped

@@ -22,7 +22,7 @@ use Rattle.brk_store.specs.Holds.{HoldsRows, ReadPost}
 use Rattle.brk_store.specs.ReadSequences.{IsUnchangedByReads, disk_was_clean_before_reads, single_read_changes_nothing, joined_reads_change_nothing}
 use Rattle.brk_store.specs.Walked.{EqualsStoredList, IsPrefixOfStoredList, WalkPost, completed_trades_by_stamp}
 use Rattle.brk_store.proofs.WalkedLists.{IsStrictlyAscendingBy, accounts_climb, completed_filter}
-use Rattle.brk_explain_reads.specs.Skipping.{TakesOnlyIf}
+use Rattle.brk_explain_reads.specs.Skipping.{VisitorTakesRecordOnlyIf}
 
 -- ---- the accounts of a broker, by their ids
 
@@ -95,11 +95,11 @@ map_kept f p q h (x ∷ xs) = pushed f x (filter p xs) (p x) ∙ (λ i. cond (h 
 last_kept : {X : Type 0} (p : X → Bool) (xs : List X) (x : X) → p x ≡ true → filter p (xs ++ x ∷ []) ≡ filter p xs ++ x ∷ []
 last_kept p xs x e = filter-append p xs (x ∷ []) ∙ (λ i. filter p xs ++ cond (e i) (x ∷ []) [])
 
-pub takes_passed : {V X : Type 0} (b : Bool) (takes : V → X → V → Type 0) (p : V) (x : X) (q : V) → b ≡ true → takes p x q → TakesOnlyIf b takes p x q
-takes_passed b takes p x q e h = subst (λ (test : Bool). TakesOnlyIf test takes p x q) (sym e) h
+pub takes_passed : {V X : Type 0} (b : Bool) (takes : V → X → V → Type 0) (p : V) (x : X) (q : V) → b ≡ true → takes p x q → VisitorTakesRecordOnlyIf b takes p x q
+takes_passed b takes p x q e h = subst (λ (test : Bool). VisitorTakesRecordOnlyIf test takes p x q) (sym e) h
 
-pub takes_skipped : {V X : Type 0} (b : Bool) (takes : V → X → V → Type 0) (p : V) (x : X) → b ≡ false → TakesOnlyIf b takes p x p
-takes_skipped {V} b takes p x e = subst (λ (test : Bool). TakesOnlyIf test takes p x p) (sym e) refl
+pub takes_skipped : {V X : Type 0} (b : Bool) (takes : V → X → V → Type 0) (p : V) (x : X) → b ≡ false → VisitorTakesRecordOnlyIf b takes p x p
+takes_skipped {V} b takes p x e = subst (λ (test : Bool). VisitorTakesRecordOnlyIf test takes p x p) (sym e) refl
 
 pub on_ok_more : {A B R E : Type 0} (r : Result R E) → (A → B) → OnOk r A → OnOk r B
 on_ok_more (Ok u) f h = f h
@@ -128,12 +128,12 @@ walk_none g old new of list takes stops v fault Q may read = record {
 module _ {S A X M V W E : Type 0} (g : Ghosts S) (old mid new : Held S) (of : X → M) (all list : Tables → List M) (inner : W → V) (keep : W → A) (test : A → X → Bool) (takes : V → X → V → Type 0)
     (stops : V → X → E → V → Type 0) where
   abbrev pub TakesOn : W → X → W → Type 0
-  TakesOn p x q = (keep q ≡ keep p) × TakesOnlyIf (test (keep p) x) takes (inner p) x (inner q)
+  TakesOn p x q = (keep q ≡ keep p) × VisitorTakesRecordOnlyIf (test (keep p) x) takes (inner p) x (inner q)
 
   abbrev pub StopsOn : W → X → E → W → Type 0
   StopsOn p x e q = (test (keep p) x ≡ true) × stops (inner p) x e (inner q)
 
-  one_on : (p j : W) (x : X) (rest : List X) (q : W) (b : Bool) → TakesOnlyIf b takes (inner p) x (inner j) → FoldsTo takes (inner j) rest (inner q) → FoldsTo takes (inner p) (cond b (x ∷ rest) rest) (inner q)
+  one_on : (p j : W) (x : X) (rest : List X) (q : W) (b : Bool) → VisitorTakesRecordOnlyIf b takes (inner p) x (inner j) → FoldsTo takes (inner j) rest (inner q) → FoldsTo takes (inner p) (cond b (x ∷ rest) rest) (inner q)
   one_on p j x rest q true h k = (inner j, h, k)
   one_on p j x rest q false h k = subst (λ v. FoldsTo takes v rest (inner q)) h k
 

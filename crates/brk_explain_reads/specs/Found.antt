@@ -4,9 +4,9 @@ use Rattle.brk_changes.specs.Rows.{abstract_history_row, abstract_lot_change_row
 use Rattle.brk_changes.specs.declared.trade_row.TradeRow as trade
 use Rattle.brk_explain_model.specs.Trades.{band_for_customer_and_security, recorded_closing, closings_of_trade, is_closing_by, opened_lot_row}
 use Rattle.brk_explain_model.specs.Trades.{tax_rates_of_customer, result_details_of_trade, settlement_of_trade_or_zeros, sorted_statuses_of_trade}
-use Rattle.brk_explain_rows.specs.Stories.{abstract_closing, abstract_result_story}
-use Rattle.brk_explain_rows.specs.declared.story.OrderStory.{OrderStory}
-use Rattle.brk_explain_rows.specs.declared.story.ResultStory.{ResultStory}
+use Rattle.brk_explain_rows.specs.Details.{abstract_closing, abstract_result_details}
+use Rattle.brk_explain_rows.specs.declared.details.OrderDetails.{OrderDetails}
+use Rattle.brk_explain_rows.specs.declared.details.ResultDetails.{ResultDetails}
 use Rattle.brk_model.specs.Joins.{account_row_with_id, security_row_with_symbol}
 use Rattle.brk_model.specs.LookupView.{is_cash_row_of_trade}
 use Rattle.brk_model.specs.Statement.{cash_move_rows_of_account, cash_row_total}
@@ -43,7 +43,7 @@ AreTradeLotsInClosingOrder t u lots =
 
 -- `order` has the trade `row`, the rows of its account and of its security in the tables `t`, and
 -- its status changes, the oldest first.
-pub record IsOrderOfTrade (row : trade.TradeRow) (order : OrderStory) (t : Tables) : Type 0 where
+pub record IsOrderOfTrade (row : trade.TradeRow) (order : OrderDetails) (t : Tables) : Type 0 where
   pub trade : order.trade ≡ row
   pub account : account_row_with_id t row.account ≡ Some (abstract_account_row order.account)
   pub security : security_row_with_symbol t row.symbol ≡ Some (abstract_security_row order.security)
@@ -51,7 +51,7 @@ pub record IsOrderOfTrade (row : trade.TradeRow) (order : OrderStory) (t : Table
 
 -- `terms` has the tax rates of the customer of the order's account, and the commission band of its
 -- trade for this customer and its security, as the tables `t` have them now.
-abbrev pub AreTaxRatesAndBand : Tables → OrderStory → TaxRatesAndBand → Type 0
+abbrev pub AreTaxRatesAndBand : Tables → OrderDetails → TaxRatesAndBand → Type 0
 AreTaxRatesAndBand t order terms =
     (map abstract_tax_rate terms.rates.items ≡ tax_rates_of_customer t order.account.account.customer)
     × (option_map abstract_band terms.band
@@ -65,9 +65,9 @@ IsSettlementOfTrade t trade settled =
     (abstract_settlement_row settled.settlement ≡ settlement_of_trade_or_zeros t trade)
     × (option_map abstract_move_row settled.cash ≡ find (is_cash_row_of_trade trade) t.moves) × (settled.rule ≡ t.rule)
 
--- `story` has the results of the order's trade in the tables `t`: its price, closings, own lot,
+-- `details` has the results of the order's trade in the tables `t`: its price, closings, own lot,
 -- settlement, cash row, earlier cash rows, current tax rates and band, and the settlement day.
 -- Vacuous if `order` does not have the rows and status changes of its trade in these tables
 -- (`IsOrderOfTrade`).
-abbrev pub IsResultOfOrder : OrderStory → ResultStory → Tables → Type 0
-IsResultOfOrder order story t = IsOrderOfTrade order.trade order t → abstract_result_story story ≡ result_details_of_trade t (abstract_trade_row order.trade)
+abbrev pub IsResultOfOrder : OrderDetails → ResultDetails → Tables → Type 0
+IsResultOfOrder order details t = IsOrderOfTrade order.trade order t → abstract_result_details details ≡ result_details_of_trade t (abstract_trade_row order.trade)

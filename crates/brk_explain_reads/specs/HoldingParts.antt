@@ -5,10 +5,10 @@ use Rattle.brk_changes.specs.Rows.{abstract_trade_row}
 use Rattle.brk_changes.specs.Rows as rows
 use Rattle.brk_model.specs.Joins.{last_price_in_tables, trade_row_with_id}
 use Rattle.brk_model.specs.Tables.{HoldingHistoryRow, Tables}
-use Rattle.brk_explain_model.specs.Holdings.{LotStory, completed_trades_in_symbol, recorded_lot_change, later_changes_of_lot}
+use Rattle.brk_explain_model.specs.Holdings.{LotDetails, completed_trades_in_symbol, recorded_lot_change, later_changes_of_lot}
 use Rattle.brk_explain_model.specs.Holdings.{lot_with_later_changes, lots_opened_in_symbol, summary_quantity_in_symbol}
 use Rattle.brk_explain_model.specs.Trades.{opened_lot_row}
-use Rattle.brk_explain_rows.specs.Stories.{abstract_priced_lot_change, abstract_lot_story}
+use Rattle.brk_explain_rows.specs.Details.{abstract_priced_lot_change, abstract_lot_details}
 use Rattle.brk_explain_reads.specs.declared.holding_trades.TradesAndLots.{TradesAndLots}
 use Rattle.brk_explain_reads.specs.declared.holding_trades.TradeAndLot.{TradeAndLot}
 use Rattle.brk_explain_reads.specs.declared.holdings.QuantityAndPrice.{QuantityAndPrice}
@@ -30,19 +30,19 @@ AreLotChangesByCompletion t lot all =
     × (map abstract_priced_lot_change all.later_changes.items ≡ later_changes_of_lot t lot)
 
 -- The lot `lot` if there is a row that records an opening, otherwise `None`.
-abbrev pub lot_if_opened : Option HoldingHistoryRow → Option LotStory → Option LotStory
+abbrev pub lot_if_opened : Option HoldingHistoryRow → Option LotDetails → Option LotDetails
 lot_if_opened None lot = None
 lot_if_opened (Some row) lot = lot
 
 -- The lot that the trade with the id `trade` opened, with its later changes, or `None` if it opened
 -- none or does not exist.
-abbrev pub lot_opened_by_trade : Tables → ℕ → Option LotStory
+abbrev pub lot_opened_by_trade : Tables → ℕ → Option LotDetails
 lot_opened_by_trade t trade = lot_if_opened (opened_lot_row t trade) (option_map (lot_with_later_changes t) (trade_row_with_id t trade))
 
 -- `one` has the row of `trade` in the tables `t` and the lot that it opened, if any.
 abbrev pub IsTradeWithLot : Tables → ℕ → TradeAndLot → Type 0
 IsTradeWithLot t trade one =
-    (trade_row_with_id t trade ≡ Some (abstract_trade_row one.trade)) × (option_map abstract_lot_story one.lot ≡ lot_opened_by_trade t trade)
+    (trade_row_with_id t trade ≡ Some (abstract_trade_row one.trade)) × (option_map abstract_lot_details one.lot ≡ lot_opened_by_trade t trade)
 
 -- `held` has the completed trades of `account` in the security `symbol`, and the lots that they
 -- opened with their later changes, both sorted by the stamp of completion, as the tables `t` record
@@ -50,7 +50,7 @@ IsTradeWithLot t trade one =
 abbrev pub AreTradesAndLotsOfHolding : Tables → ℕ → Text → TradesAndLots → Type 0
 AreTradesAndLotsOfHolding t account symbol held =
     (map abstract_trade_row held.done.items ≡ completed_trades_in_symbol t account symbol)
-    × (map abstract_lot_story held.lots.items ≡ lots_opened_in_symbol t account symbol)
+    × (map abstract_lot_details held.lots.items ≡ lots_opened_in_symbol t account symbol)
 
 -- `held` has the quantity of the holding summary of `account` in the security `symbol` (0 if there
 -- is none), and the last price of this security, as the tables `t` record them.

@@ -3,12 +3,12 @@
 ghost use Rattle.std.specs.Prelude.{◌≡◌, IfErr, map};
 ghost use Rattle.brk_changes.specs.Rows.{abstract_summary_row};
 ghost use Rattle.brk_explain_model.specs.AccountLines.{priced_holding, priced_holdings_of_account};
-ghost use Rattle.brk_explain_rows.specs.Stories.{IsStoryOfAccount, abstract_priced_holding};
+ghost use Rattle.brk_explain_rows.specs.Details.{AreDetailsOfAccount, abstract_priced_holding};
 ghost use Rattle.brk_model.specs.Run.{IsCallFault};
 ghost use Rattle.brk_store.specs.Holds.{ReadPost};
 
 use brk_changes::SummaryRow;
-use brk_explain_rows::{AccountStory, PricedHolding};
+use brk_explain_rows::{AccountDetails, PricedHolding};
 use brk_money::{Fault, Id};
 use brk_store::Store;
 use sqlite::Alter;
@@ -58,17 +58,17 @@ fn read_priced_holdings<S: Alter>(
 ///
 /// Fails with `Memory` or `Store` only; with `Store` also if a symbol has no last price. The open
 /// database is unchanged, whatever the result.
-pub fn read_account_story<S: Alter>(
+pub fn read_account_details<S: Alter>(
     alloc: Global,
     store: &mut Store<S>,
     account: Id,
-) -> Result<Option<AccountStory>, Fault>
-    ensures read { ReadPost S.Store store.old store.new result (IsStoryOfAccount account) }
+) -> Result<Option<AccountDetails>, Fault>
+    ensures read { ReadPost S.Store store.old store.new result (AreDetailsOfAccount account) }
     ensures fault { IfErr result IsCallFault }
 {
     let Some(row) = store.account(account)? else {
         return Ok(None);
     };
     let held = read_priced_holdings(alloc, store, account)?;
-    Ok(Some(AccountStory { account: row, held }))
+    Ok(Some(AccountDetails { account: row, held }))
 }

@@ -4,13 +4,13 @@ ghost use Rattle.std.specs.Prelude.{◌≡◌, ◌==◌, IfErr};
 ghost use Rattle.std.specs.List.{list_any};
 ghost use Rattle.brk_changes.specs.Rows.{abstract_trade_row};
 ghost use Rattle.brk_explain_model.specs.BrokerLines.{completed_trades_of_broker};
-ghost use Rattle.brk_explain_rows.specs.Stories.{IsStoryOfBroker};
+ghost use Rattle.brk_explain_rows.specs.Details.{AreDetailsOfBroker};
 ghost use Rattle.brk_model.specs.Run.{IsCallFault};
 ghost use Rattle.brk_store.specs.Holds.{ReadPost};
 ghost use Rattle.brk_store.specs.Walked.{WalkPost};
 
 use brk_changes::TradeRow;
-use brk_explain_rows::BrokerStory;
+use brk_explain_rows::BrokerDetails;
 use brk_money::{Fault, Id};
 use brk_store::{Store, Visitor, WalkError};
 use sqlite::Alter;
@@ -21,19 +21,19 @@ use std::alloc::Global;
 ///
 /// Fails with `Memory` or `Store` only. If the database is still open, it is unchanged, whatever
 /// the result.
-pub fn read_broker_story<S: Alter>(
+pub fn read_broker_details<S: Alter>(
     alloc: Global,
     store: &mut Store<S>,
     broker: Id,
-) -> Result<Option<BrokerStory>, Fault>
-    ensures read { ReadPost S.Store store.old store.new result (IsStoryOfBroker broker) }
+) -> Result<Option<BrokerDetails>, Fault>
+    ensures read { ReadPost S.Store store.old store.new result (AreDetailsOfBroker broker) }
     ensures fault { IfErr result IsCallFault }
 {
     let Some(row) = store.broker(broker)? else {
         return Ok(None);
     };
     let accounts = store.accounts_of_broker(alloc, broker)?;
-    Ok(Some(BrokerStory {
+    Ok(Some(BrokerDetails {
         broker: row,
         accounts: accounts.len(),
     }))
@@ -57,14 +57,14 @@ impl<E, V: Visitor<TradeRow, E>> Visitor<TradeRow, E> for AccountFilter<'_, V> {
     ghost use Rattle.std.specs.Prelude.{◌≡◌, ◌==◌, refl, true};
     ghost use Rattle.std.specs.List.{list_any};
     ghost use Rattle.std.proofs.Common.{◌∙◌};
-    ghost use Rattle.brk_explain_reads.specs.Skipping.{TakesOnlyIf};
+    ghost use Rattle.brk_explain_reads.specs.Skipping.{VisitorTakesRecordOnlyIf};
 
     ghost ready = { λ p. V.ready p.visitor.now };
 
     ghost leads = { λ p q. (q.visitor.ghost_name ≡ p.visitor.ghost_name) × V.leads p.visitor.now q.visitor.now };
 
     ghost takes = { λ p r q. (q.accounts.now ≡ p.accounts.now)
-        × TakesOnlyIf (list_any (λ a. a == r.account) p.accounts.now) V.takes p.visitor.now r q.visitor.now };
+        × VisitorTakesRecordOnlyIf (list_any (λ a. a == r.account) p.accounts.now) V.takes p.visitor.now r q.visitor.now };
 
     ghost stops = { λ p r e q. (list_any (λ a. a == r.account) p.accounts.now ≡ true) × V.stops p.visitor.now r e q.visitor.now };
 

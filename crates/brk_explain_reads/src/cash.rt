@@ -20,7 +20,7 @@ pub struct CashSum {
 
 // Returns the sum with one cash row more, of this amount in cents. Fails with `Store` if the number
 // or the total does not fit.
-fn sum_with_cash_row(sum: &CashSum, amount: Cents) -> Result<CashSum, Fault>
+fn cash_sum_with_row(sum: &CashSum, amount: Cents) -> Result<CashSum, Fault>
     ensures sum { IfOk result (λ more. (more.rows ≡ sum.now.rows + 1) × (more.total ≡ sum.now.total +ℤ amount)) }
     ensures fault { OnErr result (result ≡ Err fault.Store) }
 {
@@ -60,7 +60,7 @@ impl Visitor<MoveRow, Fault> for EarlierCashSum {
     /// if the number or the total does not fit.
     fn visit(&mut self, item: &MoveRow) -> Result<(), Fault> {
         if item.stamp.get() < self.until.get() {
-            self.sum = sum_with_cash_row(&self.sum, item.amount)?;
+            self.sum = cash_sum_with_row(&self.sum, item.amount)?;
         }
         Ok(())
     }

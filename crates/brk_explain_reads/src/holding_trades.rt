@@ -2,7 +2,7 @@
 
 ghost use Rattle.std.specs.Prelude.{◌≡◌, ◌++◌, Err, IfErr, OnErr, OnOk, map, option_map, option_to_list};
 ghost use Rattle.brk_explain_reads.specs.HoldingParts.{AreTradesAndLotsOfHolding, IsTradeWithLot, lot_opened_by_trade};
-ghost use Rattle.brk_explain_rows.specs.Stories.{abstract_lot_story};
+ghost use Rattle.brk_explain_rows.specs.Details.{abstract_lot_details};
 ghost use Rattle.brk_model.specs.Run.{IsCallFault};
 ghost use Rattle.brk_money.specs.declared.fault.Fault.TheVariants.{Memory};
 ghost use Rattle.brk_store.specs.Holds.{ReadPost};
@@ -10,7 +10,7 @@ ghost use Rattle.brk_store.specs.Holds.{ReadPost};
 use crate::known::read_existing_trade;
 use crate::lot_changes::{OpeningAndLaterChanges, read_lot_changes_by_completion};
 use brk_changes::{LotChange, TradeRow};
-use brk_explain_rows::{LotStory, PricedLotChange};
+use brk_explain_rows::{LotDetails, PricedLotChange};
 use brk_money::{Fault, Id};
 use brk_ref::Symbol;
 use brk_store::Store;
@@ -22,7 +22,7 @@ use std::alloc::Global;
 pub struct TradeAndLot {
     pub trade: TradeRow,
     /// The lot, or `None` if the trade opened none.
-    pub lot: Option<LotStory>,
+    pub lot: Option<LotDetails>,
 }
 
 /// The completed trades of a holding, and the lots that they opened.
@@ -31,19 +31,19 @@ pub struct TradesAndLots {
     /// The trades, in the order of completion.
     pub done: Vec<TradeRow>,
     /// The lots, in the order of opening.
-    pub lots: Vec<LotStory>,
+    pub lots: Vec<LotDetails>,
 }
 
 // Returns the lot that `trade` opened, from the change that records its opening and its later
 // changes.
-fn lot_story_of_opening(
+fn lot_details_of_opening(
     trade: TradeRow,
     opening: &LotChange,
     changes: Vec<PricedLotChange>,
-) -> LotStory
+) -> LotDetails
     ensures { result ≡ record { trade = trade; opened = opening.now.after; changes = changes } }
 {
-    LotStory {
+    LotDetails {
         trade,
         opened: opening.after,
         changes,
@@ -57,8 +57,8 @@ fn read_lot_of_trade<S: Alter>(
     alloc: Global,
     store: &mut Store<S>,
     trade: Id,
-) -> Result<Option<LotStory>, Fault>
-    ensures read { ReadPost S.Store store.old store.new result (λ lot t. option_map abstract_lot_story lot ≡ lot_opened_by_trade t trade) }
+) -> Result<Option<LotDetails>, Fault>
+    ensures read { ReadPost S.Store store.old store.new result (λ lot t. option_map abstract_lot_details lot ≡ lot_opened_by_trade t trade) }
     ensures fault { IfErr result IsCallFault }
 {
     let all = read_lot_changes_by_completion(alloc, store, trade)?;
@@ -70,7 +70,7 @@ fn read_lot_of_trade<S: Alter>(
         return Ok(None);
     };
     let row = read_existing_trade(store, trade)?;
-    Ok(Some(lot_story_of_opening(row, &first, later_changes)))
+    Ok(Some(lot_details_of_opening(row, &first, later_changes)))
 }
 
 // Returns the trade with the id and the lot that it opened, if any. Fails with `Memory` or `Store`;
@@ -90,9 +90,9 @@ fn read_trade_and_lot<S: Alter>(
 }
 
 // Appends `lot` to `lots`, or nothing if it is `None`. Fails with `Memory` only.
-fn push_lot_if_any(lots: &mut Vec<LotStory>, lot: Option<LotStory>) -> Result<(), Fault>
-    ensures added { OnOk result (map abstract_lot_story lots.new.items
-        ≡ map abstract_lot_story lots.old.items ++ option_to_list (option_map abstract_lot_story lot)) }
+fn push_lot_if_any(lots: &mut Vec<LotDetails>, lot: Option<LotDetails>) -> Result<(), Fault>
+    ensures added { OnOk result (map abstract_lot_details lots.new.items
+        ≡ map abstract_lot_details lots.old.items ++ option_to_list (option_map abstract_lot_details lot)) }
     ensures fault { OnErr result (result ≡ Err Memory) }
 {
     if let Some(lot) = lot {

@@ -4,14 +4,14 @@ ghost use Rattle.std.specs.Prelude.{◌≡◌, IfErr, option_map, pos};
 ghost use Rattle.std.specs.Option.{option_map_or};
 ghost use Rattle.brk_changes.specs.Rows.{abstract_summary_row};
 ghost use Rattle.brk_explain_reads.specs.HoldingParts.{AreQuantityAndPrice};
-ghost use Rattle.brk_explain_rows.specs.Stories.{IsStoryOfHolding};
+ghost use Rattle.brk_explain_rows.specs.Details.{AreDetailsOfHolding};
 ghost use Rattle.brk_model.specs.Joins.{last_price_in_tables};
 ghost use Rattle.brk_model.specs.Run.{IsCallFault};
 ghost use Rattle.brk_store.specs.Holds.{ReadPost};
 
 use crate::holding_trades::{TradesAndLots, read_trades_and_lots_of_holding};
 use brk_changes::SummaryRow;
-use brk_explain_rows::HoldingStory;
+use brk_explain_rows::HoldingDetails;
 use brk_money::{Fault, Id, Planned, Price, Refusal};
 use brk_ref::{AccountRow, Security, Symbol};
 use brk_store::Store;
@@ -73,15 +73,15 @@ fn read_quantity_and_price<S: Alter>(
 
 // Returns the facts of a holding, put together from its account, its security, its trades and lots
 // (`held`), and its quantity and last price (`now`).
-fn holding_story_of_parts(
+fn holding_details_of_parts(
     account: AccountRow,
     security: Security,
     held: TradesAndLots,
     now: QuantityAndPrice,
-) -> HoldingStory
+) -> HoldingDetails
     ensures { result ≡ record { account = account; security = security; done = held.done; lots = held.lots; shares = now.shares; price = now.price } }
 {
-    HoldingStory {
+    HoldingDetails {
         account,
         security,
         done: held.done,
@@ -99,13 +99,13 @@ fn holding_story_of_parts(
 /// Fails with `Memory` or `Store` only; with `Store` also if the security has no last price, or if
 /// a row does not exist that another row names. If the database is still open, it is unchanged,
 /// whatever the result.
-pub fn read_holding_story<S: Alter>(
+pub fn read_holding_details<S: Alter>(
     alloc: Global,
     store: &mut Store<S>,
     account: Id,
     symbol: &Symbol,
-) -> Planned<HoldingStory>
-    ensures read { ReadPost S.Store store.old store.new result (IsStoryOfHolding account symbol.now) }
+) -> Planned<HoldingDetails>
+    ensures read { ReadPost S.Store store.old store.new result (AreDetailsOfHolding account symbol.now) }
     ensures fault { IfErr result IsCallFault }
 {
     let Some(row) = store.account(account)? else {
@@ -116,5 +116,5 @@ pub fn read_holding_story<S: Alter>(
     };
     let held = read_trades_and_lots_of_holding(alloc, store, account, symbol)?;
     let now = read_quantity_and_price(store, account, symbol)?;
-    Ok(Ok(holding_story_of_parts(row, security, held, now)))
+    Ok(Ok(holding_details_of_parts(row, security, held, now)))
 }

@@ -16,7 +16,7 @@ mod settled;
 mod terms;
 pub mod trades;
 
-pub use accounts::read_account_story;
-pub use brokers::{read_broker_story, visit_completed_trades};
-pub use holdings::read_holding_story;
-pub use trades::read_trade_story;
+pub use accounts::read_account_details;
+pub use brokers::{read_broker_details, visit_completed_trades};
+pub use holdings::read_holding_details;
+pub use trades::read_trade_details;

@@ -4,7 +4,7 @@ ghost use Rattle.std.specs.Prelude.{◌≡◌, ◌==◌, ◌++◌, ◌∷◌, []
 ghost use Rattle.brk_changes.specs.Rows.{abstract_lot_change_row};
 ghost use Rattle.brk_explain_model.specs.Holdings as model;
 ghost use Rattle.brk_explain_reads.specs.HoldingParts.{AreLotChangesByCompletion, AreLotChangesByTradeId};
-ghost use Rattle.brk_explain_rows.specs.Stories.{abstract_priced_lot_change};
+ghost use Rattle.brk_explain_rows.specs.Details.{abstract_priced_lot_change};
 ghost use Rattle.brk_model.specs.Lists.{sort_by_key};
 ghost use Rattle.brk_model.specs.Run.{IsCallFault};
 ghost use Rattle.brk_money.specs.declared.fault.Fault.TheVariants.{Memory};

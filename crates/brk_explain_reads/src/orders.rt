@@ -10,7 +10,7 @@ ghost use Rattle.brk_store.specs.Holds.{ReadPost};
 use crate::known::{read_existing_account, read_existing_security};
 use crate::ordering::sort_by_age;
 use brk_changes::{HistoryRow, TradeRow};
-use brk_explain_rows::OrderStory;
+use brk_explain_rows::OrderDetails;
 use brk_money::{Fault, Id};
 use brk_store::Store;
 use sqlite::Alter;
@@ -38,14 +38,14 @@ pub(crate) fn read_order_of_trade<S: Alter>(
     alloc: Global,
     store: &mut Store<S>,
     trade: TradeRow,
-) -> Result<OrderStory, Fault>
+) -> Result<OrderDetails, Fault>
     ensures read { ReadPost S.Store store.old store.new result (λ order t. IsOrderOfTrade trade order t) }
     ensures fault { IfErr result IsCallFault }
 {
     let account = read_existing_account(store, trade.account)?;
     let security = read_existing_security(store, &trade.symbol)?;
     let statuses = read_sorted_statuses(alloc, store, trade.id)?;
-    Ok(OrderStory {
+    Ok(OrderDetails {
         trade,
         account,
         security,

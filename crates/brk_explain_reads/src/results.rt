@@ -9,7 +9,7 @@ use crate::cash::read_cash_sum_before;
 use crate::lots::read_trade_lots;
 use crate::settled::read_settlement_of_trade;
 use crate::terms::read_tax_rates_and_band;
-use brk_explain_rows::{OrderStory, ResultStory};
+use brk_explain_rows::{OrderDetails, ResultDetails};
 use brk_money::Fault;
 use brk_store::Store;
 use sqlite::Alter;
@@ -22,9 +22,9 @@ use std::alloc::Global;
 pub(crate) fn read_result_of_trade<S: Alter>(
     alloc: Global,
     store: &mut Store<S>,
-    order: &OrderStory,
-) -> Result<ResultStory, Fault>
-    ensures read { ReadPost S.Store store.old store.new result (λ story t. IsResultOfOrder order.now story t) }
+    order: &OrderDetails,
+) -> Result<ResultDetails, Fault>
+    ensures read { ReadPost S.Store store.old store.new result (λ details t. IsResultOfOrder order.now details t) }
     ensures fault { IfErr result IsCallFault }
 {
     let lots = read_trade_lots(alloc, store, &order.trade)?;
@@ -34,7 +34,7 @@ pub(crate) fn read_result_of_trade<S: Alter>(
     let terms = read_tax_rates_and_band(alloc, store, order)?;
     let settled = read_settlement_of_trade(store, order.trade.id)?;
     let cash = read_cash_sum_before(store, order.trade.account, order.trade.stamp)?;
-    Ok(ResultStory {
+    Ok(ResultDetails {
         price,
         closings: lots.closings,
         own_lot: lots.own_lot,

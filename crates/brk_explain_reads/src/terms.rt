@@ -9,7 +9,7 @@ ghost use Rattle.brk_ref.specs.Records.{abstract_band, abstract_tax_rate};
 ghost use Rattle.brk_store.specs.Holds.{ReadPost};
 
 use crate::known::{read_existing_customer, read_existing_tax};
-use brk_explain_rows::OrderStory;
+use brk_explain_rows::OrderDetails;
 use brk_money::{Fault, Id, Qty};
 use brk_ref::{Band, Tax, Tier};
 use brk_store::Store;
@@ -78,7 +78,7 @@ fn first_band_with_quantity(bands: Vec<Band>, qty: Qty) -> Option<Band>
 fn read_band_for_tier<S: Alter>(
     alloc: Global,
     store: &mut Store<S>,
-    order: &OrderStory,
+    order: &OrderDetails,
     tier: Tier,
 ) -> Result<Option<Band>, Fault>
     ensures read { ReadPost S.Store store.old store.new result (λ band t. option_map abstract_band band
@@ -95,7 +95,7 @@ fn read_band_for_tier<S: Alter>(
 pub(crate) fn read_tax_rates_and_band<S: Alter>(
     alloc: Global,
     store: &mut Store<S>,
-    order: &OrderStory,
+    order: &OrderDetails,
 ) -> Result<TaxRatesAndBand, Fault>
     ensures read { ReadPost S.Store store.old store.new result (λ terms t. AreTaxRatesAndBand t order.now terms) }
     ensures fault { IfErr result IsCallFault }

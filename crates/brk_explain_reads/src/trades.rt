@@ -1,7 +1,7 @@
 //! The facts that the explanation of a trade reads.
 
 ghost use Rattle.std.specs.Prelude.{◌≡◌, IfErr};
-ghost use Rattle.brk_explain_rows.specs.Stories.{IsStoryOfTrade};
+ghost use Rattle.brk_explain_rows.specs.Details.{AreDetailsOfTrade};
 ghost use Rattle.brk_model.specs.Run.{IsCallFault};
 ghost use Rattle.brk_money.specs.Kinds.{is_same_trade_status};
 ghost use Rattle.brk_money.specs.declared.status.Status.TheVariants.{Completed};
@@ -10,7 +10,7 @@ ghost use Rattle.brk_store.specs.Holds.{ReadPost};
 use crate::orders::read_order_of_trade;
 use crate::results::read_result_of_trade;
 use brk_changes::TradeRow;
-use brk_explain_rows::TradeStory;
+use brk_explain_rows::TradeDetails;
 use brk_money::{Fault, Id, Status};
 use brk_store::Store;
 use sqlite::Alter;
@@ -30,12 +30,12 @@ fn is_completed(trade: &TradeRow) -> bool
 /// Fails with `Memory` or `Store` only; with `Store` also if a row that another row names does not
 /// exist, or if a completed trade has no price or no settlement. If the database is still open, it
 /// is unchanged, whatever the result.
-pub fn read_trade_story<S: Alter>(
+pub fn read_trade_details<S: Alter>(
     alloc: Global,
     store: &mut Store<S>,
     trade: Id,
-) -> Result<Option<TradeStory>, Fault>
-    ensures read { ReadPost S.Store store.old store.new result (IsStoryOfTrade trade) }
+) -> Result<Option<TradeDetails>, Fault>
+    ensures read { ReadPost S.Store store.old store.new result (AreDetailsOfTrade trade) }
     ensures fault { IfErr result IsCallFault }
 {
     let Some(row) = store.trade(trade)? else {
@@ -43,13 +43,13 @@ pub fn read_trade_story<S: Alter>(
     };
     let order = read_order_of_trade(alloc, store, row)?;
     if !is_completed(&order.trade) {
-        return Ok(Some(TradeStory {
+        return Ok(Some(TradeDetails {
             order,
             result: None,
         }));
     }
     let outcome = read_result_of_trade(alloc, store, &order)?;
-    Ok(Some(TradeStory {
+    Ok(Some(TradeDetails {
         order,
         result: Some(outcome),
     }))

@@ -1,1 +1,1 @@
-pub mod Stories
+pub mod Details

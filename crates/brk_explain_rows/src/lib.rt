@@ -1,14 +1,14 @@
 //! Typed rows of explanations: the facts that an explanation reads.
 #![tactic(auto)]
 
-pub mod account_story;
-pub mod broker_story;
+pub mod account_details;
+pub mod broker_details;
 pub mod closing;
-pub mod holding_story;
-pub mod story;
+pub mod details;
+pub mod holding_details;
 
-pub use account_story::{AccountStory, PricedHolding};
-pub use broker_story::BrokerStory;
+pub use account_details::{AccountDetails, PricedHolding};
+pub use broker_details::BrokerDetails;
 pub use closing::Closing;
-pub use holding_story::{HoldingStory, LotStory, PricedLotChange};
-pub use story::{OrderStory, ResultStory, TradeStory};
+pub use details::{OrderDetails, ResultDetails, TradeDetails};
+pub use holding_details::{HoldingDetails, LotDetails, PricedLotChange};

@@ -1,1 +1,1 @@
-pub mod HoldingStories
+pub mod HoldingTexts

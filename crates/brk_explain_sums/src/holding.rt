@@ -2,7 +2,7 @@
 
 ghost use Rattle.std.specs.Prelude.{◌≡◌, ◌++◌, Err, IfErr, IfOk, OnErr, OnOk};
 ghost use Rattle.brk_explain_model.specs.HoldingLines as lines;
-ghost use Rattle.brk_explain_sums.specs.HoldingStories.{lines_of_holding_story};
+ghost use Rattle.brk_explain_sums.specs.HoldingTexts.{lines_of_holding_details};
 ghost use Rattle.brk_model.specs.Run.{IsCallFault};
 ghost use Rattle.brk_model.specs.Statement.{text_of_lines};
 ghost use Rattle.brk_money.specs.declared.fault.Fault.TheVariants.{Memory};
@@ -13,7 +13,7 @@ use crate::holding_totals::put_holding_total_lines;
 use crate::lot_rows::put_all_lot_history_lines;
 use crate::trade_rows::put_holding_trade_lines;
 use brk_explain_columns::{put_labeled_text_line, put_number, put_text_line};
-use brk_explain_rows::HoldingStory;
+use brk_explain_rows::HoldingDetails;
 use brk_money::{Fault, Id};
 use brk_ref::{AccountRow, Security};
 use std::alloc::Global;
@@ -70,32 +70,32 @@ fn put_lot_columns_header(out: &mut Vec<u8>) -> Result<(), Fault>
 
 // Appends to `out` all lines of the explanation of a holding. Fails with `Memory` or `Store`; with
 // `Store` if an amount does not fit or a trade has no price.
-#[tactic(auto, unfolding(brk_explain_model::specs::HoldingLines::holding_story_lines))]
-fn put_holding_story_lines(
+#[tactic(auto, unfolding(brk_explain_model::specs::HoldingLines::holding_lines_from_trades_and_lots))]
+fn put_holding_lines(
     alloc: Global,
     out: &mut Vec<u8>,
-    story: &HoldingStory,
+    details: &HoldingDetails,
 ) -> Result<(), Fault>
-    ensures ok { OnOk result (out.new.items ≡ out.old.items ++ text_of_lines (lines_of_holding_story story.now)) }
+    ensures ok { OnOk result (out.new.items ≡ out.old.items ++ text_of_lines (lines_of_holding_details details.now)) }
     ensures fault { IfErr result IsCallFault }
 {
-    let done = story.done.as_slice();
-    let lots = story.lots.as_slice();
-    put_holding_header_lines(out, &story.account, &story.security)?;
+    let done = details.done.as_slice();
+    let lots = details.lots.as_slice();
+    put_holding_header_lines(out, &details.account, &details.security)?;
     put_holding_trade_lines(alloc, out, done)?;
     put_lot_columns_header(out)?;
     put_all_lot_history_lines(alloc, out, lots)?;
-    put_holding_total_lines(alloc, out, done, lots, story.shares, story.price)?;
+    put_holding_total_lines(alloc, out, done, lots, details.shares, details.price)?;
     Ok(())
 }
 
 /// Returns all lines of the explanation of a holding as one text. Fails with `Memory` or `Store`;
 /// with `Store` if an amount does not fit or a trade has no price.
-pub fn holding_explanation_text(alloc: Global, story: &HoldingStory) -> Result<Vec<u8>, Fault>
-    ensures text { IfOk result (λ text. text.items ≡ text_of_lines (lines_of_holding_story story.now)) }
+pub fn holding_explanation_text(alloc: Global, details: &HoldingDetails) -> Result<Vec<u8>, Fault>
+    ensures text { IfOk result (λ text. text.items ≡ text_of_lines (lines_of_holding_details details.now)) }
     ensures fault { IfErr result IsCallFault }
 {
     let mut text = Vec::new(alloc);
-    put_holding_story_lines(alloc, &mut text, story)?;
+    put_holding_lines(alloc, &mut text, details)?;
     Ok(text)
 }

@@ -3,7 +3,7 @@
 ghost use Rattle.std.specs.Prelude.{◌≡◌, ◌++◌, Err, IfErr, OnErr, OnOk, map};
 ghost use Rattle.brk_changes.specs.Rows.{abstract_trade_row};
 ghost use Rattle.brk_explain_model.specs.HoldingLines as lines;
-ghost use Rattle.brk_explain_rows.specs.Stories.{abstract_lot_story};
+ghost use Rattle.brk_explain_rows.specs.Details.{abstract_lot_details};
 ghost use Rattle.brk_model.specs.Run.{IsCallFault};
 ghost use Rattle.brk_model.specs.Statement.{text_of_lines};
 ghost use Rattle.brk_money.specs.declared.fault.Fault.TheVariants.{Memory};
@@ -18,7 +18,7 @@ use brk_explain_columns::{
     put_labeled_amount_line, put_labeled_integer_line, put_number, subtract_amounts,
     value_of_shares_at_price,
 };
-use brk_explain_rows::LotStory;
+use brk_explain_rows::LotDetails;
 use brk_money::{Fault, Price, Wide};
 use std::alloc::Global;
 
@@ -100,12 +100,12 @@ pub(crate) fn put_holding_total_lines(
     alloc: Global,
     out: &mut Vec<u8>,
     done: &[TradeRow],
-    lots: &[LotStory],
+    lots: &[LotDetails],
     shares: i64,
     price: Price,
 ) -> Result<(), Fault>
     ensures ok { OnOk result (out.new.items
-        ≡ out.old.items ++ text_of_lines (lines.holding_total_lines (map abstract_trade_row done.now) (map abstract_lot_story lots.now) shares price)) }
+        ≡ out.old.items ++ text_of_lines (lines.holding_total_lines (map abstract_trade_row done.now) (map abstract_lot_details lots.now) shares price)) }
     ensures fault { IfErr result IsCallFault }
 {
     let bought = total_purchase_value(done)?;

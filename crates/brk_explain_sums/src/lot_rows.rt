@@ -2,7 +2,7 @@
 
 ghost use Rattle.std.specs.Prelude.{◌≡◌, ◌++◌, IfErr, OnOk, flat_map, map};
 ghost use Rattle.brk_explain_model.specs.HoldingLines as lines;
-ghost use Rattle.brk_explain_rows.specs.Stories.{abstract_priced_lot_change, abstract_lot_story};
+ghost use Rattle.brk_explain_rows.specs.Details.{abstract_priced_lot_change, abstract_lot_details};
 ghost use Rattle.brk_model.specs.Run.{IsCallFault};
 ghost use Rattle.brk_model.specs.Statement.{text_of_lines};
 ghost use Rattle.brk_report_lines.specs.Written.{line_with_line_feed};
@@ -16,7 +16,7 @@ use brk_explain_columns::{
     format_timestamp, put_leading_row_columns, put_shares_column, put_value_column,
     value_of_shares_at_price,
 };
-use brk_explain_rows::{LotStory, PricedLotChange};
+use brk_explain_rows::{LotDetails, PricedLotChange};
 use brk_money::{Fault, Price};
 use std::alloc::Global;
 
@@ -24,8 +24,8 @@ use std::alloc::Global;
 // and its cost. Fails with `Memory` or `Store`; with `Store` if an amount does not fit or the trade
 // that opened the lot has no price.
 #[tactic(auto, unfolding(brk_explain_model::specs::HoldingLines::lot_opening_line))]
-fn put_lot_opening_line(alloc: Global, out: &mut Vec<u8>, lot: &LotStory) -> Result<(), Fault>
-    ensures ok { OnOk result (out.new.items ≡ out.old.items ++ line_with_line_feed (lines.lot_opening_line (abstract_lot_story lot.now))) }
+fn put_lot_opening_line(alloc: Global, out: &mut Vec<u8>, lot: &LotDetails) -> Result<(), Fault>
+    ensures ok { OnOk result (out.new.items ≡ out.old.items ++ line_with_line_feed (lines.lot_opening_line (abstract_lot_details lot.now))) }
     ensures fault { IfErr result IsCallFault }
 {
     let trade = &lot.trade;
@@ -91,8 +91,8 @@ fn put_lot_change_lines(
 // and their cost. Fails with `Memory` or `Store`; with `Store` if an amount does not fit or the
 // trade that opened the lot has no price.
 #[tactic(auto, unfolding(brk_explain_model::specs::HoldingLines::lot_remainder_line))]
-fn put_lot_remainder_line(alloc: Global, out: &mut Vec<u8>, lot: &LotStory) -> Result<(), Fault>
-    ensures ok { OnOk result (out.new.items ≡ out.old.items ++ line_with_line_feed (lines.lot_remainder_line (abstract_lot_story lot.now))) }
+fn put_lot_remainder_line(alloc: Global, out: &mut Vec<u8>, lot: &LotDetails) -> Result<(), Fault>
+    ensures ok { OnOk result (out.new.items ≡ out.old.items ++ line_with_line_feed (lines.lot_remainder_line (abstract_lot_details lot.now))) }
     ensures fault { IfErr result IsCallFault }
 {
     let price = completion_price_of_trade(&lot.trade)?;
@@ -116,8 +116,8 @@ fn put_lot_remainder_line(alloc: Global, out: &mut Vec<u8>, lot: &LotStory) -> R
 // Fails with `Memory` or `Store`; with `Store` if an amount does not fit or the trade that opened
 // the lot has no price.
 #[tactic(auto, unfolding(brk_explain_model::specs::HoldingLines::lot_history_lines))]
-fn put_lot_history_lines(alloc: Global, out: &mut Vec<u8>, lot: &LotStory) -> Result<(), Fault>
-    ensures ok { OnOk result (out.new.items ≡ out.old.items ++ text_of_lines (lines.lot_history_lines (abstract_lot_story lot.now))) }
+fn put_lot_history_lines(alloc: Global, out: &mut Vec<u8>, lot: &LotDetails) -> Result<(), Fault>
+    ensures ok { OnOk result (out.new.items ≡ out.old.items ++ text_of_lines (lines.lot_history_lines (abstract_lot_details lot.now))) }
     ensures fault { IfErr result IsCallFault }
 {
     let price = completion_price_of_trade(&lot.trade)?;
@@ -132,9 +132,9 @@ fn put_lot_history_lines(alloc: Global, out: &mut Vec<u8>, lot: &LotStory) -> Re
 pub(crate) fn put_all_lot_history_lines(
     alloc: Global,
     out: &mut Vec<u8>,
-    lots: &[LotStory],
+    lots: &[LotDetails],
 ) -> Result<(), Fault>
-    ensures ok { OnOk result (out.new.items ≡ out.old.items ++ text_of_lines (flat_map lines.lot_history_lines (map abstract_lot_story lots.now))) }
+    ensures ok { OnOk result (out.new.items ≡ out.old.items ++ text_of_lines (flat_map lines.lot_history_lines (map abstract_lot_details lots.now))) }
     ensures fault { IfErr result IsCallFault }
 {
     for lot in lots {

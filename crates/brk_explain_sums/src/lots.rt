@@ -3,14 +3,14 @@
 
 ghost use Rattle.std.specs.Prelude.{◌≡◌, ◌+◌, ◌-ℤ◌, IfErr, IfOk, if◌then◌else◌, length, map, not, pos};
 ghost use Rattle.brk_explain_model.specs.Holdings as holdings;
-ghost use Rattle.brk_explain_rows.specs.Stories.{abstract_priced_lot_change, abstract_lot_story};
-ghost use Rattle.brk_explain_sums.specs.HoldingStories.{quantity_after_changes};
+ghost use Rattle.brk_explain_rows.specs.Details.{abstract_priced_lot_change, abstract_lot_details};
+ghost use Rattle.brk_explain_sums.specs.HoldingTexts.{quantity_after_changes};
 ghost use Rattle.brk_model.specs.Lists.{is_zero, total_by};
 ghost use Rattle.brk_model.specs.Run.{IsCallFault};
 
 use crate::trades::completion_price_of_trade;
 use brk_explain_columns::{add_amounts, value_of_shares_at_price};
-use brk_explain_rows::{LotStory, PricedLotChange};
+use brk_explain_rows::{LotDetails, PricedLotChange};
 use brk_money::{Fault, Price, Wide};
 
 /// Returns the quantity of a lot after a change minus the quantity before it, in shares: below 0 if
@@ -62,8 +62,8 @@ fn quantity_after_changes(opened: i64, changes: &[PricedLotChange]) -> i64
 
 /// Returns the quantity of a lot after its last change, or the opened quantity if it has no change;
 /// below 0 if it was sold short.
-pub(crate) fn remaining_quantity_of_lot(lot: &LotStory) -> i64
-    ensures { result ≡ holdings.remaining_quantity_of_lot (abstract_lot_story lot.now) }
+pub(crate) fn remaining_quantity_of_lot(lot: &LotDetails) -> i64
+    ensures { result ≡ holdings.remaining_quantity_of_lot (abstract_lot_details lot.now) }
 {
     quantity_after_changes(lot.opened, &lot.changes)
 }
@@ -71,8 +71,8 @@ pub(crate) fn remaining_quantity_of_lot(lot: &LotStory) -> i64
 /// Returns the remaining quantity of a lot times the price at which it was opened, in cents: below
 /// 0 if it was sold short. Fails with `Store` if it does not fit, or if the trade that opened the
 /// lot has no price.
-pub(crate) fn remaining_cost_of_lot(lot: &LotStory) -> Result<Wide, Fault>
-    ensures cost { IfOk result (λ cost. cost ≡ holdings.remaining_cost_of_lot (abstract_lot_story lot.now)) }
+pub(crate) fn remaining_cost_of_lot(lot: &LotDetails) -> Result<Wide, Fault>
+    ensures cost { IfOk result (λ cost. cost ≡ holdings.remaining_cost_of_lot (abstract_lot_details lot.now)) }
     ensures fault { IfErr result IsCallFault }
 {
     let price = completion_price_of_trade(&lot.trade)?;
@@ -95,8 +95,8 @@ fn realised_gain_of_changes(price: Price, changes: &[PricedLotChange]) -> Result
 
 // Returns the sum of the realised gains of the changes of a lot, in cents. Fails with `Store` if a
 // value does not fit, or if the trade that opened the lot has no price.
-fn realised_gain_of_lot(lot: &LotStory) -> Result<Wide, Fault>
-    ensures gain { IfOk result (λ gain. gain ≡ holdings.realised_gain_of_lot (abstract_lot_story lot.now)) }
+fn realised_gain_of_lot(lot: &LotDetails) -> Result<Wide, Fault>
+    ensures gain { IfOk result (λ gain. gain ≡ holdings.realised_gain_of_lot (abstract_lot_details lot.now)) }
     ensures fault { IfErr result IsCallFault }
 {
     let price = completion_price_of_trade(&lot.trade)?;
@@ -105,8 +105,8 @@ fn realised_gain_of_lot(lot: &LotStory) -> Result<Wide, Fault>
 
 /// Returns the sum of the realised gains of all lots, in cents. Fails with `Store` if a value does
 /// not fit, or if a trade that opened a lot has no price.
-pub(crate) fn realised_gain_of_lots(lots: &[LotStory]) -> Result<Wide, Fault>
-    ensures total { IfOk result (λ total. total ≡ holdings.realised_gain_of_lots (map abstract_lot_story lots.now)) }
+pub(crate) fn realised_gain_of_lots(lots: &[LotDetails]) -> Result<Wide, Fault>
+    ensures total { IfOk result (λ total. total ≡ holdings.realised_gain_of_lots (map abstract_lot_details lots.now)) }
     ensures fault { IfErr result IsCallFault }
 {
     let mut total = Wide::new(0);
@@ -119,8 +119,8 @@ pub(crate) fn realised_gain_of_lots(lots: &[LotStory]) -> Result<Wide, Fault>
 
 /// Returns the sum of the costs of the remaining shares of all lots, in cents. Fails with `Store`
 /// if a value does not fit, or if a trade that opened a lot has no price.
-pub(crate) fn remaining_cost_of_lots(lots: &[LotStory]) -> Result<Wide, Fault>
-    ensures total { IfOk result (λ total. total ≡ holdings.remaining_cost_of_lots (map abstract_lot_story lots.now)) }
+pub(crate) fn remaining_cost_of_lots(lots: &[LotDetails]) -> Result<Wide, Fault>
+    ensures total { IfOk result (λ total. total ≡ holdings.remaining_cost_of_lots (map abstract_lot_details lots.now)) }
     ensures fault { IfErr result IsCallFault }
 {
     let mut total = Wide::new(0);
@@ -151,8 +151,8 @@ fn add_counts(one: u64, other: u64) -> Result<u64, Fault>
 
 /// Returns the number of those lots whose remaining quantity is not 0. Fails with `Store` if it
 /// does not fit.
-pub(crate) fn count_of_open_lots(lots: &[LotStory]) -> Result<u64, Fault>
-    ensures count { IfOk result (λ count. count ≡ length (holdings.lots_not_fully_closed (map abstract_lot_story lots.now))) }
+pub(crate) fn count_of_open_lots(lots: &[LotDetails]) -> Result<u64, Fault>
+    ensures count { IfOk result (λ count. count ≡ length (holdings.lots_not_fully_closed (map abstract_lot_details lots.now))) }
     ensures fault { IfErr result IsCallFault }
 {
     let mut count: u64 = 0;
@@ -170,8 +170,8 @@ fn count_of_changes(changes: &[PricedLotChange]) -> u64
 }
 
 /// Returns the number of the later changes of all lots. Fails with `Store` if it does not fit.
-pub(crate) fn count_of_lot_changes(lots: &[LotStory]) -> Result<u64, Fault>
-    ensures count { IfOk result (λ count. count ≡ holdings.count_of_lot_changes (map abstract_lot_story lots.now)) }
+pub(crate) fn count_of_lot_changes(lots: &[LotDetails]) -> Result<u64, Fault>
+    ensures count { IfOk result (λ count. count ≡ holdings.count_of_lot_changes (map abstract_lot_details lots.now)) }
     ensures fault { IfErr result IsCallFault }
 {
     let mut count: u64 = 0;

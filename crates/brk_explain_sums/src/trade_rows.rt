@@ -8,7 +8,8 @@ ghost use Rattle.brk_model.specs.Statement.{text_of_lines};
 ghost use Rattle.brk_report_lines.specs.Written.{line_with_line_feed};
 
 use crate::trades::{
-    completion_price_of_trade, quantity_held_after_trade, signed_qty, signed_value,
+    completion_price_of_trade, quantity_held_after_trade, signed_quantity_of_trade,
+    signed_value_of_trade,
 };
 use brk_changes::TradeRow;
 use brk_explain_columns::{
@@ -32,8 +33,8 @@ fn put_holding_trade_line(
 {
     let moment = format_timestamp(alloc, row.stamp)?;
     let price = completion_price_of_trade(row)?;
-    let value = signed_value(row)?;
-    let shares = i128::from(signed_qty(row));
+    let value = signed_value_of_trade(row)?;
+    let shares = i128::from(signed_quantity_of_trade(row));
     put_leading_row_columns(alloc, out, "Trade", &moment, row.id, shares, price)?;
     put_value_column(alloc, out, value)?;
     put_shares_column(out, held)?;

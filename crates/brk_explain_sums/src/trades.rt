@@ -5,7 +5,7 @@
 ghost use Rattle.std.specs.Prelude.{◌≡◌, ◌+ℤ◌, IfErr, IfOk, if◌then◌else◌, int_lt, map, pos};
 ghost use Rattle.brk_changes.specs.Rows.{abstract_trade_row};
 ghost use Rattle.brk_explain_model.specs.Holdings as holdings;
-ghost use Rattle.brk_explain_model.specs.Trades as stories;
+ghost use Rattle.brk_explain_model.specs.Trades as details;
 ghost use Rattle.brk_model.specs.Run.{IsCallFault};
 
 use brk_changes::TradeRow;
@@ -14,7 +14,7 @@ use brk_money::{Fault, Price, Side, Wide};
 
 /// Returns the price of a completed trade. Fails with `Store` if it has none.
 pub(crate) fn completion_price_of_trade(row: &TradeRow) -> Result<Price, Fault>
-    ensures price { IfOk result (λ price. price ≡ stories.completion_price_or_zero (abstract_trade_row row.now)) }
+    ensures price { IfOk result (λ price. price ≡ details.completion_price_or_zero (abstract_trade_row row.now)) }
     ensures fault { IfErr result IsCallFault }
 {
     match row.price {
@@ -24,8 +24,8 @@ pub(crate) fn completion_price_of_trade(row: &TradeRow) -> Result<Price, Fault>
 }
 
 /// Returns the quantity of a trade, in shares: below 0 for a sale.
-pub(crate) fn signed_qty(row: &TradeRow) -> i64
-    ensures { result ≡ holdings.signed_qty (abstract_trade_row row.now) }
+pub(crate) fn signed_quantity_of_trade(row: &TradeRow) -> i64
+    ensures { result ≡ holdings.signed_quantity_of_trade (abstract_trade_row row.now) }
 {
     let shares = i64::from(row.qty.get());
     match row.kind.side() {
@@ -36,21 +36,21 @@ pub(crate) fn signed_qty(row: &TradeRow) -> i64
 
 /// Returns the product of the quantity and the price of a trade, in cents: below 0 for a sale.
 /// Fails with `Store` if it does not fit, or if the trade has no price.
-pub(crate) fn signed_value(row: &TradeRow) -> Result<Wide, Fault>
-    ensures value { IfOk result (λ value. value ≡ holdings.signed_value (abstract_trade_row row.now)) }
+pub(crate) fn signed_value_of_trade(row: &TradeRow) -> Result<Wide, Fault>
+    ensures value { IfOk result (λ value. value ≡ holdings.signed_value_of_trade (abstract_trade_row row.now)) }
     ensures fault { IfErr result IsCallFault }
 {
     let price = completion_price_of_trade(row)?;
-    value_of_shares_at_price(signed_qty(row), price)
+    value_of_shares_at_price(signed_quantity_of_trade(row), price)
 }
 
 /// Returns the quantity `held` before a trade plus the quantity of the trade, which counts below 0
 /// for a sale. Fails with `Store` if it does not fit.
 pub(crate) fn quantity_held_after_trade(held: i64, row: &TradeRow) -> Result<i64, Fault>
-    ensures held { IfOk result (λ after. after ≡ held +ℤ holdings.signed_qty (abstract_trade_row row.now)) }
+    ensures held { IfOk result (λ after. after ≡ held +ℤ holdings.signed_quantity_of_trade (abstract_trade_row row.now)) }
     ensures fault { IfErr result IsCallFault }
 {
-    match held.checked_add(signed_qty(row)) {
+    match held.checked_add(signed_quantity_of_trade(row)) {
         Some(after) => Ok(after),
         None => Err(Fault::Store),
     }
@@ -87,7 +87,7 @@ pub(crate) fn total_purchase_value(done: &[TradeRow]) -> Result<Wide, Fault>
 {
     let mut total = Wide::new(0);
     for row in done {
-        let value = signed_value(row)?;
+        let value = signed_value_of_trade(row)?;
         total = add_amounts(total, positive_part(value))?;
     }
     Ok(total)
@@ -101,7 +101,7 @@ pub(crate) fn total_sale_value(done: &[TradeRow]) -> Result<Wide, Fault>
 {
     let mut total = Wide::new(0);
     for row in done {
-        let value = signed_value(row)?;
+        let value = signed_value_of_trade(row)?;
         total = add_amounts(total, negative_part(value))?;
     }
     Ok(total)

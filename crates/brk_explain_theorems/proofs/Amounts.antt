@@ -27,8 +27,8 @@ use Rattle.brk_book_theorems.proofs.Reading.{find-id, find-map, reads_account, r
 use Rattle.brk_book_theorems.proofs.Same.{find-All}
 use Rattle.brk_book_theorems.proofs.TermReading.{reads_rates, reads_security}
 use Rattle.brk_explain_theorems.specs.Before.{shares_before_trade}
-use Rattle.brk_explain_theorems.specs.Closings.{PrintedClosingsMatchDeal, result_story_of_trade}
-use Rattle.brk_explain_theorems.specs.Equations.{PrintedSettlementMatchesBase, order_story_of_trade}
+use Rattle.brk_explain_theorems.specs.Closings.{PrintedClosingsMatchDeal, result_details_in_base}
+use Rattle.brk_explain_theorems.specs.Equations.{PrintedSettlementMatchesBase, order_details_in_base}
 use Rattle.brk_explain_theorems.proofs.Among.{Among, among}
 use Rattle.brk_explain_theorems.proofs.BalanceSums.{moved_is}
 use Rattle.brk_explain_theorems.proofs.ClosingLaws.{closes_as_told}
@@ -66,10 +66,10 @@ of_holder {A = A} base id f g none h = ap (λ o. option_map_or f o none) (reads_
     by_account None = refl
     by_account (Some a) = h a
 
-status_is : (base : Base) (t : Trade) → (order_story_of_trade base t).tax_status ≡ tax_status_in_accounts base.accounts t.account
+status_is : (base : Base) (t : Trade) → (order_details_in_base base t).tax_status ≡ tax_status_in_accounts base.accounts t.account
 status_is base t = of_holder base t.account (λ a. a.tax_status) (λ a. a.tax_status) Untaxed (λ a. refl)
 
-customer_is : (base : Base) (t : Trade) → (order_story_of_trade base t).customer ≡ customer_id_of_account base t.account
+customer_is : (base : Base) (t : Trade) → (order_details_in_base base t).customer ≡ customer_id_of_account base t.account
 customer_is base t = of_holder base t.account (λ a. a.customer) (λ a. a.customer) 0 (λ a. refl)
 
 -- ---- the amount
@@ -79,7 +79,7 @@ parts p a b c = omega (arith, ints)
 
 amount_parts : (base : Base) (t : Trade)
     → settlement_amount base.accounts t
-    ≡ ((signed_trade_value (order_story_of_trade base t) (result_story_of_trade base t) +ℤ neg_ℤ (pos t.charge)) +ℤ neg_ℤ (pos t.commission)) +ℤ neg_ℤ (pos (withheld_tax_of_trade (order_story_of_trade base t)))
+    ≡ ((signed_trade_value (order_details_in_base base t) (result_details_in_base base t) +ℤ neg_ℤ (pos t.charge)) +ℤ neg_ℤ (pos t.commission)) +ℤ neg_ℤ (pos (withheld_tax_of_trade (order_details_in_base base t)))
 amount_parts base t =
     parts (signed_proceeds (side_of_trade_type t.kind) (t.qty * completion_price t)) t.charge t.commission (cond (is_withholding_status (tax_status_in_accounts base.accounts t.account)) t.tax 0)
     ∙ ap (λ s. ((signed_proceeds (side_of_trade_type t.kind) (t.qty * completion_price t) +ℤ neg_ℤ (pos t.charge)) +ℤ neg_ℤ (pos t.commission)) +ℤ neg_ℤ (pos (cond (is_withholding_status s) t.tax 0))) (sym (status_is base t))
@@ -103,9 +103,9 @@ rates_same T (x ∷ xs) =
 rates_are : (base : Base) (customer : ℕ) → sum_of_tax_rates (tax_rates_of_customer (sheets base) customer) ≡ base_spec.tax_rate_sum_of_customer base customer
 rates_are base customer = rates_same (sheets base) (filter (λ x. x.customer == customer) (sheets base).customer_taxes) ∙ reads_rates base customer
 
-tax_is : (base : Base) (t : Trade) → PrintedClosingsMatchDeal base t → tax_at_current_rates (order_story_of_trade base t) (result_story_of_trade base t) ≡ tax_on_deal base t.account (deal_of_trade t) (shares_before_trade base t)
+tax_is : (base : Base) (t : Trade) → PrintedClosingsMatchDeal base t → tax_at_current_rates (order_details_in_base base t) (result_details_in_base base t) ≡ tax_on_deal base t.account (deal_of_trade t) (shares_before_trade base t)
 tax_is base t k =
-    λ i. cond (is_taxable_status (status_is base t i)) (tax (k.gained i) ((rates_are base (order_story_of_trade base t).customer ∙ ap (base_spec.tax_rate_sum_of_customer base) (customer_is base t)) i)) 0
+    λ i. cond (is_taxable_status (status_is base t i)) (tax (k.gained i) ((rates_are base (order_details_in_base base t).customer ∙ ap (base_spec.tax_rate_sum_of_customer base) (customer_is base t)) i)) 0
 
 -- ---- the commission of now
 
@@ -150,14 +150,14 @@ band_found base t books e =
     s : (s : Security) × (security_with_symbol base t.symbol ≡ Some s)
     s = some_of (security_with_symbol base t.symbol) (find-All (λ u. is_some (security_with_symbol base u.symbol) ≡ true) (λ u. u.id == t.id) base.trades t books.securities e)
 
-    customer : find (λ (c : Customer). c.id == (order_story_of_trade base t).customer) T.customers ≡ Some c.0
+    customer : find (λ (c : Customer). c.id == (order_details_in_base base t).customer) T.customers ≡ Some c.0
     customer = ap (λ (n : ℕ). find (λ (c : Customer). c.id == n) T.customers) (customer_is base t) ∙ reads_customer base (customer_id_of_account base t.account) ∙ c.1
 
     security : security_row_with_symbol T t.symbol ≡ Some (security_row s.0)
     security = reads_security base t.symbol ∙ ap (option_map security_row) s.1
 
 commission_is : (base : Base) (t : Trade) → BooksInvariant base → trade_with_id base t.id ≡ Some t
-    → commission_in_current_band (order_story_of_trade base t) (result_story_of_trade base t) ≡ commission_by_band base t.account t.kind t.symbol t.qty (completion_price t)
+    → commission_in_current_band (order_details_in_base base t) (result_details_in_base base t) ≡ commission_by_band base t.account t.kind t.symbol t.qty (completion_price t)
 commission_is base t books e = ap (option_map (λ (b : Band). commission b.rate t.qty (completion_price t))) (band_found base t books e)
 
 -- ---- the whole
@@ -176,5 +176,5 @@ settles_as_told base t books found c = record {
     a : Among base t
     a = among base t books found c
 
-    amount : (result_story_of_trade base t).settlement.amount ≡ settlement_amount base.accounts t
+    amount : (result_details_in_base base t).settlement.amount ≡ settlement_amount base.accounts t
     amount = ap (λ (s : SettlementRow). s.amount) (settlement_is base t a)

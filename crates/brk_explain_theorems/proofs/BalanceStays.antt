@@ -14,7 +14,7 @@ use Rattle.brk_model.specs.Lists.{total_by}
 use Rattle.brk_model.specs.Records.{Account, Movement, Trade}
 use Rattle.brk_model.specs.Results.{completed_trade}
 use Rattle.brk_model.specs.Tests.{stamp_of_next_command, refusal_of_command}
-use Rattle.brk_book_theorems.specs.Books.{BooksInvariant, TradeStampIsAtMostLast, MovementStampIsAtMostLast}
+use Rattle.brk_book_theorems.specs.Books.{BooksInvariant, TradeStampIsAtMostLastStamp, MovementStampIsAtMostLastStamp}
 use Rattle.brk_book_theorems.specs.Steps.{base_after_command}
 use Rattle.brk_book_theorems.proofs.LotReading.{filter-map, filter-swap}
 use Rattle.brk_book_theorems.proofs.Places.{filter-all, filter-append}
@@ -24,7 +24,7 @@ use Rattle.brk_book_theorems.proofs.RunKeeping.{books_command, run_books}
 use Rattle.brk_book_theorems.proofs.ResultRows.{moment_then, status_then}
 use Rattle.brk_book_theorems.proofs.Same.{All-filter, All-map, All-mapped, find-All, find-more, total_by-same}
 use Rattle.brk_book_theorems.proofs.SumReading.{total-map}
-use Rattle.brk_explain_theorems.specs.Balances.{PreservesPrintedBalanceAfter, balance_at_stamp, postings_up_to_stamp}
+use Rattle.brk_explain_theorems.specs.Balances.{RunsPreservePrintedBalanceAfterTrade, balance_at_stamp, postings_up_to_stamp}
 use Rattle.brk_explain_theorems.proofs.BalanceSums.{balances_as_told}
 use Rattle.brk_explain_theorems.proofs.Kept.{Keeps, core, done_by, keeps_run, moved_by}
 use Rattle.brk_explain_theorems.proofs.SameTrade.{found_then, id_of, same_trade}
@@ -112,14 +112,14 @@ all_by base s account books e =
     ∙ (λ i. postings base.accounts (filter-all (λ t. nat_le (last_status_stamp_of_trade t) s) (completed_trades base) trades i) (filter-all (λ m. nat_le m.stamp s) base.movements moved i)))
   where
     trades : AllByRecursion (λ t. nat_le (last_status_stamp_of_trade t) s ≡ true) (completed_trades base)
-    trades = All-map (completed_trades base) (λ t h. is_by (last_status_stamp_of_trade t) s h) (subst (λ o. AllByRecursion (TradeStampIsAtMostLast o) (completed_trades base)) e books.early)
+    trades = All-map (completed_trades base) (λ t h. is_by (last_status_stamp_of_trade t) s h) (subst (λ o. AllByRecursion (TradeStampIsAtMostLastStamp o) (completed_trades base)) e books.early)
 
     moved : AllByRecursion (λ m. nat_le m.stamp s ≡ true) base.movements
-    moved = All-map base.movements (λ m h. is_by m.stamp s h) (subst (λ o. AllByRecursion (MovementStampIsAtMostLast o) base.movements) e books.movements.early)
+    moved = All-map base.movements (λ m h. is_by m.stamp s h) (subst (λ o. AllByRecursion (MovementStampIsAtMostLastStamp o) base.movements) e books.movements.early)
 
 -- ---- after the result
 
-pub stays_after : (base : Base) (now id price : ℕ) (t : Trade) → BooksInvariant base → trade_with_id base id ≡ Some t → refusal_of_command base now (CompleteTrade id price) ≡ None → PreservesPrintedBalanceAfter base now id price
+pub stays_after : (base : Base) (now id price : ℕ) (t : Trade) → BooksInvariant base → trade_with_id base id ≡ Some t → refusal_of_command base now (CompleteTrade id price) ≡ None → RunsPreservePrintedBalanceAfterTrade base now id price
 stays_after base now id price t books e accepted calls outcomes later u run found =
     (balances_as_told later u next (ap (trade_with_id later) (id_of later id u found) ∙ found) done).after
     ∙ ap (λ (n : ℕ). balance_at_stamp later n u.account) moment

@@ -27,7 +27,7 @@ use Rattle.brk_book_theorems.proofs.Postings.{postings_none, postings_one, total
 use Rattle.brk_book_theorems.proofs.Reading.{find-map, reads_account}
 use Rattle.brk_book_theorems.proofs.Same.{All-append, All-filter, All-mapped, filter-none, filter-same}
 use Rattle.brk_book_theorems.proofs.SumReading.{balance_sums, total-map}
-use Rattle.brk_explain_theorems.specs.Balances.{PrintedBalancesMatchBase, printed_balance_before, last_number_or_default, postings_before_stamp, postings_up_to_stamp}
+use Rattle.brk_explain_theorems.specs.Balances.{PrintedBalancesMatchBase, printed_balance_before_trade, last_number_or_default, postings_before_stamp, postings_up_to_stamp}
 use Rattle.brk_explain_theorems.proofs.Among.{Among, among}
 use Rattle.brk_explain_theorems.proofs.Sorting.{find_first, first, total_sorted}
 
@@ -231,5 +231,5 @@ balances_as_told base t books e c = record {
     a : Among base t
     a = among base t books e c
 
-    before : printed_balance_before (sheets base) t ≡ balance_of_account base.accounts (postings_before_stamp (last_status_stamp_of_trade t) ps) t.account
+    before : printed_balance_before_trade (sheets base) t ≡ balance_of_account base.accounts (postings_before_stamp (last_status_stamp_of_trade t) ps) t.account
     before = λ i. opening_is base t.account i +ℤ (cash_sum base t.account (λ n. nat_lt n (last_status_stamp_of_trade t)) ∙ ap (total_by (λ p. p.amount)) (filter-swap (λ p. nat_lt p.stamp (last_status_stamp_of_trade t)) (is_to t.account) ps)) i

@@ -19,7 +19,7 @@ use Rattle.brk_model.specs.Tables.{HoldingHistoryRow, Tables, TradeRow, row_chan
 use Rattle.brk_lots.specs.Books.{realised_gain_sum, lot_cost_basis, purchases_minus_sales}
 use Rattle.brk_lots.specs.Chains.{ShrinksTowardZero, IsLotHistory}
 use Rattle.brk_lots.specs.declared.lot.Lot.{Lot}
-use Rattle.brk_explain_model.specs.Holdings.{LotChange, LotStory, realised_gain_of_change, remaining_cost_of_lot, remaining_cost_of_lots, completed_trades_in_symbol, realised_gain_in_symbol, remaining_quantity_of_lot, recorded_lot_change, realised_gain_of_lot, lot_with_later_changes, lots_opened_in_symbol, total_purchase_value, total_sale_value, signed_qty, signed_value}
+use Rattle.brk_explain_model.specs.Holdings.{LotChange, LotDetails, realised_gain_of_change, remaining_cost_of_lot, remaining_cost_of_lots, completed_trades_in_symbol, realised_gain_in_symbol, remaining_quantity_of_lot, recorded_lot_change, realised_gain_of_lot, lot_with_later_changes, lots_opened_in_symbol, total_purchase_value, total_sale_value, signed_quantity_of_trade, signed_value_of_trade}
 use Rattle.brk_explain_model.specs.Running.{running_totals}
 use Rattle.brk_explain_model.specs.Trades.{has_completed_status, trade_price_or_zero, opened_lot_row}
 use Rattle.brk_book_theorems.specs.Books.{BooksInvariant}
@@ -149,7 +149,7 @@ some_of_all {X = X} f p (x ∷ xs) h = by_test (p x) refl (some_of_all f p xs h.
     by_test false e ih = ih ∙ sym (ap (λ z. z +ℤ total_by f xs) (h.0 e) ∙ no_more (total_by f xs))
 
 -- a sum over the lots that are told, by the trades of the position
-told_sum : (base : Base) (account : ℕ) (symbol : Text) (f : LotStory → ℤ) → BooksInvariant base
+told_sum : (base : Base) (account : ℕ) (symbol : Text) (f : LotDetails → ℤ) → BooksInvariant base
     → AllByRecursion (λ v. is_some (opened_lot_row (sheets base) v.id) ≡ false → f (lot_with_later_changes (sheets base) (trade_row v)) ≡ pos 0) (trades_held base account symbol)
     → total_by f (lots_opened_in_symbol (sheets base) account symbol) ≡ total_by (λ v. f (lot_with_later_changes (sheets base) (trade_row v))) (trades_held base account symbol)
 told_sum base account symbol f books h =
@@ -289,10 +289,10 @@ left_are base account symbol books =
     known : AllByRecursion (IsOf base account symbol) W
     known = each_is base account symbol books
 
-shares_are : (base : Base) (account : ℕ) (symbol : Text) → BooksInvariant base → last_number_or_default (pos 0) (running_totals signed_qty (pos 0) (completed_trades_in_symbol (sheets base) account symbol)) ≡ holding_summary_quantity (completed_trades base) account symbol
+shares_are : (base : Base) (account : ℕ) (symbol : Text) → BooksInvariant base → last_number_or_default (pos 0) (running_totals signed_quantity_of_trade (pos 0) (completed_trades_in_symbol (sheets base) account symbol)) ≡ holding_summary_quantity (completed_trades base) account symbol
 shares_are base account symbol books =
-    running_ends signed_qty (pos 0) (completed_trades_in_symbol (sheets base) account symbol) ∙ no_more (total_by signed_qty (completed_trades_in_symbol (sheets base) account symbol))
-    ∙ ap (total_by signed_qty) (done_are base account symbol books) ∙ total-map signed_qty trade_row (trades_held base account symbol) ∙ deals_sum base account symbol
+    running_ends signed_quantity_of_trade (pos 0) (completed_trades_in_symbol (sheets base) account symbol) ∙ no_more (total_by signed_quantity_of_trade (completed_trades_in_symbol (sheets base) account symbol))
+    ∙ ap (total_by signed_quantity_of_trade) (done_are base account symbol books) ∙ total-map signed_quantity_of_trade trade_row (trades_held base account symbol) ∙ deals_sum base account symbol
 
 -- ---- purchases and sales
 
@@ -329,15 +329,15 @@ both_signs {X = X} f (x ∷ xs) = by_test (int_lt (pos 0) (f x)) (int_lt (f x) (
 traded_are : (base : Base) (account : ℕ) (symbol : Text) → BooksInvariant base
     → total_purchase_value (completed_trades_in_symbol (sheets base) account symbol) +ℤ total_sale_value (completed_trades_in_symbol (sheets base) account symbol) ≡ purchases_minus_sales (deals_of_position (completed_trades base) account symbol)
 traded_are base account symbol books =
-    both_signs signed_value (completed_trades_in_symbol (sheets base) account symbol) ∙ ap (total_by signed_value) (done_are base account symbol books)
-    ∙ total-map signed_value trade_row W
-    ∙ total_by-same (λ v. signed_value (trade_row v)) (λ v. signed_by_side (side_of_trade_type v.kind) (v.qty * completion_price v)) W (each W)
+    both_signs signed_value_of_trade (completed_trades_in_symbol (sheets base) account symbol) ∙ ap (total_by signed_value_of_trade) (done_are base account symbol books)
+    ∙ total-map signed_value_of_trade trade_row W
+    ∙ total_by-same (λ v. signed_value_of_trade (trade_row v)) (λ v. signed_by_side (side_of_trade_type v.kind) (v.qty * completion_price v)) W (each W)
     ∙ sym (total-map (λ (d : Deal). signed_by_side d.side (d.qty * d.price)) deal_of_trade W)
   where
     W : List Trade
     W = trades_held base account symbol
 
-    each : (vs : List Trade) → AllByRecursion (λ v. signed_value (trade_row v) ≡ signed_by_side (side_of_trade_type v.kind) (v.qty * completion_price v)) vs
+    each : (vs : List Trade) → AllByRecursion (λ v. signed_value_of_trade (trade_row v) ≡ signed_by_side (side_of_trade_type v.kind) (v.qty * completion_price v)) vs
     each [] = tt
     each (v ∷ vs) = (signed_worth (side_of_trade_type v.kind) v.qty (completion_price v), each vs)
 

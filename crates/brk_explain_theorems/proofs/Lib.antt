@@ -19,7 +19,7 @@ pub mod BalanceStays
 pub mod Amounts
 pub mod Told
 pub mod RowStays
-pub mod StoryStays
+pub mod DetailsStay
 pub mod Commissions
 pub mod KeyedTold
 pub mod PostedRows

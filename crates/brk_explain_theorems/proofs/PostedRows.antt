@@ -15,7 +15,7 @@ use Rattle.brk_model.specs.Statement.{cash_move_rows_of_account}
 use Rattle.brk_model.specs.Tables.{AccountRow, MoveRow, SummaryRow, numbered_move_rows, tables_of_base_in_schema}
 use Rattle.brk_explain_model.specs.AccountLines.{priced_holding, account_cash_rows_by_stamp, market_value_of_holding}
 use Rattle.brk_explain_model.specs.Running.{running_totals}
-use Rattle.brk_book_theorems.specs.Books.{BooksInvariant, TradeStampIsAtMostLast, MovementStampIsAtMostLast}
+use Rattle.brk_book_theorems.specs.Books.{BooksInvariant, TradeStampIsAtMostLastStamp, MovementStampIsAtMostLastStamp}
 use Rattle.brk_book_theorems.proofs.LotReading.{All-sort}
 use Rattle.brk_book_theorems.proofs.Places.{FoundAt, filter-all, find-at}
 use Rattle.brk_book_theorems.proofs.Postings.{numbered_stay}
@@ -40,11 +40,11 @@ by_test m n h = grind (arith, nat_tests)
 some_day : (n : ℕ) → n ≤ greatest_stamp → on_some_day n ≡ true
 some_day n h = by_test (n / 86400000) 2932896 (days_end n h)
 
-trade_in_time : (last : Option ℕ) → IfSome last (λ l. l ≤ greatest_stamp) → (t : Trade) → TradeStampIsAtMostLast last t → last_status_stamp_of_trade t ≤ greatest_stamp
+trade_in_time : (last : Option ℕ) → IfSome last (λ l. l ≤ greatest_stamp) → (t : Trade) → TradeStampIsAtMostLastStamp last t → last_status_stamp_of_trade t ≤ greatest_stamp
 trade_in_time None c t e = absurd e
 trade_in_time (Some l) c t e = let a : l ≤ greatest_stamp = c in let b : last_status_stamp_of_trade t ≤ l = e in omega (arith, a, b)
 
-moved_in_time : (last : Option ℕ) → IfSome last (λ l. l ≤ greatest_stamp) → (m : Movement) → MovementStampIsAtMostLast last m → m.stamp ≤ greatest_stamp
+moved_in_time : (last : Option ℕ) → IfSome last (λ l. l ≤ greatest_stamp) → (m : Movement) → MovementStampIsAtMostLastStamp last m → m.stamp ≤ greatest_stamp
 moved_in_time None c m e = absurd e
 moved_in_time (Some l) c m e = let a : l ≤ greatest_stamp = c in let b : m.stamp ≤ l = e in omega (arith, a, b)
 

@@ -33,13 +33,13 @@ last_number_or_default from zs = unwrap_or (last_or None zs) from
 
 -- The amount, in cents, that the explanation of the trade `t` prints as "Balance before", computed
 -- from the tables.
-abbrev pub printed_balance_before : Tables → Trade → ℤ
-printed_balance_before tables t = balance_before_trade (order_details_of_trade tables (trade_row t)) (result_details_of_trade tables (trade_row t))
+abbrev pub printed_balance_before_trade : Tables → Trade → ℤ
+printed_balance_before_trade tables t = balance_before_trade (order_details_of_trade tables (trade_row t)) (result_details_of_trade tables (trade_row t))
 
 -- The amount, in cents, that the explanation of the trade `t` prints as "Balance after", computed
 -- from the tables.
-abbrev pub printed_balance_after : Tables → Trade → ℤ
-printed_balance_after tables t = balance_after_trade (order_details_of_trade tables (trade_row t)) (result_details_of_trade tables (trade_row t))
+abbrev pub printed_balance_after_trade : Tables → Trade → ℤ
+printed_balance_after_trade tables t = balance_after_trade (order_details_of_trade tables (trade_row t)) (result_details_of_trade tables (trade_row t))
 
 -- The last running balance, in cents, that the explanation of the account `a` prints, or the
 -- opening balance if the account has no cash rows.
@@ -50,18 +50,18 @@ last_printed_balance tables a = last_number_or_default a.opening (running_totals
 -- stamp of its completion. The printed balance after the trade also counts the postings at this
 -- stamp.
 pub record PrintedBalancesMatchBase (base : Base) (t : Trade) : Type 0 where
-  pub before : printed_balance_before (sheets base) t
+  pub before : printed_balance_before_trade (sheets base) t
       ≡ balance_of_account base.accounts (postings_before_stamp (last_status_stamp_of_trade t) (postings_of_base base)) t.account
-  pub after : printed_balance_after (sheets base) t ≡ balance_at_stamp base (last_status_stamp_of_trade t) t.account
+  pub after : printed_balance_after_trade (sheets base) t ≡ balance_at_stamp base (last_status_stamp_of_trade t) t.account
 
 -- After the result of the trade `id` from `base` at the clock reading `now` and the price `price`,
 -- and after any run that follows it, the printed balance after the trade is the balance of its
 -- account in the base right after that result.
-abbrev pub PreservesPrintedBalanceAfter : Base → ℕ → ℕ → ℕ → Type 0
-PreservesPrintedBalanceAfter base now id price =
+abbrev pub RunsPreservePrintedBalanceAfterTrade : Base → ℕ → ℕ → ℕ → Type 0
+RunsPreservePrintedBalanceAfterTrade base now id price =
     (calls : List (ℕ × Call)) (outcomes : List Outcome) (later : Base) (u : Trade)
     → Run (base_after_command base now (CompleteTrade id price)) calls outcomes later → trade_with_id later id ≡ Some u
-    → printed_balance_after (sheets later) u
+    → printed_balance_after_trade (sheets later) u
     ≡ balance_of_account (base_after_command base now (CompleteTrade id price)).accounts
     (postings_of_base (base_after_command base now (CompleteTrade id price))) u.account
 

@@ -7,7 +7,7 @@ use Rattle.brk_model.specs.Derived.{deal_of_trade}
 use Rattle.brk_model.specs.Shares.{buy_value, closed_share_count_of_deal, realised_gain, sell_value, signed_by_side}
 use Rattle.brk_model.specs.Sheets.{sheets}
 use Rattle.brk_model.specs.Tables.{trade_row}
-use Rattle.brk_explain_model.specs.Trades.{Closing, ResultStory, buy_value_of_closings, realised_gain_of_closings, opened_quantity}
+use Rattle.brk_explain_model.specs.Trades.{Closing, ResultDetails, buy_value_of_closings, realised_gain_of_closings, opened_quantity}
 use Rattle.brk_explain_model.specs.Trades.{result_details_of_trade, sell_value_of_closings, total_closed_shares}
 use Rattle.brk_explain_theorems.specs.Before.{shares_before_trade}
 
@@ -23,8 +23,8 @@ ClosesWholeLot c = c.after ≡ pos 0
 
 -- The facts about the result of the trade `t` that its explanation reads from the tables of the
 -- base.
-abbrev pub result_story_of_trade : Base → Trade → ResultStory
-result_story_of_trade base t = result_details_of_trade (sheets base) (trade_row t)
+abbrev pub result_details_in_base : Base → Trade → ResultDetails
+result_details_in_base base t = result_details_of_trade (sheets base) (trade_row t)
 
 -- The printed closings of the trade `t` match its deal on the shares before the trade: they have
 -- its buy value, sell value, gain and number of closed shares, and the printed own lot has the
@@ -32,18 +32,18 @@ result_story_of_trade base t = result_details_of_trade (sheets base) (trade_row 
 -- but the last are closed completely.
 pub record PrintedClosingsMatchDeal (base : Base) (t : Trade) : Type 0 where
   -- BUY and SELL are the buy value and the sell value of the deal, so Realised gain is its gain.
-  pub bought : buy_value_of_closings (side_of_trade_type t.kind) (completion_price t) (result_story_of_trade base t).closings
+  pub bought : buy_value_of_closings (side_of_trade_type t.kind) (completion_price t) (result_details_in_base base t).closings
       ≡ buy_value (deal_of_trade t) (shares_before_trade base t)
-  pub sold : sell_value_of_closings (side_of_trade_type t.kind) (completion_price t) (result_story_of_trade base t).closings
+  pub sold : sell_value_of_closings (side_of_trade_type t.kind) (completion_price t) (result_details_in_base base t).closings
       ≡ sell_value (deal_of_trade t) (shares_before_trade base t)
-  pub gained : realised_gain_of_closings (side_of_trade_type t.kind) (completion_price t) (result_story_of_trade base t).closings
+  pub gained : realised_gain_of_closings (side_of_trade_type t.kind) (completion_price t) (result_details_in_base base t).closings
       ≡ realised_gain (deal_of_trade t) (shares_before_trade base t)
   -- Shares closed is the number of shares that the deal closes.
-  pub taken : total_closed_shares (result_story_of_trade base t).closings ≡ closed_share_count_of_deal (deal_of_trade t) (shares_before_trade base t)
+  pub taken : total_closed_shares (result_details_in_base base t).closings ≡ closed_share_count_of_deal (deal_of_trade t) (shares_before_trade base t)
   -- The trade's own lot has the shares that the deal opens.
-  pub lot : opened_quantity (result_story_of_trade base t)
+  pub lot : opened_quantity (result_details_in_base base t)
       ≡ signed_by_side (side_of_trade_type t.kind) (t.qty - closed_share_count_of_deal (deal_of_trade t) (shares_before_trade base t))
   -- Shares closed and Shares opened add up to the quantity of the trade.
-  pub quantity : total_closed_shares (result_story_of_trade base t).closings + nat_abs (opened_quantity (result_story_of_trade base t)) ≡ t.qty
+  pub quantity : total_closed_shares (result_details_in_base base t).closings + nat_abs (opened_quantity (result_details_in_base base t)) ≡ t.qty
   -- All lots but the last are closed completely.
-  pub left : HoldsForAllButLast ClosesWholeLot (result_story_of_trade base t).closings
+  pub left : HoldsForAllButLast ClosesWholeLot (result_details_in_base base t).closings

@@ -7,35 +7,35 @@ use Rattle.brk_model.specs.Derived.{settlement_amount, deal_of_trade, due_day}
 use Rattle.brk_model.specs.Orders.{commission_by_band, tax_on_deal}
 use Rattle.brk_model.specs.Sheets.{sheets}
 use Rattle.brk_model.specs.Tables.{trade_row}
-use Rattle.brk_explain_model.specs.Trades.{OrderStory, balance_change_of_trade, commission_in_current_band, days_to_settle, order_details_of_trade}
+use Rattle.brk_explain_model.specs.Trades.{OrderDetails, balance_change_of_trade, commission_in_current_band, days_to_settle, order_details_of_trade}
 use Rattle.brk_explain_model.specs.Trades.{tax_at_current_rates, signed_trade_value, withheld_tax_of_trade}
 use Rattle.brk_explain_theorems.specs.Before.{shares_before_trade}
-use Rattle.brk_explain_theorems.specs.Closings.{result_story_of_trade}
+use Rattle.brk_explain_theorems.specs.Closings.{result_details_in_base}
 
 -- The facts about the order of the trade `t` that its explanation reads from the tables of the
 -- base.
-abbrev pub order_story_of_trade : Base → Trade → OrderStory
-order_story_of_trade base t = order_details_of_trade (sheets base) (trade_row t)
+abbrev pub order_details_in_base : Base → Trade → OrderDetails
+order_details_in_base base t = order_details_of_trade (sheets base) (trade_row t)
 
 -- The printed settlement of the trade `t` is the sum of the printed lines above it, and equals its
 -- settlement amount. The due day, the cash moved, and the tax and the commission at current rates
 -- equal the values that the model computes from the base.
 pub record PrintedSettlementMatchesBase (base : Base) (t : Trade) : Type 0 where
   -- Settlement is Value plus Charge, Commission and Tax withheld, which are printed below 0.
-  pub sum : (result_story_of_trade base t).settlement.amount
-      ≡ ((signed_trade_value (order_story_of_trade base t) (result_story_of_trade base t) +ℤ neg_ℤ (pos t.charge)) +ℤ neg_ℤ (pos t.commission))
-      +ℤ neg_ℤ (pos (withheld_tax_of_trade (order_story_of_trade base t)))
+  pub sum : (result_details_in_base base t).settlement.amount
+      ≡ ((signed_trade_value (order_details_in_base base t) (result_details_in_base base t) +ℤ neg_ℤ (pos t.charge)) +ℤ neg_ℤ (pos t.commission))
+      +ℤ neg_ℤ (pos (withheld_tax_of_trade (order_details_in_base base t)))
   -- It is the settlement amount of the trade.
-  pub amount : (result_story_of_trade base t).settlement.amount ≡ settlement_amount base.accounts t
+  pub amount : (result_details_in_base base t).settlement.amount ≡ settlement_amount base.accounts t
   -- Cash moved is the settlement amount of a cash trade, and 0 on margin.
-  pub moved : balance_change_of_trade (result_story_of_trade base t) ≡ if t.is_cash then (result_story_of_trade base t).settlement.amount else pos 0
+  pub moved : balance_change_of_trade (result_details_in_base base t) ≡ if t.is_cash then (result_details_in_base base t).settlement.amount else pos 0
   -- Due on is Completed on plus Days to settle, and the day on which the trade settles.
-  pub due : (result_story_of_trade base t).settlement.due_day
-      ≡ day_of (last_status_stamp_of_trade t) + days_to_settle (order_story_of_trade base t) (result_story_of_trade base t)
-  pub day : (result_story_of_trade base t).settlement.due_day ≡ due_day base.rule t
+  pub due : (result_details_in_base base t).settlement.due_day
+      ≡ day_of (last_status_stamp_of_trade t) + days_to_settle (order_details_in_base base t) (result_details_in_base base t)
+  pub day : (result_details_in_base base t).settlement.due_day ≡ due_day base.rule t
   -- Tax now is the tax on the gain of the deal at the rates of the base.
-  pub tax : tax_at_current_rates (order_story_of_trade base t) (result_story_of_trade base t)
+  pub tax : tax_at_current_rates (order_details_in_base base t) (result_details_in_base base t)
       ≡ tax_on_deal base t.account (deal_of_trade t) (shares_before_trade base t)
   -- Commission now is the commission in the bands of the base.
-  pub commission : commission_in_current_band (order_story_of_trade base t) (result_story_of_trade base t)
+  pub commission : commission_in_current_band (order_details_in_base base t) (result_details_in_base base t)
       ≡ commission_by_band base t.account t.kind t.symbol t.qty (completion_price t)

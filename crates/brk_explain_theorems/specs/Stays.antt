@@ -5,9 +5,9 @@ use Rattle.brk_model.specs.Base.{Base}
 use Rattle.brk_model.specs.Sheets.{sheets}
 use Rattle.brk_model.specs.Tables.{trade_row}
 use Rattle.brk_explain_model.specs.Trades.{balance_change_of_trade}
-use Rattle.brk_explain_theorems.specs.Balances.{printed_balance_after, printed_balance_before}
-use Rattle.brk_explain_theorems.specs.Closings.{result_story_of_trade}
-use Rattle.brk_explain_theorems.specs.Equations.{order_story_of_trade}
+use Rattle.brk_explain_theorems.specs.Balances.{printed_balance_after_trade, printed_balance_before_trade}
+use Rattle.brk_explain_theorems.specs.Closings.{result_details_in_base}
+use Rattle.brk_explain_theorems.specs.Equations.{order_details_in_base}
 
 -- The explanation of the trade `u` of the base `later` prints the figures that the explanation of
 -- the trade `t` of `base` prints: the columns of TRADE except the executor's name, the customer,
@@ -16,23 +16,23 @@ use Rattle.brk_explain_theorems.specs.Equations.{order_story_of_trade}
 pub record PrintsSameFigures (base later : Base) (t u : Trade) : Type 0 where
   -- All columns of the row of TRADE but the executor's name.
   pub row : record (trade_row u) { executor = [] } ≡ record (trade_row t) { executor = [] }
-  pub customer : (order_story_of_trade later u).customer ≡ (order_story_of_trade base t).customer
-  pub broker : (order_story_of_trade later u).broker ≡ (order_story_of_trade base t).broker
-  pub tax_status : (order_story_of_trade later u).tax_status ≡ (order_story_of_trade base t).tax_status
-  pub opening : (order_story_of_trade later u).opening ≡ (order_story_of_trade base t).opening
+  pub customer : (order_details_in_base later u).customer ≡ (order_details_in_base base t).customer
+  pub broker : (order_details_in_base later u).broker ≡ (order_details_in_base base t).broker
+  pub tax_status : (order_details_in_base later u).tax_status ≡ (order_details_in_base base t).tax_status
+  pub opening : (order_details_in_base later u).opening ≡ (order_details_in_base base t).opening
   -- The status changes.
-  pub statuses : (order_story_of_trade later u).statuses ≡ (order_story_of_trade base t).statuses
+  pub statuses : (order_details_in_base later u).statuses ≡ (order_details_in_base base t).statuses
   -- The lots that it closed, and its own lot: so BUY, SELL, Realised gain and the shares.
-  pub price : (result_story_of_trade later u).price ≡ (result_story_of_trade base t).price
-  pub closings : (result_story_of_trade later u).closings ≡ (result_story_of_trade base t).closings
-  pub own_lot : (result_story_of_trade later u).own_lot ≡ (result_story_of_trade base t).own_lot
+  pub price : (result_details_in_base later u).price ≡ (result_details_in_base base t).price
+  pub closings : (result_details_in_base later u).closings ≡ (result_details_in_base base t).closings
+  pub own_lot : (result_details_in_base later u).own_lot ≡ (result_details_in_base base t).own_lot
   -- The settlement, its due day, and the cash that it moved.
-  pub settlement : (result_story_of_trade later u).settlement.amount ≡ (result_story_of_trade base t).settlement.amount
-  pub due : (result_story_of_trade later u).settlement.due_day ≡ (result_story_of_trade base t).settlement.due_day
-  pub moved : balance_change_of_trade (result_story_of_trade later u) ≡ balance_change_of_trade (result_story_of_trade base t)
+  pub settlement : (result_details_in_base later u).settlement.amount ≡ (result_details_in_base base t).settlement.amount
+  pub due : (result_details_in_base later u).settlement.due_day ≡ (result_details_in_base base t).settlement.due_day
+  pub moved : balance_change_of_trade (result_details_in_base later u) ≡ balance_change_of_trade (result_details_in_base base t)
   -- The number of its cash row, and of the account's cash rows before it.
-  pub number : option_map (λ row. row.id) (result_story_of_trade later u).cash ≡ option_map (λ row. row.id) (result_story_of_trade base t).cash
-  pub rows : (result_story_of_trade later u).cash_rows ≡ (result_story_of_trade base t).cash_rows
+  pub number : option_map (λ row. row.id) (result_details_in_base later u).cash ≡ option_map (λ row. row.id) (result_details_in_base base t).cash
+  pub rows : (result_details_in_base later u).cash_rows ≡ (result_details_in_base base t).cash_rows
   -- The balances before and after it.
-  pub before : printed_balance_before (sheets later) u ≡ printed_balance_before (sheets base) t
-  pub after : printed_balance_after (sheets later) u ≡ printed_balance_after (sheets base) t
+  pub before : printed_balance_before_trade (sheets later) u ≡ printed_balance_before_trade (sheets base) t
+  pub after : printed_balance_after_trade (sheets later) u ≡ printed_balance_after_trade (sheets base) t

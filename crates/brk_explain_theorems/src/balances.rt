@@ -9,7 +9,7 @@ ghost use Rattle.brk_model.specs.Sheets.{sheets};
 ghost use Rattle.brk_model.specs.Tables.{AccountRow};
 ghost use Rattle.brk_model.specs.Tests.{refusal_of_command};
 ghost use Rattle.brk_book_theorems.specs.Books.{BooksInvariant};
-ghost use Rattle.brk_explain_theorems.specs.Balances.{PrintedAccountMatchesBase, PrintedBalancesMatchBase, PreservesPrintedBalanceAfter};
+ghost use Rattle.brk_explain_theorems.specs.Balances.{PrintedAccountMatchesBase, PrintedBalancesMatchBase, RunsPreservePrintedBalanceAfterTrade};
 
 /// Proves that the explanation of an account lists all its cash rows, that its last printed balance
 /// is the account's balance, and that this plus the market values of its holdings is its assets.
@@ -24,5 +24,5 @@ pub fn printed_balances_match_the_base()
         → PrintedBalancesMatchBase base t }
     ensures stays { (base : Base) (now id price : ℕ) (t : Trade) → BooksInvariant base → trade_with_id base id ≡ Some t
         → refusal_of_command base now (CompleteTrade id price) ≡ None
-        → PreservesPrintedBalanceAfter base now id price }
+        → RunsPreservePrintedBalanceAfterTrade base now id price }
 {}

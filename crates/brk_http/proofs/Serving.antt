@@ -14,7 +14,7 @@ use Rattle.brk_desk.specs.declared.call.Outcome.{Outcome}
 use Rattle.brk_model.specs.Run as run
 use Rattle.brk_money.specs.Spelling.{Text}
 use Rattle.brk_io.specs.Calls.{IsCallSequence}
-use Rattle.brk_io.specs.Span.{ClockAndWriterChange, change_with_bases}
+use Rattle.brk_io.specs.Span.{ClockAndWriterChange, environment_change_with_bases}
 use Rattle.brk_http_engine.proofs.Counted.{tells_few}
 use Rattle.brk_http_engine.proofs.Promised.{tells}
 use Rattle.brk_http_engine.specs.Limits.{call_limit_of_stream}
@@ -50,7 +50,7 @@ module _ {S : Type 0} (g : Ghosts S) where
   -- whatever the reader gave, calls were made; where it tells its bytes, these are what they ask
   -- for
   pub tells_run : {C : Type 0} (gives : C → ℕ → C → Type 0) (input : Option Text) (first last : Held S) (outside : ClockAndWriterChange C) (result : Result ℕ ServeFault) → ChangesOnlyByCalls CallOutcome (call_limit_of_stream result) first last
-      → IfSome input (λ text. IsStreamResult model_parsers CallOutcome gives text (change_with_bases first last outside) result)
+      → IfSome input (λ text. IsStreamResult model_parsers CallOutcome gives text (environment_change_with_bases first last outside) result)
       → (calls : List (ℕ × Call)) × (outcomes : List Outcome) × IsRunWithOutcomes g first last calls outcomes × (length calls ≤ call_limit_of_stream result)
       × IfSome input (λ text. StreamMatchesScript model_parsers gives text (map model_call calls, map model_outcome outcomes) outside result)
   tells_run gives None first last outside result (calls, outcomes, made, few) h =

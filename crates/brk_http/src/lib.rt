@@ -13,5 +13,5 @@ pub use brk_desk;
 pub use brk_http_engine::{FaultKind, ServeFault};
 pub use brk_http_listener::{AcceptFault, ListenFault, Listener};
 pub use brk_io::Clock;
-pub use listening::serve_listener;
+pub use listening::serve_on;
 pub use streams::serve_stream;

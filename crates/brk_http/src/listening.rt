@@ -16,7 +16,7 @@ use std::net::TcpStream;
 ///
 /// Fails with `Stream` at the first stream that ended because memory ran out, and with `Net` if the
 /// listener accepts no more streams. No stream is accepted after a fault.
-pub fn serve_listener<L: Listener<Stream = TcpStream>, C: Clock, S: Alter>(
+pub fn serve_on<L: Listener<Stream = TcpStream>, C: Clock, S: Alter>(
     alloc: Global,
     listener: &mut L,
     streams: u32,

@@ -7,7 +7,7 @@ use Rattle.brk_http_model.specs.Bodies.{texts_of_body}
 use Rattle.brk_http_model.specs.Found.{Request}
 use Rattle.brk_http_model.specs.Replies.{FromProblem}
 use Rattle.brk_http_model.specs.Routes.{Route, route_of_target}
-use Rattle.brk_http_model.specs.declared.problem.Problem.TheVariants.{NotFound, NotAllowed, BadRequest}
+use Rattle.brk_http_model.specs.declared.problem.RequestProblem.TheVariants.{NotFound, NotAllowed, BadRequest}
 
 pub no_route : (forms : RequestParsers) (q : Request) → route_of_target forms.views q.target ≡ None → ResponseOnly (FromProblem NotFound) ≡ demand_of_request forms q
 unfolding demand_of_request

@@ -4,7 +4,7 @@ use Rattle.std.specs.Prelude.{Result, Ok, Err}
 use Rattle.brk_money.specs.Spelling.{Text}
 use Rattle.brk_model.specs.Run.{Call, Outcome}
 use Rattle.brk_io.specs.Calls.{IsCallSequence}
-use Rattle.brk_io.specs.Span.{IsUnchangedEnvironment, ClockAndWriterChange, EnvironmentChange, change_with_bases}
+use Rattle.brk_io.specs.Span.{IsUnchangedEnvironment, ClockAndWriterChange, EnvironmentChange, environment_change_with_bases}
 use Rattle.brk_http_model.specs.Asked.{RequestParsers, RequestDemand, ResponseOnly, DeskCall, demand_of_request}
 use Rattle.brk_http_model.specs.Found.{RequestReading, NoBytesLeft, Unreadable, CompleteRequest}
 use Rattle.brk_http_model.specs.Replies.{Response}
@@ -52,7 +52,7 @@ module _ {D B C : Type 0} (forms : RequestParsers) (acts : CallRelation D) (does
   failed_carries n input old new clock later was now kinds.Write (reply, next, size, h, wrote) good =
       let r = answered_carries n input old new clock later was now reply next h good in (r.0, λ base stood. let k = r.1 base stood in (k.0, k.1, (reply, next, size, k.2, wrote)))
 
-  pub keeps : (input : Text) (first last : D) (outside : ClockAndWriterChange C) (result : Result ℕ ServeFault) → IsStreamResult forms acts gives input (change_with_bases first last outside) result
+  pub keeps : (input : Text) (first last : D) (outside : ClockAndWriterChange C) (result : Result ℕ ServeFault) → IsStreamResult forms acts gives input (environment_change_with_bases first last outside) result
       → StreamRefinesModel honest stands forms does gives input first last outside result
   keeps input first last outside (Ok count) h good base stood =
       let r = sim.replies_carry forms acts does honest stands earlier steps h.replies 0 (Continues input) first last h.moments h.replied good in
@@ -146,7 +146,7 @@ module _ {D C : Type 0} (forms : RequestParsers) (acts : CallRelation D) (gives 
   failed_told n input old new clock later was now kinds.Write (reply, next, size, h, wrote) after made =
       let r = answered_told n input old new clock later was now reply next h after made in (r.0, r.1, (reply, next, size, r.2, wrote))
 
-  pub tells : (input : Text) (first : D) (outside : ClockAndWriterChange C) (result : Result ℕ ServeFault) → IsStreamResult forms acts gives input (change_with_bases first last outside) result
+  pub tells : (input : Text) (first : D) (outside : ClockAndWriterChange C) (result : Result ℕ ServeFault) → IsStreamResult forms acts gives input (environment_change_with_bases first last outside) result
       → (script : CallScript) × IsCallSequence acts first script.0 script.1 last × StreamMatchesScript forms gives input script outside result
   tells input first outside (Ok count) h =
       let r = replies_told h.replies 0 (Continues input) first last h.moments h.replied ([], []) refl in

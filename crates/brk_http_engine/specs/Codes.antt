@@ -17,8 +17,8 @@ use Rattle.brk_http_engine.specs.declared.routes.Route.{Route}
 use Rattle.brk_http_engine.specs.declared.routes.Route.TheVariants as route
 use Rattle.brk_http_engine.specs.declared.asking.RequestedCall.{RequestedCall}
 use Rattle.brk_http_engine.specs.declared.asking.RequestedCall.TheVariants as asking
-use Rattle.brk_http_engine.specs.declared.acting.ServiceAnswer.{ServiceAnswer}
-use Rattle.brk_http_engine.specs.declared.acting.ServiceAnswer.TheVariants as told
+use Rattle.brk_http_engine.specs.declared.acting.ServiceResponse.{ServiceResponse}
+use Rattle.brk_http_engine.specs.declared.acting.ServiceResponse.TheVariants as told
 
 -- The model's key that the key of a row represents, or `None` if the row has no key.
 abbrev pub key_in_model : Option ref.Key → Option records.Key
@@ -56,7 +56,7 @@ call_in_model command query (asking.View q) = asked.DeskCall (run.Ask (query q))
 
 -- The model's response that a response represents; `reply` and `shown` map replies and views to
 -- those of the model.
-abbrev pub response_in_model : {R V : Type 0} → (R → model.Reply) → (V → queries.View) → ServiceAnswer R V → Response
+abbrev pub response_in_model : {R V : Type 0} → (R → model.Reply) → (V → queries.View) → ServiceResponse R V → Response
 response_in_model reply shown (told.Wrong problem) = FromProblem problem
 response_in_model reply shown (told.NoRow refusal) = FromOutcome (run.Did (model.Refused refusal))
 response_in_model reply shown (told.NoView refusal) = FromOutcome (run.NoView refusal)

@@ -3,7 +3,7 @@ use Rattle.std.specs.Prelude.{◌≡◌, ◌≤◌, ℕ, List, [], ◌∷◌, Re
 use Rattle.brk_money.specs.Spelling.{Text}
 use Rattle.brk_model.specs.Run.{Call, Outcome}
 use Rattle.brk_io.specs.Calls.{IsCallSequence}
-use Rattle.brk_io.specs.Span.{ClockAndWriterChange, change_with_bases}
+use Rattle.brk_io.specs.Span.{ClockAndWriterChange, environment_change_with_bases}
 use Rattle.brk_http_engine.specs.Turns.{IsStreamResult}
 use Rattle.brk_http_engine.specs.declared.stream.ServeFault.{ServeFault}
 use Rattle.brk_http_model.specs.Asked.{RequestParsers}
@@ -29,7 +29,7 @@ IsNextScriptedCall script now call outcome rest = (script.0 ≡ (now, call) ∷ 
 abbrev pub StreamMatchesScript : {C : Type 0} → RequestParsers → (C → ℕ → C → Type 0) → Text → CallScript → ClockAndWriterChange C → Result ℕ ServeFault
     → Type 0
 StreamMatchesScript forms gives input script outside result =
-    IsStreamResult forms IsNextScriptedCall gives input (change_with_bases script ([], []) outside) result
+    IsStreamResult forms IsNextScriptedCall gives input (environment_change_with_bases script ([], []) outside) result
 
 -- The stream with the content `input` refines the model: for every base that the desk represented
 -- before the stream (`stands`), the replies are those that `does` allows from this base, and the
@@ -39,4 +39,4 @@ abbrev pub StreamRefinesModel : {D B C : Type 0} → (D → Type 0) → (D → B
     → ClockAndWriterChange C → Result ℕ ServeFault → Type 0
 StreamRefinesModel {B = B} honest stands forms does gives input first last outside result =
     honest last → (base : B) → stands first base
-    → (after : B) × stands last after × IsStreamResult forms does gives input (change_with_bases base after outside) result
+    → (after : B) × stands last after × IsStreamResult forms does gives input (environment_change_with_bases base after outside) result

@@ -7,7 +7,7 @@ ghost use Rattle.brk_http_engine.specs.Codes.{call_in_model, key_in_model, respo
 
 use crate::asking::RequestedCall;
 use crate::service::Service;
-use brk_http_model::Problem;
+use brk_http_model::RequestProblem;
 use brk_io::Clock;
 use brk_money::{Fault, Refusal, Stamp};
 use brk_ref::{Answer, Key};
@@ -15,9 +15,9 @@ use std::alloc::Global;
 
 /// The response to a request, which its reply reports.
 #[derive(Debug, Drop)]
-pub enum ServiceAnswer<R, V> {
+pub enum ServiceResponse<R, V> {
     /// The request makes no call, because it has this problem.
-    Wrong(Problem),
+    Wrong(RequestProblem),
     /// A row was refused with this refusal.
     NoRow(Refusal),
     /// A query was refused with this refusal.
@@ -40,15 +40,15 @@ fn execute_row_command<D: Service>(
     now: Stamp,
     command: &D::Command,
     key: &Option<Key>,
-) -> ServiceAnswer<D::Reply, D::View>
+) -> ServiceResponse<D::Reply, D::View>
     ensures { (outcome : Outcome) × (response_in_model D.told D.shown result ≡ FromOutcome outcome)
         × D.acts desk.old now (Do (D.command_of command.now) (key_in_model key.now)) outcome desk.new }
 {
     match D::call(desk, alloc, now, command, key.as_ref()) {
-        Ok(Answer::Done(reply)) => ServiceAnswer::Done(reply),
-        Ok(Answer::Again(line)) => ServiceAnswer::Again(line),
-        Ok(Answer::Refused(refusal)) => ServiceAnswer::NoRow(refusal),
-        Err(fault) => ServiceAnswer::Failed(fault),
+        Ok(Answer::Done(reply)) => ServiceResponse::Done(reply),
+        Ok(Answer::Again(line)) => ServiceResponse::Again(line),
+        Ok(Answer::Refused(refusal)) => ServiceResponse::NoRow(refusal),
+        Err(fault) => ServiceResponse::Failed(fault),
     }
 }
 
@@ -57,14 +57,14 @@ fn execute_query<D: Service>(
     alloc: Global,
     desk: &mut D::Desk,
     query: &D::Query,
-) -> ServiceAnswer<D::Reply, D::View>
+) -> ServiceResponse<D::Reply, D::View>
     ensures { (outcome : Outcome) × (response_in_model D.told D.shown result ≡ FromOutcome outcome)
         × D.acts desk.old 0 (Ask (D.query_of query.now)) outcome desk.new }
 {
     match D::ask(desk, alloc, query) {
-        Ok(Ok(view)) => ServiceAnswer::Saw(view),
-        Ok(Err(refusal)) => ServiceAnswer::NoView(refusal),
-        Err(fault) => ServiceAnswer::Failed(fault),
+        Ok(Ok(view)) => ServiceResponse::Saw(view),
+        Ok(Err(refusal)) => ServiceResponse::NoView(refusal),
+        Err(fault) => ServiceResponse::Failed(fault),
     }
 }
 
@@ -75,14 +75,14 @@ pub fn execute_call_of_request<C: Clock, D: Service>(
     clock: &mut C,
     desk: &mut D::Desk,
     asking: RequestedCall<D::Command, D::Query>,
-) -> ServiceAnswer<D::Reply, D::View>
+) -> ServiceResponse<D::Reply, D::View>
     ensures { (taken : List ℕ) × ClockReturnsInOrder C.gives clock.old taken clock.new
         × IsResponseToDemand D.acts (call_in_model D.command_of D.query_of asking) desk.old taken (response_in_model D.told D.shown result) desk.new }
 {
     match asking {
-        RequestedCall::Wrong(problem) => ServiceAnswer::Wrong(problem),
-        RequestedCall::BadRow(refusal) => ServiceAnswer::NoRow(refusal),
-        RequestedCall::BadQuery(refusal) => ServiceAnswer::NoView(refusal),
+        RequestedCall::Wrong(problem) => ServiceResponse::Wrong(problem),
+        RequestedCall::BadRow(refusal) => ServiceResponse::NoRow(refusal),
+        RequestedCall::BadQuery(refusal) => ServiceResponse::NoView(refusal),
         RequestedCall::Row(command, key) => {
             let now = clock.now();
             execute_row_command::<D>(alloc, desk, now, &command, &key)

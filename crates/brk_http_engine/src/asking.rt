@@ -9,7 +9,7 @@ use crate::pieces::borrow_bytes_of_texts;
 use crate::router::RouteKind;
 use crate::routes::{Route, route_of_target};
 use crate::service::Service;
-use brk_http_model::Problem;
+use brk_http_model::RequestProblem;
 use brk_money::{Fault, Refusal};
 use brk_ref::Key;
 use matchit::Router;
@@ -19,7 +19,7 @@ use std::alloc::Global;
 #[derive(Drop)]
 pub enum RequestedCall<X, Q> {
     /// No call: the request has this problem.
-    Wrong(Problem),
+    Wrong(RequestProblem),
     /// No call: its row is malformed.
     BadRow(Refusal),
     /// No call: its query is malformed.
@@ -71,13 +71,13 @@ pub fn parse_call_of_request<D: Service>(
         ≡ demand_of_request D.forms (record { method = method.now; target = target.now; closes = closes; body = body.now })) }
 {
     let Some(route) = route_of_target::<D>(alloc, router, target)? else {
-        return Ok(RequestedCall::Wrong(Problem::NotFound));
+        return Ok(RequestedCall::Wrong(RequestProblem::NotFound));
     };
     if method != b"POST".as_slice() {
-        return Ok(RequestedCall::Wrong(Problem::NotAllowed));
+        return Ok(RequestedCall::Wrong(RequestProblem::NotAllowed));
     }
     let Some(texts) = texts_of_body(alloc, body)? else {
-        return Ok(RequestedCall::Wrong(Problem::BadRequest));
+        return Ok(RequestedCall::Wrong(RequestProblem::BadRequest));
     };
     parse_call_of_route::<D>(alloc, route, &texts)
 }

@@ -9,38 +9,38 @@ ghost use Rattle.brk_http_model.specs.Routes.{split_at_byte};
 ghost use Rattle.brk_http_engine.specs.Lines.{first_head_lines, status_text};
 ghost use Rattle.brk_http_engine.specs.Codes.{bytes_of_texts, response_in_model};
 
-use crate::acting::ServiceAnswer;
+use crate::acting::ServiceResponse;
 use crate::bodies::{MemberName, json_text_of_error, json_text_of_texts, json_text_of_view};
 use crate::pieces::{copy_texts, split_at_byte};
 use crate::service::Service;
-use brk_http_model::Problem;
+use brk_http_model::RequestProblem;
 use brk_money::{Fault, Refusal};
 use http::StatusCode;
 use std::alloc::{AllocError, Global};
 
 // Returns the HTTP status of the reply to a request with this problem: 413, 400, 501, 404 or 405.
-fn status_of_problem(problem: Problem) -> StatusCode
+fn status_of_problem(problem: RequestProblem) -> StatusCode
     ensures { status_text result ≡ http_status_of_problem problem }
 {
     match problem {
-        Problem::TooLarge => StatusCode::PAYLOAD_TOO_LARGE,
-        Problem::BadRequest => StatusCode::BAD_REQUEST,
-        Problem::NotImplemented => StatusCode::NOT_IMPLEMENTED,
-        Problem::NotFound => StatusCode::NOT_FOUND,
-        Problem::NotAllowed => StatusCode::METHOD_NOT_ALLOWED,
+        RequestProblem::TooLarge => StatusCode::PAYLOAD_TOO_LARGE,
+        RequestProblem::BadRequest => StatusCode::BAD_REQUEST,
+        RequestProblem::NotImplemented => StatusCode::NOT_IMPLEMENTED,
+        RequestProblem::NotFound => StatusCode::NOT_FOUND,
+        RequestProblem::NotAllowed => StatusCode::METHOD_NOT_ALLOWED,
     }
 }
 
 // Returns the text in the body of the error reply to a request with this problem.
-fn text_of_problem(problem: Problem) -> &'static str
+fn text_of_problem(problem: RequestProblem) -> &'static str
     ensures { result.now ≡ text_of_problem problem }
 {
     match problem {
-        Problem::TooLarge => "too large",
-        Problem::BadRequest => "bad request",
-        Problem::NotImplemented => "not implemented",
-        Problem::NotFound => "not found",
-        Problem::NotAllowed => "method not allowed",
+        RequestProblem::TooLarge => "too large",
+        RequestProblem::BadRequest => "bad request",
+        RequestProblem::NotImplemented => "not implemented",
+        RequestProblem::NotFound => "not found",
+        RequestProblem::NotAllowed => "method not allowed",
     }
 }
 
@@ -57,37 +57,37 @@ fn fault_word(fault: Fault) -> &'static str
 
 // Returns the HTTP status of a response: 200 for a reply, a stored reply or a view, 409 for a
 // refusal, 503 for a fault of the desk, otherwise the status of the problem.
-fn status_of_response<R, V>(told: &ServiceAnswer<R, V>) -> StatusCode
+fn status_of_response<R, V>(told: &ServiceResponse<R, V>) -> StatusCode
     ensures { (reply : R → model.Reply) (shown : V → queries.View) → status_text result ≡ http_status_of_response (response_in_model reply shown told.now) }
 {
     match told {
-        ServiceAnswer::Wrong(problem) => status_of_problem(*problem),
-        ServiceAnswer::NoRow(_) => StatusCode::CONFLICT,
-        ServiceAnswer::NoView(_) => StatusCode::CONFLICT,
-        ServiceAnswer::Done(_) => StatusCode::OK,
-        ServiceAnswer::Again(_) => StatusCode::OK,
-        ServiceAnswer::Saw(_) => StatusCode::OK,
-        ServiceAnswer::Failed(_) => StatusCode::SERVICE_UNAVAILABLE,
+        ServiceResponse::Wrong(problem) => status_of_problem(*problem),
+        ServiceResponse::NoRow(_) => StatusCode::CONFLICT,
+        ServiceResponse::NoView(_) => StatusCode::CONFLICT,
+        ServiceResponse::Done(_) => StatusCode::OK,
+        ServiceResponse::Again(_) => StatusCode::OK,
+        ServiceResponse::Saw(_) => StatusCode::OK,
+        ServiceResponse::Failed(_) => StatusCode::SERVICE_UNAVAILABLE,
     }
 }
 
 // Returns true if the response is the problem that the method of the request is not POST, so that
 // the reply names the allowed method.
-fn is_method_refusal<R, V>(told: &ServiceAnswer<R, V>) -> bool
+fn is_method_refusal<R, V>(told: &ServiceResponse<R, V>) -> bool
     ensures { (reply : R → model.Reply) (shown : V → queries.View) → result ≡ names_allowed_method (response_in_model reply shown told.now) }
 {
     match told {
-        ServiceAnswer::Wrong(Problem::NotAllowed) => true,
+        ServiceResponse::Wrong(RequestProblem::NotAllowed) => true,
         _ => false,
     }
 }
 
 /// Returns true if the response is a fault of the desk.
-pub fn is_fault_response<R, V>(told: &ServiceAnswer<R, V>) -> bool
+pub fn is_fault_response<R, V>(told: &ServiceResponse<R, V>) -> bool
     ensures { (reply : R → model.Reply) (shown : V → queries.View) → result ≡ is_fault_response (response_in_model reply shown told.now) }
 {
     match told {
-        ServiceAnswer::Failed(_) => true,
+        ServiceResponse::Failed(_) => true,
         _ => false,
     }
 }
@@ -114,28 +114,28 @@ fn refusal_body(alloc: Global, refusal: Refusal) -> Result<String, AllocError>
 // Returns the JSON body of the reply with this response. Fails only if memory runs out.
 fn response_body<D: Service>(
     alloc: Global,
-    told: &ServiceAnswer<D::Reply, D::View>,
+    told: &ServiceResponse<D::Reply, D::View>,
 ) -> Result<String, AllocError>
     ensures { IfOk result (λ s. string_bytes s ≡ response_body (response_in_model D.told D.shown told.now)) }
 {
     match told {
-        ServiceAnswer::Wrong(problem) => json_text_of_error(alloc, text_of_problem(*problem)),
-        ServiceAnswer::NoRow(refusal) | ServiceAnswer::NoView(refusal) => refusal_body(
+        ServiceResponse::Wrong(problem) => json_text_of_error(alloc, text_of_problem(*problem)),
+        ServiceResponse::NoRow(refusal) | ServiceResponse::NoView(refusal) => refusal_body(
             alloc, *refusal,
         ),
-        ServiceAnswer::Done(reply) => {
+        ServiceResponse::Done(reply) => {
             let fields = D::reply_fields(alloc, reply)?;
             json_text_of_texts(alloc, MemberName::Ok, &fields)
         }
-        ServiceAnswer::Again(line) => {
+        ServiceResponse::Again(line) => {
             let fields = fields_between_commas(alloc, line.as_str())?;
             json_text_of_texts(alloc, MemberName::Again, &fields)
         }
-        ServiceAnswer::Saw(view) => {
+        ServiceResponse::Saw(view) => {
             let records = D::records(alloc, view)?;
             json_text_of_view(alloc, &records)
         }
-        ServiceAnswer::Failed(fault) => json_text_of_error(alloc, fault_word(*fault)),
+        ServiceResponse::Failed(fault) => json_text_of_error(alloc, fault_word(*fault)),
     }
 }
 
@@ -236,7 +236,7 @@ fn reply_bytes(
 /// is true.
 pub fn reply_text<D: Service>(
     alloc: Global,
-    told: &ServiceAnswer<D::Reply, D::View>,
+    told: &ServiceResponse<D::Reply, D::View>,
     closes: bool,
 ) -> Result<String, AllocError>
     ensures { IfOk result (λ s. string_bytes s ≡ reply_text (response_in_model D.told D.shown told.now) closes) }
@@ -253,12 +253,12 @@ pub fn reply_text<D: Service>(
 
 /// Returns the bytes of the reply to a request that could not be read, because of this problem,
 /// with a `Connection: close` line. Fails only if memory runs out.
-pub fn format_problem_reply(alloc: Global, problem: Problem) -> Result<String, AllocError>
+pub fn format_problem_reply(alloc: Global, problem: RequestProblem) -> Result<String, AllocError>
     ensures { IfOk result (λ s. string_bytes s ≡ reply_text (FromProblem problem) Bool.true) }
 {
     let body = json_text_of_error(alloc, text_of_problem(problem))?;
     let asks_post = match problem {
-        Problem::NotAllowed => true,
+        RequestProblem::NotAllowed => true,
         _ => false,
     };
     reply_bytes(

@@ -4,7 +4,7 @@ ghost use Rattle.std.specs.List.{list_all};
 ghost use Rattle.brk_http_engine.specs.Rows.{is_nonempty, all_router_rows};
 ghost use Rattle.brk_http_model.specs.Stream.{most_requests_per_stream};
 ghost use Rattle.httparse.specs.Spans.{IsWithin};
-ghost use Rattle.brk_http_reader.specs.FirstRequests.{request_at};
+ghost use Rattle.brk_http_reader.specs.FirstRequests.{request_at_positions};
 ghost use Rattle.brk_http_engine.specs.Limits.{call_limit_of_turn};
 ghost use Rattle.brk_http_engine.specs.Promises.{ChangesOnlyByCalls};
 ghost use Rattle.brk_http_engine.specs.Turns.{ExecutesRequest, ExchangeFailsWith, ExchangeCompletesWith};
@@ -96,13 +96,13 @@ fn execute_and_format_reply<C: Clock, D: Service>(
     // If the stream continues after the reply, fewer than 1,000 requests are answered so far.
     ensures open { IfOk result (λ draft. draft.closes ≡ Bool.false → done + 1 < most_requests_per_stream) }
     ensures ok { (old : Option (List ℕ)) (new : Option (List ℕ))
-        → IfOk result (λ draft. ExecutesRequest D.forms D.acts C.gives done (request_at buffer.now places)
+        → IfOk result (λ draft. ExecutesRequest D.forms D.acts C.gives done (request_at_positions buffer.now places)
         (record { base = desk.old; after = desk.new; clock = clock.old; later = clock.new; old = old; new = new }) draft.closes (string_bytes draft.text)) }
     // At `Before` neither the desk nor the clock has changed.
     ensures before { result ≡ Err OutOfMemoryPoint.Before → (desk.new ≡ desk.old) × (clock.new ≡ clock.old) }
     // At `After` the request was executed, but its reply is lost.
     ensures after { (old : Option (List ℕ)) (new : Option (List ℕ)) → result ≡ Err OutOfMemoryPoint.After
-        → (closes : Bool) × (reply : List ℕ) × ExecutesRequest D.forms D.acts C.gives done (request_at buffer.now places)
+        → (closes : Bool) × (reply : List ℕ) × ExecutesRequest D.forms D.acts C.gives done (request_at_positions buffer.now places)
         (record { base = desk.old; after = desk.new; clock = clock.old; later = clock.new; old = old; new = new }) closes reply }
 {
     let method = places.method.of(buffer);

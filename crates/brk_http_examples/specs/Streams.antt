@@ -6,8 +6,8 @@ use Rattle.brk_http_model.specs.Computed.{replies_to_requests}
 use Rattle.brk_http_model.specs.Found.{Request}
 
 -- Twenty clock readings, all of them the start of 2024-03-01, in milliseconds since 1970-01-01 UTC.
-abbrev pub clock_readings : List ℕ
-clock_readings = replicate 20 1709251200000
+abbrev pub twenty_http_clock_readings : List ℕ
+twenty_http_clock_readings = replicate 20 1709251200000
 
 -- A request with the method POST, the target `target` and the body `body`, which does not ask to
 -- close the stream.
@@ -37,4 +37,4 @@ expected_reply_bytes status fields len body =
 -- The requests of one stream, executed in sequence from `setting_base` on, have exactly these
 -- replies.
 abbrev pub HasRepliesInSetting : List Request → List Text → Type 0
-HasRepliesInSetting requests replies = replies_to_requests 0 setting_base clock_readings requests ≡ replies
+HasRepliesInSetting requests replies = replies_to_requests 0 setting_base twenty_http_clock_readings requests ≡ replies

@@ -10,7 +10,7 @@ ghost use Rattle.brk_http_model.specs.Heads.{head_end, head_end_within};
 ghost use Rattle.brk_http_model.specs.Replies.{FromProblem};
 ghost use Rattle.brk_http_model.specs.Routes.{ToRow, ToView, split_at_byte, route_of_target};
 ghost use Rattle.brk_http_model.specs.declared.head_end.HeadEnd.TheVariants.{At, Cut, Nothing, TooLong};
-ghost use Rattle.brk_http_model.specs.declared.problem.Problem.TheVariants.{BadRequest, NotAllowed, NotFound, NotImplemented, TooLarge};
+ghost use Rattle.brk_http_model.specs.declared.problem.RequestProblem.TheVariants.{BadRequest, NotAllowed, NotFound, NotImplemented, TooLarge};
 ghost use Rattle.brk_http_examples.specs.Streams.{get_request, post_request};
 
 /// Shows that a head ends with its first empty line, which must end within the limit, and the

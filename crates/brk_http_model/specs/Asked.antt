@@ -14,7 +14,7 @@ use Rattle.brk_http_model.specs.Bodies.{texts_of_body}
 use Rattle.brk_http_model.specs.Found.{Request}
 use Rattle.brk_http_model.specs.Replies.{Response, FromProblem, FromOutcome}
 use Rattle.brk_http_model.specs.Routes.{Route, ToRow, ToView, route_of_target}
-use Rattle.brk_http_model.specs.declared.problem.Problem.TheVariants.{NotFound, NotAllowed, BadRequest}
+use Rattle.brk_http_model.specs.declared.problem.RequestProblem.TheVariants.{NotFound, NotAllowed, BadRequest}
 
 -- The parser of rows (`row`), the names of the known views (`views`), and the parser of queries
 -- (`query`), from the name of a view and its arguments.

@@ -6,8 +6,8 @@ use Rattle.std.specs.Char.{is_ascii_digit, to_ascii_lowercase}
 use Rattle.std.specs.Str.Parse.{digits_value}
 use Rattle.std.specs.Cmp.Lexicographic.{pointwise}
 use Rattle.brk_money.specs.Spelling.{Text}
-use Rattle.brk_http_model.specs.declared.problem.Problem.{Problem}
-use Rattle.brk_http_model.specs.declared.problem.Problem.TheVariants.{TooLarge, BadRequest, NotImplemented}
+use Rattle.brk_http_model.specs.declared.problem.RequestProblem.{RequestProblem}
+use Rattle.brk_http_model.specs.declared.problem.RequestProblem.TheVariants.{TooLarge, BadRequest, NotImplemented}
 
 -- The type of a field of a request's head: its name and its value.
 abbrev pub HeadField : Type 0
@@ -39,13 +39,13 @@ abbrev pub has_only_digits : Text → Bool
 has_only_digits value = nat_lt 0 (length value) && list_all is_ascii_digit value
 
 -- The length `n` if it is at most `most_body_bytes`, otherwise the problem `TooLarge`.
-abbrev pub body_length_within_limit : ℕ → Result ℕ Problem
+abbrev pub body_length_within_limit : ℕ → Result ℕ RequestProblem
 body_length_within_limit n = if nat_lt most_body_bytes n then Err TooLarge else Ok n
 
 -- The length of a body, in bytes, that the value of a Content-Length states; the problem
 -- `BadRequest` if the value is not all digits, and `TooLarge` if it has more than nine digits or is
 -- above `most_body_bytes`.
-abbrev pub body_length_of_value : Text → Result ℕ Problem
+abbrev pub body_length_of_value : Text → Result ℕ RequestProblem
 body_length_of_value value =
     if has_only_digits value
     then (if nat_lt 9 (length value) then Err TooLarge else body_length_within_limit (digits_value 10 value))
@@ -54,13 +54,13 @@ body_length_of_value value =
 -- The length of a body, in bytes, by the values of all Content-Length fields: 0 if there is none,
 -- the length that a single value states, or its problem, and the problem `BadRequest` if there are
 -- two or more.
-abbrev pub body_length_of_values : List Text → Result ℕ Problem
+abbrev pub body_length_of_values : List Text → Result ℕ RequestProblem
 body_length_of_values [] = Ok 0
 body_length_of_values (value ∷ []) = body_length_of_value value
 body_length_of_values (value ∷ other ∷ more) = Err BadRequest
 
 -- The length of a body, in bytes, by the fields of its head. The problem `NotImplemented` if there
 -- is a Transfer-Encoding, which is checked first; otherwise by the Content-Length fields.
-abbrev pub body_length_of_fields : List HeadField → Result ℕ Problem
+abbrev pub body_length_of_fields : List HeadField → Result ℕ RequestProblem
 body_length_of_fields pairs =
     if has_field_named (codes "transfer-encoding") pairs then Err NotImplemented else body_length_of_values (values_of_field (codes "content-length") pairs)

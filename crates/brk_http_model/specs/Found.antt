@@ -5,8 +5,8 @@ use Rattle.httparse.specs.Spans.{name_and_value}
 use Rattle.brk_money.specs.Spelling.{Text}
 use Rattle.brk_http_model.specs.Heads.{head_end}
 use Rattle.brk_http_model.specs.Fields.{body_length_of_fields, asks_to_close_stream}
-use Rattle.brk_http_model.specs.declared.problem.Problem.{Problem}
-use Rattle.brk_http_model.specs.declared.problem.Problem.TheVariants.{TooLarge, BadRequest}
+use Rattle.brk_http_model.specs.declared.problem.RequestProblem.{RequestProblem}
+use Rattle.brk_http_model.specs.declared.problem.RequestProblem.TheVariants.{TooLarge, BadRequest}
 use Rattle.brk_http_model.specs.declared.head_end.HeadEnd.{HeadEnd}
 use Rattle.brk_http_model.specs.declared.head_end.HeadEnd.TheVariants.{Nothing, TooLong, Cut, At}
 
@@ -23,7 +23,7 @@ pub data RequestReading : Type 0 where
   -- No byte is left.
   NoBytesLeft : RequestReading
   -- No request can be read because of this problem, and the stream ends.
-  Unreadable : Problem → RequestReading
+  Unreadable : RequestProblem → RequestReading
   -- A request, and the bytes that are left after it.
   CompleteRequest : Request → Text → RequestReading
 
@@ -34,7 +34,7 @@ most_head_fields = 100
 -- The result of reading a request with the head `h`, whose body has the given length or problem,
 -- from the bytes `rest` after the head. The request cannot be read if the length is a problem, or
 -- if `rest` is shorter than the body.
-abbrev pub reading_with_body_length : RequestHead → Text → Result ℕ Problem → RequestReading
+abbrev pub reading_with_body_length : RequestHead → Text → Result ℕ RequestProblem → RequestReading
 reading_with_body_length h rest (Err problem) = Unreadable problem
 reading_with_body_length h rest (Ok n) =
     if nat_lt (length rest) n then Unreadable BadRequest

@@ -9,16 +9,16 @@ use Rattle.brk_model.specs.Rows.{reply_fields}
 use Rattle.brk_model.specs.Run.{Outcome, Did, Saw, NoView, Failed}
 use Rattle.brk_http_model.specs.Bodies.{json_texts_object, json_records_object, json_error_object}
 use Rattle.brk_http_model.specs.Routes.{split_at_byte}
-use Rattle.brk_http_model.specs.declared.problem.Problem.{Problem}
-use Rattle.brk_http_model.specs.declared.problem.Problem.TheVariants.{TooLarge, BadRequest, NotImplemented, NotFound, NotAllowed}
+use Rattle.brk_http_model.specs.declared.problem.RequestProblem.{RequestProblem}
+use Rattle.brk_http_model.specs.declared.problem.RequestProblem.TheVariants.{TooLarge, BadRequest, NotImplemented, NotFound, NotAllowed}
 
 -- The response to a request: a problem, or the outcome of a call of the desk.
 pub data Response : Type 0 where
-  FromProblem : Problem → Response
+  FromProblem : RequestProblem → Response
   FromOutcome : Outcome → Response
 
 -- The HTTP status of a problem: its number and its phrase.
-abbrev pub http_status_of_problem : Problem → Text
+abbrev pub http_status_of_problem : RequestProblem → Text
 http_status_of_problem TooLarge = codes "413 Payload Too Large"
 http_status_of_problem BadRequest = codes "400 Bad Request"
 http_status_of_problem NotImplemented = codes "501 Not Implemented"
@@ -26,7 +26,7 @@ http_status_of_problem NotFound = codes "404 Not Found"
 http_status_of_problem NotAllowed = codes "405 Method Not Allowed"
 
 -- The text of a problem, as the body of a reply states it.
-abbrev pub text_of_problem : Problem → Text
+abbrev pub text_of_problem : RequestProblem → Text
 text_of_problem TooLarge = codes "too large"
 text_of_problem BadRequest = codes "bad request"
 text_of_problem NotImplemented = codes "not implemented"

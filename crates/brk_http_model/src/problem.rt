@@ -1,6 +1,6 @@
 /// A problem of a request, which is answered with an error without a call of the desk.
 #[derive(Clone, Copy, Debug, PartialEq, Eq)]
-pub enum Problem {
+pub enum RequestProblem {
     /// The head or the body is too long; ends the stream.
     TooLarge,
     /// The head or the length is malformed, or the body is cut, all of which end the stream; or the

@@ -15,8 +15,8 @@ use Rattle.brk_http_reader.specs.FirstRequests.{MatchesNextRequest}
 use Rattle.brk_http_reader.specs.declared.head.HeadFacts.{HeadFacts}
 use Rattle.brk_http_reader.specs.declared.next.RequestPositions.{RequestPositions}
 use Rattle.brk_http_reader.specs.declared.next.NextRequest.TheVariants.{Whole}
-use Rattle.brk_http_model.specs.declared.problem.Problem.{Problem}
-use Rattle.brk_http_model.specs.declared.problem.Problem.TheVariants.{BadRequest}
+use Rattle.brk_http_model.specs.declared.problem.RequestProblem.{RequestProblem}
+use Rattle.brk_http_model.specs.declared.problem.RequestProblem.TheVariants.{BadRequest}
 use Rattle.brk_http_model.specs.declared.head_end.HeadEnd.{HeadEnd}
 use Rattle.brk_http_model.specs.declared.head_end.HeadEnd.TheVariants.{At}
 use Rattle.brk_http_reader.proofs.FrontLemmas.{moved_all, head_len_within}
@@ -87,7 +87,7 @@ module _ (a b : Option (List ℕ)) (x y : List ℕ) (n : ℕ) (moves : ReadsInto
       finds_head (x ++ l) n facts h r (at_some a l (λ xs. At n ≡ head_end (x ++ xs)) e value) (long_enough l m same)
       (subst (λ t. FactsDescribeHead t facts h r) (sym (front_same l m same)) head)
 
-  pub bad_len : (facts : HeadFacts) (h : RequestHead) (r : List ℕ) (problem : Problem) → FactsDescribeHead (take n y) facts h r → facts.len ≡ Err problem
+  pub bad_len : (facts : HeadFacts) (h : RequestHead) (r : List ℕ) (problem : RequestProblem) → FactsDescribeHead (take n y) facts h r → facts.len ≡ Err problem
       → IfSome a (λ xs. (found : RequestReading) × ReadsFirstRequest (x ++ xs) found × (found ≡ Unreadable problem))
   bad_len facts h r problem head e = on_some a (λ xs. (found : RequestReading) × ReadsFirstRequest (x ++ xs) found × (found ≡ Unreadable problem)) (λ l some.
       let m = moved_all a b x y l some moves in

@@ -2,7 +2,7 @@
 use Rattle.std.specs.Prelude.{List, codes, ◌&&◌, ◌||◌, if◌then◌else◌, Err}
 use Rattle.brk_http_model.specs.Fields.{HeadField, equals_ignoring_case, has_field_named, asks_to_close_stream}
 use Rattle.brk_http_model.specs.Fields.{body_length_of_values, values_of_field, body_length_of_value}
-use Rattle.brk_http_model.specs.declared.problem.Problem.TheVariants.{BadRequest}
+use Rattle.brk_http_model.specs.declared.problem.RequestProblem.TheVariants.{BadRequest}
 use Rattle.brk_http_reader.specs.declared.fields.FieldFactsSoFar.{FieldFactsSoFar}
 
 -- The facts of the head fields that were read so far, `s`, with those of one more field `p`, a name

@@ -16,8 +16,8 @@ IsRequestWithin (Whole r) len = IsWithin len r.method × IsWithin len r.target �
 
 -- The request whose method, target and body are the bytes of `buffer` at the positions `r`, with
 -- the close flag of `r`.
-abbrev pub request_at : List ℕ → RequestPositions → Request
-request_at buffer r = record { method = span_bytes buffer r.method; target = span_bytes buffer r.target; closes = r.closes; body = span_bytes buffer r.body }
+abbrev pub request_at_positions : List ℕ → RequestPositions → Request
+request_at_positions buffer r = record { method = span_bytes buffer r.method; target = span_bytes buffer r.target; closes = r.closes; body = span_bytes buffer r.body }
 
 -- The result of reading is the next request `found` of the specification: no more input, an
 -- unreadable request with a problem, or a whole request. After a whole request, the bytes of the
@@ -27,4 +27,4 @@ abbrev pub MatchesNextRequest : NextRequest → List ℕ → Option (List ℕ) �
 MatchesNextRequest Ended buffer left found = found ≡ NoBytesLeft
 MatchesNextRequest (Broken b) buffer left found = found ≡ Unreadable b
 MatchesNextRequest (Whole r) buffer left found =
-    (rest : List ℕ) × (prepend_known (drop r.body.end buffer) left ≡ Some rest) × (found ≡ CompleteRequest (request_at buffer r) rest)
+    (rest : List ℕ) × (prepend_known (drop r.body.end buffer) left ≡ Some rest) × (found ≡ CompleteRequest (request_at_positions buffer r) rest)

@@ -7,14 +7,14 @@ ghost use Rattle.httparse.specs.Spans.{header_bytes, IsHeaderWithin};
 ghost use Rattle.brk_http_model.specs.Fields as spec;
 ghost use Rattle.brk_http_reader.specs.FieldFactUpdates.{facts_with_field};
 
-use brk_http_model::Problem;
+use brk_http_model::RequestProblem;
 use httparse::spans::HeaderSpan;
 
 /// The body length and the close flag of the fields of a head.
 #[derive(Clone, Copy, Debug)]
 pub struct FieldFacts {
     /// Length of the body in bytes, or the problem with the fields that give it.
-    pub len: Result<usize, Problem>,
+    pub len: Result<usize, RequestProblem>,
     /// True if a `Connection` field has exactly the value `close`, in upper or lower case.
     pub closes: bool,
 }
@@ -57,19 +57,19 @@ fn value_of_digits(value: &[u8]) -> usize
 ///
 /// Fails with `BadRequest` if `value` is not one or more digits, and with `TooLarge` if it has more
 /// than nine digits or exceeds the limit.
-fn body_length_of_value(value: &[u8]) -> Result<usize, Problem>
+fn body_length_of_value(value: &[u8]) -> Result<usize, RequestProblem>
     ensures value { result ≡ spec.body_length_of_value value.now }
     ensures small { IfOk result (λ n. n ≤ 65536) }
 {
     if !has_only_digits(value) {
-        return Err(Problem::BadRequest);
+        return Err(RequestProblem::BadRequest);
     }
     if value.len() > 9 {
-        return Err(Problem::TooLarge);
+        return Err(RequestProblem::TooLarge);
     }
     let len = value_of_digits(value);
     if len > 65536 {
-        Err(Problem::TooLarge)
+        Err(RequestProblem::TooLarge)
     } else {
         Ok(len)
     }
@@ -85,7 +85,7 @@ struct FieldFactsSoFar {
     /// True if there is a `Content-Length` field.
     any_length: bool,
     /// The length of the body in bytes, 0 without a `Content-Length` field, or the problem with it.
-    len: Result<usize, Problem>,
+    len: Result<usize, RequestProblem>,
 }
 
 /// Returns the facts `seen` of the fields that were read so far, updated for one more field with
@@ -100,7 +100,7 @@ fn facts_with_one_more_field(seen: FieldFactsSoFar, name: &[u8], value: &[u8]) -
     let len = match is_length {
         false => seen.len,
         true => match seen.any_length {
-            true => Err(Problem::BadRequest),
+            true => Err(RequestProblem::BadRequest),
             false => body_length_of_value(value),
         },
     };
@@ -135,7 +135,7 @@ pub fn facts_from_fields(front: &[u8], headers: &[HeaderSpan]) -> FieldFacts
     }
     FieldFacts {
         len: if seen.chunked {
-            Err(Problem::NotImplemented)
+            Err(RequestProblem::NotImplemented)
         } else {
             seen.len
         },

@@ -6,7 +6,7 @@ ghost use Rattle.brk_http_model.specs.Found.{IsRequestHead};
 ghost use Rattle.brk_http_reader.specs.Heads.{FactsDescribeHead};
 
 use crate::fields::facts_from_fields;
-use brk_http_model::Problem;
+use brk_http_model::RequestProblem;
 use httparse::Status;
 use httparse::spans::{EMPTY_HEADER_SPAN, Span, parse_request};
 
@@ -22,7 +22,7 @@ pub struct HeadFacts {
     /// True if the request asks to close the stream, or is of version 1.0.
     pub closes: bool,
     /// Length of the body in bytes, or the problem with the fields that give it.
-    pub len: Result<usize, Problem>,
+    pub len: Result<usize, RequestProblem>,
 }
 
 // Returns true if `a` or `b`, or both, are true.

@@ -6,7 +6,7 @@ ghost use Rattle.brk_http_reader.specs.FirstRequests.{MatchesNextRequest, IsRequ
 
 use crate::head::parse_head;
 use crate::input::{InputFault, read_body, read_head};
-use brk_http_model::{HeadEnd, Problem};
+use brk_http_model::{HeadEnd, RequestProblem};
 use httparse::spans::Span;
 use std::io::Read;
 
@@ -26,7 +26,7 @@ pub enum NextRequest {
     /// No byte is left.
     Ended,
     /// The next request cannot be read, because of this problem.
-    Broken(Problem),
+    Broken(RequestProblem),
     /// A whole request, at these positions.
     Whole(RequestPositions),
 }
@@ -47,12 +47,12 @@ pub fn read_next_request<R: Read>(
 {
     let end = match read_head(reader, buffer)? {
         HeadEnd::Nothing => return Ok(NextRequest::Ended),
-        HeadEnd::TooLong => return Ok(NextRequest::Broken(Problem::TooLarge)),
-        HeadEnd::Cut => return Ok(NextRequest::Broken(Problem::BadRequest)),
+        HeadEnd::TooLong => return Ok(NextRequest::Broken(RequestProblem::TooLarge)),
+        HeadEnd::Cut => return Ok(NextRequest::Broken(RequestProblem::BadRequest)),
         HeadEnd::At(end) => end,
     };
     let Some(facts) = parse_head(&buffer[..end]) else {
-        return Ok(NextRequest::Broken(Problem::BadRequest));
+        return Ok(NextRequest::Broken(RequestProblem::BadRequest));
     };
     let len = match facts.len {
         Ok(len) => len,
@@ -61,7 +61,7 @@ pub fn read_next_request<R: Read>(
     let stop = end + len;
     let there = read_body(reader, buffer, stop)?;
     if !there {
-        return Ok(NextRequest::Broken(Problem::BadRequest));
+        return Ok(NextRequest::Broken(RequestProblem::BadRequest));
     }
     Ok(NextRequest::Whole(RequestPositions {
         method: facts.method,

@@ -5,7 +5,7 @@ use Rattle.std.specs.Fmt.{digits, digits_onto, digit_glyph}
 use Rattle.std.specs.List.{join_with_byte, onto_first, slice_split}
 use Rattle.std.proofs.lemmas.Bool.Decides.{nat_tests}
 use Rattle.brk_money.specs.Spelling.{Text, cents_text, day_text, date_text, unsigned_cents_text, padded_decimal}
-use Rattle.brk_money.specs.Moments.{Civil, civil_date_of_day}
+use Rattle.brk_money.specs.Moments.{CivilDate, civil_date_of_day}
 use Rattle.brk_money.specs.Kinds.{trade_status_code}
 use Rattle.brk_money.specs.declared.status.Status.{Status}
 use Rattle.brk_money.specs.declared.status.Status.TheVariants.{Completed, Active, Submitted, Pending, Canceled}
@@ -61,7 +61,7 @@ cents (negsuc n) = (refl, magnitude (suc n))
 padded : (places n : ℕ) → Plain (padded_decimal places n)
 padded places n = joins (replicate (places - length (decimal n)) 48) (decimal n) (zeros (places - length (decimal n))) (number n)
 
-date : (d : Civil) → Plain (date_text d)
+date : (d : CivilDate) → Plain (date_text d)
 date d =
     joins (padded_decimal 4 d.year ++ 45 ∷ padded_decimal 2 d.month) (45 ∷ padded_decimal 2 d.day)
     (joins (padded_decimal 4 d.year) (45 ∷ padded_decimal 2 d.month) (padded 4 d.year) (refl, padded 2 d.month)) (refl, padded 2 d.day)

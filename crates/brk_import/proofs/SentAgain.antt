@@ -23,7 +23,7 @@ use Rattle.brk_model_theorems.proofs.BatchLaws.{All-front}
 use Rattle.brk_model_theorems.proofs.LeftLaws.{done-kept, left-over, one-run}
 use Rattle.brk_model_theorems.proofs.StoppedLaws.{booked-completed, completed, next-goes-on, rows-go-on}
 use Rattle.brk_io.specs.Moments.{ClockReturnsInOrder}
-use Rattle.brk_io.specs.Span.{ClockAndWriterChange, change_with_bases}
+use Rattle.brk_io.specs.Span.{ClockAndWriterChange, environment_change_with_bases}
 use Rattle.brk_store.specs.Audited.{AdoptPost, AuditAnswerSatisfies, Represents, IsConsistent}
 use Rattle.brk_store.specs.Holds.{IsDiskContentOfRows}
 use Rattle.brk_desk.specs.Reopening.{IsNewConnectionAfterCrash, RepresentsDurableBase}
@@ -86,7 +86,7 @@ module _ {S C : Type 0} (g : Ghosts S) (rests : RecoversOnlyLastCommit g) (form 
   ending_begins model.NoEnd name rows answers told out (inr cut, said) = (cut.0 ∷ [], cut.2)
   ending_begins model.BadHeader name rows answers told out ends = absurd ends
 
-  ended : (ending : BatchEnding) (count : ℕ) (after : Base) → BatchEndsWith form step_of_row gives (Some text) (change_with_bases base after one) ending count → FirstRunRows after
+  ended : (ending : BatchEnding) (count : ℕ) (after : Base) → BatchEndsWith form step_of_row gives (Some text) (environment_change_with_bases base after one) ending count → FirstRunRows after
   ended ending count after c = record {
     name = c.answered.name;
     rows = c.answered.rows;
@@ -98,7 +98,7 @@ module _ {S C : Type 0} (g : Ghosts S) (rests : RecoversOnlyLastCommit g) (form 
     begins = ending_begins ending c.answered.name c.answered.rows c.answered.answers c.answered.told c.lines c.answered.ends;
   }
 
-  abbrev stopped : (count : ℕ) (after : Base) → BatchProgress form step_of_row gives (Some text) (change_with_bases base after one) count → FirstRunRows after
+  abbrev stopped : (count : ℕ) (after : Base) → BatchProgress form step_of_row gives (Some text) (environment_change_with_bases base after one) count → FirstRunRows after
   stopped count after s = record {
     name = s.name;
     rows = s.rows;
@@ -110,7 +110,7 @@ module _ {S C : Type 0} (g : Ghosts S) (rests : RecoversOnlyLastCommit g) (form 
     begins = s.begins;
   }
 
-  by_kind : (count : ℕ) (kind : FaultKind) (after : Base) → BatchFailsWith form step_of_row gives (Some text) (change_with_bases base after one) count kind → DecidesRowsOrNone after
+  by_kind : (count : ℕ) (kind : FaultKind) (after : Base) → BatchFailsWith form step_of_row gives (Some text) (environment_change_with_bases base after one) count kind → DecidesRowsOrNone after
   by_kind count kinds.BadHeader after f = inl f.0.base
   by_kind count kinds.NoEnd after f = inr (ended model.NoEnd count after f)
   by_kind count kinds.BadEnd after f = inr (ended model.BadEnd count after f)
@@ -121,11 +121,11 @@ module _ {S C : Type 0} (g : Ghosts S) (rests : RecoversOnlyLastCommit g) (form 
   by_kind count (kinds.Desk fault) after (inr (inl f)) = inr (stopped count after f.0)
   by_kind count (kinds.Desk fault) after (inr (inr f)) = inr (stopped count after f.0)
 
-  by_result : (result : Result Counts BatchFault) (after : Base) → IsBatchResult form step_of_row gives (Some text) (change_with_bases base after one) result → DecidesRowsOrNone after
+  by_result : (result : Result Counts BatchFault) (after : Base) → IsBatchResult form step_of_row gives (Some text) (environment_change_with_bases base after one) result → DecidesRowsOrNone after
   by_result (Ok counts) after h = inr (ended model.CorrectEnd (counts.ok + counts.again + counts.no) after h.0)
   by_result (Err fault) after h = by_kind fault.rows fault.kind after h
 
-  under_way : (after : Base) (left : Held S) (fault : BatchFault) (w : CrashMayCommitFailedRow form step_of_row gives (CrashExposesOnlyOneOf g) (Some text) (change_with_bases base after one) left fault)
+  under_way : (after : Base) (left : Held S) (fault : BatchFault) (w : CrashMayCommitFailedRow form step_of_row gives (CrashExposesOnlyOneOf g) (Some text) (environment_change_with_bases base after one) left fault)
       → CommittedUnansweredRow after (step_of_row after w.failed.moment w.failed.command (record { batch = w.failed.stopped.name; row = fault.rows + 1 })).1
   under_way after left fault w = record {
     part = stopped fault.rows after w.failed.stopped;
@@ -150,7 +150,7 @@ module _ {S C : Type 0} (g : Ghosts S) (rests : RecoversOnlyLastCommit g) (form 
       how = inl (refl, first);
     }
 
-    found_under : (fault : BatchFault) → CrashMayCommitFailedRow form step_of_row gives (CrashExposesOnlyOneOf g) (Some text) (change_with_bases base after one) left fault → IsExposedBase trees
+    found_under : (fault : BatchFault) → CrashMayCommitFailedRow form step_of_row gives (CrashExposesOnlyOneOf g) (Some text) (environment_change_with_bases base after one) left fault → IsExposedBase trees
     found_under fault w = elim (w.may trees may) [
       | inl are ↦ record { after = after; stood = after; can = kept_can_be g left after keeps; are = are; how = inl (refl, first) }
       | inr booked ↦ record {
@@ -162,7 +162,7 @@ module _ {S C : Type 0} (g : Ghosts S) (rests : RecoversOnlyLastCommit g) (form 
       }
     ]
 
-    found_at : (result : Result Counts BatchFault) → BoundsBatchCrashStates form step_of_row gives (CrashExposesOnlyOneOf g) (Some text) (change_with_bases base after one) left result → IsExposedBase trees
+    found_at : (result : Result Counts BatchFault) → BoundsBatchCrashStates form step_of_row gives (CrashExposesOnlyOneOf g) (Some text) (environment_change_with_bases base after one) left result → IsExposedBase trees
     found_at (Ok counts) only = found_alone only
     found_at (Err fault) (inl only) = found_alone only
     found_at (Err fault) (inr w) = found_under fault w
@@ -176,7 +176,7 @@ module _ {S C : Type 0} (g : Ghosts S) (rests : RecoversOnlyLastCommit g) (form 
 
   -- ---- the retry
 
-  module _ (after stood last : Base) (two : ClockAndWriterChange C) (count : ℕ) (c : BatchEndsWith form step_of_row gives (Some text) (change_with_bases stood last two) model.CorrectEnd count) where
+  module _ (after stood last : Base) (two : ClockAndWriterChange C) (count : ℕ) (c : BatchEndsWith form step_of_row gives (Some text) (environment_change_with_bases stood last two) model.CorrectEnd count) where
     -- if no row was decided, the rows are none
     none_settled : after ≡ base → FirstRunRows after
     none_settled same = record {

@@ -29,7 +29,7 @@ use Rattle.brk_model.specs.Ways.{is_valid_status_sequence}
 use Rattle.brk_model.specs.Names.{AccountOfTradeExists, BrokerOfAccountExists, CustomerOfAccountExists, SecurityOfTradeExists, TradesAreNumberedFrom}
 use Rattle.brk_model_theorems.proofs.FormParts.{form_whole}
 use Rattle.brk_model_theorems.proofs.Conjunctions.{and10, and3, and4, and5, and6, parts3, parts4, parts5, parts6}
-use Rattle.brk_book_theorems.specs.Books.{BooksInvariant, HasVolumeWithinLimit, MovementAccountExists, MovementStampIsAtMostLast}
+use Rattle.brk_book_theorems.specs.Books.{BooksInvariant, HasVolumeWithinLimit, MovementAccountExists, MovementStampIsAtMostLastStamp}
 use Rattle.brk_book_theorems.proofs.Bools.{numbers_back}
 use Rattle.brk_book_theorems.proofs.Postings.{numbered_stay}
 use Rattle.brk_book_theorems.proofs.Order.{by_key-filter}
@@ -45,7 +45,7 @@ use Rattle.brk_audit_theorems.proofs.AgainStatus.{all_list, first_of_two, some_l
 use Rattle.brk_audit_theorems.proofs.Marks.{filtered, last_has, no_more_ways, three_ways}
 use Rattle.brk_audit_theorems.proofs.Members.{All-flat_map}
 use Rattle.brk_audit_theorems.proofs.Sorted.{All-rows}
-use Rattle.brk_invariant_theorems.specs.Sound.{HasDueDayInCalendar, StatusStampIsAtMostLast, AuditInvariant, BaseTradeAuditInvariant, PermissionAccountIsListed, TaxCustomerIsListed, TaxRateIsListed, is_well_formed_account, is_well_formed_security, has_cash_text_with_security_name, is_well_formed_movement}
+use Rattle.brk_invariant_theorems.specs.Sound.{HasDueDayInCalendar, StatusStampIsAtMostLastStamp, AuditInvariant, BaseTradeAuditInvariant, PermissionAccountIsListed, TaxCustomerIsListed, TaxRateIsListed, is_well_formed_account, is_well_formed_security, has_cash_text_with_security_name, is_well_formed_movement}
 use Rattle.brk_invariant_theorems.proofs.OneTrade.{false_true, price_of_done}
 use Rattle.brk_invariant_theorems.proofs.SoundRecords.{sum-same}
 use Rattle.brk_invariant_theorems.proofs.SortedRows.{bands_sort, overlap_none, tax_ids_apart}
@@ -126,7 +126,7 @@ last_of t (m ∷ ms) e w = let l = some_last m ms in (l.0, ap (last_or None) e �
 moment_past : (base : Base) (t : Trade) → BaseTradeAuditInvariant base t → is_up_to_last_stamp base.last (last_status_stamp_of_trade t) ≡ true
 moment_past base t h =
     let l = last_of t t.marks refl h.way in
-    ap (λ o. is_up_to_last_stamp base.last (option_map_or (λ m. m.stamp) o 0)) l.1 ∙ last_has (StatusStampIsAtMostLast base.last) None t.marks l.0 tt h.past l.1
+    ap (λ o. is_up_to_last_stamp base.last (option_map_or (λ m. m.stamp) o 0)) l.1 ∙ last_has (StatusStampIsAtMostLastStamp base.last) None t.marks l.0 tt h.past l.1
 
 moment_due : (base : Base) (t : Trade) → BaseTradeAuditInvariant base t → is_completed t ≡ true → nat_le (due_day base.rule t) greatest_day ≡ true
 moment_due base t h d =
@@ -177,7 +177,7 @@ numbers_whole n [] k = refl
 numbers_whole n (t ∷ ts) k =
     and_from (t.id == n) (are_equal_number_lists (map (λ row. row.id) (map trade_row ts)) (range_with_len (n + 1) (length (map trade_row ts)))) (eq-eqb t.id n k.0) (numbers_whole (n + 1) ts k.1)
 
-mark_whole : (base : Base) (t : Trade) (m : StatusChange) → Known base t → StatusStampIsAtMostLast base.last m → HasDueDayInCalendar base.rule m → is_well_formed_history_row (sheets base) (row_of t.id m) ≡ true
+mark_whole : (base : Base) (t : Trade) (m : StatusChange) → Known base t → StatusStampIsAtMostLastStamp base.last m → HasDueDayInCalendar base.rule m → is_well_formed_history_row (sheets base) (row_of t.id m) ≡ true
 unfolding tables_sorted_by_key tables_of_base_in_schema
 mark_whole base t m h p d =
     and3 (has_trade (sheets base) t.id) (is_up_to_last_stamp base.last m.stamp) (not (is_same_trade_status m.status Completed) || nat_le (due_day_of_completion_stamp base.rule m.stamp) greatest_day) (there base t h) p d
@@ -220,12 +220,12 @@ posted_whole base t books told h c = record {
   amount = h.0.sound.amount h.1;
 }
 
-made_past : (o : Option ℕ) (m : Movement) → MovementStampIsAtMostLast o m → is_up_to_last_stamp o m.stamp ≡ true
+made_past : (o : Option ℕ) (m : Movement) → MovementStampIsAtMostLastStamp o m → is_up_to_last_stamp o m.stamp ≡ true
 made_past None m e = absurd e
 made_past (Some l) m e = le-leb m.stamp l e
 
 -- and so has what a movement posts
-moved_whole : (base : Base) (m : Movement) → is_well_formed_movement m ≡ true → MovementAccountExists base.accounts m → MovementStampIsAtMostLast base.last m → HasForm (sheets base) (posting_of_movement m)
+moved_whole : (base : Base) (m : Movement) → is_well_formed_movement m ≡ true → MovementAccountExists base.accounts m → MovementStampIsAtMostLastStamp base.last m → HasForm (sheets base) (posting_of_movement m)
 unfolding tables_sorted_by_key tables_of_base_in_schema
 moved_whole base m f h e =
     let k = and_parts (is_movement_name_and_amount m.name m.amount) (is_within_amount_limit m.amount) f in
@@ -239,8 +239,8 @@ all_posted base books k told dones =
     (All-map (cash_trades (completed_trades base)) (λ t h. posted_whole base t books told h.0 h.1) (filtered (Done base) (λ t. t.is_cash) (completed_trades base) dones)))
     (All-mapped (HasForm (sheets base)) posting_of_movement base.movements
     (All-map base.movements (λ m h. moved_whole base m h.0 h.1.0 h.1.1)
-    (both_all (λ m. is_well_formed_movement m ≡ true) (λ m. MovementAccountExists base.accounts m × MovementStampIsAtMostLast base.last m) base.movements k.cash.fields
-    (both_all (MovementAccountExists base.accounts) (MovementStampIsAtMostLast base.last) base.movements books.movements.holders books.movements.early))))
+    (both_all (λ m. is_well_formed_movement m ≡ true) (λ m. MovementAccountExists base.accounts m × MovementStampIsAtMostLastStamp base.last m) base.movements k.cash.fields
+    (both_all (MovementAccountExists base.accounts) (MovementStampIsAtMostLastStamp base.last) base.movements books.movements.holders books.movements.early))))
 
 ids_low : (base : Base) → AuditInvariant base → AllByRecursion (λ u. u.id ≤ greatest_id) base.trades
 ids_low base k = All-map base.trades (λ t h.
@@ -358,7 +358,7 @@ form_of base books k =
       numbers = subst (λ rows. are_equal_number_lists (map (λ row. row.id) rows) (range_with_len 1 (length rows)) ≡ true) (sym (trades_in_order base books.numbered)) (numbers_whole 1 base.trades books.numbered);
       history = rows_form (is_well_formed_history_row T) history_key (flat_map history_rows base.trades)
           (All-flat_map (λ r. is_well_formed_history_row T r ≡ true) history_rows base.trades (All-map base.trades (λ t h. All-mapped (λ r. is_well_formed_history_row T r ≡ true) (row_of t.id) t.marks
-          (All-map t.marks (λ m p. mark_whole base t m h p.0 p.1) (both_all (StatusStampIsAtMostLast base.last) (HasDueDayInCalendar base.rule) t.marks h.sound.past h.sound.due))) known));
+          (All-map t.marks (λ m p. mark_whole base t m h p.0 p.1) (both_all (StatusStampIsAtMostLastStamp base.last) (HasDueDayInCalendar base.rule) t.marks h.sound.past h.sound.due))) known));
       requests = mapped_form (is_well_formed_request_row third_schema T) request_key (request_row base.accounts) (pending_trades base.trades)
           (All-map (pending_trades base.trades) (λ t h. request_whole base t books h) (All-filter (Known base) (has_status Pending) base.trades known));
       holdings = rows_form (is_well_formed_holding_row T) holding_key (filter (λ row. not (is_zero row.qty)) (map (holding_row done) done))

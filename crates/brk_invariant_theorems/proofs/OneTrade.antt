@@ -22,7 +22,7 @@ use Rattle.brk_book_theorems.proofs.Completing.{All-passing}
 use Rattle.brk_book_theorems.proofs.LotReading.{All-sort}
 use Rattle.brk_audit_theorems.specs.Told.{HasValidStatusSequence, HasAscendingStatusStamps}
 use Rattle.brk_audit_theorems.proofs.Marks.{no_more_ways, same_statuses, three_ways, two_ways}
-use Rattle.brk_invariant_theorems.specs.Sound.{StatusStampIsAtMostLast, AuditInvariant, TradeAuditInvariant, BaseTradeAuditInvariant, has_price_exactly_if_completed}
+use Rattle.brk_invariant_theorems.specs.Sound.{StatusStampIsAtMostLastStamp, AuditInvariant, TradeAuditInvariant, BaseTradeAuditInvariant, has_price_exactly_if_completed}
 use Rattle.brk_invariant_theorems.proofs.Bounds.{IsCheap, replay_all}
 
 pub false_true : {A : Type 0} → false ≡ true → A
@@ -49,7 +49,7 @@ rising_more (m ∷ o ∷ ms) n e h =
     and_from (nat_lt m o) (is_strictly_ascending (o ∷ ms ++ n ∷ [])) p.0 (rising_more (o ∷ ms) n p.1 h.1)
 
 -- the stamps of a trade that comes to a status at the next stamp
-pub stamps_more : (base : Base) (now : ℕ) (status : Status) (t : Trade) → HasAscendingStatusStamps t → AllByRecursion (StatusStampIsAtMostLast base.last) t.marks → HasAscendingStatusStamps (trade_with_status_change (stamp_of_next_command base now) status t)
+pub stamps_more : (base : Base) (now : ℕ) (status : Status) (t : Trade) → HasAscendingStatusStamps t → AllByRecursion (StatusStampIsAtMostLastStamp base.last) t.marks → HasAscendingStatusStamps (trade_with_status_change (stamp_of_next_command base now) status t)
 stamps_more base now status t r h =
     ap is_strictly_ascending (map-last (λ m. m.stamp) t.marks (record { stamp = stamp_of_next_command base now; status = status }))
     ∙ rising_more (map (λ m. m.stamp) t.marks) (stamp_of_next_command base now) r

@@ -17,7 +17,7 @@ use Rattle.brk_model.specs.Limits.{greatest_charge, greatest_commission_rate, gr
 use Rattle.brk_model.specs.Records.{Account, Band, Broker, Charge, Customer, Executor, Permission, TaxRate}
 use Rattle.brk_model.specs.Commands.{Command, Listing, Order, Tick, AddBroker, AddCustomer, AddAccount, AddPermission, AddSecurity, AddCharge, AddBand, AddTaxRate, AddCustomerTax, PlaceOrder, FeedTicks, CancelTrade, CompleteTrade, ChangeExecutors, ChangeCashTypes, ChangeCashNames, DepositCash, WithdrawCash, SetOneDay}
 use Rattle.brk_model.specs.Form.{is_well_formed_charge_row, is_well_formed_customer_row, is_id, is_price, is_quantity_in_schema, is_tier, is_well_formed_tax_rate_row, has_well_formed_permission_texts}
-use Rattle.brk_model.specs.Forms.{ReadResult, ◌⊛◌, is_acl, is_exchange, is_name, is_symbol, is_tax_id, order_type_with_price, market_order_type, refusal_of_unknown_type_by_price_text, priced_order_type, read_acl, read_cash_or_margin, read_charge_amount, read_commission_rate, read_lifo_or_fifo, read_exchange, read_id, value_if_valid, read_distinct_ids, read_name, read_number_in_range, read_opening_balance, read_order_type, read_price, read_quantity, read_tax_rate_number, read_stamp, read_symbol, read_tax_id, read_tax_status, read_valid_text, read_tier, read_trade_type, one_to_twenty_elements, check_read_value, trade_type_with_code, nonnegative_amount, read_movement_amount, read_day}
+use Rattle.brk_model.specs.Forms.{ReadResult, ◌⊛◌, is_acl, is_exchange, is_name, is_symbol, is_tax_id, order_type_with_price, market_type_if_price_is_empty, refusal_of_unknown_type_by_price_text, priced_order_type, read_acl, read_cash_or_margin, read_charge_amount, read_commission_rate, read_lifo_or_fifo, read_exchange, read_id, value_if_valid, read_distinct_ids, read_name, read_number_in_range, read_opening_balance, read_order_type, read_price, read_quantity, read_tax_rate_number, read_stamp, read_symbol, read_tax_id, read_tax_status, read_valid_text, read_tier, read_trade_type, one_to_twenty_elements, check_read_value, trade_type_with_code, nonnegative_amount, read_movement_amount, read_day}
 use Rattle.brk_model.specs.Parse.{NamedParser, bounds_if_ascending, parse_row, read_account, read_commission_band, read_quantity_bounds, read_broker, read_with_parser, read_canceled_trade_id, read_charge, read_customer, read_customer_tax, read_executor, read_feed, read_order, read_permission, read_result_command, read_listing, read_tax_rate, read_ticks, read_cash_type_update, read_cash_name_update, row_parsers, read_movement_command, read_settlement_day}
 use Rattle.brk_book_theorems.proofs.Same.{find-All}
 use Rattle.brk_invariant_theorems.specs.Sound.{is_well_formed_account, is_well_formed_broker}
@@ -189,7 +189,7 @@ tax_rate_on (id ∷ name ∷ rate ∷ []) =
     (λ i i' n n' r r'. and3 (is_id i) (is_name n) (nat_le r greatest_tax_rate) i' n' r') (on_id id)) (on_text is_name name)) (on_tax rate)
 tax_rate_on _ = tt
 
-without_price_on : (t : OrderType) (text : Text) → IfSome (price_of_order t) (λ n. is_price n ≡ true) → IfOk (market_order_type t text) (λ o. IfSome (price_of_order o) (λ n. is_price n ≡ true))
+without_price_on : (t : OrderType) (text : Text) → IfSome (price_of_order t) (λ n. is_price n ≡ true) → IfOk (market_type_if_price_is_empty t text) (λ o. IfSome (price_of_order o) (λ n. is_price n ≡ true))
 without_price_on t [] h = h
 without_price_on t (c ∷ text) h = tt
 

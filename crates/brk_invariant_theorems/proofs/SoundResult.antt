@@ -30,7 +30,7 @@ use Rattle.brk_book_theorems.proofs.Positions.{summary_other}
 use Rattle.brk_book_theorems.proofs.Sums.{margin_balance, other_account, other_broker}
 use Rattle.brk_book_theorems.proofs.ResultRows.{done_now, done_then, status_then, trades_then}
 use Rattle.brk_book_theorems.proofs.ResultKeeping.{Found, found_at, result_passed, submitted}
-use Rattle.brk_invariant_theorems.specs.Sound.{HasDueDayInCalendar, StatusStampIsAtMostLast, AuditInvariant, BaseTradeAuditInvariant}
+use Rattle.brk_invariant_theorems.specs.Sound.{HasDueDayInCalendar, StatusStampIsAtMostLastStamp, AuditInvariant, BaseTradeAuditInvariant}
 use Rattle.brk_invariant_theorems.proofs.Bounds.{amount_within, commission_low, tax_within}
 use Rattle.brk_invariant_theorems.proofs.OneTrade.{cheap_shares, completes_way, false_true, past_itself, past_then, price_low, qty_low, sound_last, stamps_more, trade_last}
 
@@ -133,7 +133,7 @@ completed_sound base now id price t k books form e accepted h =
         };
         cash_type = λ d. first_type t.is_cash;
       };
-      past = All-append (StatusStampIsAtMostLast (Some stamp)) t.marks (record { stamp = stamp; status = Completed } ∷ []) (All-map t.marks (λ m e. past_then base.last now m.stamp e) h.past) (past_itself stamp, tt);
+      past = All-append (StatusStampIsAtMostLastStamp (Some stamp)) t.marks (record { stamp = stamp; status = Completed } ∷ []) (All-map t.marks (λ m e. past_then base.last now m.stamp e) h.past) (past_itself stamp, tt);
       due = All-append (HasDueDayInCalendar base.rule) t.marks (record { stamp = stamp; status = Completed } ∷ []) h.due (le-leb (due_day_of_completion_stamp base.rule stamp) greatest_day due, tt);
       cash_name = λ d.
           let cash : t.is_cash ≡ true = (and_parts (is_completed u) t.is_cash d).1 in

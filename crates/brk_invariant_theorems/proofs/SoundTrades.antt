@@ -46,7 +46,7 @@ use Rattle.brk_audit_theorems.proofs.Again.{both_all}
 use Rattle.brk_audit_theorems.proofs.Climbs.{In, each_in, of_all}
 use Rattle.brk_audit_theorems.proofs.Marks.{filtered}
 use Rattle.brk_model_theorems.proofs.Conjunctions.{parts5}
-use Rattle.brk_invariant_theorems.specs.Sound.{HasDueDayInCalendar, StatusStampIsAtMostLast, AuditInvariant, BaseTradeAuditInvariant, is_well_formed_security}
+use Rattle.brk_invariant_theorems.specs.Sound.{HasDueDayInCalendar, StatusStampIsAtMostLastStamp, AuditInvariant, BaseTradeAuditInvariant, is_well_formed_security}
 use Rattle.brk_invariant_theorems.specs.InForm.{MeetsAuditFormats, TickMeetsAuditFormats}
 use Rattle.brk_invariant_theorems.proofs.Bounds.{All-take}
 use Rattle.brk_invariant_theorems.proofs.OneTrade.{false_true, leaves_way, past_before, past_itself, price_low, qty_low, rising_more, sound_last, updated_all}
@@ -171,7 +171,7 @@ marked_sound b stamp status t w other k below h =
         words = record { settled = λ e. k.words.settled was; moved = λ e. k.words.moved (ap (λ b. b && t.is_cash) was) };
         cash_type = λ d. false_true (sym now ∙ d);
       };
-      past = All-append (StatusStampIsAtMostLast (Some stamp)) t.marks (m ∷ []) k.past (past_itself stamp, tt);
+      past = All-append (StatusStampIsAtMostLastStamp (Some stamp)) t.marks (m ∷ []) k.past (past_itself stamp, tt);
       due = All-append (HasDueDayInCalendar b.rule) t.marks (m ∷ []) k.due (ap (λ c. not c || nat_le (due_day_of_completion_stamp b.rule stamp) greatest_day) other, tt);
       cash_name = λ d. false_true (sym now ∙ (and_parts (is_completed u) t.is_cash d).0);
       amount = λ d. false_true (sym now ∙ d);
@@ -205,14 +205,14 @@ sound_cancel base now id k books form e =
     let l : AuditInvariant c = sound_last base now k in
     let ts : List Trade = update_where (λ t. t.id == id) (trade_with_status_change stamp Canceled) base.trades in
     let waits = waiting_named base id (trade_with_id base id) books.numbered refl (passed base now (CancelTrade id) e) in
-    let P : Trade → Type 0 = λ t. BaseTradeAuditInvariant c t × (AllByRecursion (StatusStampIsAtMostLast base.last) t.marks × ((t.id == id) ≡ true → has_status Pending t ≡ true)) in
+    let P : Trade → Type 0 = λ t. BaseTradeAuditInvariant c t × (AllByRecursion (StatusStampIsAtMostLastStamp base.last) t.marks × ((t.id == id) ≡ true → has_status Pending t ≡ true)) in
     let past = All-map base.trades (λ t h. h.past) k.trades in
     sound_moved c base.securities ts l k.securities l.moments
     (updated_all P (BaseTradeAuditInvariant (record c { trades = ts })) (λ t. t.id == id) (trade_with_status_change stamp Canceled) base.trades
     (λ t i h. marked_sound base stamp Canceled t refl refl h.0 (All-map t.marks (λ m b. past_before base.last now m.stamp b) h.1.0) (h.1.1 i))
     (λ t h. h.0)
-    (both_all (BaseTradeAuditInvariant c) (λ t. AllByRecursion (StatusStampIsAtMostLast base.last) t.marks × ((t.id == id) ≡ true → has_status Pending t ≡ true)) base.trades l.trades
-    (both_all (λ t. AllByRecursion (StatusStampIsAtMostLast base.last) t.marks) (λ t. (t.id == id) ≡ true → has_status Pending t ≡ true) base.trades past waits)))
+    (both_all (BaseTradeAuditInvariant c) (λ t. AllByRecursion (StatusStampIsAtMostLastStamp base.last) t.marks × ((t.id == id) ≡ true → has_status Pending t ≡ true)) base.trades l.trades
+    (both_all (λ t. AllByRecursion (StatusStampIsAtMostLastStamp base.last) t.marks) (λ t. (t.id == id) ≡ true → has_status Pending t ≡ true) base.trades past waits)))
     (completed_unseen (λ t. t.id == id) (trade_with_status_change stamp Canceled) base.trades (λ t. status_of_marked stamp Canceled Completed t)
     (All-map base.trades (λ t w i. pending_not_completed t (w i)) waits))
 

@@ -51,8 +51,8 @@ has_trade_numbers_in_range t = are_trade_numbers_in_range third_schema t.id t.qt
 -- ---- trades
 
 -- The stamp of the status change is at most the last stamp `last`. False if `last` is `None`.
-abbrev pub StatusStampIsAtMostLast : Option ℕ → StatusChange → Type 0
-StatusStampIsAtMostLast last m = is_up_to_last_stamp last m.stamp ≡ true
+abbrev pub StatusStampIsAtMostLastStamp : Option ℕ → StatusChange → Type 0
+StatusStampIsAtMostLastStamp last m = is_up_to_last_stamp last m.stamp ≡ true
 
 -- If the status change is a completion, its due day by the settlement day `rule` is within the
 -- calendar. Vacuous for other statuses.
@@ -99,7 +99,7 @@ pub record TradeAuditInvariant (last : Option ℕ) (rule : SettleRule) (accounts
   pub alone : TradeOnlyAuditInvariant t
   pub open alone use *
   -- Its stamps are at most the last stamp.
-  pub past : AllByRecursion (StatusStampIsAtMostLast last) t.marks
+  pub past : AllByRecursion (StatusStampIsAtMostLastStamp last) t.marks
   -- The due day of its completion is within the calendar.
   pub due : AllByRecursion (HasDueDayInCalendar rule) t.marks
   -- A completed cash trade has one of the two cash texts for its security.

@@ -3,7 +3,7 @@
 use brk_clock::Moments;
 use brk_desk::Desk;
 use brk_exit::Ending;
-use brk_http::{ListenFault, serve_listener};
+use brk_http::{ListenFault, serve_on};
 use brk_money::Stamp;
 use sqlite::Alter;
 use std::net::TcpListener;
@@ -21,7 +21,7 @@ pub(crate) fn execute_serve_job<S: Alter>(
         return Ending::Net;
     };
     let mut clock = Moments::new(rt, at);
-    match serve_listener(rt.alloc(), &mut listener, streams, &mut clock, desk) {
+    match serve_on(rt.alloc(), &mut listener, streams, &mut clock, desk) {
         Ok(()) => Ending::Done,
         Err(ListenFault::Stream(fault)) => Ending::Serve(fault),
         Err(ListenFault::Net) => Ending::Net,

@@ -1,7 +1,7 @@
 use brk_desk::Desk;
 use brk_exit::Ending;
 use brk_money::{Day, Id};
-use brk_report::write_statement;
+use brk_report::statement;
 use sqlite::Alter;
 use std::alloc::Global;
 use std::io::Write;
@@ -16,7 +16,7 @@ pub(crate) fn execute_statement_job<S: Alter, W: Write>(
     to: Day,
     output: &mut W,
 ) -> Ending {
-    match write_statement(alloc, desk, account, from, to, output) {
+    match statement(alloc, desk, account, from, to, output) {
         Ok(()) => Ending::Done,
         Err(fault) => Ending::Report(fault),
     }

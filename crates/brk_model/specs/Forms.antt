@@ -193,9 +193,9 @@ abbrev pub read_lifo_or_fifo : Text → ReadResult Bool
 read_lifo_or_fifo = read_word_as_boolean (codes "lifo") (codes "fifo")
 
 -- The market type `order_type` if the text of the price is empty, otherwise the refusal `BadPrice`.
-abbrev pub market_order_type : OrderType → Text → ReadResult OrderType
-market_order_type order_type [] = Ok order_type
-market_order_type order_type _ = Err BadPrice
+abbrev pub market_type_if_price_is_empty : OrderType → Text → ReadResult OrderType
+market_type_if_price_is_empty order_type [] = Ok order_type
+market_type_if_price_is_empty order_type _ = Err BadPrice
 
 -- The order type `order_type` with the price that the text parses as, otherwise the refusal
 -- `BadPrice`.
@@ -213,8 +213,8 @@ refusal_of_unknown_type_by_price_text (c ∷ text) = Err BadType ⊛ read_price 
 -- Without a trade type it is the refusal `BadPrice` or `BadType`.
 abbrev pub order_type_with_price : Option TradeType → Text → ReadResult OrderType
 order_type_with_price None = refusal_of_unknown_type_by_price_text
-order_type_with_price (Some MarketBuy) = market_order_type asked.MarketBuy
-order_type_with_price (Some MarketSell) = market_order_type asked.MarketSell
+order_type_with_price (Some MarketBuy) = market_type_if_price_is_empty asked.MarketBuy
+order_type_with_price (Some MarketSell) = market_type_if_price_is_empty asked.MarketSell
 order_type_with_price (Some StopLoss) = priced_order_type (λ price. asked.StopLoss price)
 order_type_with_price (Some LimitSell) = priced_order_type (λ price. asked.LimitSell price)
 order_type_with_price (Some LimitBuy) = priced_order_type (λ price. asked.LimitBuy price)

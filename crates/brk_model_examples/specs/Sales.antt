@@ -24,8 +24,8 @@ pub record DealEffect : Type 0 where
   pub sell_value : ℕ
 
 -- The effect of the deal `d` on the position after `two_purchase_deals`.
-unfoldable pub effect_of_deal : Deal → DealEffect
-effect_of_deal d = record {
+unfoldable pub effect_of_deal_on_two_lots : Deal → DealEffect
+effect_of_deal_on_two_lots d = record {
   touched = touches_of_existing_lots d (replay two_purchase_deals);
   opened = length (opened_shares d (replay two_purchase_deals));
   buy_value = buy_value d (replay two_purchase_deals);

@@ -135,8 +135,8 @@ short_covering_purchase = record {
 }
 
 -- Trade 6, completed: a cash sale of 50 shares at 11.00, which closes the whole position.
-abbrev pub sale_of_all : Trade
-sale_of_all = record {
+abbrev pub sale_of_all_shares : Trade
+sale_of_all_shares = record {
   id = 6;
   account = 100;
   kind = MarketSell;
@@ -189,4 +189,4 @@ base_after_covering_purchase =
 -- The base `base_after_covering_purchase` after the sale of all shares.
 unfoldable pub base_after_sale_of_all : Base
 base_after_sale_of_all =
-    setting_with_trades (first_purchase ∷ second_purchase ∷ sale_first_in_first_out ∷ short_sale ∷ short_covering_purchase ∷ sale_of_all ∷ []) 1709251200027
+    setting_with_trades (first_purchase ∷ second_purchase ∷ sale_first_in_first_out ∷ short_sale ∷ short_covering_purchase ∷ sale_of_all_shares ∷ []) 1709251200027

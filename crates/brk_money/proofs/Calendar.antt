@@ -7,11 +7,11 @@ use Rattle.jiff.proofs.SpanFacts.{signed_arith}
 use Rattle.jiff_core.specs.Calendar.{day_count}
 use Rattle.jiff_core.specs.declared.civil.date.Date.{Date}
 use Rattle.jiff_core.proofs.CalendarLemmas.{day_count-day, day_count-day_of_year, day_count-end, day_count-epoch, day_count-last_of_year, day_count-later_year, day_count-next_month, day_count-next_year, days_from_civil-day_count, days_in_month_bounds, days_in_year_bounds}
-use Rattle.brk_money.specs.Moments.{Civil, civil_date_of_day, date_after_year_start, date_after_month_start}
+use Rattle.brk_money.specs.Moments.{CivilDate, civil_date_of_day, date_after_year_start, date_after_month_start}
 
 -- The civil date `c` has a month from 1 to 12, a day of that month, and a year that is not before
 -- `year`. The number of its day, by `day_count`, is `count`.
-pub record IsDateAt (c : Civil) (year count : ℕ) : Type 0 where
+pub record IsDateAt (c : CivilDate) (year count : ℕ) : Type 0 where
   pub year_from : year ≤ c.year
   pub month_in : (1 ≤ c.month) × (c.month ≤ 12)
   pub day_in : (1 ≤ c.day) × (c.day ≤ days_in_month (pos c.year) c.month)
@@ -72,7 +72,7 @@ unfolding civil_date_of_day
 civil_at n = subst (IsDateAt (civil_date_of_day n) 1970) (ap (λ k. k + n) day_count-epoch) (from_year (n / 365) 1970 n (omega arith))
 
 -- a date of the days up to 9999-12-31 is of the year 9999 at most
-pub last_year : (c : Civil) (n : ℕ) → n ≤ 2_932_896 → IsDateAt c 1970 (4_371_953 + n) → c.year ≤ 9999
+pub last_year : (c : CivilDate) (n : ℕ) → n ≤ 2_932_896 → IsDateAt c 1970 (4_371_953 + n) → c.year ≤ 9999
 last_year c n h d = at (nat_lt 9999 c.year) refl
   where
     at : (b : Bool) → nat_lt 9999 c.year ≡ b → c.year ≤ 9999

@@ -5,7 +5,7 @@ use Rattle.jiff.specs.Words.{days_in_month, days_in_year}
 use Rattle.jiff.proofs.SpanFacts.{signed_arith}
 use Rattle.jiff_core.specs.Calendar.{day_count}
 use Rattle.jiff_core.proofs.CalendarLemmas.{day_count-day, day_count-epoch, day_count-next_month, day_count-next_year}
-use Rattle.brk_money.specs.Moments.{Civil, civil_date_of_day, day_of_civil_date, days_in_months, days_in_years, greatest_day}
+use Rattle.brk_money.specs.Moments.{CivilDate, civil_date_of_day, day_of_civil_date, days_in_months, days_in_years, greatest_day}
 use Rattle.brk_money.specs.Spelling.{Text, civil_date_from_ascii_digits, date_text_by_digits, day_of_text, day_text, number_from_ascii_digits}
 use Rattle.brk_money.proofs.Calendar.{civil_at, is_short}
 use Rattle.brk_money.proofs.DayTexts.{day_text-digits}
@@ -46,7 +46,7 @@ summed n count first year month days of_years of_months a b c d e = omega (arith
 number_back : (n : ℕ) → day_of_civil_date (civil_date_of_day n) ≡ n
 unfolding day_of_civil_date
 number_back n =
-    let c : Civil = civil_date_of_day n in
+    let c : CivilDate = civil_date_of_day n in
     let d = civil_at n in
     let years : day_count (pos c.year) 1 1 ≡ 4_371_953 + days_in_years (c.year - 1970) 1970 =
     years_counted (c.year - 1970) 1970 c.year (omega (arith, d.year_from)) ∙ ap (λ k. k + days_in_years (c.year - 1970) 1970) day_count-epoch in

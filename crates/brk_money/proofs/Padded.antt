@@ -4,7 +4,7 @@ use Rattle.std.specs.Fmt.{decimal}
 use Rattle.std.proofs.lemmas.Bool.{ltb-true, ltb-false}
 use Rattle.std.proofs.lemmas.Fmt.{decimal_digit, decimal_step}
 use Rattle.std.proofs.lemmas.List.{append_assoc, length-append}
-use Rattle.brk_money.specs.Moments.{Civil}
+use Rattle.brk_money.specs.Moments.{CivilDate}
 use Rattle.brk_money.specs.Spelling.{Text, padded_decimal, date_text, date_text_by_digits}
 
 -- one digit in so many places
@@ -66,5 +66,5 @@ four n h = at (nat_lt n 10) refl
         longer 3 n high (omega (arith, h)) ∙ ap (λ (ds : Text). ds ++ (48 + n % 10) ∷ []) (three (n / 10) (omega (arith, h))) ∙ rw (thousands, hundreds, tens, ones) refl
 
 -- a date of four, two and two digits
-pub date_text-digits : (c : Civil) → c.year < 10000 → c.month < 100 → c.day < 100 → date_text c ≡ date_text_by_digits c.year c.month c.day
+pub date_text-digits : (c : CivilDate) → c.year < 10000 → c.month < 100 → c.day < 100 → date_text c ≡ date_text_by_digits c.year c.month c.day
 date_text-digits c y m d = rw (four c.year y, two c.month m, two c.day d) refl

@@ -4,7 +4,7 @@ use Rattle.std.specs.Prelude.{ℕ, suc, ◌+◌, ◌-◌, ◌*◌, ◌/◌, ◌%
 use Rattle.std.specs.Prelude.{Option, Some, None, ℤ, pos, negsuc, neg_ℤ, nat_le, nat_abs, decimal, bytes_eq, slice_index, Bool}
 use Rattle.std.specs.Char.{is_ascii_digit}
 use Rattle.brk_money.specs.declared.cents.TheConstants.Cents
-use Rattle.brk_money.specs.Moments.{Civil, civil_date_of_day, day_of_civil_date}
+use Rattle.brk_money.specs.Moments.{CivilDate, civil_date_of_day, day_of_civil_date}
 
 -- The type of a text: the list of its bytes.
 abbrev pub Text : Type 0
@@ -61,7 +61,7 @@ abbrev pub padded_decimal : ℕ → ℕ → Text
 padded_decimal places n = replicate (places - length (decimal n)) 48 ++ decimal n
 
 -- The text of a civil date, such as 2024-03-01.
-abbrev pub date_text : Civil → Text
+abbrev pub date_text : CivilDate → Text
 date_text d = padded_decimal 4 d.year ++ 45 ∷ padded_decimal 2 d.month ++ 45 ∷ padded_decimal 2 d.day
 
 -- The ten bytes of the text of the year `y`, the month `m` and the day `d`, such as 2024-03-01,
@@ -77,7 +77,7 @@ day_text day = date_text (civil_date_of_day day)
 
 -- The civil date whose year, month and day are the digits of the text at the places of a canonical
 -- date; whether the calendar has it is not checked.
-abbrev pub civil_date_from_ascii_digits : Text → Civil
+abbrev pub civil_date_from_ascii_digits : Text → CivilDate
 civil_date_from_ascii_digits text = record {
   year = number_from_ascii_digits (take 4 text);
   month = number_from_ascii_digits (take 2 (drop 5 text));

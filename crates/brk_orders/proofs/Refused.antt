@@ -10,7 +10,7 @@ use Rattle.brk_money.specs.declared.trade_type.TradeType.TheVariants.{MarketBuy,
 use Rattle.brk_money.specs.declared.refusal.Refusal.{Refusal}
 use Rattle.brk_money.specs.declared.refusal.Refusal.TheVariants.{BadText, BadQty, BadPrice, BadType}
 use Rattle.brk_model.specs.Limits.{greatest_price}
-use Rattle.brk_model.specs.Forms.{ReadResult, ◌⊛◌, nonnegative_amount, value_if_valid, trade_type_with_code, read_price, market_order_type, refusal_of_unknown_type_by_price_text, order_type_with_price, read_order_type}
+use Rattle.brk_model.specs.Forms.{ReadResult, ◌⊛◌, nonnegative_amount, value_if_valid, trade_type_with_code, read_price, market_type_if_price_is_empty, refusal_of_unknown_type_by_price_text, order_type_with_price, read_order_type}
 use Rattle.brk_ref.proofs.Applied.{text_left, text_right}
 
 -- a refusal is of one kind
@@ -39,7 +39,7 @@ only_price text = only_if (λ n. nat_le 1 n && nat_le n greatest_price) BadPrice
 pub IsLate : {A : Type 0} → ReadResult A → Type 0
 IsLate r = IfErr r (λ s. (s ≡ BadPrice) ⊎ (s ≡ BadType))
 
-late_without : (t : OrderType) (text : Text) → IsLate (market_order_type t text)
+late_without : (t : OrderType) (text : Text) → IsLate (market_type_if_price_is_empty t text)
 unfolding IsLate
 late_without t [] = tt
 late_without t (c ∷ text) = inl refl

@@ -90,7 +90,7 @@ fn parse_executor(
 // Returns `order_type`, a market type, which has no price. Refuses with `BadPrice` if the text of
 // the price is not empty.
 fn order_type_without_price(order_type: OrderType, price: &[u8]) -> Result<OrderType, Refusal>
-    ensures { result ≡ forms.market_order_type order_type price.now }
+    ensures { result ≡ forms.market_type_if_price_is_empty order_type price.now }
 {
     if price.is_empty() {
         Ok(order_type)

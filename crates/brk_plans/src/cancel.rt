@@ -6,7 +6,7 @@ ghost use Rattle.brk_plans.specs.Reference.{later_stamp_check};
 
 use crate::plan::Plan;
 use crate::reply::Reply;
-use crate::waiting::append_changes_from_pending;
+use crate::waiting::append_pending_trade_changes;
 use brk_changes::Change;
 use brk_money::{Fault, Id, Planned, Refusal, Stamp, Status, stamp_after};
 use std::alloc::Global;
@@ -31,7 +31,7 @@ fn create_cancel_changes(alloc: Global, trade: Id, stamp: Stamp) -> Result<Vec<C
     ensures fault { OnErr result (result ≡ Err Memory) }
 {
     let mut changes = Vec::new(alloc);
-    append_changes_from_pending(trade, Status::Canceled, stamp, &mut changes)?;
+    append_pending_trade_changes(trade, Status::Canceled, stamp, &mut changes)?;
     changes.push(Change::SetLastStamp(stamp))?;
     Ok(changes)
 }

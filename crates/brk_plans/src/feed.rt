@@ -16,7 +16,7 @@ ghost use Rattle.brk_changes.specs.declared.change.Change.TheVariants.{SetLastTr
 use crate::plan::Plan;
 use crate::quote::Quote;
 use crate::reply::Reply;
-use crate::waiting::append_changes_from_pending;
+use crate::waiting::append_pending_trade_changes;
 use brk_changes::{Change, RequestRow};
 use brk_money::{Fault, Id, Limit, Planned, Price, Refusal, Stamp, Status, TradeType, stamp_after};
 use brk_orders::{Feed, Tick};
@@ -114,7 +114,7 @@ fn append_submission_changes(
 {
     for request in requests {
         if price_triggers_trade(request.kind, request.bid, price) {
-            append_changes_from_pending(request.trade, Status::Submitted, stamp, changes)?;
+            append_pending_trade_changes(request.trade, Status::Submitted, stamp, changes)?;
             ids.push(request.trade)?;
         }
     }

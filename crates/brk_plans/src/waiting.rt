@@ -1,6 +1,6 @@
 ghost use Rattle.std.specs.Prelude.{◌≡◌, ◌++◌, OnOk, OnErr, Err};
 ghost use Rattle.brk_money.specs.declared.fault.Fault.TheVariants.{Memory};
-ghost use Rattle.brk_plans.specs.Waiting.{row_changes_from_pending};
+ghost use Rattle.brk_plans.specs.Waiting.{row_changes_of_pending_trade};
 
 use brk_changes::{Change, HistoryRow};
 use brk_money::{Fault, Id, Stamp, Status};
@@ -8,13 +8,13 @@ use brk_money::{Fault, Id, Stamp, Status};
 // Appends to `changes` the row changes by which a pending trade changes to the status `status` at
 // `stamp`: its status is set, a history row is added, and its request is deleted. Fails with
 // `Memory` only.
-pub(crate) fn append_changes_from_pending(
+pub(crate) fn append_pending_trade_changes(
     trade: Id,
     status: Status,
     stamp: Stamp,
     changes: &mut Vec<Change>,
 ) -> Result<(), Fault>
-    ensures changes { OnOk result (changes.new.items ≡ changes.old.items ++ row_changes_from_pending trade status stamp) }
+    ensures changes { OnOk result (changes.new.items ≡ changes.old.items ++ row_changes_of_pending_trade trade status stamp) }
     ensures fault { OnErr result (result ≡ Err Memory) }
 {
     let row = HistoryRow {

@@ -44,7 +44,7 @@ fn write_statement_lines<W: Write, S: Alter>(
 /// not exist; nothing is then written. Fails with `Desk(Memory)` or `Desk(Store)`: only whole lines
 /// are then written, from the first on and never the last one. After `Write` whole lines are
 /// written, from the first on, and a part of the next one.
-pub fn write_statement<W: Write, S: Alter>(
+pub fn statement<W: Write, S: Alter>(
     alloc: Global,
     desk: &mut Desk<S>,
     account: Id,
@@ -57,7 +57,7 @@ pub fn write_statement<W: Write, S: Alter>(
     if to.get() < from.get() {
         return Err(ReportFault::Refused(Refusal::BadText));
     }
-    let head = match desk.statement_head(alloc, account) {
+    let head = match desk.head(alloc, account) {
         Ok(Some(head)) => head,
         Ok(None) => return Err(ReportFault::Refused(Refusal::NoAccount)),
         Err(fault) => return Err(ReportFault::Desk(fault)),

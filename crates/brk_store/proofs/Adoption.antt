@@ -39,9 +39,9 @@ use Rattle.brk_sql.specs.Desk.{HasNoWritingForeignKeysAt}
 use Rattle.brk_tables_schema.specs.Desk.{DeskTable}
 use Rattle.brk_tables_schema.specs.Made.{HasDeskTables, IsTableOfSchema}
 use Rattle.brk_tables_upgrade.specs.Upgrade.{PreservesTablesOutside, UpgradesTables}
-use Rattle.brk_tables_scan.specs.Schemas.{HasDeskOfSchema, NamedTablesMatchDeskDefinitions, NamedTablesMatchSchemaDefinitions}
+use Rattle.brk_tables_scan.specs.Schemas.{DatabaseHasSchema, NamedTablesMatchDeskDefinitions, NamedTablesMatchSchemaDefinitions}
 use Rattle.brk_tables_scan.proofs.Defined.{desk_is_there}
-use Rattle.brk_store.specs.Audited.{IsUpgradedDiskContent, StoresRowsWithAuditResult, IsDatabaseAuditResult, IsDatabaseAuditResultBySchema, UpgradesPassingRows, StoreHasDeskOfThirdSchema, AdoptPost, AuditPost, StoreNamedTablesMatchDeskDefinitions, AuditAnswerSatisfies}
+use Rattle.brk_store.specs.Audited.{IsUpgradedDiskContent, StoresRowsWithAuditResult, IsDatabaseAuditResult, IsDatabaseAuditResultBySchema, UpgradesPassingRows, StoreHasThirdSchema, AdoptPost, AuditPost, StoreNamedTablesMatchDeskDefinitions, AuditAnswerSatisfies}
 use Rattle.brk_store.specs.AuditResult.{IsTrueAuditResult}
 use Rattle.brk_store.specs.Holds.{HoldsRows, WasOpenAndIsUnchanged}
 use Rattle.brk_store.specs.ReadSequences.{no_reads_change_nothing}
@@ -140,7 +140,7 @@ unadopted g conn = record {
 
 -- ---- the answer over all schemas is that of the third, where its desk is there
 
-audited_third : (db : Database) (answer : Option Condition) → NamedTablesMatchSchemaDefinitions third_schema db → HasDeskOfSchema third_schema db → IsDatabaseAuditResult db answer → IsDatabaseAuditResultBySchema third_schema db answer
+audited_third : (db : Database) (answer : Option Condition) → NamedTablesMatchSchemaDefinitions third_schema db → DatabaseHasSchema third_schema db → IsDatabaseAuditResult db answer → IsDatabaseAuditResultBySchema third_schema db answer
 audited_third db None defined there h = subst (λ s. IsDatabaseAuditResultBySchema (abstract_schema s) db None) (sym (one_desk Third h.0 h.1.0 db there h.1.1.0)) h.1
 audited_third db (Some condition.NotEmpty) defined there h = h
 audited_third db (Some condition.Schema) defined there h = absurd (h Third there)
@@ -159,7 +159,7 @@ module _ {S : Type 0} (g : Ghosts S) (old first : Held S) (settled : IsTrue (sta
     stayed = rolled_back g old mid end settled out Q (λ _. ⊥) step back late
 
     module _ (result : Result (Unit {0}) Fault) (told : HasCleanDisk (state g end) → StoreNamedTablesMatchDeskDefinitions g old → AuditAnswerSatisfies result (IsDatabaseAuditResult (state g old).now)) (opened : HasCleanDisk (state g end) → AuditAnswerSatisfies result (λ _. IsTrue (state g old).is_open)) where
-      as_audit : StoreNamedTablesMatchDeskDefinitions g old → StoreHasDeskOfThirdSchema g old → AuditPost g old end result
+      as_audit : StoreNamedTablesMatchDeskDefinitions g old → StoreHasThirdSchema g old → AuditPost g old end result
       as_audit defined third = record {
         answered = λ clean _.
             let before = clean_before (state g old) (state g end) (λ _. ⊥) passed clean in
@@ -277,7 +277,7 @@ module _ {S : Type 0} (g : Ghosts S) (old first : Held S) (settled : IsTrue (sta
         was_open clean = (looked_at clean).0
 
         -- no desk of the third schema is there
-        never : StoreNamedTablesMatchDeskDefinitions g old → StoreHasDeskOfThirdSchema g old → HasCleanDisk (state g end) → ⊥
+        never : StoreNamedTablesMatchDeskDefinitions g old → StoreHasThirdSchema g old → HasCleanDisk (state g end) → ⊥
         never defined third clean =
             let l = looked_at clean in
             let before = clean_old clean in
@@ -292,7 +292,7 @@ module _ {S : Type 0} (g : Ghosts S) (old first : Held S) (settled : IsTrue (sta
             let m = made_upgraded schema (state g old).now h.0 h.1 (defined (clean_old clean) (was_open clean)) in
             (schema, m.1, older_has_none schema older, m.2, (h.0, m.3, h.2))) over
 
-        nothing : (result : Result (Unit {0}) Fault) → (HasCleanDisk (state g end) → AuditAnswerSatisfies result (λ _. IsTrue (state g old).is_open)) → StoreNamedTablesMatchDeskDefinitions g old → StoreHasDeskOfThirdSchema g old → AuditPost g old end result
+        nothing : (result : Result (Unit {0}) Fault) → (HasCleanDisk (state g end) → AuditAnswerSatisfies result (λ _. IsTrue (state g old).is_open)) → StoreNamedTablesMatchDeskDefinitions g old → StoreHasThirdSchema g old → AuditPost g old end result
         nothing result opened defined third = record {
           answered = λ clean known. absurd (never defined third clean);
           opened = opened;

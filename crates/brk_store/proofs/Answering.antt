@@ -20,7 +20,7 @@ use Rattle.brk_sql.specs.Model.{IsTransactionStep}
 use Rattle.brk_sql.proofs.Inside.{step_read, step_then}
 use Rattle.brk_tables_unique.proofs.OneTables.{one_schema}
 use Rattle.brk_tables_schema.specs.Made.{HasDeskTablesInSchema}
-use Rattle.brk_tables_scan.specs.Schemas.{HasDeskOfSchema, NamedTablesMatchSchemaDefinitions}
+use Rattle.brk_tables_scan.specs.Schemas.{DatabaseHasSchema, NamedTablesMatchSchemaDefinitions}
 use Rattle.brk_tables_scan.specs.Whole.{AreSheetsOfDatabase}
 use Rattle.brk_store.specs.Audited.{IsDatabaseAuditResultBySchema}
 use Rattle.brk_store.proofs.Texts.{typed_texts}
@@ -59,7 +59,7 @@ form_fails schema t h texts =
     inr ((λ (form : IsTrue (satisfies_form_condition schema t)). let e : satisfies_form_condition schema t && has_utf8_texts t ≡ true = rw (form, texts) refl in let f : true ≡ false = sym e ∙ h in absurd (cc)), refl)
 
 -- the answer of the rows is that of the database
-pub rows_are_audited : (schema : known.Schema) (db : Database) (t : Tables) (answer : Option Condition) → HasDeskOfSchema (abstract_schema schema) db → HasDeskTablesInSchema (abstract_schema schema) t db → IsTrue (has_utf8_texts t) → IsAuditResult (abstract_schema schema) t answer
+pub rows_are_audited : (schema : known.Schema) (db : Database) (t : Tables) (answer : Option Condition) → DatabaseHasSchema (abstract_schema schema) db → HasDeskTablesInSchema (abstract_schema schema) t db → IsTrue (has_utf8_texts t) → IsAuditResult (abstract_schema schema) t answer
     → IsDatabaseAuditResultBySchema (abstract_schema schema) db answer
 rows_are_audited schema db t None there rows texts h = (t, (rows, texts, h))
 rows_are_audited schema db t (Some condition.NotEmpty) there rows texts h = audit_is_of_rows (abstract_schema schema) t condition.NotEmpty h
@@ -73,19 +73,19 @@ rows_are_audited schema db t (Some c) there rows texts h = (t, (rows, texts, h))
 -- `schema`. The result is specified only if tables with the names of the schema's tables have their
 -- definitions.
 abbrev pub ShowsIfHasDesk : known.Schema → Bool → State → State → Type 0
-ShowsIfHasDesk schema has a b = IsTrue a.is_open × (b.now ≡ a.now) × (NamedTablesMatchSchemaDefinitions (abstract_schema schema) a.now → IsTrue has ↔ HasDeskOfSchema (abstract_schema schema) a.now)
+ShowsIfHasDesk schema has a b = IsTrue a.is_open × (b.now ≡ a.now) × (NamedTablesMatchSchemaDefinitions (abstract_schema schema) a.now → IsTrue has ↔ DatabaseHasSchema (abstract_schema schema) a.now)
 
 -- A read of an open database left it unchanged and returned `read`, the typed rows of its tables of
 -- `schema` (`AreSheetsOfDatabase`). The result is specified only if the database has a desk of
 -- `schema` with the definitions of its tables.
 abbrev pub ReadsSheetsOfSchema : known.Schema → Option Sheets → State → State → Type 0
-ReadsSheetsOfSchema schema read a b = IsTrue a.is_open × (b.now ≡ a.now) × (NamedTablesMatchSchemaDefinitions (abstract_schema schema) a.now → HasDeskOfSchema (abstract_schema schema) a.now → AreSheetsOfDatabase (abstract_schema schema) a.now read)
+ReadsSheetsOfSchema schema read a b = IsTrue a.is_open × (b.now ≡ a.now) × (NamedTablesMatchSchemaDefinitions (abstract_schema schema) a.now → DatabaseHasSchema (abstract_schema schema) a.now → AreSheetsOfDatabase (abstract_schema schema) a.now read)
 
 -- An audit of an open database left it unchanged and returned `answer`, the result of its audit by
 -- `schema`. The result is specified only if the database has a desk of `schema` with the
 -- definitions of its tables.
 abbrev pub AuditsDeskOfSchema : known.Schema → Option Condition → State → State → Type 0
-AuditsDeskOfSchema schema answer a b = IsTrue a.is_open × (b.now ≡ a.now) × (NamedTablesMatchSchemaDefinitions (abstract_schema schema) a.now → HasDeskOfSchema (abstract_schema schema) a.now → IsDatabaseAuditResultBySchema (abstract_schema schema) a.now answer)
+AuditsDeskOfSchema schema answer a b = IsTrue a.is_open × (b.now ≡ a.now) × (NamedTablesMatchSchemaDefinitions (abstract_schema schema) a.now → DatabaseHasSchema (abstract_schema schema) a.now → IsDatabaseAuditResultBySchema (abstract_schema schema) a.now answer)
 
 -- An audit of an open database left it unchanged and returned `answer`, the result of its audit by
 -- schema 3. The result is specified only if tables with the names of the schema's tables have their
@@ -120,6 +120,6 @@ desk_told a b c r asked tried =
     (λ answer p q. (
       p.0,
       q.1 ∙ p.1,
-      λ defined. (subst (λ d. NamedTablesMatchSchemaDefinitions third_schema d → HasDeskOfSchema third_schema d → IsDatabaseAuditResultBySchema third_schema d answer) p.1 q.2) defined ((p.2 defined).0 refl),
+      λ defined. (subst (λ d. NamedTablesMatchSchemaDefinitions third_schema d → DatabaseHasSchema third_schema d → IsDatabaseAuditResultBySchema third_schema d answer) p.1 q.2) defined ((p.2 defined).0 refl),
     ))
     asked tried

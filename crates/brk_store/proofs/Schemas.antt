@@ -12,7 +12,7 @@ use Rattle.brk_sql.proofs.Grown.{all_there, some_there}
 use Rattle.brk_tables_schema.specs.Desk.{DeskTable, TheDesk, CashMoves, SettleRules, desk_tables_of_schema}
 use Rattle.brk_tables_schema.specs.Shapes.{desk_row_table}
 use Rattle.brk_tables_schema.specs.Made.{HasDeskTables, HasDeskTablesInSchema, IsTableOfSchema}
-use Rattle.brk_tables_scan.specs.Schemas.{HasDeskOfSchema, NamedTablesMatchDeskDefinitions, NamedTablesMatchSchemaDefinitions, HasDeskDefinitions, IsOneDeskRowOfSchema}
+use Rattle.brk_tables_scan.specs.Schemas.{DatabaseHasSchema, NamedTablesMatchDeskDefinitions, NamedTablesMatchSchemaDefinitions, HasDeskDefinitions, IsOneDeskRowOfSchema}
 use Rattle.brk_tables_scan.proofs.Defined.{desk_is_defined, desk_is_there}
 
 -- in the third schema all tables are there
@@ -47,7 +47,7 @@ rows_defined t db has schema tables =
     let third = rows_third t db has in
     narrowed (abstract_schema schema) db (desk_is_defined third_schema t db third (desk_is_there third_schema t db third).tables)
 
-pub desk_of_rows : (t : Tables) (db : Database) → HasDeskTables t db → HasDeskOfSchema third_schema db
+pub desk_of_rows : (t : Tables) (db : Database) → HasDeskTables t db → DatabaseHasSchema third_schema db
 desk_of_rows t db has = desk_is_there third_schema t db (rows_third t db has)
 
 -- ---- the number in DESK tells the schema
@@ -66,14 +66,14 @@ same_schema Third Third e = refl
 said_alike : (a b : Schema) (rows : List Row) → IsOneDeskRowOfSchema a rows → IsOneDeskRowOfSchema b rows → a.number ≡ b.number
 said_alike a b rows h k = let e = sym h.1 ∙ k.1 in cc
 
-pub one_desk : (a b : known.Schema) (t : Tables) (db : Database) → HasDeskOfSchema (abstract_schema a) db → HasDeskTablesInSchema (abstract_schema b) t db → a ≡ b
+pub one_desk : (a b : known.Schema) (t : Tables) (db : Database) → DatabaseHasSchema (abstract_schema a) db → HasDeskTablesInSchema (abstract_schema b) t db → a ≡ b
 one_desk a b t db there has =
     let stands = has.1.stands TheDesk refl in
     same_schema a b
     (said_alike (abstract_schema a) (abstract_schema b) _ (there.row (has.1.place TheDesk) (has.0 TheDesk) stands) ((desk_is_there (abstract_schema b) t db has).row (has.1.place TheDesk) (has.0 TheDesk) stands))
 
 -- where its tables are there as a desk makes them
-pub two_desks : (b : known.Schema) (db : Database) → NamedTablesMatchSchemaDefinitions third_schema db → HasDeskOfSchema third_schema db → HasDeskOfSchema (abstract_schema b) db → Third ≡ b
+pub two_desks : (b : known.Schema) (db : Database) → NamedTablesMatchSchemaDefinitions third_schema db → DatabaseHasSchema third_schema db → DatabaseHasSchema (abstract_schema b) db → Third ≡ b
 two_desks b db defined there other =
     let alike = defined there.tables in
     let first = there.tables.0 in

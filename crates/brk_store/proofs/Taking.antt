@@ -26,9 +26,9 @@ use Rattle.brk_invariant_theorems.proofs.Adopted.{passing_sound, sound_passes}
 use Rattle.brk_tables_unique.proofs.OneTables.{one_schema}
 use Rattle.brk_sql.proofs.Inside.{clean_before}
 use Rattle.brk_tables_schema.specs.Made.{HasDeskTablesInSchema}
-use Rattle.brk_tables_scan.specs.Schemas.{HasDeskOfSchema}
+use Rattle.brk_tables_scan.specs.Schemas.{DatabaseHasSchema}
 use Rattle.brk_tables_scan.proofs.Defined.{desk_is_there}
-use Rattle.brk_store.specs.Audited.{StoresRowsWithAuditResult, IsDatabaseAuditResult, IsDatabaseAuditResultBySchema, IsSchemaOfDatabase, UpgradesPassingRows, StoreHasDeskOfThirdSchema, Represents, AdoptPost, AuditPost, StoreNamedTablesMatchDeskDefinitions, StoreNamedTablesMatchThirdSchema, AuditAnswerSatisfies}
+use Rattle.brk_store.specs.Audited.{StoresRowsWithAuditResult, IsDatabaseAuditResult, IsDatabaseAuditResultBySchema, IsSchemaOfDatabase, UpgradesPassingRows, StoreHasThirdSchema, Represents, AdoptPost, AuditPost, StoreNamedTablesMatchDeskDefinitions, StoreNamedTablesMatchThirdSchema, AuditAnswerSatisfies}
 use Rattle.brk_store.specs.Holds.{HoldsRows}
 use Rattle.brk_store.proofs.Adoption.{upgraded_pass, upgraded_read}
 use Rattle.brk_store.proofs.Answering.{one_failing}
@@ -49,7 +49,7 @@ rows_answer schema db t (Some c) rows texts h = subst (λ u. IsAuditResult (abst
 -- is `Form`; or it has none and `answer` is `Schema`.
 abbrev HasReadableRowsOrFails : known.Schema → Database → Option Condition → Type 0
 HasReadableRowsOrFails schema db answer =
-    ((t : Tables) × HasDeskTablesInSchema (abstract_schema schema) t db × IsTrue (has_utf8_texts t)) ⊎ (((answer ≡ Some Form) × HasDeskOfSchema (abstract_schema schema) db) ⊎ ((answer ≡ Some Schema) × (¬ HasDeskOfSchema (abstract_schema schema) db)))
+    ((t : Tables) × HasDeskTablesInSchema (abstract_schema schema) t db × IsTrue (has_utf8_texts t)) ⊎ (((answer ≡ Some Form) × DatabaseHasSchema (abstract_schema schema) db) ⊎ ((answer ≡ Some Schema) × (¬ DatabaseHasSchema (abstract_schema schema) db)))
 
 kind_of : (schema : known.Schema) (db : Database) (answer : Option Condition) → IsDatabaseAuditResultBySchema (abstract_schema schema) db answer → HasReadableRowsOrFails schema db answer
 kind_of schema db None h = inl (h.0, h.1.0, h.1.1)
@@ -75,7 +75,7 @@ one_answer_by schema db a b h k = one_of_kinds schema db a b h k (kind_of schema
 -- `answer` is `Schema` and the database has a desk of no schema; or the database has a desk of some
 -- schema, and `answer` is the result of its audit by this schema.
 abbrev IsAuditOfSomeDeskOrNone : Database → Option Condition → Type 0
-IsAuditOfSomeDeskOrNone db answer = ((answer ≡ Some Schema) × IsSchemaOfDatabase None db) ⊎ ((schema : known.Schema) × HasDeskOfSchema (abstract_schema schema) db × IsDatabaseAuditResultBySchema (abstract_schema schema) db answer)
+IsAuditOfSomeDeskOrNone db answer = ((answer ≡ Some Schema) × IsSchemaOfDatabase None db) ⊎ ((schema : known.Schema) × DatabaseHasSchema (abstract_schema schema) db × IsDatabaseAuditResultBySchema (abstract_schema schema) db answer)
 
 answer_of : (db : Database) (answer : Option Condition) → IsDatabaseAuditResult db answer → IsAuditOfSomeDeskOrNone db answer
 answer_of db None h = inr (h.0, desk_is_there (abstract_schema h.0) h.1.0 db h.1.1.0, h.1)
@@ -85,7 +85,7 @@ answer_of db (Some Form) h = inr (h.0, h.1.0, h.1)
 answer_of db (Some c) h = inr (h.0, desk_is_there (abstract_schema h.0) h.1.0 db h.1.1.0, h.1)
 
 -- rows of one schema, and what was answered by one of which a desk is there
-one_by_desk : (db : Database) (a b : Option Condition) (s r : known.Schema) (t : Tables) → HasDeskTablesInSchema (abstract_schema s) t db → IsDatabaseAuditResultBySchema (abstract_schema s) db a → HasDeskOfSchema (abstract_schema r) db → IsDatabaseAuditResultBySchema (abstract_schema r) db b → a ≡ b
+one_by_desk : (db : Database) (a b : Option Condition) (s r : known.Schema) (t : Tables) → HasDeskTablesInSchema (abstract_schema s) t db → IsDatabaseAuditResultBySchema (abstract_schema s) db a → DatabaseHasSchema (abstract_schema r) db → IsDatabaseAuditResultBySchema (abstract_schema r) db b → a ≡ b
 one_by_desk db a b s r t rows h there k = one_answer_by s db a b h (subst (λ (q : known.Schema). IsDatabaseAuditResultBySchema (abstract_schema q) db b) (one_desk r s t db there rows) k)
 
 one_of_answers : (db : Database) (a b : Option Condition) → IsAuditOfSomeDeskOrNone db a → IsAuditOfSomeDeskOrNone db b → a ≡ b
@@ -112,7 +112,7 @@ defined_in g held t holds clean on = rows_defined t (state g held).now (holds cl
 third_defined_in : {S : Type 0} (g : Ghosts S) (held : Held S) (t : Tables) → HoldsRows g held t → StoreNamedTablesMatchThirdSchema g held
 third_defined_in g held t holds clean on = rows_defined t (state g held).now (holds clean on) Third
 
-pub third_in : {S : Type 0} (g : Ghosts S) (held : Held S) (t : Tables) → HoldsRows g held t → StoreHasDeskOfThirdSchema g held
+pub third_in : {S : Type 0} (g : Ghosts S) (held : Held S) (t : Tables) → HoldsRows g held t → StoreHasThirdSchema g held
 third_in g held t holds clean on = desk_of_rows t (state g held).now (holds clean on)
 
 module _ {S : Type 0} (g : Ghosts S) (old new : Held S) (result : Result (Unit {0}) Fault) where

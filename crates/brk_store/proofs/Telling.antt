@@ -11,7 +11,7 @@ use Rattle.brk_changes.specs.declared.schema.Schema.TheVariants.{First, Second, 
 use Rattle.brk_changes.specs.Schemas.{abstract_schema}
 use Rattle.brk_sql.specs.Model.{IsTransactionStep}
 use Rattle.brk_sql.proofs.Inside.{step_then, step_read}
-use Rattle.brk_tables_scan.specs.Schemas.{HasDeskOfSchema, NamedTablesMatchDeskDefinitions}
+use Rattle.brk_tables_scan.specs.Schemas.{DatabaseHasSchema, NamedTablesMatchDeskDefinitions}
 use Rattle.brk_store.specs.Audited.{IsDatabaseAuditResult, IsDatabaseAuditResultBySchema, IsSchemaOfDatabase}
 use Rattle.brk_store.specs.AuditResult.{IsTrueAuditResult}
 use Rattle.brk_store.specs.declared.examining.AuditResult.{AuditResult}
@@ -20,9 +20,9 @@ use Rattle.brk_store.proofs.Answering.{ShowsIfHasDesk, AuditsDeskOfSchema}
 
 -- The database has no desk of `schema`.
 abbrev pub HasNoDeskOfSchema : known.Schema → Database → Type 0
-HasNoDeskOfSchema schema db = HasDeskOfSchema (abstract_schema schema) db → ⊥
+HasNoDeskOfSchema schema db = DatabaseHasSchema (abstract_schema schema) db → ⊥
 
-not_of : (schema : known.Schema) (db : Database) (has : Bool) → (IsTrue has ↔ HasDeskOfSchema (abstract_schema schema) db) → has ≡ false → HasNoDeskOfSchema schema db
+not_of : (schema : known.Schema) (db : Database) (has : Bool) → (IsTrue has ↔ DatabaseHasSchema (abstract_schema schema) db) → has ≡ false → HasNoDeskOfSchema schema db
 not_of schema db has told off = λ there. absurd (let sure : has ≡ true = told.1 there in let f = sym off ∙ sure in cc)
 
 none_of : (db : Database) → HasNoDeskOfSchema Third db → HasNoDeskOfSchema Second db → HasNoDeskOfSchema First db → IsSchemaOfDatabase None db
@@ -31,7 +31,7 @@ none_of db a b c Second there = b there
 none_of db a b c Third there = a there
 
 -- what the conditions of the schema that is there tell is told of the database
-audited_of : (schema : known.Schema) (db : Database) (failing : Condition) → HasDeskOfSchema (abstract_schema schema) db → IsDatabaseAuditResultBySchema (abstract_schema schema) db (Some failing) → IsDatabaseAuditResult db (Some failing)
+audited_of : (schema : known.Schema) (db : Database) (failing : Condition) → DatabaseHasSchema (abstract_schema schema) db → IsDatabaseAuditResultBySchema (abstract_schema schema) db (Some failing) → IsDatabaseAuditResult db (Some failing)
 audited_of schema db condition.NotEmpty there h = h
 audited_of schema db condition.Schema there h = absurd (h there)
 audited_of schema db c there h = (schema, h)
@@ -102,7 +102,7 @@ tells_none a b step =
 
 module _ (a b c : State) (schema : known.Schema) (there : IsTransactionStep {V = Option known.Schema} {E = Fault} a b (Ok (Some schema)) FindsSchemaOfDatabase) where
   -- the desk that is there, and what its conditions told
-  examined : (answer : Option Condition) (told : AuditResult) → ((db : Database) → HasDeskOfSchema (abstract_schema schema) db → IsDatabaseAuditResultBySchema (abstract_schema schema) db answer → IsTrueAuditResult told db)
+  examined : (answer : Option Condition) (told : AuditResult) → ((db : Database) → DatabaseHasSchema (abstract_schema schema) db → IsDatabaseAuditResultBySchema (abstract_schema schema) db answer → IsTrueAuditResult told db)
       → IsTransactionStep {V = Option Condition} {E = Fault} b c (Ok answer) (AuditsDeskOfSchema schema) → IsTransactionStep {V = AuditResult} {E = Fault} a c (Ok told) ReturnsTrueAuditResult
   examined answer told tells step =
       step_then a b c (Some schema) (Ok told) FindsSchemaOfDatabase (λ seen x y. (told ≡ seen) × AuditsDeskOfSchema schema answer x y) ReturnsTrueAuditResult
@@ -111,7 +111,7 @@ module _ (a b c : State) (schema : known.Schema) (there : IsTransactionStep {V =
         q.1.1 ∙ p.1,
         λ defined.
             let desk = p.2 defined in
-            tells a.now desk ((subst (λ d. NamedTablesMatchDeskDefinitions d → HasDeskOfSchema (abstract_schema schema) d → IsDatabaseAuditResultBySchema (abstract_schema schema) d answer) p.1 (λ all. q.1.2 (all schema))) defined desk),
+            tells a.now desk ((subst (λ d. NamedTablesMatchDeskDefinitions d → DatabaseHasSchema (abstract_schema schema) d → IsDatabaseAuditResultBySchema (abstract_schema schema) d answer) p.1 (λ all. q.1.2 (all schema))) defined desk),
       ))
       there
       (step_read b c answer (Ok told) (AuditsDeskOfSchema schema) (λ seen x y. (told ≡ seen) × AuditsDeskOfSchema schema answer x y) (λ seen e p. (let same : told ≡ seen = cc in same, p)) step)

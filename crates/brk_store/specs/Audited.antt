@@ -1,5 +1,5 @@
 -- The result of an audit of a database, and the postconditions of an audit and of an adoption. A
--- database has a schema (`HasDeskOfSchema`) if it has each table of the schema, with its name and
+-- database has a schema (`DatabaseHasSchema`) if it has each table of the schema, with its name and
 -- exactly its columns, no table that a later schema adds, and one row of the table DESK, with the
 -- number of the schema. `brk_store/specs/Holds.antt` explains the other terms of the clauses. A
 -- clause with the premise `HasCleanDisk` for the new state, and the promise on crashes in
@@ -26,7 +26,7 @@ use Rattle.brk_changes.specs.declared.schema.Schema.TheVariants.{Third}
 use Rattle.brk_changes.specs.Schemas.{abstract_schema}
 use Rattle.brk_tables_schema.specs.Made.{HasDeskTables, HasDeskTablesInSchema, IsTableOfSchema}
 use Rattle.brk_tables_upgrade.specs.Upgrade.{PreservesTablesOutside}
-use Rattle.brk_tables_scan.specs.Schemas.{HasDeskOfSchema, NamedTablesMatchDeskDefinitions, NamedTablesMatchSchemaDefinitions}
+use Rattle.brk_tables_scan.specs.Schemas.{DatabaseHasSchema, NamedTablesMatchDeskDefinitions, NamedTablesMatchSchemaDefinitions}
 use Rattle.brk_book_theorems.specs.Books.{BooksInvariant}
 use Rattle.brk_audit_theorems.specs.Passing.{PassesAudit}
 use Rattle.brk_invariant_theorems.specs.Sound.{AuditInvariant}
@@ -45,21 +45,21 @@ StoresRowsWithAuditResult schema t db answer = HasDeskTablesInSchema schema t db
 abbrev pub IsDatabaseAuditResultBySchema : Schema → Database → Option Condition → Type 0
 -- An audit never returns `NotEmpty`, which only the creation of the tables returns.
 IsDatabaseAuditResultBySchema schema db (Some condition.NotEmpty) = ⊥
--- `Schema`: the database does not have the schema (`HasDeskOfSchema`).
-IsDatabaseAuditResultBySchema schema db (Some condition.Schema) = ¬ HasDeskOfSchema schema db
+-- `Schema`: the database does not have the schema (`DatabaseHasSchema`).
+IsDatabaseAuditResultBySchema schema db (Some condition.Schema) = ¬ DatabaseHasSchema schema db
 -- `Form`: the database has the schema, and for all rows `t` that it contains with texts in UTF-8,
 -- the audit of `t` returns `Form`. So the result is `Form`, too, if the database contains no such
 -- rows, for example because a text is not UTF-8.
 IsDatabaseAuditResultBySchema schema db (Some condition.Form) =
-    HasDeskOfSchema schema db × ((t : Tables) → HasDeskTablesInSchema schema t db → IsTrue (has_utf8_texts t) → IsAuditResult schema t (Some condition.Form))
+    DatabaseHasSchema schema db × ((t : Tables) → HasDeskTablesInSchema schema t db → IsTrue (has_utf8_texts t) → IsAuditResult schema t (Some condition.Form))
 -- Any other result, `None` included, is that of the audit of the rows that the database contains.
 IsDatabaseAuditResultBySchema schema db answer = (t : Tables) × StoresRowsWithAuditResult schema t db answer
 
--- `Some schema`: the database has this schema (`HasDeskOfSchema`). `None`: the database has none of
+-- `Some schema`: the database has this schema (`DatabaseHasSchema`). `None`: the database has none of
 -- the three schemas.
 abbrev pub IsSchemaOfDatabase : Option known.Schema → Database → Type 0
-IsSchemaOfDatabase (Some schema) db = HasDeskOfSchema (abstract_schema schema) db
-IsSchemaOfDatabase None db = (schema : known.Schema) → ¬ HasDeskOfSchema (abstract_schema schema) db
+IsSchemaOfDatabase (Some schema) db = DatabaseHasSchema (abstract_schema schema) db
+IsSchemaOfDatabase None db = (schema : known.Schema) → ¬ DatabaseHasSchema (abstract_schema schema) db
 
 -- `answer` is the result of an audit of the database `db` by the conditions of the schema that it
 -- has: the first condition that it fails, or `None` if it passes. The result is never `NotEmpty`,
@@ -95,10 +95,10 @@ abbrev pub StoreNamedTablesMatchThirdSchema : {S : Type 0} → Ghosts S → Held
 StoreNamedTablesMatchThirdSchema g held =
     HasCleanDisk (state g held) → IsTrue (state g held).is_open → NamedTablesMatchSchemaDefinitions third_schema (state g held).now
 
--- The current database of the connection `held` has schema 3 (`HasDeskOfSchema`). Vacuous if the
+-- The current database of the connection `held` has schema 3 (`DatabaseHasSchema`). Vacuous if the
 -- disk assumption fails, or once the database is closed.
-abbrev pub StoreHasDeskOfThirdSchema : {S : Type 0} → Ghosts S → Held S → Type 0
-StoreHasDeskOfThirdSchema g held = HasCleanDisk (state g held) → IsTrue (state g held).is_open → HasDeskOfSchema third_schema (state g held).now
+abbrev pub StoreHasThirdSchema : {S : Type 0} → Ghosts S → Held S → Type 0
+StoreHasThirdSchema g held = HasCleanDisk (state g held) → IsTrue (state g held).is_open → DatabaseHasSchema third_schema (state g held).now
 
 -- ---- an audit
 
@@ -160,7 +160,7 @@ pub record AdoptPost {S : Type 0} (g : Ghosts S) (old new : Held S) (result : Re
       → OnOk result (UpgradesPassingRows (state g old).now (state g new).now × ((state g new).committed ≡ (state g new).now))
   -- At `Ok` the store is open, unless the database had schema 3.
   pub open_after_upgrade : HasCleanDisk (state g new) → StoreNamedTablesMatchDeskDefinitions g old
-      → OnOk result (StoreHasDeskOfThirdSchema g old ⊎ IsTrue (state g new).is_open)
+      → OnOk result (StoreHasThirdSchema g old ⊎ IsTrue (state g new).is_open)
   -- At an error: if the database is open after the call, it was open before and is unchanged.
   pub same : HasCleanDisk (state g new) → IsTrue (state g new).is_open → OnErr result (WasOpenAndIsUnchanged (state g old) (state g new))
   -- A crash exposes a state that a crash before the call could expose or, if rows of an older
@@ -168,7 +168,7 @@ pub record AdoptPost {S : Type 0} (g : Ghosts S) (old new : Held S) (result : Re
   pub survives : StoreNamedTablesMatchDeskDefinitions g old → Survives (state g old) (state g new) (IsUpgradedDiskContent (state g old).now)
   -- If the database had schema 3, the adoption satisfies the postcondition of an audit by schema 3,
   -- which writes nothing.
-  pub audited : StoreNamedTablesMatchDeskDefinitions g old → StoreHasDeskOfThirdSchema g old → AuditPost g old new result
+  pub audited : StoreNamedTablesMatchDeskDefinitions g old → StoreHasThirdSchema g old → AuditPost g old new result
 
 -- The base satisfies the books invariant and the audit invariant, and the texts of its tables are
 -- UTF-8.

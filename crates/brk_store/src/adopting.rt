@@ -15,7 +15,7 @@ ghost use Rattle.brk_model.specs.Tables.{Tables};
 ghost use Rattle.brk_changes.specs.declared.schema.Schema.{Schema};
 ghost use Rattle.brk_changes.specs.Schemas.{abstract_schema};
 ghost use Rattle.brk_audit_theorems.specs.Passing.{PassesAudit};
-ghost use Rattle.brk_store.specs.Audited.{StoresRowsWithAuditResult, IsDatabaseAuditResult, IsDatabaseAuditResultBySchema, StoreHasDeskOfThirdSchema};
+ghost use Rattle.brk_store.specs.Audited.{StoresRowsWithAuditResult, IsDatabaseAuditResult, IsDatabaseAuditResultBySchema, StoreHasThirdSchema};
 ghost use Rattle.brk_store.specs.Audited.{Represents, AdoptPost, AuditPost, StoreNamedTablesMatchDeskDefinitions, AuditAnswerSatisfies};
 ghost use Rattle.brk_store.specs.Holds.{HoldsRows};
 
@@ -33,7 +33,7 @@ pub fn audit_results_are_unique()
 /// the premise of an adoption (`StoreNamedTablesMatchDeskDefinitions`) and has schema 3.
 pub fn stores_with_rows_have_desk_definitions<S: Alter>()
     ensures defined { (held : Held S) (t : Tables) → HoldsRows S.Store held t → StoreNamedTablesMatchDeskDefinitions S.Store held }
-    ensures has_tables { (held : Held S) (t : Tables) → HoldsRows S.Store held t → StoreHasDeskOfThirdSchema S.Store held }
+    ensures has_tables { (held : Held S) (t : Tables) → HoldsRows S.Store held t → StoreHasThirdSchema S.Store held }
 {}
 
 /// Proves, under the disk assumption, that an audit of a store that holds rows with texts in UTF-8

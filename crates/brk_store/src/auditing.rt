@@ -8,20 +8,20 @@ ghost use Rattle.brk_model.specs.Schemas.{third_schema};
 ghost use Rattle.brk_changes.specs.Schemas.{abstract_schema};
 ghost use Rattle.brk_sql.specs.Model.{IsConnectionStep};
 ghost use Rattle.brk_store.specs.Audited.{IsDatabaseAuditResultBySchema, AuditPost};
-ghost use Rattle.brk_tables_scan.specs.Schemas.{HasDeskOfSchema, NamedTablesMatchSchemaDefinitions};
+ghost use Rattle.brk_tables_scan.specs.Schemas.{DatabaseHasSchema, NamedTablesMatchSchemaDefinitions};
 
 use crate::Store;
 use crate::beginning::begin_transaction;
 use brk_audit::audit_rows;
 use brk_changes::Schema;
 use brk_money::{Condition, Fault};
-use brk_tables_scan::{has_desk_of_schema, read_sheets};
+use brk_tables_scan::{database_has_schema, read_sheets};
 use sqlite::{Alter, Connection, Transaction};
 use std::alloc::Global;
 
 /// Returns the first condition of `schema` that the rows of its tables fail, or `None` if they
 /// pass. Changes nothing. Fails with `Memory` or `Store` only. The result is specified only if the
-/// database has the schema (`HasDeskOfSchema`) and its tables have the definitions of the desk's
+/// database has the schema (`DatabaseHasSchema`) and its tables have the definitions of the desk's
 /// tables (`NamedTablesMatchSchemaDefinitions`).
 pub(crate) fn audit_rows_of_schema<S: Alter>(
     tx: &mut Transaction<'_, S>,
@@ -30,7 +30,7 @@ pub(crate) fn audit_rows_of_schema<S: Alter>(
 ) -> Result<Option<Condition>, Fault>
     ensures same_reference { tx.new.conn.ghost_name ≡ tx.old.conn.ghost_name }
     ensures step { IsConnectionStep S.Store tx.old tx.new result (λ answer a b. IsTrue a.is_open × (b.now ≡ a.now)
-        × (NamedTablesMatchSchemaDefinitions (abstract_schema schema) a.now → HasDeskOfSchema (abstract_schema schema) a.now
+        × (NamedTablesMatchSchemaDefinitions (abstract_schema schema) a.now → DatabaseHasSchema (abstract_schema schema) a.now
         → IsDatabaseAuditResultBySchema (abstract_schema schema) a.now answer)) }
     ensures condition { IfOk result (λ answer. answer ≢ Some NotEmpty) }
     ensures fault { IfErr result IsCallFault }
@@ -55,7 +55,7 @@ fn first_failing_condition<S: Alter>(
     ensures condition { IfOk result (λ answer. answer ≢ Some NotEmpty) }
     ensures fault { IfErr result IsCallFault }
 {
-    if !has_desk_of_schema(tx, Schema::Third)? {
+    if !database_has_schema(tx, Schema::Third)? {
         return Ok(Some(Condition::Schema));
     }
     audit_rows_of_schema(tx, alloc, Schema::Third)

@@ -15,6 +15,6 @@ pub(crate) fn begin_transaction<S: Alter>(conn: &mut Connection<S>) -> Transacti
 {
     // The value is not needed: the call shows that an open database outside a transaction is in its
     // committed state.
-    let _settled = conn.is_autocommit();
+    let _is_autocommit = conn.is_autocommit();
     conn.transaction()
 }

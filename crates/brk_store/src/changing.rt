@@ -117,7 +117,7 @@ pub(crate) fn apply_changes_in_transaction<S: Alter>(
 {
     // The value is not needed: the call shows that an open database outside a transaction is in its
     // committed state.
-    let _settled = conn.is_autocommit();
+    let _is_autocommit = conn.is_autocommit();
     let mut tx = conn.transaction();
     // The value is not needed: the read succeeds only if the store is open.
     let _last = brk_tables_schema::last_stamp(&mut tx)?;
@@ -139,7 +139,7 @@ pub(crate) fn create_tables_in_transaction<S: Alter>(conn: &mut Connection<S>) -
 {
     // The value is not needed: the call shows that an open database outside a transaction is in its
     // committed state.
-    let _settled = conn.is_autocommit();
+    let _is_autocommit = conn.is_autocommit();
     let mut tx = conn.transaction();
     if brk_tables_create::has_some_desk_table(&mut tx)? {
         return Err(Fault::Damaged(Condition::NotEmpty));

@@ -13,7 +13,7 @@ ghost use Rattle.brk_tables_scan.specs.Schemas.{NamedTablesMatchDeskDefinitions}
 use crate::auditing::audit_rows_of_schema;
 use brk_changes::Schema;
 use brk_money::{Condition, Fault};
-use brk_tables_scan::has_desk_of_schema;
+use brk_tables_scan::database_has_schema;
 use sqlite::{Alter, Transaction};
 use std::alloc::Global;
 
@@ -35,13 +35,13 @@ fn schema_of_database<S: Alter>(tx: &mut Transaction<'_, S>) -> Result<Option<Sc
         × (NamedTablesMatchDeskDefinitions a.now → IsSchemaOfDatabase found a.now)) }
     ensures fault { OnErr result (result ≡ Err fault.Store) }
 {
-    if has_desk_of_schema(tx, Schema::Third)? {
+    if database_has_schema(tx, Schema::Third)? {
         return Ok(Some(Schema::Third));
     }
-    if has_desk_of_schema(tx, Schema::Second)? {
+    if database_has_schema(tx, Schema::Second)? {
         return Ok(Some(Schema::Second));
     }
-    if has_desk_of_schema(tx, Schema::First)? {
+    if database_has_schema(tx, Schema::First)? {
         return Ok(Some(Schema::First));
     }
     Ok(None)

@@ -73,7 +73,7 @@ impl<S: Alter> Store<S> {
     ///
     /// A crash exposes a state that a crash before the call could expose, or the changed rows;
     /// after `Ok` only the latter. After an error, too, a crash may expose the changed rows.
-    pub fn apply_changes(&mut self, changes: &[Change]) -> Result<(), Fault>
+    pub fn apply(&mut self, changes: &[Change]) -> Result<(), Fault>
         ensures applied { ApplyPost S.Store self.old self.new result (tables_after_changes changes.now) }
         ensures fault { OnErr result (result ≡ Err fault.Store) }
     {

@@ -97,7 +97,7 @@ impl<S: Alter> Store<S> {
     /// whatever the result.
     ///
     /// A crash exposes only states that a crash before the call could expose.
-    pub fn walk_cash_rows<E: From<Fault>, F: FnMut(&MoveRow) -> Result<(), E> + Drop>(
+    pub fn walk_cash<E: From<Fault>, F: FnMut(&MoveRow) -> Result<(), E> + Drop>(
         &mut self,
         account: Id,
         from: Stamp,

@@ -16,7 +16,7 @@ use Rattle.brk_sql.proofs.Answer.{limited_map}
 use Rattle.brk_sql.proofs.Decode.{filter_true}
 use Rattle.brk_sql.proofs.Looks.{tells_rising, tells_falling}
 use Rattle.brk_sql.proofs.Texts.{read}
-use Rattle.brk_tables_schema.specs.Cells.{natural_as_value, optional_as_value, move_cells, rule_cells}
+use Rattle.brk_tables_schema.specs.Cells.{natural_as_value, optional_natural_as_value, move_cells, rule_cells}
 use Rattle.brk_tables_schema.specs.Desk.{CashMoves, SettleRules, desk_tables, ordering_by_primary_key, rule_key, rule_rows}
 use Rattle.brk_tables_schema.proofs.Order.{key_total}
 use Rattle.brk_tables_schema.proofs.Tests.{same_maybe}
@@ -36,11 +36,11 @@ tells_last_move old new rows shown = λ t tree h.
 pub tells_move : (old new : State) (trade : ℕ) (rows : List Row) → Shown MoveByTrade.statement (natural_as_value trade ∷ []) old new rows → TablesSatisfy desk_tables (λ t. rows ≡ map move_cells (filter (is_cash_row_of_trade trade) t.moves)) old.now
 tells_move old new trade rows shown =
     tells_rising desk_tables CashMoves MoveByTrade.statement (natural_as_value trade ∷ []) (read MoveByTrade.statement) MoveByTrade.terms MoveByTrade.project MoveByTrade.order MoveByTrade.paging MoveByTrade.names MoveByTrade.understood_as
-    (is_cash_row_of_trade trade) (λ tree r x e. let a : column r 3 ≡ optional_as_value x.trade = cc in rw (a, same_maybe x.trade trade) (and_true _)) move_cells (λ tree r x e. e) (ordering_by_primary_key CashMoves) (key_total move_key)
+    (is_cash_row_of_trade trade) (λ tree r x e. let a : column r 3 ≡ optional_natural_as_value x.trade = cc in rw (a, same_maybe x.trade trade) (and_true _)) move_cells (λ tree r x e. e) (ordering_by_primary_key CashMoves) (key_total move_key)
     (λ tree a b x y e f. let p : column a 0 ≡ natural_as_value x.id = cc in let q : column b 0 ≡ natural_as_value y.id = cc in rw (p, q) refl) old new rows shown (λ x y. refl)
 
 -- whether a column that may be null is
-null_or : (o : Option ℕ) → is_true (binary (Is Binary) (optional_as_value o) Null) ≡ is_none o
+null_or : (o : Option ℕ) → is_true (binary (Is Binary) (optional_natural_as_value o) Null) ≡ is_none o
 unfolding binary value_cmp lib.Ieee.is_nan lib.Ieee.lt
 null_or None = refl
 null_or (Some n) = refl
@@ -50,7 +50,7 @@ pub tells_movement : (old new : State) (skipped : ℕ) (rows : List Row) → Sho
     → TablesSatisfy desk_tables (λ t. rows ≡ map move_cells (take 1 (drop skipped (filter (λ r. is_none r.trade) t.moves)))) old.now
 tells_movement old new skipped rows shown = λ t tree h.
     tells_rising desk_tables CashMoves MovementBehind.statement (natural_as_value skipped ∷ []) (read MovementBehind.statement) MovementBehind.terms MovementBehind.project MovementBehind.order MovementBehind.paging MovementBehind.names MovementBehind.understood_as
-    (λ r. is_none r.trade) (λ tree r x e. let a : column r 3 ≡ optional_as_value x.trade = cc in rw (a, null_or x.trade) (and_true _)) move_cells (λ tree r x e. e) (ordering_by_primary_key CashMoves) (key_total move_key)
+    (λ r. is_none r.trade) (λ tree r x e. let a : column r 3 ≡ optional_natural_as_value x.trade = cc in rw (a, null_or x.trade) (and_true _)) move_cells (λ tree r x e. e) (ordering_by_primary_key CashMoves) (key_total move_key)
     (λ tree a b x y e f. let p : column a 0 ≡ natural_as_value x.id = cc in let q : column b 0 ≡ natural_as_value y.id = cc in rw (p, q) refl) old new rows shown (λ x y. refl) t tree h
     ∙ ap (take 1) (drop-map move_cells skipped (filter (λ r. is_none r.trade) t.moves)) ∙ limited_map move_cells (Some 1) (drop skipped (filter (λ r. is_none r.trade) t.moves))
 

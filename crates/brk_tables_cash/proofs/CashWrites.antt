@@ -21,7 +21,7 @@ use Rattle.brk_sql.proofs.Texts.{read}
 use Rattle.brk_sql.proofs.Values.{cast_int, cast_null, cast_whole}
 use Rattle.brk_sql.proofs.Writes.{inserts_as, updates_as, deletes_as}
 use Rattle.brk_changes.specs.Changes.{tables_with_cash_text, tables_with_cash_row, tables_with_settlement_day}
-use Rattle.brk_tables_schema.specs.Cells.{DeskRow, RuleRow, natural_as_value, optional_as_value, move_cells}
+use Rattle.brk_tables_schema.specs.Cells.{DeskRow, RuleRow, natural_as_value, optional_natural_as_value, move_cells}
 use Rattle.brk_tables_schema.specs.Desk.{DeskTable, TheDesk, CashRows, CashMoves, SettleRules, desk_tables, desk_rows, rule_rows, rule_key, rows_of_table, ordering_by_primary_key}
 use Rattle.brk_tables_schema.proofs.Order.{key_total}
 use Rattle.brk_tables_schema.proofs.Places.{the_desk}
@@ -36,11 +36,11 @@ use Rattle.brk_tables_cash.proofs.RemoveCashRows
 use Rattle.brk_tables_cash.proofs.SetCashName
 use Rattle.brk_tables_cash.proofs.SetSchema
 
-cast_maybe : (o : Option ℕ) → cast Integer (optional_as_value o) ≡ optional_as_value o
+cast_maybe : (o : Option ℕ) → cast Integer (optional_natural_as_value o) ≡ optional_natural_as_value o
 cast_maybe None = cast_null
 cast_maybe (Some n) = cast_int (pos n)
 
-bound_maybe : (o : Option ℕ) → bound_value (optional_as_value o) ≡ optional_as_value o
+bound_maybe : (o : Option ℕ) → bound_value (optional_natural_as_value o) ≡ optional_natural_as_value o
 bound_maybe None = refl
 bound_maybe (Some n) = refl
 
@@ -48,7 +48,7 @@ both : {X : Type 0} {a b : X} {xs ys : List X} → a ≡ b → xs ≡ ys → a �
 both e f = ap₂ (λ x xs. x ∷ xs) e f
 
 -- parameters that are a cash row's
-pub params_are : (x : MoveRow) (v0 v1 v2 v3 v4 v5 : ValueRef) → owned v0 ≡ natural_as_value x.id → owned v1 ≡ natural_as_value x.account → owned v2 ≡ optional_as_value x.trade → owned v3 ≡ natural_as_value x.stamp → owned v4 ≡ Int x.amount → owned v5 ≡ Words x.name
+pub params_are : (x : MoveRow) (v0 v1 v2 v3 v4 v5 : ValueRef) → owned v0 ≡ natural_as_value x.id → owned v1 ≡ natural_as_value x.account → owned v2 ≡ optional_natural_as_value x.trade → owned v3 ≡ natural_as_value x.stamp → owned v4 ≡ Int x.amount → owned v5 ≡ Words x.name
     → bound (v0 ∷ v1 ∷ v2 ∷ v3 ∷ v4 ∷ v5 ∷ []) ≡ move_cells x
 params_are x v0 v1 v2 v3 v4 v5 e0 e1 e2 e3 e4 e5 =
     both (ap bound_value e0) (both (ap bound_value e1) (both (ap bound_value e2 ∙ bound_maybe x.trade) (both (ap bound_value e3) (both (ap bound_value e4) (both (ap bound_value e5) refl)))))
@@ -106,19 +106,19 @@ removes_cash old new ran = λ t tree h.
 pub sets_cash_name : (old new : State) (trade : ℕ) (name : List ℕ) → ExecutesStatement SetCashName.statement (Words name ∷ natural_as_value trade ∷ []) old new → ChangesTablesBy desk_tables (tables_with_cash_text trade name) old.now new.now
 sets_cash_name old new trade name ran =
     updates_as desk_tables CashMoves moves SetCashName.statement (Words name ∷ natural_as_value trade ∷ []) (read SetCashName.statement) SetCashName.terms SetCashName.project (is_cash_row_of_trade trade)
-    (λ tree r x e. let a : column r 3 ≡ optional_as_value x.trade = cc in rw (a, same_maybe x.trade trade) (and_true _)) (λ r. refl) SetCashName.understood_as
+    (λ tree r x e. let a : column r 3 ≡ optional_natural_as_value x.trade = cc in rw (a, same_maybe x.trade trade) (and_true _)) (λ r. refl) SetCashName.understood_as
     (λ r. column r 0 ∷ Null ∷ column r 2 ∷ column r 3 ∷ column r 4 ∷ column r 5 ∷ Words name ∷ [])
     (λ (r : MoveRow). record r { name = name }) (λ x y. refl) (λ x y. refl) (λ r. refl)
     (λ tree r x whole e.
     let a2 : column r 2 ≡ natural_as_value x.account = cc in
-    let a3 : column r 3 ≡ optional_as_value x.trade = cc in
+    let a3 : column r 3 ≡ optional_natural_as_value x.trade = cc in
     let a4 : column r 4 ≡ natural_as_value x.stamp = cc in
     let a5 : column r 5 ≡ Int x.amount = cc in
     rw (a2, a3, a4, a5, cast_null, cast_int (pos x.account), cast_maybe x.trade, cast_int (pos x.stamp), cast_int x.amount) (ap (λ v. v ∷ Null ∷ drop 1 (move_cells (record x { name = name }))) (cast_whole (column r 0) whole)))
     (λ tree r x e.
     let a0 : column r 0 ≡ natural_as_value x.id = cc in
     let a2 : column r 2 ≡ natural_as_value x.account = cc in
-    let a3 : column r 3 ≡ optional_as_value x.trade = cc in
+    let a3 : column r 3 ≡ optional_natural_as_value x.trade = cc in
     let a4 : column r 4 ≡ natural_as_value x.stamp = cc in
     let a5 : column r 5 ≡ Int x.amount = cc in
     rw (a0, a2, a3, a4, a5) refl) old new ran.0 ran.1
@@ -130,8 +130,8 @@ raises old new ran = λ schema t tree h.
     let turned = updates_as wide TheDesk the_desk SetSchema.statement (natural_as_value 3 ∷ natural_as_value 1 ∷ []) (read SetSchema.statement) SetSchema.terms SetSchema.project (λ (r : DeskRow). r.id == 1)
     (λ tree r x e. let a : column r 0 ≡ natural_as_value x.id = cc in rw (a, same_number x.id 1) (and_true _)) (λ r. refl) SetSchema.understood_as
     (λ r. column r 0 ∷ Null ∷ natural_as_value 3 ∷ column r 3 ∷ []) (λ (r : DeskRow). record r { schema = 3 }) (λ x y. refl) (λ x y. refl) (λ r. refl)
-    (λ tree r x whole e. let a : column r 3 ≡ optional_as_value x.last = cc in
-    rw (a, cast_null, cast_int (pos 3), cast_maybe x.last) (ap (λ v. v ∷ Null ∷ natural_as_value 3 ∷ optional_as_value x.last ∷ []) (cast_whole (column r 0) whole)))
-    (λ tree r x e. let a : column r 0 ≡ natural_as_value x.id = cc in let b : column r 3 ≡ optional_as_value x.last = cc in rw (a, b) refl) old new ran.0 ran.1
+    (λ tree r x whole e. let a : column r 3 ≡ optional_natural_as_value x.last = cc in
+    rw (a, cast_null, cast_int (pos 3), cast_maybe x.last) (ap (λ v. v ∷ Null ∷ natural_as_value 3 ∷ optional_natural_as_value x.last ∷ []) (cast_whole (column r 0) whole)))
+    (λ tree r x e. let a : column r 0 ≡ natural_as_value x.id = cc in let b : column r 3 ≡ optional_natural_as_value x.last = cc in rw (a, b) refl) old new ran.0 ran.1
     (wide_of schema t) tree (widened schema tree old.now t h) in
     (narrowed third_schema tree new.now (desk_rows third_schema t.last) (rule_rows t.rule) t t refl refl (λ w _ _. refl) turned.0, turned.1)

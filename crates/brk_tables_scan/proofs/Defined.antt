@@ -15,12 +15,12 @@ use Rattle.brk_model.specs.Tables.{Tables}
 use Rattle.brk_sql.proofs.Order.{has_permuted}
 use Rattle.brk_sql.specs.Desk.{HasNoWritingForeignKeysAt, IsTableAt}
 use Rattle.brk_sql.specs.Rows.{cells_in_column_order}
-use Rattle.brk_tables_schema.specs.Cells.{optional_as_value, natural_as_value}
+use Rattle.brk_tables_schema.specs.Cells.{optional_natural_as_value, natural_as_value}
 use Rattle.brk_tables_schema.specs.Desk.{DeskTable, TheDesk, all_tables, schema_has_table, table_name, table_definition_has_tree, table_definition_at, tables_in_schema}
 use Rattle.brk_tables_schema.specs.Made.{HasDeskTablesInSchema, IsTableOfSchema}
 use Rattle.brk_tables_schema.specs.Shapes.{desk_row_table}
 use Rattle.brk_tables_create.specs.Made.{tables_of_later_schemas}
-use Rattle.brk_tables_scan.specs.Schemas.{HasDeskOfSchema, HasTableWithNames, NamedTablesMatchSchemaDefinitions, HasDistinctRowids, IsOneDeskRowOfSchema, table_and_column_names}
+use Rattle.brk_tables_scan.specs.Schemas.{DatabaseHasSchema, HasTableWithNames, NamedTablesMatchSchemaDefinitions, HasDistinctRowids, IsOneDeskRowOfSchema, table_and_column_names}
 use Rattle.brk_tables_scan.proofs.Listed.{names_alike}
 
 some_same : {X : Type 0} (x y : X) → Some x ≡ Some y → x ≡ y
@@ -70,17 +70,17 @@ module _ (desk : Schema) (t : Tables) (db : Database) (has : HasDeskTablesInSche
 
   -- ---- the row of DESK
 
-  desk_row_shown : map (cells_in_column_order (desk_row_table (tree TheDesk))) (db.trees (tree TheDesk)) ≡ (natural_as_value 1 ∷ natural_as_value desk.number ∷ optional_as_value t.last ∷ []) ∷ []
-  desk_row_shown = one_row (natural_as_value 1 ∷ natural_as_value desk.number ∷ optional_as_value t.last ∷ []) (map (cells_in_column_order (desk_row_table (tree TheDesk))) (db.trees (tree TheDesk))) (has.1.rows TheDesk refl).shown
+  desk_row_shown : map (cells_in_column_order (desk_row_table (tree TheDesk))) (db.trees (tree TheDesk)) ≡ (natural_as_value 1 ∷ natural_as_value desk.number ∷ optional_natural_as_value t.last ∷ []) ∷ []
+  desk_row_shown = one_row (natural_as_value 1 ∷ natural_as_value desk.number ∷ optional_natural_as_value t.last ∷ []) (map (cells_in_column_order (desk_row_table (tree TheDesk))) (db.trees (tree TheDesk))) (has.1.rows TheDesk refl).shown
 
   the_row : (at n : ℕ) → IsTableAt db.schema (desk_row_table n) at → IsOneDeskRowOfSchema desk (map (cells_in_column_order (desk_row_table n)) (db.trees n))
-  the_row at n s = (optional_as_value t.last, subst (λ k. map (cells_in_column_order (desk_row_table k)) (db.trees k) ≡ (natural_as_value 1 ∷ natural_as_value desk.number ∷ optional_as_value t.last ∷ []) ∷ []) (sym (at_its_tree TheDesk refl at n s)) desk_row_shown)
+  the_row at n s = (optional_natural_as_value t.last, subst (λ k. map (cells_in_column_order (desk_row_table k)) (db.trees k) ≡ (natural_as_value 1 ∷ natural_as_value desk.number ∷ optional_natural_as_value t.last ∷ []) ∷ []) (sym (at_its_tree TheDesk refl at n s)) desk_row_shown)
 
   not_not : (b : _) → not b ≡ true → b ≡ false
   not_not true h = absurd (let e = h in cc)
   not_not false h = refl
 
-  pub desk_is_there : HasDeskOfSchema desk db
+  pub desk_is_there : DatabaseHasSchema desk db
   desk_is_there = record {
     tables = all_from (λ w. HasTableWithNames db.schema (table_and_column_names (table_definition_at w 0))) (tables_in_schema desk) (λ w listed. there w (has_filtered (schema_has_table desk) all_tables w listed).1);
     later = all_from (λ w. table_named db.schema (table_name w) ≡ None) (tables_of_later_schemas desk) (λ w listed. (has.2 w (not_not (schema_has_table desk w) (has_filtered (λ w. not (schema_has_table desk w)) all_tables w listed).1)).0);

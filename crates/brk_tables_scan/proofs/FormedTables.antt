@@ -16,7 +16,7 @@ use Rattle.brk_model.specs.Tables.{Tables, MoveRow}
 use Rattle.brk_model_theorems.specs.FormParts.{SatisfiesFormParts}
 use Rattle.brk_model_theorems.proofs.Conjunctions.{parts3, parts4, parts5, parts6, parts10}
 use Rattle.brk_model_theorems.proofs.FormParts.{form_parts}
-use Rattle.brk_tables_schema.specs.Cells.{flag_as_value, optional_as_value, desk_row_cells, kept_cells, broker_cells, customer_cells, account_cells, permission_cells, security_cells, last_trade_cells, charge_cells, band_cells, tax_rate_cells, customer_tax_cells, trade_cells, history_cells, request_cells, holding_cells, summary_cells, holding_history_cells, settlement_cells, cash_cells, move_cells, rule_cells}
+use Rattle.brk_tables_schema.specs.Cells.{flag_as_value, optional_natural_as_value, desk_row_cells, kept_cells, broker_cells, customer_cells, account_cells, permission_cells, security_cells, last_trade_cells, charge_cells, band_cells, tax_rate_cells, customer_tax_cells, trade_cells, history_cells, request_cells, holding_cells, summary_cells, holding_history_cells, settlement_cells, cash_cells, move_cells, rule_cells}
 use Rattle.brk_tables_schema.specs.Desk.{DeskTable, TheDesk, KeptRows, Brokers, Customers, Accounts, Permissions, Securities, LastTrades, Charges, Bands, TaxRates, CustomerTaxes, Trades, TradeHistory, Requests, Holdings, Summaries, HoldingHistory, Settlements, CashRows, CashMoves, SettleRules, desk_rows, rule_rows, encoded_row, rows_in_schema}
 use Rattle.brk_tables_schema.specs.Formed.{passes_all_cell_checks, has_one_valid_desk_row, is_flag_cell, is_null_or_natural_cell, kept_column_cell_checks, broker_column_cell_checks, customer_column_cell_checks, account_column_cell_checks, permission_column_cell_checks, security_column_cell_checks, last_trade_column_cell_checks, charge_column_cell_checks, band_column_cell_checks, tax_rate_column_cell_checks, customer_tax_column_cell_checks, trade_column_cell_checks, history_column_cell_checks, request_column_cell_checks, holding_column_cell_checks, summary_column_cell_checks, holding_history_column_cell_checks, settlement_column_cell_checks, cash_column_cell_checks, move_column_cell_checks, has_at_most_one_valid_rule_row}
 use Rattle.brk_tables_scan.specs.Raw.{RawSheets, raw_rows_of_table}
@@ -31,7 +31,7 @@ flag_formed : (b : Bool) → is_flag_cell (flag_as_value b) ≡ true
 flag_formed true = refl
 flag_formed false = refl
 
-price_formed : (b : Bool) (price : Option ℕ) → (if b then option_map_or is_price price false else is_none price) ≡ true → is_null_or_natural_cell is_price (optional_as_value price) ≡ true
+price_formed : (b : Bool) (price : Option ℕ) → (if b then option_map_or is_price price false else is_none price) ≡ true → is_null_or_natural_cell is_price (optional_natural_as_value price) ≡ true
 price_formed b None h = refl
 price_formed true (Some n) h = h
 price_formed false (Some n) h = absurd (let e = h in cc)
@@ -121,7 +121,7 @@ module _ (schema : Schema) (narrow : schema.greatest_qty ≤ third_schema.greate
       (λ r h. let a = and_parts (is_well_formed_cash_row t r) _ h in let q = parts3 _ _ _ a.0 in let s = some_of (trade_row_with_id t r.trade) (is_cash_row_name_of_trade t r.name) q.0 in
       both (trade_id schema t p r.trade (ap is_some s.1)) (both (stamp_of schema t p r.stamp q.1) (both q.2 (both a.1 refl)))) t.cash (all_both (is_well_formed_cash_row t) _ t.cash p.cash texts)
 
-  cash_of_formed : (r : MoveRow) (trade : Option ℕ) → option_map_or (has_cash_row_name_of_trade t r) trade (is_movement_name_and_amount r.name r.amount) ≡ true → is_null_or_natural_cell is_id (optional_as_value trade) ≡ true
+  cash_of_formed : (r : MoveRow) (trade : Option ℕ) → option_map_or (has_cash_row_name_of_trade t r) trade (is_movement_name_and_amount r.name r.amount) ≡ true → is_null_or_natural_cell is_id (optional_natural_as_value trade) ≡ true
   cash_of_formed r None h = refl
   cash_of_formed r (Some id) h = let s = some_of (trade_row_with_id t id) (is_cash_row_name_of_trade t r.name) h in trade_id schema t p id (ap is_some s.1)
 

@@ -14,21 +14,21 @@ use Rattle.brk_sql.specs.Rows.{cells_in_column_order}
 use Rattle.brk_tables_schema.specs.Cells.{natural_as_value}
 use Rattle.brk_tables_schema.specs.Desk.{TheDesk, table_definition_at}
 use Rattle.brk_tables_schema.specs.Shapes.{desk_row_table}
-use Rattle.brk_tables_scan.specs.Schemas.{HasDeskOfSchema, HasTablesOfSchema, NamedTablesMatchSchemaDefinitions, LacksTablesOfLaterSchemas, IsOneDeskRowOfSchema}
+use Rattle.brk_tables_scan.specs.Schemas.{DatabaseHasSchema, HasTablesOfSchema, NamedTablesMatchSchemaDefinitions, LacksTablesOfLaterSchemas, IsOneDeskRowOfSchema}
 use Rattle.brk_tables_scan.specs.Whole.{ShowsAllRows}
 use Rattle.brk_tables_scan.proofs.Defined.{one_row}
 use Rattle.brk_tables_scan.proofs.Listed.{same_name_at}
 
 module _ (desk : Schema) (db : Database) where
   -- where they are not all there, the desk is not
-  pub desk_is_not : (has b : Bool) → (IsTrue has ↔ HasTablesOfSchema desk db.schema × LacksTablesOfLaterSchemas desk db.schema) → has ≡ false → b ≡ false → IsTrue b ↔ HasDeskOfSchema desk db
-  desk_is_not has b told e other = ((λ sure. absurd (let f = sym other ∙ sure in cc)), (λ (there : HasDeskOfSchema desk db). absurd (let f = sym e ∙ told.1 (there.tables, there.later) in cc)))
+  pub desk_is_not : (has b : Bool) → (IsTrue has ↔ HasTablesOfSchema desk db.schema × LacksTablesOfLaterSchemas desk db.schema) → has ≡ false → b ≡ false → IsTrue b ↔ DatabaseHasSchema desk db
+  desk_is_not has b told e other = ((λ sure. absurd (let f = sym other ∙ sure in cc)), (λ (there : DatabaseHasSchema desk db). absurd (let f = sym e ∙ told.1 (there.tables, there.later) in cc)))
 
   -- where they are, DESK tells by its row
-  pub row_tells : NamedTablesMatchSchemaDefinitions desk db → HasTablesOfSchema desk db.schema × LacksTablesOfLaterSchemas desk db.schema → (b : Bool) (rows : List Row) → ShowsAllRows TheDesk rows db → (b ≡ true → IsOneDeskRowOfSchema desk rows) → (b ≡ false → IsOneDeskRowOfSchema desk rows → ⊥) → IsTrue b ↔ HasDeskOfSchema desk db
+  pub row_tells : NamedTablesMatchSchemaDefinitions desk db → HasTablesOfSchema desk db.schema × LacksTablesOfLaterSchemas desk db.schema → (b : Bool) (rows : List Row) → ShowsAllRows TheDesk rows db → (b ≡ true → IsOneDeskRowOfSchema desk rows) → (b ≡ false → IsOneDeskRowOfSchema desk rows → ⊥) → IsTrue b ↔ DatabaseHasSchema desk db
   row_tells defined tables b rows shown first other = (there, back)
     where
-      there : IsTrue b → HasDeskOfSchema desk db
+      there : IsTrue b → DatabaseHasSchema desk db
       there e = record {
         tables = tables.0;
         later = tables.1;
@@ -39,7 +39,7 @@ module _ (desk : Schema) (db : Database) where
             (says.0, one_row x (map (cells_in_column_order (desk_row_table tree)) (db.trees tree)) (IsPermutation-sym (map (cells_in_column_order (desk_row_table tree)) (db.trees tree)) (x ∷ []) all));
       }
 
-      says_so : HasDeskOfSchema desk db → IsOneDeskRowOfSchema desk rows
+      says_so : DatabaseHasSchema desk db → IsOneDeskRowOfSchema desk rows
       says_so has =
           let t = has.tables.0 in
           let same : t.1 ≡ table_definition_at TheDesk t.1.tree = (defined has.tables).shaped TheDesk refl t.0 t.1 t.2.named t.2.found in
@@ -48,5 +48,5 @@ module _ (desk : Schema) (db : Database) where
           let x : Row = natural_as_value 1 ∷ natural_as_value desk.number ∷ r.0 ∷ [] in
           (r.0, one_row x rows (subst (λ l. IsPermutation l rows) r.1 (shown t.0 t.1.tree s).all))
 
-      back : HasDeskOfSchema desk db → IsTrue b
+      back : DatabaseHasSchema desk db → IsTrue b
       back has = elim (cases_Bool b) [ inl e ↦ e | inr e ↦ absurd (other e (says_so has)) ]

@@ -65,7 +65,7 @@ IsOneDeskRowOfSchema desk rows = (last : Value) × (rows ≡ (natural_as_value 1
 -- The database has the schema `desk`: each table of the schema, by its name and with exactly its
 -- columns; no table that a later schema adds; and exactly one row of DESK, with the number of the
 -- schema. The clause on the row is vacuous if DESK is not defined as a desk defines it.
-pub record HasDeskOfSchema (desk : Schema) (db : Database) : Type 0 where
+pub record DatabaseHasSchema (desk : Schema) (db : Database) : Type 0 where
   pub tables : HasTablesOfSchema desk db.schema
   pub later : LacksTablesOfLaterSchemas desk db.schema
   pub row : (at tree : ℕ) → IsTableAt db.schema (desk_row_table tree) at

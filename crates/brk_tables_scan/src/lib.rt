@@ -15,5 +15,5 @@ pub mod rows;
 pub mod schema;
 pub mod sheets;
 
-pub use schema::has_desk_of_schema;
+pub use schema::database_has_schema;
 pub use sheets::read_sheets;

@@ -13,7 +13,7 @@ use Rattle.brk_model.specs.Forms.{trade_type_with_code}
 use Rattle.brk_model.specs.Records.{Customer, Permission, Charge, Band, TaxRate, CustomerTax, Kept}
 use Rattle.brk_model.specs.Tables.{BrokerRow, AccountRow, SecurityRow, MoveRow}
 use Rattle.brk_sql.proofs.Decode.{text_in}
-use Rattle.brk_tables_schema.specs.Cells.{DeskRow, RuleRow, optional_as_value, move_cells, rule_cells, desk_row_cells, kept_cells, broker_cells, customer_cells, account_cells, permission_cells, security_cells, charge_cells, band_cells, tax_rate_cells, customer_tax_cells}
+use Rattle.brk_tables_schema.specs.Cells.{DeskRow, RuleRow, optional_natural_as_value, move_cells, rule_cells, desk_row_cells, kept_cells, broker_cells, customer_cells, account_cells, permission_cells, security_cells, charge_cells, band_cells, tax_rate_cells, customer_tax_cells}
 
 abbrev pub natural : ℤ → ℕ
 natural (pos n) = n
@@ -31,7 +31,7 @@ status_at zero = Untaxed
 status_at (suc zero) = Withheld
 status_at (suc (suc n)) = Reported
 
-pub maybe_back : (o : Option ℕ) → maybe_in (optional_as_value o) ≡ o
+pub maybe_back : (o : Option ℕ) → maybe_in (optional_natural_as_value o) ≡ o
 maybe_back None = refl
 maybe_back (Some n) = refl
 

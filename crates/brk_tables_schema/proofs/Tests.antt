@@ -13,7 +13,7 @@ use Rattle.brk_money.specs.Kinds.{trade_type_code, is_same_trade_type}
 use Rattle.brk_money.specs.declared.trade_type.TradeType.{TradeType}
 use Rattle.brk_money.specs.declared.trade_type.TradeType.TheVariants.{MarketBuy, MarketSell, StopLoss, LimitSell, LimitBuy}
 use Rattle.brk_sql.proofs.Values.{equal_ints, equal_texts}
-use Rattle.brk_tables_schema.specs.Cells.{optional_as_value}
+use Rattle.brk_tables_schema.specs.Cells.{optional_natural_as_value}
 
 numbers_tie : (m n : ℕ) → is_eq (int_cmp (pos m) (pos n)) ≡ (m == n)
 numbers_tie m n = elim (cases_Bool (nat_lt m n)) [
@@ -66,6 +66,6 @@ unfolding binary
 null_ties n = refl
 
 -- a number that may be missing: where it is, no number is the same
-pub same_maybe : (o : Option ℕ) (n : ℕ) → is_true (binary (Compare Eq Binary) (optional_as_value o) (Int (pos n))) ≡ option_map_or (λ m. m == n) o false
+pub same_maybe : (o : Option ℕ) (n : ℕ) → is_true (binary (Compare Eq Binary) (optional_natural_as_value o) (Int (pos n))) ≡ option_map_or (λ m. m == n) o false
 same_maybe None n = null_ties n
 same_maybe (Some m) n = same_number m n

@@ -7,7 +7,7 @@ ghost use Rattle.sqlite_value.specs.Order.{column};
 ghost use Rattle.brk_money.specs.Kinds.{trade_status_code, tax_status_number, trade_type_code};
 ghost use Rattle.brk_changes.specs.Rows.{cash_type_text};
 ghost use Rattle.brk_model.specs.Form.{is_id, is_price};
-ghost use Rattle.brk_tables_schema.specs.Cells.{flag_as_value, optional_as_value};
+ghost use Rattle.brk_tables_schema.specs.Cells.{flag_as_value, optional_natural_as_value};
 ghost use Rattle.brk_tables_schema.specs.Formed.{is_cents_cell, is_charge_cell, is_day_cell, is_flag_cell, is_id_cell, is_cash_type_text};
 ghost use Rattle.brk_tables_schema.specs.Formed.{is_status_code, is_tax_status_number, is_null_or_stamp_cell, is_null_or_natural_cell};
 ghost use Rattle.brk_tables_schema.specs.Formed.{is_cash_row_number_cell, is_natural_cell, is_integer_cell, is_price_cell, is_quantity_cell};
@@ -139,7 +139,7 @@ pub fn cash_row_id_in_column(row: &Row, at: usize) -> Result<MoveId, DecodeError
 /// Reads an id from the column `at`, or returns `None` if the column is null. Fails with `Form`
 /// only if the column is missing or malformed, or with `Memory`.
 pub fn optional_id_in_column(row: &Row, at: usize) -> Result<Option<Id>, DecodeError>
-    ensures value { IfOk result (λ id. column row.now at ≡ optional_as_value id) }
+    ensures value { IfOk result (λ id. column row.now at ≡ optional_natural_as_value id) }
     ensures form { result ≡ Err Formless → at < length row.now → is_null_or_natural_cell is_id (column row.now at) ≡ false }
 {
     let number: Option<u64> = read_column(row, at)?;
@@ -252,7 +252,7 @@ pub fn day_in_column(row: &Row, at: usize) -> Result<Day, DecodeError>
 /// the column is null. Fails with `Form` only if the column is missing or malformed, or with
 /// `Memory`.
 pub fn optional_stamp_in_column(row: &Row, at: usize) -> Result<Option<Stamp>, DecodeError>
-    ensures value { IfOk result (λ stamp. column row.now at ≡ optional_as_value stamp) }
+    ensures value { IfOk result (λ stamp. column row.now at ≡ optional_natural_as_value stamp) }
     ensures form { result ≡ Err Formless → at < length row.now → is_null_or_stamp_cell (column row.now at) ≡ false }
 {
     let millis: Option<i64> = read_column(row, at)?;
@@ -265,7 +265,7 @@ pub fn optional_stamp_in_column(row: &Row, at: usize) -> Result<Option<Stamp>, D
 /// Reads the price of a share, in cents, from the column `at`, or returns `None` if the column is
 /// null. Fails with `Form` only if the column is missing or malformed, or with `Memory`.
 pub fn optional_price_in_column(row: &Row, at: usize) -> Result<Option<Price>, DecodeError>
-    ensures value { IfOk result (λ price. column row.now at ≡ optional_as_value price) }
+    ensures value { IfOk result (λ price. column row.now at ≡ optional_natural_as_value price) }
     ensures form { result ≡ Err Formless → at < length row.now → is_null_or_natural_cell is_price (column row.now at) ≡ false }
 {
     let cents: Option<u32> = read_column(row, at)?;

@@ -5,7 +5,7 @@ ghost use Rattle.sqlite_value.specs.Value.{owned};
 ghost use Rattle.sqlite_value.specs.declared.value.Value.TheVariants.{Int, Text};
 ghost use Rattle.brk_money.specs.Kinds.{trade_status_code, tax_status_number, trade_type_code};
 ghost use Rattle.brk_changes.specs.Rows.{cash_type_text};
-ghost use Rattle.brk_tables_schema.specs.Cells.{flag_as_value, optional_as_value};
+ghost use Rattle.brk_tables_schema.specs.Cells.{flag_as_value, optional_natural_as_value};
 
 use brk_changes::{Amount, CashType};
 use brk_money::{
@@ -37,7 +37,7 @@ pub fn cash_row_id_as_parameter<'a>(id: MoveId) -> ValueRef<'a>
 
 /// Converts an id to an INTEGER, and `None` to NULL, as the parameter of a statement.
 pub fn optional_id_as_parameter<'a>(id: Option<Id>) -> ValueRef<'a>
-    ensures { owned result ≡ optional_as_value id }
+    ensures { owned result ≡ optional_natural_as_value id }
 {
     match id {
         Some(id) => ValueRef::Int(id.get() as i64),
@@ -159,7 +159,7 @@ pub fn flag_as_parameter<'a>(is: bool) -> ValueRef<'a>
 /// Converts the price of a share, in cents, to an INTEGER, and `None` to NULL, as the parameter of
 /// a statement.
 pub fn optional_price_as_parameter<'a>(price: Option<Price>) -> ValueRef<'a>
-    ensures { owned result ≡ optional_as_value price }
+    ensures { owned result ≡ optional_natural_as_value price }
 {
     match price {
         Some(price) => ValueRef::Int(price.get() as i64),

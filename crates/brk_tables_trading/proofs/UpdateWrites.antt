@@ -14,7 +14,7 @@ use Rattle.brk_sql.specs.Model.{ExecutesStatement}
 use Rattle.brk_sql.proofs.Texts.{read}
 use Rattle.brk_sql.proofs.Values.{cast_int, cast_null, cast_whole}
 use Rattle.brk_sql.proofs.Writes.{updates_as}
-use Rattle.brk_tables_schema.specs.Cells.{natural_as_value, optional_as_value, flag_as_value, trade_cells, settlement_cells}
+use Rattle.brk_tables_schema.specs.Cells.{natural_as_value, optional_natural_as_value, flag_as_value, trade_cells, settlement_cells}
 use Rattle.brk_tables_schema.specs.Desk.{Trades, Settlements, desk_tables}
 use Rattle.brk_tables_schema.proofs.Tests.{same_number}
 use Rattle.brk_changes.specs.Changes.{tables_with_cash_type, tables_with_executor_name}
@@ -22,7 +22,7 @@ use Rattle.brk_tables_trading.proofs.Places.{trades, settlements}
 use Rattle.brk_tables_trading.proofs.SetCashType
 use Rattle.brk_tables_trading.proofs.SetExecutor
 
-cast_maybe : (o : Option ℕ) → cast Integer (optional_as_value o) ≡ optional_as_value o
+cast_maybe : (o : Option ℕ) → cast Integer (optional_natural_as_value o) ≡ optional_natural_as_value o
 cast_maybe None = cast_null
 cast_maybe (Some n) = cast_int (pos n)
 
@@ -42,7 +42,7 @@ sets_executor old new trade name ran =
     let a7 : column r 7 ≡ natural_as_value x.qty = cc in
     let a8 : column r 8 ≡ natural_as_value x.bid = cc in
     let a9 : column r 9 ≡ natural_as_value x.account = cc in
-    let a11 : column r 11 ≡ optional_as_value x.price = cc in
+    let a11 : column r 11 ≡ optional_natural_as_value x.price = cc in
     let a12 : column r 12 ≡ natural_as_value x.charge = cc in
     let a13 : column r 13 ≡ natural_as_value x.commission = cc in
     let a14 : column r 14 ≡ natural_as_value x.tax = cc in
@@ -83,7 +83,7 @@ sets_executor old new trade name ran =
     let a7 : column r 7 ≡ natural_as_value x.qty = cc in
     let a8 : column r 8 ≡ natural_as_value x.bid = cc in
     let a9 : column r 9 ≡ natural_as_value x.account = cc in
-    let a11 : column r 11 ≡ optional_as_value x.price = cc in
+    let a11 : column r 11 ≡ optional_natural_as_value x.price = cc in
     let a12 : column r 12 ≡ natural_as_value x.charge = cc in
     let a13 : column r 13 ≡ natural_as_value x.commission = cc in
     let a14 : column r 14 ≡ natural_as_value x.tax = cc in

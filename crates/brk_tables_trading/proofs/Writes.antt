@@ -16,7 +16,7 @@ use Rattle.brk_sql.specs.Model.{ExecutesStatement}
 use Rattle.brk_sql.proofs.Texts.{read}
 use Rattle.brk_sql.proofs.Values.{cast_int, cast_null, cast_whole}
 use Rattle.brk_sql.proofs.Writes.{inserts_as, updates_as, deletes_as}
-use Rattle.brk_tables_schema.specs.Cells.{natural_as_value, optional_as_value, flag_as_value, trade_cells, history_cells, request_cells}
+use Rattle.brk_tables_schema.specs.Cells.{natural_as_value, optional_natural_as_value, flag_as_value, trade_cells, history_cells, request_cells}
 use Rattle.brk_tables_schema.specs.Desk.{Trades, TradeHistory, Requests, LastTrades, desk_tables}
 use Rattle.brk_tables_schema.proofs.Places.{last_trades}
 use Rattle.brk_tables_schema.proofs.Steps.{added}
@@ -31,7 +31,7 @@ use Rattle.brk_tables_trading.proofs.SetLastTrade
 use Rattle.brk_tables_trading.proofs.SetStatus
 use Rattle.brk_tables_trading.proofs.CompleteTrade
 
-cast_maybe : (o : Option ℕ) → cast Integer (optional_as_value o) ≡ optional_as_value o
+cast_maybe : (o : Option ℕ) → cast Integer (optional_natural_as_value o) ≡ optional_natural_as_value o
 cast_maybe None = cast_null
 cast_maybe (Some n) = cast_int (pos n)
 
@@ -103,7 +103,7 @@ sets_status old new id status stamp ran =
     let a8 : column r 8 ≡ natural_as_value x.bid = cc in
     let a9 : column r 9 ≡ natural_as_value x.account = cc in
     let a10 : column r 10 ≡ Words x.executor = cc in
-    let a11 : column r 11 ≡ optional_as_value x.price = cc in
+    let a11 : column r 11 ≡ optional_natural_as_value x.price = cc in
     let a12 : column r 12 ≡ natural_as_value x.charge = cc in
     let a13 : column r 13 ≡ natural_as_value x.commission = cc in
     let a14 : column r 14 ≡ natural_as_value x.tax = cc in
@@ -142,7 +142,7 @@ sets_status old new id status stamp ran =
     let a8 : column r 8 ≡ natural_as_value x.bid = cc in
     let a9 : column r 9 ≡ natural_as_value x.account = cc in
     let a10 : column r 10 ≡ Words x.executor = cc in
-    let a11 : column r 11 ≡ optional_as_value x.price = cc in
+    let a11 : column r 11 ≡ optional_natural_as_value x.price = cc in
     let a12 : column r 12 ≡ natural_as_value x.charge = cc in
     let a13 : column r 13 ≡ natural_as_value x.commission = cc in
     let a14 : column r 14 ≡ natural_as_value x.tax = cc in

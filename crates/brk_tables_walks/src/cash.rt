@@ -34,7 +34,7 @@ pub fn walk_cash_rows_of_account<S: Alter, E, V: Visitor<MoveRow, E>>(
 {
     // The value is not needed: the call shows that an open database outside a transaction is in its
     // committed state.
-    let _settled = conn.is_autocommit();
+    let _is_autocommit = conn.is_autocommit();
     walk_query_rows::<S, MoveRow, E, V>(
         conn,
         "SELECT CM_ID, CM_CA_ID, CM_T_ID, CM_DTS, CM_AMT, CM_NAME FROM CASH_MOVE WHERE CM_CA_ID = ?1 AND CM_DTS >= ?2 AND CM_DTS <= ?3 ORDER BY CM_DTS, CM_ID",

@@ -31,7 +31,7 @@ pub fn walk_lots<S: Alter, E, V: Visitor<HoldingRow, E>>(
 {
     // The value is not needed: the call shows that an open database outside a transaction is in its
     // committed state.
-    let _settled = conn.is_autocommit();
+    let _is_autocommit = conn.is_autocommit();
     walk_query_rows::<S, HoldingRow, E, V>(
         conn,
         "SELECT H_T_ID, H_CA_ID, H_S_SYMB, H_DTS, H_PRICE, H_QTY FROM HOLDING WHERE H_CA_ID = ?1 ORDER BY H_S_SYMB, H_DTS, H_T_ID",

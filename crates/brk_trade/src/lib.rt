@@ -25,6 +25,6 @@ pub use brk_plans::{
 pub use estimate::{Terms, estimate_order, tax_on_realised_gain};
 pub use order::{OrderAccount, OrderPlanFacts, plan_estimate, plan_order};
 pub use outcome::ResultFigures;
-pub use permitting::executor_may_place_orders;
+pub use permitting::permitted;
 pub use result::plan_result;
 pub use result_found::{ResultAccount, ResultPlanFacts};

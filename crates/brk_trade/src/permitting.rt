@@ -35,11 +35,7 @@ fn permission_names_executor(permission: &Permission, executor: &Executor) -> bo
 /// Returns true if the executor may place orders for an account of `customer` with these
 /// permissions (Trade-Order): the first name, the last name and the tax id of the executor are
 /// those of the customer or of one permission.
-pub fn executor_may_place_orders(
-    customer: &Customer,
-    permissions: &[Permission],
-    executor: &Executor,
-) -> bool
+pub fn permitted(customer: &Customer, permissions: &[Permission], executor: &Executor) -> bool
     ensures { result
         ≡ orders.is_customer_or_has_permission (abstract_customer customer.now) (map abstract_permission permissions.now) (abstract_executor executor.now) }
 {

@@ -30,7 +30,7 @@ use Rattle.brk_book_theorems.specs.Books.{BooksInvariant}
 use Rattle.brk_book_theorems.specs.OrderReads.{CustomerOfAccountSatisfies, charge_of_type_and_tier}
 use Rattle.brk_trade_theorems.specs.OrderPlans.{EstimateFactsMatchTables, PassesFirstOrderChecks, order_account_of_row}
 use Rattle.brk_book_theorems.specs.Reads.{customer_tax_rate_sum}
-use Rattle.brk_book_theorems.specs.TradeReads.{band_of_quantity, permission_list_for_tax_id, lots_of_position}
+use Rattle.brk_book_theorems.specs.TradeReads.{commission_band_of_quantity, permission_list_for_tax_id, lots_of_position}
 use Rattle.brk_book_theorems.proofs.Holding.{held_read, total_is}
 use Rattle.brk_book_theorems.proofs.Same.{find-All}
 use Rattle.brk_book_theorems.proofs.Places.{some_of}
@@ -120,9 +120,9 @@ rate_read base order found books k f s p =
     let listed = some_of (security_with_symbol base order.symbol) s in
     let exchange : exchange_of_security base order.symbol ≡ listed.0.exchange = ap (λ x. option_map_or (λ s. s.exchange) x []) listed.1 in
     let row : security_row_with_symbol (sheets base) order.symbol ≡ Some (security_row listed.0) = reads_security base order.symbol ∙ ap (option_map security_row) listed.1 in
-    let band = subst (λ x. IfSome x (λ s. found.rate ≡ option_map (λ b. b.rate) (band_of_quantity (sheets base) f.c.tier (trade_type_of_order order.order_type) s.exchange order.qty))) row
+    let band = subst (λ x. IfSome x (λ s. found.rate ≡ option_map (λ b. b.rate) (commission_band_of_quantity (sheets base) f.c.tier (trade_type_of_order order.order_type) s.exchange order.qty))) row
     (of_customer base order.account
-    (λ c. IfSome (security_row_with_symbol (sheets base) order.symbol) (λ s. found.rate ≡ option_map (λ b. b.rate) (band_of_quantity (sheets base) c.tier (trade_type_of_order order.order_type) s.exchange order.qty))) f (k.rate p)) in
+    (λ c. IfSome (security_row_with_symbol (sheets base) order.symbol) (λ s. found.rate ≡ option_map (λ b. b.rate) (commission_band_of_quantity (sheets base) c.tier (trade_type_of_order order.order_type) s.exchange order.qty))) f (k.rate p)) in
     band ∙ ap (option_map (λ b. b.rate)) (reads_band base f.c.tier (trade_type_of_order order.order_type) listed.0.exchange order.qty books
     ∙ (λ i. commission_band_for_quantity base (sym (tier_found base order.account f) i) (trade_type_of_order order.order_type) (sym exchange i) order.qty))
 

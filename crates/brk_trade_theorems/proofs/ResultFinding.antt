@@ -35,7 +35,7 @@ use Rattle.brk_book_theorems.specs.Books.{BooksInvariant}
 use Rattle.brk_book_theorems.specs.OrderReads.{CustomerOfAccountSatisfies}
 use Rattle.brk_book_theorems.specs.Reads.{customer_tax_rate_sum}
 use Rattle.brk_trade_theorems.specs.ResultPlans.{ResultFactsMatchTables, PassesFirstResultChecks, result_account_of_row}
-use Rattle.brk_book_theorems.specs.TradeReads.{band_of_quantity, summary_row_of_position}
+use Rattle.brk_book_theorems.specs.TradeReads.{commission_band_of_quantity, summary_row_of_position}
 use Rattle.brk_book_theorems.proofs.Holding.{held_read}
 use Rattle.brk_book_theorems.proofs.Same.{find-All}
 use Rattle.brk_book_theorems.proofs.MoveReading.{reads_last_move}
@@ -93,10 +93,10 @@ rate_read base t found k p =
     let exchange : exchange_of_security base t.symbol ≡ k.listed.exchange = ap (λ x. option_map_or (λ s. s.exchange) x []) k.listed_is in
     let row : security_row_with_symbol (sheets base) t.symbol ≡ Some (security_row k.listed) = reads_security base t.symbol ∙ ap (option_map security_row) k.listed_is in
     let told = subst (λ (r : TradeRow). CustomerOfAccountSatisfies (sheets base) r.account (λ c. IfSome (security_row_with_symbol (sheets base) r.symbol) (λ s.
-    found.rate ≡ option_map (λ b. b.rate) (band_of_quantity (sheets base) c.tier r.kind s.exchange r.qty)))) k.row (k.read.rate p) in
-    subst (λ x. IfSome x (λ s. found.rate ≡ option_map (λ b. b.rate) (band_of_quantity (sheets base) k.owner.c.tier t.kind s.exchange t.qty))) row
+    found.rate ≡ option_map (λ b. b.rate) (commission_band_of_quantity (sheets base) c.tier r.kind s.exchange r.qty)))) k.row (k.read.rate p) in
+    subst (λ x. IfSome x (λ s. found.rate ≡ option_map (λ b. b.rate) (commission_band_of_quantity (sheets base) k.owner.c.tier t.kind s.exchange t.qty))) row
     (of_customer base t.account
-    (λ c. IfSome (security_row_with_symbol (sheets base) t.symbol) (λ s. found.rate ≡ option_map (λ b. b.rate) (band_of_quantity (sheets base) c.tier t.kind s.exchange t.qty))) k.owner told)
+    (λ c. IfSome (security_row_with_symbol (sheets base) t.symbol) (λ s. found.rate ≡ option_map (λ b. b.rate) (commission_band_of_quantity (sheets base) c.tier t.kind s.exchange t.qty))) k.owner told)
     ∙ ap (option_map (λ b. b.rate)) (reads_band base k.owner.c.tier t.kind k.listed.exchange t.qty k.books
     ∙ (λ i. commission_band_for_quantity base (sym (tier_found base t.account k.owner) i) t.kind (sym exchange i) t.qty))
 

@@ -17,7 +17,7 @@ use Rattle.brk_trade.specs.declared.order.OrderAccount.{OrderAccount}
 use Rattle.brk_trade.specs.declared.order.OrderPlanFacts.{OrderPlanFacts}
 use Rattle.brk_book_theorems.specs.Books.{BooksInvariant}
 use Rattle.brk_book_theorems.specs.Reads.{customer_tax_rate_sum}
-use Rattle.brk_book_theorems.specs.TradeReads.{band_of_quantity, permission_list_for_tax_id, summary_row_of_position}
+use Rattle.brk_book_theorems.specs.TradeReads.{commission_band_of_quantity, permission_list_for_tax_id, summary_row_of_position}
 use Rattle.brk_book_theorems.specs.OrderReads.{PositionLotsSatisfy, CustomerOfAccountSatisfies, charge_of_type_and_tier}
 use Rattle.brk_book_theorems.specs.OrderReads.{last_price_of_symbol, trade_id_in_last_row}
 
@@ -56,7 +56,7 @@ pub record EstimateFactsMatchTables (t : Tables) (order : Order) (found : OrderP
   -- the security's exchange.
   pub rate : PassesFirstOrderChecks 4 found
       → CustomerOfAccountSatisfies t order.account (λ c. IfSome (security_row_with_symbol t order.symbol) (λ s.
-      found.rate ≡ option_map (λ b. b.rate) (band_of_quantity t c.tier (trade_type_of_order order.order_type) s.exchange order.qty)))
+      found.rate ≡ option_map (λ b. b.rate) (commission_band_of_quantity t c.tier (trade_type_of_order order.order_type) s.exchange order.qty)))
   -- The tax rates are the sum of the rates of the taxes that the customer pays.
   pub rates : PassesFirstOrderChecks 5 found → IfSome (account_row_with_id t order.account) (λ a. found.rates ≡ customer_tax_rate_sum t a.customer)
   -- The assets are the balance plus the market value of the holdings.

@@ -15,7 +15,7 @@ use Rattle.brk_changes.specs.declared.trade_row.TradeRow.{TradeRow}
 use Rattle.brk_book_theorems.specs.Books.{BooksInvariant}
 use Rattle.brk_book_theorems.specs.OrderReads.{PositionLotsSatisfy, CustomerOfAccountSatisfies}
 use Rattle.brk_book_theorems.specs.Reads.{customer_tax_rate_sum}
-use Rattle.brk_book_theorems.specs.TradeReads.{band_of_quantity, last_cash_row_number_or_zero, summary_row_of_position}
+use Rattle.brk_book_theorems.specs.TradeReads.{commission_band_of_quantity, last_cash_row_number_or_zero, summary_row_of_position}
 
 -- ---- facts
 
@@ -38,7 +38,7 @@ pub record ResultFactsMatchTables (t : Tables) (found : ResultPlanFacts) : Type 
   -- the security's exchange.
   pub rate : PassesFirstResultChecks 1 found
       → CustomerOfAccountSatisfies t found.trade.account (λ c. IfSome (security_row_with_symbol t found.trade.symbol) (λ s.
-      found.rate ≡ option_map (λ b. b.rate) (band_of_quantity t c.tier found.trade.kind s.exchange found.trade.qty)))
+      found.rate ≡ option_map (λ b. b.rate) (commission_band_of_quantity t c.tier found.trade.kind s.exchange found.trade.qty)))
   -- The summary is the quantity of the account's holding summary in the symbol.
   pub summary : PassesFirstResultChecks 2 found → found.summary ≡ option_map (λ r. r.qty) (summary_row_of_position t found.trade.account found.trade.symbol)
   pub account : PassesFirstResultChecks 3 found → IfSome (account_row_with_id t found.trade.account) (λ a. found.account ≡ result_account_of_row a)

@@ -30,7 +30,7 @@ pub use named_trades::{NamedTrades, parse_named_trades};
 pub use parse::parse_query;
 pub use query::Query;
 pub use recents::{Activity, recent};
-pub use statuses::{AccountStatus, TradeStatus, status, trade_status};
+pub use statuses::{AccountStatus, TradeStatus, status, trade_with_security};
 pub use submitted_rows::submitted;
 pub use view::{SubmittedTrade, View};
 pub use volumes::{BrokerVolume, broker_volume, total_bid_value_of_requests};

@@ -64,7 +64,11 @@ fn parse_lookup_or_volume_query(alloc: Global, view: &str, arguments: &[&[u8]]) 
 // Parses a query of any view but `submitted` and `estimate`. Refuses an unknown view, these two,
 // and malformed arguments with `BadText`, and more than 20 ids or names with `TooMany`. Fails with
 // `Memory` only.
-fn parse_account_or_later_query(alloc: Global, view: &str, arguments: &[&[u8]]) -> Planned<Query>
+fn parse_account_lookup_or_volume_query(
+    alloc: Global,
+    view: &str,
+    arguments: &[&[u8]],
+) -> Planned<Query>
     ensures read { IfOk result (λ read. ParsesAs abstract_query read (parse_by_first_field (account_view_parsers ++ lookup_view_parsers
         ++ volume_view_parsers) (view.now
         ∷ texts_of_fields arguments.now))) }
@@ -98,6 +102,6 @@ pub fn parse_query(alloc: Global, view: &str, arguments: &[&[u8]]) -> Planned<Qu
     match view {
         "submitted" => Ok(parse_submitted_trades_query(arguments)),
         "estimate" => parse_estimate_query(alloc, arguments),
-        _ => parse_account_or_later_query(alloc, view, arguments),
+        _ => parse_account_lookup_or_volume_query(alloc, view, arguments),
     }
 }

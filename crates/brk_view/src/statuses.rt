@@ -34,7 +34,7 @@ pub struct AccountStatus {
 
 /// Returns a trade together with its security. Does not allocate.
 #[tactic(auto, using(crate::proofs::Shown::trade_shown, crate::proofs::Shown::trade_carried))]
-pub fn trade_status(trade: TradeRow, security: Security) -> TradeStatus
+pub fn trade_with_security(trade: TradeRow, security: Security) -> TradeStatus
     ensures shown { (t : Tables) → security_row_with_symbol t trade.symbol ≡ Some (abstract_security_row security)
         → trade_status_record result ≡ record_of_trade_status t (abstract_trade_row trade) }
     ensures rows { (t : Tables) → security_row_with_symbol t trade.symbol ≡ Some (abstract_security_row security)

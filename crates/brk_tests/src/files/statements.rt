@@ -5,7 +5,7 @@ use crate::files::machine::{
     Held, Sent, Stop, failing_files_with_bytes, open_desk_in_files, run_batch_until_crash,
 };
 use brk_money::{Fault, Id, parse_day};
-use brk_report::{ReportFault, write_statement};
+use brk_report::{ReportFault, statement};
 use sqlite::Options;
 use std::alloc::Global;
 use std::test::Fail;
@@ -59,7 +59,7 @@ fn write_statement_over_failing_disk(
     let Some(mut desk) = open_desk_in_files(alloc, files, options) else {
         return Ok(None);
     };
-    Ok(Some(write_statement(alloc, &mut desk, account, from, to, text)))
+    Ok(Some(statement(alloc, &mut desk, account, from, to, text)))
 }
 
 // Returns true if a text consists of whole first lines of the statement, perhaps none, without the

@@ -1,7 +1,7 @@
 //! Tests of streams over sockets of this machine, in one process.
 
 use crate::desks::{Still, new_desk_in_memory};
-use brk_http::{ListenFault, serve_listener};
+use brk_http::{ListenFault, serve_on};
 use std::alloc::Global;
 use std::io;
 use std::io::Write;
@@ -100,11 +100,11 @@ fn socket_streams_share_one_desk(rt: HostRuntime) -> Result<(), Fail> {
     let waiting = connect_all_peers(&rt, &listener)?;
     let mut desk = new_desk_in_memory(rt.alloc())?;
     let mut clock = Still::at_first_timestamp();
-    assert!(rt; serve_listener(rt.alloc(), &mut listener, 6, &mut clock, &mut desk) == Ok(()));
+    assert!(rt; serve_on(rt.alloc(), &mut listener, 6, &mut clock, &mut desk) == Ok(()));
     expect_peer_replies(&rt, rt.alloc(), waiting)?;
     listener.set_nonblocking(true)?;
     assert!(rt;
-        serve_listener(rt.alloc(), &mut listener, 1, &mut clock, &mut desk) == Err(ListenFault::Net)
+        serve_on(rt.alloc(), &mut listener, 1, &mut clock, &mut desk) == Err(ListenFault::Net)
     );
     Ok(())
 }

@@ -166,7 +166,7 @@ fn walks_cash_rows_in_order_of_stamps(rt: HostRuntime) -> Result<(), Fail> {
             rows: String::new(alloc),
             left,
         };
-        let ended = desk.walk_cash_rows(
+        let ended = desk.walk_cash(
             account,
             Stamp::nearest(from),
             Stamp::nearest(to),

@@ -5,7 +5,7 @@ use crate::desks::{Step, desk_with_reference_data, expect_batch_result};
 use crate::faulty::Narrow;
 use crate::statements::asking::account_and_days;
 use brk_import::brk_desk::Desk;
-use brk_report::{ReportFault, write_statement};
+use brk_report::{ReportFault, statement};
 use sqlite::MemStore;
 use std::alloc::Global;
 use std::io::ErrorKind;
@@ -64,7 +64,7 @@ fn expect_statement_write_fault(
 ) -> Result<(), Fail> {
     let asked = account_and_days(100, "2024-03-01", "2024-03-31")?;
     let mut writer = Narrow::new(alloc, room, write_error_for_room(room));
-    let ended = write_statement(
+    let ended = statement(
         alloc,
         desk,
         asked.account,

@@ -11,7 +11,7 @@ use Rattle.brk_changes.specs.declared.sheets.Sheets.{Sheets}
 use Rattle.brk_audit_theorems.proofs.Parts.{key_parts}
 use Rattle.brk_model_theorems.proofs.FormParts.{form_parts}
 use Rattle.brk_audit.specs.declared.account_terms.AccountTerms.{AccountTerms}
-use Rattle.brk_audit.specs.AccountTerms.{broker_in_terms, terms_of_account_row}
+use Rattle.brk_audit.specs.AccountTerms.{account_broker_in_terms, terms_of_account_row}
 use Rattle.brk_audit.specs.Completed.{is_completed_row}
 use Rattle.brk_audit.specs.Settling.{account_broker_or_zero}
 use Rattle.brk_audit.specs.Sums.{count_posting_of_row, sum_over_broker_trades}
@@ -27,11 +27,11 @@ returns-clause-value c = λ schema.
     let t : Tables = abstract_sheets s in
     let terms : BTreeMap ℕ AccountTerms = c.in_ok-terms.terms in
     let has : HasTerms terms s.accounts.items = λ id. c.in_ok-terms.ensures.terms id ∙ ap (λ rows. option_map terms_of_account_row (find (λ a. a.account.id == id) rows)) c.deref.ensures.value in
-    let posted : c.in_ok-postings.postings.items ≡ filter_map (λ r. count_posting_of_row (broker_in_terms terms) (abstract_trade_row r)) s.trades.items =
-    c.in_ok-postings.ensures.all ∙ ap (filter_map (λ r. count_posting_of_row (broker_in_terms terms) (abstract_trade_row r))) c.deref-2.ensures.value in
+    let posted : c.in_ok-postings.postings.items ≡ filter_map (λ r. count_posting_of_row (account_broker_in_terms terms) (abstract_trade_row r)) s.trades.items =
+    c.in_ok-postings.ensures.all ∙ ap (filter_map (λ r. count_posting_of_row (account_broker_in_terms terms) (abstract_trade_row r))) c.deref-2.ensures.value in
     let sum : (q : ℕ) → sum_at_key nat_cmp c.in_ok-sums.sums q ≡ sum_over_broker_trades t (λ r. pos 1) q = λ q.
     c.in_ok-sums.ensures.sums q ∙ ap (λ ps. total_amount_at_key nat_cmp ps q) (c.deref-3.ensures.value ∙ posted)
-    ∙ posted_sum is_completed_row (λ r. broker_in_terms terms r.account) (λ r. account_broker_or_zero t r.account) (λ r. pos 1) (λ r. pos 1) s.trades.items q (λ r. same_brokers s terms has r.account) (λ r. refl) in
+    ∙ posted_sum is_completed_row (λ r. account_broker_in_terms terms r.account) (λ r. account_broker_or_zero t r.account) (λ r. pos 1) (λ r. pos 1) s.trades.items q (λ r. same_brokers s terms has r.account) (λ r. refl) in
     told_by (λ row. row.trades ≡ sum_at_key nat_cmp c.in_ok-sums.sums row.broker.id) (λ row. row.trades ≡ sum_over_broker_trades t (λ r. pos 1) row.id) abstract_broker_row s.brokers.items c.deref-4.result.now c.deref-4.ensures.value c.all_brokers_have_trade_counts.ensures
     (λ row e. e ∙ sum row.broker.id)
     (λ row e. e ∙ sym (sum row.broker.id))

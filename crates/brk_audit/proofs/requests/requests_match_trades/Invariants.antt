@@ -1,6 +1,6 @@
 use Rattle.std.proofs.Common.{drop, map}
 use Rattle.brk_changes.specs.Rows.{abstract_request_row}
-use Rattle.brk_audit.specs.AccountTerms.{broker_in_terms}
+use Rattle.brk_audit.specs.AccountTerms.{account_broker_in_terms}
 use Rattle.brk_audit.specs.Completed.{is_pending_row}
 use Rattle.brk_audit.specs.Settling.{request_row_of_trade}
 use Rattle.brk_audit.proofs.Beside.{Walked}
@@ -8,4 +8,4 @@ use Rattle.brk_audit.proofs.requests.requests_match_trades.Given as goal
 
 abbrev pub invariant-loop-trade : goal.invariant-loop-trade
 invariant-loop-trade l =
-    Walked (λ q. q) (request_row_of_trade (broker_in_terms l.terms)) is_pending_row (map abstract_request_row l.requests) l.trades (map abstract_request_row l.rest) (drop l.trade-index l.trades)
+    Walked (λ q. q) (request_row_of_trade (account_broker_in_terms l.terms)) is_pending_row (map abstract_request_row l.requests) l.trades (map abstract_request_row l.rest) (drop l.trade-index l.trades)

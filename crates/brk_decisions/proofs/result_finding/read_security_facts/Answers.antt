@@ -4,7 +4,7 @@ use Rattle.brk_money.specs.declared.fault.Fault.{Fault}
 use Rattle.brk_model.specs.Joins.{security_row_with_symbol}
 use Rattle.brk_model.specs.Records.{Band}
 use Rattle.brk_model.specs.Tables.{SecurityRow, Tables}
-use Rattle.brk_book_theorems.specs.TradeReads.{band_of_quantity}
+use Rattle.brk_book_theorems.specs.TradeReads.{commission_band_of_quantity}
 use Rattle.brk_decisions.specs.ResultFactReads.{SecurityFactsMatchTables, IsSecurityWithSymbol}
 use Rattle.brk_decisions.specs.declared.result_finding.SecurityFacts.{SecurityFacts}
 use Rattle.brk_decisions.proofs.Looking.{read_both}
@@ -18,7 +18,7 @@ returns-clause-read g c =
     let listed : SecurityFacts = record { name = security.name; rate = rate } in
     read_both g.S.Store c.args.store.now c.require_security.new.store c.read_commission_rate_of_band.new.store {H = Fault} security rate listed
     (λ security (t : Tables). IsSecurityWithSymbol t trade.symbol security)
-    (λ rate (t : Tables). rate ≡ option_map (λ (b : Band). b.rate) (band_of_quantity t c.args.tier trade.kind security.exchange trade.qty))
+    (λ rate (t : Tables). rate ≡ option_map (λ (b : Band). b.rate) (commission_band_of_quantity t c.args.tier trade.kind security.exchange trade.qty))
     (λ listed (t : Tables). IfSome (security_row_with_symbol t trade.symbol) (λ s. SecurityFactsMatchTables t trade c.args.tier s listed))
     (λ t e r. subst (λ x. IfSome x (λ (s : SecurityRow). SecurityFactsMatchTables t trade c.args.tier s listed)) (sym e) (record { name = refl; rate = r }))
     c.in_ok-security.ensures.read c.in_ok-rate.ensures.read

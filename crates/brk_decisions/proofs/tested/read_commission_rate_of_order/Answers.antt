@@ -7,7 +7,7 @@ use Rattle.brk_model.specs.Joins.{security_row_with_symbol}
 use Rattle.brk_model.specs.Tables.{SecurityRow, Tables}
 use Rattle.brk_ref.specs.Records.{abstract_security_row}
 use Rattle.brk_ref.specs.declared.security.Security.{Security}
-use Rattle.brk_book_theorems.specs.TradeReads.{band_of_quantity}
+use Rattle.brk_book_theorems.specs.TradeReads.{commission_band_of_quantity}
 use Rattle.brk_store.proofs.Retelling.{retold}
 use Rattle.brk_decisions.proofs.Looking.{read_both}
 use Rattle.brk_decisions.proofs.tested.read_commission_rate_of_order.Goals as goal
@@ -17,9 +17,9 @@ returns-in_ok-rate-in-Some-clause-read g c =
     let order = c.args.order.now in
     read_both g.S.Store c.args.store.now c.security.new.self c.read_commission_rate_of_band.new.store {H = Fault} (Some c.in-Some.security) c.in_ok-rate-in-Some.rate c.in_ok-rate-in-Some.rate
     (λ o (t : Tables). option_map abstract_security_row o ≡ find (λ (r : SecurityRow). bytes_eq r.symbol order.symbol) t.securities)
-    (λ rate (t : Tables). rate ≡ option_map (λ (b : Band). b.rate) (band_of_quantity t c.args.tier (trade_type_of_order order.order_type) c.in-Some.security.exchange order.qty))
-    (λ rate (t : Tables). IfSome (security_row_with_symbol t order.symbol) (λ s. rate ≡ option_map (λ (b : Band). b.rate) (band_of_quantity t c.args.tier (trade_type_of_order order.order_type) s.exchange order.qty)))
-    (λ t e f. subst (λ x. IfSome x (λ (s : SecurityRow). c.in_ok-rate-in-Some.rate ≡ option_map (λ (b : Band). b.rate) (band_of_quantity t c.args.tier (trade_type_of_order order.order_type) s.exchange order.qty))) e f)
+    (λ rate (t : Tables). rate ≡ option_map (λ (b : Band). b.rate) (commission_band_of_quantity t c.args.tier (trade_type_of_order order.order_type) c.in-Some.security.exchange order.qty))
+    (λ rate (t : Tables). IfSome (security_row_with_symbol t order.symbol) (λ s. rate ≡ option_map (λ (b : Band). b.rate) (commission_band_of_quantity t c.args.tier (trade_type_of_order order.order_type) s.exchange order.qty)))
+    (λ t e f. subst (λ x. IfSome x (λ (s : SecurityRow). c.in_ok-rate-in-Some.rate ≡ option_map (λ (b : Band). b.rate) (commission_band_of_quantity t c.args.tier (trade_type_of_order order.order_type) s.exchange order.qty))) e f)
     (rw c.in-Some.is at c.in_ok-security.ensures.read) (rw c.kind.ensures at c.in_ok-rate-in-Some.ensures.read)
 
 pub returns-in-None-clause-read : goal.returns-in-None-clause-read
@@ -27,6 +27,6 @@ returns-in-None-clause-read g c =
     let order = c.args.order.now in
     retold g.S.Store c.args.store.now c.security.new.self {V = Option Security} {X = Option _} None None
     (λ o (t : Tables). option_map abstract_security_row o ≡ find (λ (r : SecurityRow). bytes_eq r.symbol order.symbol) t.securities)
-    (λ rate (t : Tables). IfSome (security_row_with_symbol t order.symbol) (λ s. rate ≡ option_map (λ (b : Band). b.rate) (band_of_quantity t c.args.tier (trade_type_of_order order.order_type) s.exchange order.qty)))
-    (λ t e. subst (λ x. IfSome x (λ (s : SecurityRow). None ≡ option_map (λ (b : Band). b.rate) (band_of_quantity t c.args.tier (trade_type_of_order order.order_type) s.exchange order.qty))) e tt)
+    (λ rate (t : Tables). IfSome (security_row_with_symbol t order.symbol) (λ s. rate ≡ option_map (λ (b : Band). b.rate) (commission_band_of_quantity t c.args.tier (trade_type_of_order order.order_type) s.exchange order.qty)))
+    (λ t e. subst (λ x. IfSome x (λ (s : SecurityRow). None ≡ option_map (λ (b : Band). b.rate) (commission_band_of_quantity t c.args.tier (trade_type_of_order order.order_type) s.exchange order.qty))) e tt)
     (rw c.in-None.is at c.in_ok-security.ensures.read)

@@ -2,7 +2,7 @@ use Rattle.std.proofs.Common.{◌≡◌, ℕ, ◌++◌, Err, Ok, length, map, su
 use Rattle.brk_model.specs.Statement.{holding_rows_of_account}
 use Rattle.brk_ref.specs.Records.{abstract_account_row}
 use Rattle.brk_explain_model.specs.AccountLines.{holding_and_total_lines, account_header_lines, balance_header_lines, account_cash_rows_by_stamp}
-use Rattle.brk_explain_rows.specs.Stories.{abstract_priced_holding}
+use Rattle.brk_explain_rows.specs.Details.{abstract_priced_holding}
 use Rattle.brk_report.proofs.Handing.{behind, breaks_as, wants}
 use Rattle.brk_report.proofs.Keeping.{clean_then}
 use Rattle.brk_report_lines.specs.Written.{WritesLines}
@@ -14,16 +14,16 @@ use Rattle.brk_explain.proofs.explaining.write_account_lines.Goals as goal
 
 pub returns-in_err-write_lines-clause-written : goal.returns-in_err-write_lines-clause-written
 returns-in_err-write_lines-clause-written g c = λ clean t holds.
-    let a = abstract_account_row c.args.story.now.account in
-    let bottom = holding_and_total_lines a (map abstract_priced_holding c.args.story.now.held.items) (length (account_cash_rows_by_stamp t c.args.account)) (length (holding_rows_of_account t c.args.account)) in
+    let a = abstract_account_row c.args.details.now.account in
+    let bottom = holding_and_total_lines a (map abstract_priced_holding c.args.details.now.held.items) (length (account_cash_rows_by_stamp t c.args.account)) (length (holding_rows_of_account t c.args.account)) in
     let wrote = text_written {R = Unit {0}} (account_header_lines a) c.account_header_text.result (g.W.Write.contents c.args.writer.now) (g.W.Write.contents c.write_lines.new.writer) (Err c.in_err-write_lines.field-0.0) (top_first a) c.in_err-write_lines.ensures.written c.account_header_text.ensures.text (wants _ c.account_header_text.ensures.fault) in
     breaks_as _ _ _ _ _ c.from_residual.ensures.1
     (breaks_before (account_header_lines a) (account_cash_lines t c.args.account a.opening ++ (balance_header_lines a ++ (account_lot_lines t c.args.account ++ bottom))) _ _ _ wrote)
 
 pub returns-in_err-cash-clause-written : goal.returns-in_err-cash-clause-written
 returns-in_err-cash-clause-written g c = λ clean t holds.
-    let a = abstract_account_row c.args.story.now.account in
-    let bottom = holding_and_total_lines a (map abstract_priced_holding c.args.story.now.held.items) (length (account_cash_rows_by_stamp t c.args.account)) (length (holding_rows_of_account t c.args.account)) in
+    let a = abstract_account_row c.args.details.now.account in
+    let bottom = holding_and_total_lines a (map abstract_priced_holding c.args.details.now.held.items) (length (account_cash_rows_by_stamp t c.args.account)) (length (holding_rows_of_account t c.args.account)) in
     let top = text_written {R = Unit {0}} (account_header_lines a) c.account_header_text.result (g.W.Write.contents c.args.writer.now) (g.W.Write.contents c.write_lines.new.writer) (Ok c.in_ok-write_lines.field-0) (top_first a) c.in_ok-write_lines.ensures.written c.account_header_text.ensures.text (wants _ c.account_header_text.ensures.fault) in
     let cash = account_cash_lines t c.args.account a.opening in
     let rest = balance_header_lines a ++ (account_lot_lines t c.args.account ++ bottom) in
@@ -33,8 +33,8 @@ returns-in_err-cash-clause-written g c = λ clean t holds.
 
 pub returns-in_err-write_lines-2-clause-written : goal.returns-in_err-write_lines-2-clause-written
 returns-in_err-write_lines-2-clause-written g c = λ clean t holds.
-    let a = abstract_account_row c.args.story.now.account in
-    let bottom = holding_and_total_lines a (map abstract_priced_holding c.args.story.now.held.items) (length (account_cash_rows_by_stamp t c.args.account)) (length (holding_rows_of_account t c.args.account)) in
+    let a = abstract_account_row c.args.details.now.account in
+    let bottom = holding_and_total_lines a (map abstract_priced_holding c.args.details.now.held.items) (length (account_cash_rows_by_stamp t c.args.account)) (length (holding_rows_of_account t c.args.account)) in
     let top = text_written {R = Unit {0}} (account_header_lines a) c.account_header_text.result (g.W.Write.contents c.args.writer.now) (g.W.Write.contents c.write_lines.new.writer) (Ok c.in_ok-write_lines.field-0) (top_first a) c.in_ok-write_lines.ensures.written c.account_header_text.ensures.text (wants _ c.account_header_text.ensures.fault) in
     let balance = text_written {R = Unit {0}} (balance_header_lines a) c.balance_header_text.result (g.W.Write.contents c.write_cash_posting_lines.new.writer) (g.W.Write.contents c.write_lines-2.new.writer) (Err c.in_err-write_lines-2.field-0.0) (balance_first a) c.in_err-write_lines-2.ensures.written c.balance_header_text.ensures.text (wants _ c.balance_header_text.ensures.fault) in
     let cash = account_cash_lines t c.args.account a.opening in
@@ -45,8 +45,8 @@ returns-in_err-write_lines-2-clause-written g c = λ clean t holds.
 
 pub returns-in_err-lots-clause-written : goal.returns-in_err-lots-clause-written
 returns-in_err-lots-clause-written g c = λ clean t holds.
-    let a = abstract_account_row c.args.story.now.account in
-    let held = map abstract_priced_holding c.args.story.now.held.items in
+    let a = abstract_account_row c.args.details.now.account in
+    let held = map abstract_priced_holding c.args.details.now.held.items in
     let bottom = holding_and_total_lines a held (length (account_cash_rows_by_stamp t c.args.account)) (length (holding_rows_of_account t c.args.account)) in
     let mid = clean_then g.S.Store c.write_cash_posting_lines.new.desk c.write_open_lot_lines.new.desk c.write_open_lot_lines.ensures.keeps clean in
     let still = c.write_cash_posting_lines.ensures.keeps.same_rows t holds in
@@ -62,8 +62,8 @@ returns-in_err-lots-clause-written g c = λ clean t holds.
 
 pub returns-clause-written : goal.returns-clause-written
 returns-clause-written g c = λ clean t holds.
-    let a = abstract_account_row c.args.story.now.account in
-    let held = map abstract_priced_holding c.args.story.now.held.items in
+    let a = abstract_account_row c.args.details.now.account in
+    let held = map abstract_priced_holding c.args.details.now.held.items in
     let bottom = holding_and_total_lines a held (length (account_cash_rows_by_stamp t c.args.account)) (length (holding_rows_of_account t c.args.account)) in
     let mid = clean_then g.S.Store c.write_cash_posting_lines.new.desk c.write_open_lot_lines.new.desk c.write_open_lot_lines.ensures.keeps clean in
     let still = c.write_cash_posting_lines.ensures.keeps.same_rows t holds in

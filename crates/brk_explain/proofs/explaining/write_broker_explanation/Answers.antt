@@ -1,6 +1,6 @@
 use Rattle.std.proofs.Common.{◌≡◌, refl}
 use Rattle.brk_explain_model.specs.Explain.{BrokerOf, explanation}
-use Rattle.brk_explain_rows.specs.Stories.{IsStoryOfBroker}
+use Rattle.brk_explain_rows.specs.Details.{AreDetailsOfBroker}
 use Rattle.brk_report.proofs.Keeping.{clean_then, keeps_read, keeps_then}
 use Rattle.brk_explain.specs.Sections.{all_broker_lines}
 use Rattle.brk_explain.proofs.Whole.{broker_told, no_broker, tells_all, tells_fault, tells_write}
@@ -10,20 +10,20 @@ pub returns-in-Ok-None : goal.returns-in-Ok-None
 returns-in-Ok-None g c = record {
   told = record {
     written = λ clean t holds. no_broker t c.args.broker ((rw (c.in-Ok-None.is, c.in-Ok-None.field-0-is) at (c.broker_explanation_rows.ensures.read.answered clean)) t holds);
-    keeps = keeps_read g.S.Store _ _ c.broker_explanation_rows.result (IsStoryOfBroker c.args.broker) c.broker_explanation_rows.ensures.read;
+    keeps = keeps_read g.S.Store _ _ c.broker_explanation_rows.result (AreDetailsOfBroker c.args.broker) c.broker_explanation_rows.ensures.read;
     unwritten = λ refusal is. refl;
   };
 }
 
 pub returns-in-Ok : goal.returns-in-Ok
 returns-in-Ok g c =
-    let first = keeps_read g.S.Store _ _ c.broker_explanation_rows.result (IsStoryOfBroker c.args.broker) c.broker_explanation_rows.ensures.read in
+    let first = keeps_read g.S.Store _ _ c.broker_explanation_rows.result (AreDetailsOfBroker c.args.broker) c.broker_explanation_rows.ensures.read in
     record {
       told = record {
         written = λ clean t holds.
             let mid = clean_then g.S.Store c.broker_explanation_rows.new.self c.write_broker_lines.new.desk c.write_broker_lines.ensures.keeps clean in
-            let is_story = (rw (c.in-Ok-Some.is, c.in-Ok-Some.field-0-is) at (c.broker_explanation_rows.ensures.read.answered mid)) t holds in
-            tells_all (explanation t (BrokerOf c.args.broker)) (all_broker_lines t c.args.broker c.in-Ok-Some.story) (broker_told t c.args.broker c.in-Ok-Some.story is_story) _ _ (rw c.in-Ok.is at (c.write_broker_lines.ensures.written clean t (first.same_rows t holds)));
+            let are_details = (rw (c.in-Ok-Some.is, c.in-Ok-Some.field-0-is) at (c.broker_explanation_rows.ensures.read.answered mid)) t holds in
+            tells_all (explanation t (BrokerOf c.args.broker)) (all_broker_lines t c.args.broker c.in-Ok-Some.details) (broker_told t c.args.broker c.in-Ok-Some.details are_details) _ _ (rw c.in-Ok.is at (c.write_broker_lines.ensures.written clean t (first.same_rows t holds)));
         keeps = keeps_then g.S.Store c.args.desk.now c.broker_explanation_rows.new.self c.write_broker_lines.new.desk first c.write_broker_lines.ensures.keeps;
         unwritten = λ refusal is. absurd (let same = is in cc);
       };
@@ -31,13 +31,13 @@ returns-in-Ok g c =
 
 pub returns-in-Err-Desk : goal.returns-in-Err-Desk
 returns-in-Err-Desk g c =
-    let first = keeps_read g.S.Store _ _ c.broker_explanation_rows.result (IsStoryOfBroker c.args.broker) c.broker_explanation_rows.ensures.read in
+    let first = keeps_read g.S.Store _ _ c.broker_explanation_rows.result (AreDetailsOfBroker c.args.broker) c.broker_explanation_rows.ensures.read in
     record {
       told = record {
         written = λ clean t holds.
             let mid = clean_then g.S.Store c.broker_explanation_rows.new.self c.write_broker_lines.new.desk c.write_broker_lines.ensures.keeps clean in
-            let is_story = (rw (c.in-Ok-Some.is, c.in-Ok-Some.field-0-is) at (c.broker_explanation_rows.ensures.read.answered mid)) t holds in
-            tells_fault (explanation t (BrokerOf c.args.broker)) (all_broker_lines t c.args.broker c.in-Ok-Some.story) (broker_told t c.args.broker c.in-Ok-Some.story is_story) _ _ c.in-Err-Desk.fault
+            let are_details = (rw (c.in-Ok-Some.is, c.in-Ok-Some.field-0-is) at (c.broker_explanation_rows.ensures.read.answered mid)) t holds in
+            tells_fault (explanation t (BrokerOf c.args.broker)) (all_broker_lines t c.args.broker c.in-Ok-Some.details) (broker_told t c.args.broker c.in-Ok-Some.details are_details) _ _ c.in-Err-Desk.fault
             (rw (c.in-Err-Desk.is, c.in-Err-Desk.field-0-is) at (c.write_broker_lines.ensures.written clean t (first.same_rows t holds)));
         keeps = keeps_then g.S.Store c.args.desk.now c.broker_explanation_rows.new.self c.write_broker_lines.new.desk first c.write_broker_lines.ensures.keeps;
         unwritten = λ refusal is. absurd (let same = is in cc);
@@ -46,13 +46,13 @@ returns-in-Err-Desk g c =
 
 pub returns : goal.returns
 returns g c =
-    let first = keeps_read g.S.Store _ _ c.broker_explanation_rows.result (IsStoryOfBroker c.args.broker) c.broker_explanation_rows.ensures.read in
+    let first = keeps_read g.S.Store _ _ c.broker_explanation_rows.result (AreDetailsOfBroker c.args.broker) c.broker_explanation_rows.ensures.read in
     record {
       told = record {
         written = λ clean t holds.
             let mid = clean_then g.S.Store c.broker_explanation_rows.new.self c.write_broker_lines.new.desk c.write_broker_lines.ensures.keeps clean in
-            let is_story = (rw (c.in-Ok-Some.is, c.in-Ok-Some.field-0-is) at (c.broker_explanation_rows.ensures.read.answered mid)) t holds in
-            tells_write (explanation t (BrokerOf c.args.broker)) (all_broker_lines t c.args.broker c.in-Ok-Some.story) (broker_told t c.args.broker c.in-Ok-Some.story is_story) _ _
+            let are_details = (rw (c.in-Ok-Some.is, c.in-Ok-Some.field-0-is) at (c.broker_explanation_rows.ensures.read.answered mid)) t holds in
+            tells_write (explanation t (BrokerOf c.args.broker)) (all_broker_lines t c.args.broker c.in-Ok-Some.details) (broker_told t c.args.broker c.in-Ok-Some.details are_details) _ _
             (rw (c.in-Err-Write.is, c.in-Err-Write.field-0-is) at (c.write_broker_lines.ensures.written clean t (first.same_rows t holds)));
         keeps = keeps_then g.S.Store c.args.desk.now c.broker_explanation_rows.new.self c.write_broker_lines.new.desk first c.write_broker_lines.ensures.keeps;
         unwritten = λ refusal is. absurd (let same = is in cc);

@@ -1,7 +1,7 @@
 use Rattle.std.proofs.Common.{◌≡◌, refl}
 use Rattle.brk_explain_model.specs.Explain.{HoldingOf, explanation}
-use Rattle.brk_explain_rows.specs.Stories.{IsStoryOfHolding}
-use Rattle.brk_explain_sums.specs.HoldingStories.{lines_of_holding_story}
+use Rattle.brk_explain_rows.specs.Details.{AreDetailsOfHolding}
+use Rattle.brk_explain_sums.specs.HoldingTexts.{lines_of_holding_details}
 use Rattle.brk_report.proofs.Keeping.{keeps_read}
 use Rattle.brk_explain.proofs.Some.{text_written}
 use Rattle.brk_explain.proofs.Whole.{holding_first, holding_told, no_holding, tells_all, tells_fault, tells_write}
@@ -12,52 +12,52 @@ returns-in-Ok-Err g c = record {
   told = record {
     written = λ clean t holds.
         no_holding t c.args.account c.args.symbol.now c.in-Ok-Err.refusal ((rw (c.in-Ok-Err.is, c.in-Ok-Err.field-0-is) at (c.holding_explanation_rows.ensures.read.answered clean)) t holds);
-    keeps = keeps_read g.S.Store _ _ c.holding_explanation_rows.result (IsStoryOfHolding c.args.account c.args.symbol.now) c.holding_explanation_rows.ensures.read;
+    keeps = keeps_read g.S.Store _ _ c.holding_explanation_rows.result (AreDetailsOfHolding c.args.account c.args.symbol.now) c.holding_explanation_rows.ensures.read;
     unwritten = λ refusal is. refl;
   };
 }
 
 pub returns-in-Ok : goal.returns-in-Ok
 returns-in-Ok g c =
-    let story = c.in-Ok-Ok.story in
-    let lines = lines_of_holding_story story in
-    let wrote = text_written lines c.holding_explanation_text.result _ _ c.write_lines.result (holding_first story) c.write_lines.ensures.written c.holding_explanation_text.ensures.text c.holding_explanation_text.ensures.fault in
+    let details = c.in-Ok-Ok.details in
+    let lines = lines_of_holding_details details in
+    let wrote = text_written lines c.holding_explanation_text.result _ _ c.write_lines.result (holding_first details) c.write_lines.ensures.written c.holding_explanation_text.ensures.text c.holding_explanation_text.ensures.fault in
     record {
       told = record {
         written = λ clean t holds.
-            let is_story = (rw (c.in-Ok-Ok.is, c.in-Ok-Ok.field-0-is) at (c.holding_explanation_rows.ensures.read.answered clean)) t holds in
-            tells_all (explanation t (HoldingOf c.args.account c.args.symbol.now)) lines (holding_told t c.args.account c.args.symbol.now story is_story) _ _ (rw c.in-Ok.is at wrote);
-        keeps = keeps_read g.S.Store _ _ c.holding_explanation_rows.result (IsStoryOfHolding c.args.account c.args.symbol.now) c.holding_explanation_rows.ensures.read;
+            let are_details = (rw (c.in-Ok-Ok.is, c.in-Ok-Ok.field-0-is) at (c.holding_explanation_rows.ensures.read.answered clean)) t holds in
+            tells_all (explanation t (HoldingOf c.args.account c.args.symbol.now)) lines (holding_told t c.args.account c.args.symbol.now details are_details) _ _ (rw c.in-Ok.is at wrote);
+        keeps = keeps_read g.S.Store _ _ c.holding_explanation_rows.result (AreDetailsOfHolding c.args.account c.args.symbol.now) c.holding_explanation_rows.ensures.read;
         unwritten = λ refusal is. absurd (let same = is in cc);
       };
     }
 
 pub returns-in-Err-Desk : goal.returns-in-Err-Desk
 returns-in-Err-Desk g c =
-    let story = c.in-Ok-Ok.story in
-    let lines = lines_of_holding_story story in
-    let wrote = text_written lines c.holding_explanation_text.result _ _ c.write_lines.result (holding_first story) c.write_lines.ensures.written c.holding_explanation_text.ensures.text c.holding_explanation_text.ensures.fault in
+    let details = c.in-Ok-Ok.details in
+    let lines = lines_of_holding_details details in
+    let wrote = text_written lines c.holding_explanation_text.result _ _ c.write_lines.result (holding_first details) c.write_lines.ensures.written c.holding_explanation_text.ensures.text c.holding_explanation_text.ensures.fault in
     record {
       told = record {
         written = λ clean t holds.
-            let is_story = (rw (c.in-Ok-Ok.is, c.in-Ok-Ok.field-0-is) at (c.holding_explanation_rows.ensures.read.answered clean)) t holds in
-            tells_fault (explanation t (HoldingOf c.args.account c.args.symbol.now)) lines (holding_told t c.args.account c.args.symbol.now story is_story) _ _ c.in-Err-Desk.fault (rw (c.in-Err-Desk.is, c.in-Err-Desk.field-0-is) at wrote);
-        keeps = keeps_read g.S.Store _ _ c.holding_explanation_rows.result (IsStoryOfHolding c.args.account c.args.symbol.now) c.holding_explanation_rows.ensures.read;
+            let are_details = (rw (c.in-Ok-Ok.is, c.in-Ok-Ok.field-0-is) at (c.holding_explanation_rows.ensures.read.answered clean)) t holds in
+            tells_fault (explanation t (HoldingOf c.args.account c.args.symbol.now)) lines (holding_told t c.args.account c.args.symbol.now details are_details) _ _ c.in-Err-Desk.fault (rw (c.in-Err-Desk.is, c.in-Err-Desk.field-0-is) at wrote);
+        keeps = keeps_read g.S.Store _ _ c.holding_explanation_rows.result (AreDetailsOfHolding c.args.account c.args.symbol.now) c.holding_explanation_rows.ensures.read;
         unwritten = λ refusal is. absurd (let same = is in cc);
       };
     }
 
 pub returns : goal.returns
 returns g c =
-    let story = c.in-Ok-Ok.story in
-    let lines = lines_of_holding_story story in
-    let wrote = text_written lines c.holding_explanation_text.result _ _ c.write_lines.result (holding_first story) c.write_lines.ensures.written c.holding_explanation_text.ensures.text c.holding_explanation_text.ensures.fault in
+    let details = c.in-Ok-Ok.details in
+    let lines = lines_of_holding_details details in
+    let wrote = text_written lines c.holding_explanation_text.result _ _ c.write_lines.result (holding_first details) c.write_lines.ensures.written c.holding_explanation_text.ensures.text c.holding_explanation_text.ensures.fault in
     record {
       told = record {
         written = λ clean t holds.
-            let is_story = (rw (c.in-Ok-Ok.is, c.in-Ok-Ok.field-0-is) at (c.holding_explanation_rows.ensures.read.answered clean)) t holds in
-            tells_write (explanation t (HoldingOf c.args.account c.args.symbol.now)) lines (holding_told t c.args.account c.args.symbol.now story is_story) _ _ (rw (c.in-Err-Write.is, c.in-Err-Write.field-0-is) at wrote);
-        keeps = keeps_read g.S.Store _ _ c.holding_explanation_rows.result (IsStoryOfHolding c.args.account c.args.symbol.now) c.holding_explanation_rows.ensures.read;
+            let are_details = (rw (c.in-Ok-Ok.is, c.in-Ok-Ok.field-0-is) at (c.holding_explanation_rows.ensures.read.answered clean)) t holds in
+            tells_write (explanation t (HoldingOf c.args.account c.args.symbol.now)) lines (holding_told t c.args.account c.args.symbol.now details are_details) _ _ (rw (c.in-Err-Write.is, c.in-Err-Write.field-0-is) at wrote);
+        keeps = keeps_read g.S.Store _ _ c.holding_explanation_rows.result (AreDetailsOfHolding c.args.account c.args.symbol.now) c.holding_explanation_rows.ensures.read;
         unwritten = λ refusal is. absurd (let same = is in cc);
       };
     }

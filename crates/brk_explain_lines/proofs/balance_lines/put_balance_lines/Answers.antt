@@ -2,7 +2,7 @@ use Rattle.std.proofs.Common.{◌≡◌, ◌∙◌, ◌+ℤ◌, ℤ, [], ◌∷�
 use Rattle.brk_explain_model.specs.Texts.{labeled_amount}
 use Rattle.brk_explain_model.specs.TradeLines.{trade_balance_lines, trade_cash_row_line}
 use Rattle.brk_explain_model.specs.Trades.{balance_after_trade, balance_before_trade}
-use Rattle.brk_explain_rows.specs.Stories.{abstract_order_story, abstract_result_story}
+use Rattle.brk_explain_rows.specs.Details.{abstract_order_details, abstract_result_details}
 use Rattle.brk_model.specs.Statement.{text_of_lines}
 use Rattle.brk_report_lines.specs.Written.{line_with_line_feed}
 use Rattle.brk_explain_columns.proofs.Chains.{last, more}
@@ -11,12 +11,12 @@ use Rattle.brk_explain_lines.proofs.balance_lines.put_balance_lines.Goals as goa
 pub returns-clause-ok : goal.returns-clause-ok
 unfolding trade_balance_lines
 returns-clause-ok c =
-    let story = abstract_order_story c.args.order.now in
-    let r = abstract_result_story c.args.story.now in
+    let details = abstract_order_details c.args.order.now in
+    let r = abstract_result_details c.args.details.now in
     let opening = c.from-opening.ensures in
-    let before : c.in_ok-before.before ≡ balance_before_trade story r = c.in_ok-before.ensures.sum ∙ ap (λ (z : ℤ). z +ℤ c.args.story.now.cash_before) opening in
+    let before : c.in_ok-before.before ≡ balance_before_trade details r = c.in_ok-before.ensures.sum ∙ ap (λ (z : ℤ). z +ℤ c.args.details.now.cash_before) opening in
     let moved = c.balance_change_of_trade-moved.ensures in
-    let after : c.in_ok-after.after ≡ balance_after_trade story r = c.in_ok-after.ensures.sum ∙ (λ i. before i +ℤ moved i) in
+    let after : c.in_ok-after.after ≡ balance_after_trade details r = c.in_ok-after.ensures.sum ∙ (λ i. before i +ℤ moved i) in
     let o = c.args.out.now.items in
     let x1 = c.put_cash_row_line.new.out.items in
     let a1 = line_with_line_feed (trade_cash_row_line r.cash) in

@@ -1,6 +1,6 @@
 use Rattle.std.proofs.Common.{◌≡◌, ◌++◌, map, take}
 use Rattle.brk_explain_model.specs.TradeLines.{closed_lot_line}
-use Rattle.brk_explain_rows.specs.Stories.{abstract_closing}
+use Rattle.brk_explain_rows.specs.Details.{abstract_closing}
 use Rattle.brk_model.specs.Statement.{text_of_lines}
 use Rattle.brk_explain_lines.proofs.lots_lines.put_closed_lot_lines.Given as goal
 

@@ -1,7 +1,7 @@
 use Rattle.std.proofs.Common.{◌∙◌, [], ◌∷◌, ◌++◌, codes}
 use Rattle.brk_explain_model.specs.Texts.{labeled_number, labeled_amount, labeled_text}
 use Rattle.brk_explain_model.specs.TradeLines.{order_terms_lines, trade_security_line, trade_type_line}
-use Rattle.brk_explain_rows.specs.Stories.{abstract_order_story}
+use Rattle.brk_explain_rows.specs.Details.{abstract_order_details}
 use Rattle.brk_model.specs.Statement.{text_of_lines}
 use Rattle.brk_report_lines.specs.Written.{line_with_line_feed}
 use Rattle.brk_explain_columns.proofs.Chains.{last, more}
@@ -10,9 +10,9 @@ use Rattle.brk_explain_lines.proofs.order_lines.put_order_terms_lines.Goals as g
 pub returns-clause-ok : goal.returns-clause-ok
 unfolding order_terms_lines
 returns-clause-ok c =
-    let o0 = abstract_order_story c.args.order.now in
+    let o0 = abstract_order_details c.args.order.now in
     let qty = c.from.ensures ∙ c.get.ensures.value in
-    let settles = c.as_bytes.ensures.value ∙ c.settlement_word.ensures in
+    let settles = c.as_bytes.ensures.value ∙ c.cash_or_margin_text.ensures in
     let closes = c.as_bytes-2.ensures.value ∙ c.closing_order_words.ensures in
     let o = c.args.out.now.items in
     let x1 = c.put_trade_type_line.new.out.items in

@@ -1,7 +1,7 @@
 use Rattle.std.proofs.Common.{◌∙◌, [], ◌∷◌, ◌++◌, codes}
 use Rattle.brk_explain_model.specs.Texts.{labeled_number, labeled_text}
 use Rattle.brk_explain_model.specs.TradeLines.{trade_account_line, title_and_party_lines, trade_title_line}
-use Rattle.brk_explain_rows.specs.Stories.{abstract_order_story}
+use Rattle.brk_explain_rows.specs.Details.{abstract_order_details}
 use Rattle.brk_model.specs.Statement.{text_of_lines}
 use Rattle.brk_report_lines.specs.Written.{line_with_line_feed}
 use Rattle.brk_explain_columns.proofs.Chains.{last, more}
@@ -10,7 +10,7 @@ use Rattle.brk_explain_lines.proofs.order_lines.put_title_and_party_lines.Goals 
 pub returns-clause-ok : goal.returns-clause-ok
 unfolding title_and_party_lines
 returns-clause-ok c =
-    let o0 = abstract_order_story c.args.order.now in
+    let o0 = abstract_order_details c.args.order.now in
     let o = c.args.out.now.items in
     let x1 = c.put_trade_title_line.new.out.items in
     let a1 = line_with_line_feed (trade_title_line o0) in

@@ -6,8 +6,8 @@ use Rattle.brk_model.specs.Tables.{LastTradeRow, Tables}
 use Rattle.brk_ref.specs.Records.{abstract_last_trade_row}
 use Rattle.brk_store.proofs.Retelling.{retold}
 use Rattle.brk_explain_model.specs.AccountLines.{priced_holding}
-use Rattle.brk_explain_rows.specs.Stories.{abstract_priced_holding}
-use Rattle.brk_explain_rows.specs.declared.account_story.PricedHolding.{PricedHolding}
+use Rattle.brk_explain_rows.specs.Details.{abstract_priced_holding}
+use Rattle.brk_explain_rows.specs.declared.account_details.PricedHolding.{PricedHolding}
 use Rattle.brk_explain_reads.proofs.accounts.read_priced_holding.Goals as goal
 
 pub returns-in-Some-clause-read : goal.returns-in-Some-clause-read

@@ -5,8 +5,8 @@ use Rattle.brk_changes.specs.declared.summary_row.SummaryRow as row
 use Rattle.brk_model.specs.Tables.{SummaryRow, Tables}
 use Rattle.brk_store.proofs.Retelling.{retold}
 use Rattle.brk_explain_model.specs.AccountLines.{priced_holding, priced_holdings_of_account}
-use Rattle.brk_explain_rows.specs.Stories.{abstract_priced_holding}
-use Rattle.brk_explain_rows.specs.declared.account_story.PricedHolding.{PricedHolding}
+use Rattle.brk_explain_rows.specs.Details.{abstract_priced_holding}
+use Rattle.brk_explain_rows.specs.declared.account_details.PricedHolding.{PricedHolding}
 use Rattle.brk_explain_reads.proofs.Each.{all_made, map_map, none_made, popped}
 use Rattle.brk_explain_reads.proofs.Reading.{read_both}
 use Rattle.brk_explain_reads.proofs.accounts.read_priced_holdings.Goals as goal

@@ -3,7 +3,7 @@ use Rattle.brk_money.specs.declared.fault.Fault.{Fault}
 use Rattle.brk_changes.specs.Rows.{abstract_summary_row}
 use Rattle.brk_store.specs.Holds.{ReadPost}
 use Rattle.brk_explain_model.specs.AccountLines.{priced_holding, priced_holdings_of_account}
-use Rattle.brk_explain_rows.specs.Stories.{abstract_priced_holding}
+use Rattle.brk_explain_rows.specs.Details.{abstract_priced_holding}
 use Rattle.brk_explain_reads.proofs.accounts.read_priced_holdings.Given as goal
 
 abbrev pub invariant-loop-summary : goal.invariant-loop-summary

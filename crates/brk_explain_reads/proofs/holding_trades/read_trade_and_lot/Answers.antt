@@ -3,7 +3,7 @@ use Rattle.brk_money.specs.declared.fault.Fault.{Fault}
 use Rattle.brk_changes.specs.Rows.{abstract_trade_row}
 use Rattle.brk_model.specs.Joins.{trade_row_with_id}
 use Rattle.brk_model.specs.Tables.{Tables}
-use Rattle.brk_explain_rows.specs.Stories.{abstract_lot_story}
+use Rattle.brk_explain_rows.specs.Details.{abstract_lot_details}
 use Rattle.brk_explain_reads.specs.HoldingParts.{IsTradeWithLot, lot_opened_by_trade}
 use Rattle.brk_explain_reads.specs.declared.holding_trades.TradeAndLot.{TradeAndLot}
 use Rattle.brk_explain_reads.proofs.Reading.{read_both}
@@ -16,7 +16,7 @@ returns-clause-read g c =
     let lot = c.in_ok-lot.lot in
     let one : TradeAndLot = record { trade = row; lot = lot } in
     read_both g.S.Store c.args.store.now c.read_existing_trade.new.store c.read_lot_of_trade.new.store {H = Fault} row lot one
-    (λ row (t : Tables). trade_row_with_id t trade ≡ Some (abstract_trade_row row)) (λ lot (t : Tables). option_map abstract_lot_story lot ≡ lot_opened_by_trade t trade)
+    (λ row (t : Tables). trade_row_with_id t trade ≡ Some (abstract_trade_row row)) (λ lot (t : Tables). option_map abstract_lot_details lot ≡ lot_opened_by_trade t trade)
     (λ one (t : Tables). IsTradeWithLot t trade one)
     (λ t e k. (e, k))
     c.in_ok-row.ensures.read c.in_ok-lot.ensures.read

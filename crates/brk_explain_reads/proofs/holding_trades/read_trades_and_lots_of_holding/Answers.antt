@@ -10,8 +10,8 @@ use Rattle.brk_model.specs.Joins.{trade_row_with_id}
 use Rattle.brk_model.specs.Tables.{Tables}
 use Rattle.brk_store.proofs.Retelling.{retold, retold_of}
 use Rattle.brk_explain_model.specs.Holdings as model
-use Rattle.brk_explain_rows.specs.Stories.{abstract_lot_story}
-use Rattle.brk_explain_rows.specs.declared.holding_story.LotStory.{LotStory}
+use Rattle.brk_explain_rows.specs.Details.{abstract_lot_details}
+use Rattle.brk_explain_rows.specs.declared.holding_details.LotDetails.{LotDetails}
 use Rattle.brk_explain_reads.specs.HoldingParts.{AreTradesAndLotsOfHolding, IsTradeWithLot, lot_opened_by_trade}
 use Rattle.brk_explain_reads.specs.declared.holding_trades.TradesAndLots.{TradesAndLots}
 use Rattle.brk_explain_reads.proofs.ById.{done_known, flat_one, held_ids, lots_known}
@@ -20,20 +20,20 @@ use Rattle.brk_explain_reads.proofs.Reading.{read_both}
 use Rattle.brk_explain_reads.proofs.TermParts.{one_by_one}
 use Rattle.brk_explain_reads.proofs.holding_trades.read_trades_and_lots_of_holding.Goals as goal
 
-abbrev found_lots : Tables → List ℕ → List model.LotStory
+abbrev found_lots : Tables → List ℕ → List model.LotDetails
 found_lots t ids = flat_map (λ id. option_to_list (lot_opened_by_trade t id)) ids
 
 -- the ids of a holding's trades, and the rows and the lots of the first of them
-abbrev FirstTrades : ℕ → Text → List ℕ → List trade.TradeRow → List LotStory → ℕ → Tables → Type 0
+abbrev FirstTrades : ℕ → Text → List ℕ → List trade.TradeRow → List LotDetails → ℕ → Tables → Type 0
 FirstTrades account symbol ids done lots i t =
-    (ids ≡ held_ids t account symbol) × (map (λ (r : trade.TradeRow). Some (abstract_trade_row r)) done ≡ map (trade_row_with_id t) (take i ids)) × (map abstract_lot_story lots ≡ found_lots t (take i ids))
+    (ids ≡ held_ids t account symbol) × (map (λ (r : trade.TradeRow). Some (abstract_trade_row r)) done ≡ map (trade_row_with_id t) (take i ids)) × (map abstract_lot_details lots ≡ found_lots t (take i ids))
 
 pub loop-id-init : goal.loop-id-init
 loop-id-init g c =
     retold g.S.Store c.args.store.now c.completed_trades_of_holding.new.self c.in_ok-ids.ids tt
     (λ all (t : Tables). all.items ≡ held_ids t c.args.account c.args.symbol.now)
     (λ _. FirstTrades c.args.account c.args.symbol.now c.deref-id-items.result.now c.new-done.result.items c.new-lots.result.items 0)
-    (λ t e. (c.deref-id-items.ensures.value ∙ e, ap (map (λ (r : trade.TradeRow). Some (abstract_trade_row r))) c.new-done.ensures.items, ap (map abstract_lot_story) c.new-lots.ensures.items))
+    (λ t e. (c.deref-id-items.ensures.value ∙ e, ap (map (λ (r : trade.TradeRow). Some (abstract_trade_row r))) c.new-done.ensures.items, ap (map abstract_lot_details) c.new-lots.ensures.items))
     c.in_ok-ids.ensures.read
 
 pub loop-id-preserved : goal.loop-id-preserved

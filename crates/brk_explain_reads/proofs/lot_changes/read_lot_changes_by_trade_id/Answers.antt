@@ -6,8 +6,8 @@ use Rattle.brk_changes.specs.declared.lot_change.LotChange.{LotChange}
 use Rattle.brk_model.specs.Tables.{HoldingHistoryRow, Tables}
 use Rattle.brk_store.proofs.Retelling.{retold}
 use Rattle.brk_explain_model.specs.Holdings.{recorded_lot_change}
-use Rattle.brk_explain_rows.specs.Stories.{abstract_priced_lot_change}
-use Rattle.brk_explain_rows.specs.declared.holding_story.PricedLotChange.{PricedLotChange}
+use Rattle.brk_explain_rows.specs.Details.{abstract_priced_lot_change}
+use Rattle.brk_explain_rows.specs.declared.holding_details.PricedLotChange.{PricedLotChange}
 use Rattle.brk_explain_reads.specs.HoldingParts.{AreLotChangesByTradeId}
 use Rattle.brk_explain_reads.specs.declared.lot_changes.OpeningAndLaterChanges.{OpeningAndLaterChanges}
 use Rattle.brk_explain_reads.proofs.Changes.{steps_known}

@@ -3,7 +3,7 @@ use Rattle.brk_money.specs.declared.fault.Fault.{Fault}
 use Rattle.brk_changes.specs.Rows as rows
 use Rattle.brk_store.specs.Holds.{ReadPost}
 use Rattle.brk_explain_model.specs.Holdings.{recorded_lot_change}
-use Rattle.brk_explain_rows.specs.Stories.{abstract_priced_lot_change}
+use Rattle.brk_explain_rows.specs.Details.{abstract_priced_lot_change}
 use Rattle.brk_explain_reads.proofs.lot_changes.read_lot_changes_by_trade_id.Given as goal
 
 abbrev pub invariant-loop-change : goal.invariant-loop-change

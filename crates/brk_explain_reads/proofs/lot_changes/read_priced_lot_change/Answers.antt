@@ -5,7 +5,7 @@ use Rattle.brk_model.specs.Joins.{trade_row_with_id}
 use Rattle.brk_model.specs.Tables.{Tables}
 use Rattle.brk_store.proofs.Retelling.{retold}
 use Rattle.brk_explain_model.specs.Holdings.{recorded_lot_change}
-use Rattle.brk_explain_rows.specs.Stories.{abstract_priced_lot_change}
+use Rattle.brk_explain_rows.specs.Details.{abstract_priced_lot_change}
 use Rattle.brk_explain_reads.proofs.Changes.{step_known}
 use Rattle.brk_explain_reads.proofs.lot_changes.read_priced_lot_change.Goals as goal
 

@@ -1,8 +1,8 @@
 use Rattle.std.proofs.Common.{◌∙◌, ap, map, refl, sym}
 use Rattle.std.specs.Prelude.{nat_lt}
 use Rattle.brk_explain_model.specs.Holdings.{LotChange}
-use Rattle.brk_explain_rows.specs.Stories.{abstract_priced_lot_change}
-use Rattle.brk_explain_rows.specs.declared.holding_story.PricedLotChange as row
+use Rattle.brk_explain_rows.specs.Details.{abstract_priced_lot_change}
+use Rattle.brk_explain_rows.specs.declared.holding_details.PricedLotChange as row
 use Rattle.brk_explain_reads.proofs.Sorted.{map_sorted}
 use Rattle.brk_explain_reads.proofs.lot_changes.sort_changes_by_stamp.Goals as goal
 

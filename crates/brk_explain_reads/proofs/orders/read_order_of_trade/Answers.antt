@@ -5,7 +5,7 @@ use Rattle.brk_model.specs.Joins.{account_row_with_id, security_row_with_symbol}
 use Rattle.brk_model.specs.Tables.{Tables}
 use Rattle.brk_ref.specs.Records.{abstract_account_row, abstract_security_row}
 use Rattle.brk_explain_model.specs.Trades.{sorted_statuses_of_trade}
-use Rattle.brk_explain_rows.specs.declared.story.OrderStory.{OrderStory}
+use Rattle.brk_explain_rows.specs.declared.details.OrderDetails.{OrderDetails}
 use Rattle.brk_explain_reads.specs.Found.{IsOrderOfTrade}
 use Rattle.brk_explain_reads.proofs.Reading.{read_both}
 use Rattle.brk_explain_reads.proofs.orders.read_order_of_trade.Goals as goal
@@ -17,7 +17,7 @@ returns-clause-read g c =
     let account = c.in_ok-account.account in
     let security = c.in_ok-security.security in
     let statuses = c.in_ok-statuses.statuses in
-    let order : OrderStory = record { trade = trade; account = account; security = security; statuses = statuses } in
+    let order : OrderDetails = record { trade = trade; account = account; security = security; statuses = statuses } in
     read_both g.S.Store old c.read_existing_security.new.store c.read_sorted_statuses.new.store {H = Fault} security statuses order
     (λ security (t : Tables). (account_row_with_id t trade.account ≡ Some (abstract_account_row account)) × (security_row_with_symbol t trade.symbol ≡ Some (abstract_security_row security)))
     (λ statuses (t : Tables). map abstract_history_row statuses.items ≡ sorted_statuses_of_trade t trade.id)

@@ -3,7 +3,7 @@ use Rattle.brk_changes.specs.Rows.{abstract_trade_row}
 use Rattle.brk_model.specs.Tables.{Tables}
 use Rattle.brk_explain_reads.specs.Found.{AreTradeLotsInClosingOrder, AreTaxRatesAndBand, IsCashSumBeforeStamp, IsResultOfOrder, IsSettlementOfTrade}
 use Rattle.brk_explain_reads.proofs.Reading.{read_both}
-use Rattle.brk_explain_reads.proofs.StoryParts.{result_known, result_with}
+use Rattle.brk_explain_reads.proofs.DetailParts.{result_known, result_with}
 use Rattle.brk_explain_reads.proofs.results.read_result_of_trade.Goals as goal
 
 pub returns-clause-read : goal.returns-clause-read
@@ -19,7 +19,7 @@ returns-clause-read g c =
     read_both g.S.Store old c.read_settlement_of_trade.new.store c.read_cash_sum_before.new.store {H = Fault} settled cash (result_with price lots terms settled cash)
     (λ settled (t : Tables). AreTradeLotsInClosingOrder t u lots × AreTaxRatesAndBand t order terms × IsSettlementOfTrade t u.id settled)
     (λ cash (t : Tables). IsCashSumBeforeStamp t u.account u.stamp cash)
-    (λ story (t : Tables). IsResultOfOrder order story t)
+    (λ details (t : Tables). IsResultOfOrder order details t)
     (λ t k e. result_known t order price lots terms settled cash c.in-Some.is k.0 k.1 k.2 e)
     (read_both g.S.Store old c.read_tax_rates_and_band.new.store c.read_settlement_of_trade.new.store {H = Fault} terms settled settled
     (λ terms (t : Tables). AreTradeLotsInClosingOrder t u lots × AreTaxRatesAndBand t order terms)

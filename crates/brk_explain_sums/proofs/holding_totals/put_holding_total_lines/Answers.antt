@@ -5,7 +5,7 @@ use Rattle.brk_money.specs.Spelling.{Text}
 use Rattle.brk_changes.specs.Rows.{abstract_trade_row}
 use Rattle.brk_explain_model.specs.HoldingLines.{holding_counts_line, holding_total_lines, purchase_sale_and_cost_lines, holding_value_lines}
 use Rattle.brk_explain_model.specs.Holdings.{count_of_lot_changes, remaining_cost_of_lots, realised_gain_of_lots, lots_not_fully_closed, total_purchase_value, total_sale_value}
-use Rattle.brk_explain_rows.specs.Stories.{abstract_lot_story}
+use Rattle.brk_explain_rows.specs.Details.{abstract_lot_details}
 use Rattle.brk_model.specs.Statement.{text_of_lines}
 use Rattle.brk_report_lines.specs.Written.{line_with_line_feed}
 use Rattle.brk_explain_columns.proofs.Chains.{last, more}
@@ -21,7 +21,7 @@ returns-clause-ok c =
     let done = c.args.done.now in
     let lots = c.args.lots.now in
     let us = map abstract_trade_row done in
-    let ls = map abstract_lot_story lots in
+    let ls = map abstract_lot_details lots in
     let shares = to_z w64 (of_z w64 c.args.shares) in
     let same : shares ≡ c.args.shares = search rules in
     let price = c.args.price in

@@ -2,7 +2,7 @@ use Rattle.std.proofs.Common.{◌≡◌, ◌∙◌, List, [], ◌∷◌, ◌++�
 use Rattle.std.proofs.lemmas.Grind.{flat_map-append}
 use Rattle.brk_money.specs.Spelling.{Text}
 use Rattle.brk_explain_model.specs.HoldingLines.{lot_history_lines}
-use Rattle.brk_explain_rows.specs.Stories.{abstract_lot_story}
+use Rattle.brk_explain_rows.specs.Details.{abstract_lot_details}
 use Rattle.brk_model.specs.Statement.{text_of_lines}
 use Rattle.brk_report_lines.specs.Written.{line_with_line_feed}
 use Rattle.brk_explain_columns.proofs.Chains.{more}
@@ -14,12 +14,12 @@ loop-lot-preserved c =
     let lots = c.args.lots.now in
     let i = c.loop-lot.lot-index in
     let lot = c.lot-item.result in
-    let ls = map abstract_lot_story (take i lots) in
+    let ls = map abstract_lot_details (take i lots) in
     let o = c.args.out.now.items in
     let first = flat_map lot_history_lines ls in
-    let next = lot_history_lines (abstract_lot_story lot) in
+    let next = lot_history_lines (abstract_lot_details lot) in
     more o (text_of_lines first) (text_of_lines next) c.loop-lot.out.items c.put_lot_history_lines.new.out.items c.loop-lot.invariant c.in_ok-put_lot_history_lines.ensures.ok
     ∙ ap (λ (t : Text). o ++ t) (sym (flat_map-append line_with_line_feed first next))
     ∙ ap (λ (all : List Text). o ++ text_of_lines all)
-    (ap (λ (l : List Text). first ++ l) (sym (append-nil next)) ∙ sym (flat_map-append lot_history_lines ls (abstract_lot_story lot ∷ []))
-    ∙ ap (flat_map lot_history_lines) (sym (map_one_more abstract_lot_story lots i lot c.lot-item.is c.loop-lot-test.true)))
+    (ap (λ (l : List Text). first ++ l) (sym (append-nil next)) ∙ sym (flat_map-append lot_history_lines ls (abstract_lot_details lot ∷ []))
+    ∙ ap (flat_map lot_history_lines) (sym (map_one_more abstract_lot_details lots i lot c.lot-item.is c.loop-lot-test.true)))

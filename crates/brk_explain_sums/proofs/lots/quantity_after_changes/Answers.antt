@@ -1,6 +1,6 @@
 use Rattle.std.proofs.Common.{◌≡◌, ◌∙◌, ap, map, of_z, rules, sym, take, to_z, w64}
-use Rattle.brk_explain_rows.specs.Stories.{abstract_priced_lot_change}
-use Rattle.brk_explain_sums.specs.HoldingStories.{quantity_after_changes}
+use Rattle.brk_explain_rows.specs.Details.{abstract_priced_lot_change}
+use Rattle.brk_explain_sums.specs.HoldingTexts.{quantity_after_changes}
 use Rattle.brk_explain_columns.proofs.Items.{map_one_more}
 use Rattle.brk_explain_sums.proofs.Left.{after_last}
 use Rattle.brk_explain_sums.proofs.lots.quantity_after_changes.Goals as goal

@@ -1,6 +1,6 @@
 use Rattle.std.proofs.Common.{◌≡◌, map, take}
-use Rattle.brk_explain_rows.specs.Stories.{abstract_priced_lot_change}
-use Rattle.brk_explain_sums.specs.HoldingStories.{quantity_after_changes}
+use Rattle.brk_explain_rows.specs.Details.{abstract_priced_lot_change}
+use Rattle.brk_explain_sums.specs.HoldingTexts.{quantity_after_changes}
 use Rattle.brk_explain_sums.proofs.lots.quantity_after_changes.Given as goal
 
 abbrev pub invariant-loop-change : goal.invariant-loop-change

@@ -1,6 +1,6 @@
 use Rattle.std.proofs.Common.{◌≡◌, map, take}
 use Rattle.brk_explain_model.specs.Holdings.{realised_gain_of_change}
-use Rattle.brk_explain_rows.specs.Stories.{abstract_priced_lot_change}
+use Rattle.brk_explain_rows.specs.Details.{abstract_priced_lot_change}
 use Rattle.brk_model.specs.Lists.{total_by}
 use Rattle.brk_explain_sums.proofs.lots.realised_gain_of_changes.Given as goal
 

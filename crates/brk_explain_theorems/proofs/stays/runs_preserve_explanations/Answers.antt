@@ -1,4 +1,4 @@
-use Rattle.brk_explain_theorems.proofs.StoryStays.{explanations_stay}
+use Rattle.brk_explain_theorems.proofs.DetailsStay.{explanations_stay}
 use Rattle.brk_explain_theorems.proofs.stays.runs_preserve_explanations.Goals as goal
 
 pub returns : goal.returns

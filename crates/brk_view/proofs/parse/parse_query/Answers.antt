@@ -12,6 +12,6 @@ pub returns-in_default-clause-read : goal.returns-in_default-clause-read
 unfolding model.parse_query
 returns-in_default-clause-read c =
     let no = c.in_default in
-    subst (λ (wanted : ReadResult Query). IfOk c.parse_account_or_later_query.result (λ read. ParsesAs abstract_query read wanted))
+    subst (λ (wanted : ReadResult Query). IfOk c.parse_account_lookup_or_volume_query.result (λ read. ParsesAs abstract_query read wanted))
     (sym (passed order_view_parsers (account_view_parsers ++ lookup_view_parsers ++ volume_view_parsers) c.args.view.now (texts_of_fields c.args.arguments.now) (no.not-submitted, (no.not-estimate, tt))))
-    c.parse_account_or_later_query.ensures.read
+    c.parse_account_lookup_or_volume_query.ensures.read

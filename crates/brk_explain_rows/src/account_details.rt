@@ -1,0 +1,18 @@
+use brk_changes::SummaryRow;
+use brk_money::Price;
+use brk_ref::AccountRow;
+
+/// A holding summary, with the last price of its symbol.
+#[derive(Drop)]
+pub struct PricedHolding {
+    pub summary: SummaryRow,
+    pub price: Price,
+}
+
+/// The row of an account, and its holding summaries with their last prices.
+#[derive(Drop)]
+pub struct AccountDetails {
+    pub account: AccountRow,
+    /// Its holding summaries, by symbol.
+    pub held: Vec<PricedHolding>,
+}

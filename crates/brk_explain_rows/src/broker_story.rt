@@ -1,9 +1,0 @@
-use brk_ref::BrokerRow;
-
-/// The facts that the explanation of a broker reads beside the trades over which it walks.
-#[derive(Drop)]
-pub struct BrokerStory {
-    pub broker: BrokerRow,
-    /// The number of the broker's accounts.
-    pub accounts: usize,
-}

@@ -1,0 +1,45 @@
+use crate::closing::Closing;
+use brk_changes::{HistoryRow, LotChange, MoveRow, SettlementRow, TradeRow};
+use brk_money::{Day, Price, Wide};
+use brk_ref::{AccountRow, Band, Security, Tax};
+
+/// A trade as ordered, with the rows of its account and its security, and its status changes.
+#[derive(Drop)]
+pub struct OrderDetails {
+    pub trade: TradeRow,
+    pub account: AccountRow,
+    pub security: Security,
+    /// The status changes, oldest first.
+    pub statuses: Vec<HistoryRow>,
+}
+
+/// The results of a completed trade.
+#[derive(Drop)]
+pub struct ResultDetails {
+    pub price: Price,
+    /// The lots of which it closed shares, in the order of closing.
+    pub closings: Vec<Closing>,
+    /// The lot that it opened.
+    pub own_lot: Option<LotChange>,
+    /// The tax rates of its customer, as they are now.
+    pub rates: Vec<Tax>,
+    /// The commission band of its quantity, as it is now.
+    pub band: Option<Band>,
+    pub settlement: SettlementRow,
+    /// Its cash row, if it has one.
+    pub cash: Option<MoveRow>,
+    /// The sum of the account's cash rows before its completion, in cents.
+    pub cash_before: Wide,
+    /// The number of the account's cash rows before its completion.
+    pub cash_rows: u64,
+    /// The first day whose completions settle after one day, as it is now.
+    pub rule: Option<Day>,
+}
+
+/// The facts that the explanation of a trade reads: the trade as ordered, and its results if it is
+/// completed.
+#[derive(Drop)]
+pub struct TradeDetails {
+    pub order: OrderDetails,
+    pub result: Option<ResultDetails>,
+}
