@@ -36,7 +36,7 @@ flag_as_value b = Int (pos (if b then 1 else 0))
 
 -- The SQL values of a row of DESK, in the order of its columns.
 abbrev pub desk_row_cells : DeskRow → Row
-desk_row_cells r = natural_as_value r.id ∷ natural_as_value r.schema ∷ optional_as_value r.last ∷ []
+desk_row_cells r = natural_as_value r.id ∷ natural_as_value r.schema ∷ optional_natural_as_value r.last ∷ []
 
 -- The SQL values of a row of KEPT, in the order of its columns.
 abbrev pub kept_cells : Kept → Row
@@ -90,8 +90,9 @@ customer_tax_cells r = natural_as_value r.customer ∷ natural_as_value r.tax �
 abbrev pub trade_cells : TradeRow → Row
 trade_cells r =
     natural_as_value r.id ∷ natural_as_value r.stamp ∷ Words (trade_status_code r.status) ∷ Words (trade_type_code r.kind) ∷ flag_as_value r.is_cash
-    ∷ Words r.symbol ∷ natural_as_value r.qty ∷ natural_as_value r.bid ∷ natural_as_value r.account ∷ Words r.executor ∷ optional_as_value r.price
-    ∷ natural_as_value r.charge ∷ natural_as_value r.commission ∷ natural_as_value r.tax ∷ flag_as_value r.is_lifo ∷ []
+    ∷ Words r.symbol ∷ natural_as_value r.qty ∷ natural_as_value r.bid ∷ natural_as_value r.account ∷ Words r.executor
+    ∷ optional_natural_as_value r.price ∷ natural_as_value r.charge ∷ natural_as_value r.commission ∷ natural_as_value r.tax ∷ flag_as_value r.is_lifo
+    ∷ []
 
 -- The SQL values of a row of TRADE_HISTORY, in the order of its columns.
 abbrev pub history_cells : HistoryRow → Row
@@ -127,7 +128,8 @@ cash_cells r = natural_as_value r.trade ∷ natural_as_value r.stamp ∷ Int r.a
 -- The SQL values of a row of CASH_MOVE, in the order of its columns.
 abbrev pub move_cells : MoveRow → Row
 move_cells r =
-    natural_as_value r.id ∷ natural_as_value r.account ∷ optional_as_value r.trade ∷ natural_as_value r.stamp ∷ Int r.amount ∷ Words r.name ∷ []
+    natural_as_value r.id ∷ natural_as_value r.account ∷ optional_natural_as_value r.trade ∷ natural_as_value r.stamp ∷ Int r.amount ∷ Words r.name
+    ∷ []
 
 -- The SQL values of a row of SETTLE_RULE, in the order of its columns.
 abbrev pub rule_cells : RuleRow → Row
