@@ -7,7 +7,8 @@ use Rattle.std.proofs.lemmas.List.Sums.{sum_by-cons}
 use Rattle.std.proofs.lemmas.List.Sorted.{IsPermutation-reverse}
 use Rattle.brk_model.specs.Lists.{is_zero}
 use Rattle.brk_model.specs.Shares.{Share, Deal, Touch, first_shares_of_lots, lot_touches_of_deal, changes_lot_quantity, lot_quantity, lots_of_shares, opened_shares, shares_after_deal, touch_of_lot_with_share, touches_of_existing_lots, touch_of_lot}
-use Rattle.brk_model.specs.Tables.{HoldingHistoryRow, row_changes_quantity, holding_history_rows_of_deals, holding_history_row}
+use Rattle.brk_model.specs.Tables.{HoldingHistoryRow, holding_history_row}
+use Rattle.brk_lots.specs.HistoryRows.{row_changes_quantity, holding_history_rows_of_deals}
 use Rattle.brk_lots.specs.Chains.{lot_changes_of_deal, opening_touch, lot_changes_of_deals}
 use Rattle.brk_lots.specs.Deals.{AreAscendingDeals, IsLaterDeal}
 use Rattle.brk_lots.specs.Lots.{list_in_closing_order}

@@ -304,7 +304,7 @@ no_rows form step gives text name base clock old named all = record {
     settled = record {
       named = named;
       rows_only = tt;
-      answered = record { replies = []; one_each = refl; run = refl; all = refl };
+      answered = refl;
       each = refl;
     };
     ends = (inl (refl, all, refl), refl);

@@ -3,7 +3,8 @@ use Rattle.std.proofs.Common.{◌≡◌, ◌+◌, ◌++◌, ◌∷◌, [], ℕ, 
 use Rattle.std.specs.Prelude.{Bool, Ok, Err}
 use Rattle.std.proofs.lemmas.List.{append-nil, length-append, map-append}
 use Rattle.brk_money.specs.Spelling.{Text}
-use Rattle.brk_model.specs.Answers.{Fields, CallsHaveAnswers, RowCall, RowStep, answer_to_row_call, calls_of_rows, well_formed_rows_from, with_well_formed_row, answers_interleaved_with_refusals, answers_to_row_and_rest}
+use Rattle.brk_model.specs.Answers.{Fields, RowStep}
+use Rattle.brk_model_theorems.specs.RowCalls.{CallsHaveAnswers, RowCall, answer_to_row_call, calls_of_rows, well_formed_rows_from, with_well_formed_row, answers_interleaved_with_refusals, answers_to_row_and_rest}
 use Rattle.brk_model.specs.Commands.{Answer, Refused}
 use Rattle.brk_model.specs.Forms.{ReadResult}
 use Rattle.brk_model.specs.Lines.{answer_line, answer_lines_from}

@@ -6,7 +6,9 @@ use Rattle.std.specs.List.{AllByRecursion}
 use Rattle.std.proofs.lemmas.List.{length-append, map-append}
 use Rattle.csv.specs.declared.reader.Reader.{Reader}
 use Rattle.brk_money.specs.Spelling.{Text}
-use Rattle.brk_model.specs.Answers.{Fields, CallsHaveAnswers, RowStep, calls_of_rows, well_formed_rows_from}
+use Rattle.brk_model.specs.Answers.{Fields, RowStep}
+use Rattle.brk_model_theorems.proofs.RowLaws.{answered-of}
+use Rattle.brk_model_theorems.specs.RowCalls.{CallsHaveAnswers, calls_of_rows, well_formed_rows_from}
 use Rattle.brk_model.specs.Commands.{Answer}
 use Rattle.brk_model.specs.Forms.{ReadResult}
 use Rattle.brk_model.specs.Input.{IsEndRecord, IsBatchName, batch_header}
@@ -138,7 +140,8 @@ progress_of honest stands acts form step gives rem first head desk place r other
   settled = record {
     named = r.named;
     rows_only = r.rows_only;
-    answered = record { replies = r.answered.replies; one_each = r.answered.one_each; run = turns; all = r.answered.all };
+    answered = answered-of form other head.name base after r.answered.moments r.rows r.answers
+        (record { replies = r.answered.replies; one_each = r.answered.one_each; run = turns; all = r.answered.all });
     each = r.each;
   };
   size = r.size;

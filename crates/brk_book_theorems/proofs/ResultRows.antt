@@ -14,7 +14,9 @@ use Rattle.brk_model.specs.Derived.{Posting, balance_of_account, commission_tota
 use Rattle.brk_model.specs.Results.{completed_trade, deal_of_result, base_after_result}
 use Rattle.brk_model.specs.Shares as model
 use Rattle.brk_model.specs.Shares.{Touch}
-use Rattle.brk_model.specs.Tables.{BrokerRow, HistoryRow, MoveRow, SummaryRow, Tables, TradeRow, account_row, broker_row, history_rows, holding_row, holding_history_rows_of_lot, cash_move_row as numbered_row, numbered_move_rows, request_row, settlement_row, tables_of_base_in_schema, trade_row}
+use Rattle.brk_model.specs.Tables.{BrokerRow, HistoryRow, MoveRow, SummaryRow, Tables, TradeRow, account_row, broker_row, history_rows, holding_row, cash_move_row as numbered_row, numbered_move_rows, request_row, settlement_row, tables_of_base_in_schema, trade_row}
+use Rattle.brk_lots.proofs.HistoryRows.{rows_of_lots_are}
+use Rattle.brk_lots.specs.HistoryRows.{changing_rows_of_lot}
 use Rattle.brk_model.specs.Keys.{number, word, account_key, broker_key, rows_sorted_by_key, history_key, holding_history_key, holding_key, insert_row_by_key, move_key, request_key, settlement_key, summary_key, trade_key}
 use Rattle.brk_model.specs.Sheets.{sheets, tables_sorted_by_key}
 use Rattle.brk_model.specs.Names.{TradesAreNumberedFrom}
@@ -392,7 +394,10 @@ sheets_then base stamp price t xs ys k a s ea es marks =
     summaries = ap (λ ts. rows_sorted_by_key summary_key (all_summaries base ts)) then ∙ summaries_after base A u Z m a s ea es
 
     histories : (sheets after).holding_history ≡ put_openings c.opened (put_changes u.id c.touched (sheets base).holding_history)
-    histories = ap (λ ts. rows_sorted_by_key holding_history_key (flat_map (holding_history_rows_of_lot ts) ts)) then ∙ histories_after base A u Z m
+    histories =
+        ap (rows_sorted_by_key holding_history_key) (rows_of_lots_are (completed_trades after) (completed_trades after))
+        ∙ ap (λ ts. rows_sorted_by_key holding_history_key (flat_map (changing_rows_of_lot ts) ts)) then ∙ histories_after base A u Z m
+        ∙ ap (λ rows. put_openings c.opened (put_changes u.id c.touched rows)) (sym (ap (rows_sorted_by_key holding_history_key) (rows_of_lots_are (completed_trades base) (completed_trades base))))
 
     moved : sheets after ≡ rows_set u c (sheets base)
     moved = λ i. record (sheets base) {

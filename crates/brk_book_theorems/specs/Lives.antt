@@ -4,7 +4,8 @@ use Rattle.std.specs.Option.{option_map_or}
 use Rattle.brk_lots.specs.Chains.{IsLotHistory}
 use Rattle.brk_model.specs.Lists.{sort_by}
 use Rattle.brk_model.specs.LookupView.{stamp_of_touching_trade}
-use Rattle.brk_model.specs.Tables.{HoldingHistoryRow, Tables, touch_of_row}
+use Rattle.brk_model.specs.Tables.{HoldingHistoryRow, Tables}
+use Rattle.brk_lots.specs.HistoryRows.{touch_of_row}
 
 -- The rows of HOLDING_HISTORY of the lot `lot`, sorted by the stamp of the trade that changed the
 -- lot, ascending.

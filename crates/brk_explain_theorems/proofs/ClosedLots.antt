@@ -9,7 +9,8 @@ use Rattle.brk_model.specs.Lists.{sort_by}
 use Rattle.brk_model.specs.Records.{Trade}
 use Rattle.brk_model.specs.Shares.{Share, changes_lot_quantity, touch_of_lot, touches_of_existing_lots}
 use Rattle.brk_model.specs.Sheets.{sheets}
-use Rattle.brk_model.specs.Tables.{HoldingHistoryRow, Tables, row_changes_quantity, holding_history_row, trade_row}
+use Rattle.brk_model.specs.Tables.{HoldingHistoryRow, Tables, holding_history_row, trade_row}
+use Rattle.brk_lots.specs.HistoryRows.{row_changes_quantity}
 use Rattle.brk_lots.specs.Lots as lots_spec
 use Rattle.brk_lots.specs.Lots.{abstract_touch, shares_of_lots, side_of_qty}
 use Rattle.brk_lots.specs.Walks.{closed_share_count, touches_of_first_shares}

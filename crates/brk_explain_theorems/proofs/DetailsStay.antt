@@ -16,7 +16,8 @@ use Rattle.brk_model.specs.Records.{Account, StatusChange, Trade}
 use Rattle.brk_model.specs.Run.{Call, Outcome, Run}
 use Rattle.brk_model.specs.Shares.{Share, replay, signed_by_side}
 use Rattle.brk_model.specs.Sheets.{sheets, tables_sorted_by_key}
-use Rattle.brk_model.specs.Tables.{AccountRow, HistoryRow, HoldingHistoryRow, SettlementRow, Tables, account_row, history_rows, row_changes_quantity, tables_of_base_in_schema, trade_row}
+use Rattle.brk_model.specs.Tables.{AccountRow, HistoryRow, HoldingHistoryRow, SettlementRow, Tables, account_row, history_rows, tables_of_base_in_schema, trade_row}
+use Rattle.brk_lots.specs.HistoryRows.{row_changes_quantity}
 use Rattle.brk_lots.specs.Lots.{list_in_closing_order, side_of_qty}
 use Rattle.brk_lots.specs.Walks.{closed_share_count, touches_of_first_shares}
 use Rattle.brk_lots.specs.declared.lot.Lot.{Lot}

@@ -10,7 +10,8 @@ use Rattle.brk_money.specs.declared.side.Side.TheVariants.{Buy, Sell}
 use Rattle.brk_model.specs.Base.{completion_price}
 use Rattle.brk_model.specs.Lists.{is_zero, total_by}
 use Rattle.brk_model.specs.Records.{Trade}
-use Rattle.brk_model.specs.Tables.{HoldingHistoryRow, row_changes_quantity, holding_history_rows_of_deals}
+use Rattle.brk_model.specs.Tables.{HoldingHistoryRow}
+use Rattle.brk_lots.specs.HistoryRows.{row_changes_quantity, holding_history_rows_of_deals}
 use Rattle.brk_model.specs.Shares.{Share, Deal, realised_gain, lot_quantity, net_share_count, shares_opened_by_trade, opened_share, replay, shares_after_deal, signed_by_side}
 use Rattle.brk_lots.specs.Books.{realised_gain_sum, share_cost_basis}
 use Rattle.brk_lots.proofs.Deals.{all_after}

@@ -9,7 +9,8 @@ use Rattle.brk_model.specs.Keys.{holding_history_key, is_row_key_less}
 use Rattle.brk_model.specs.Lists.{is_zero, total_by}
 use Rattle.brk_model.specs.Records.{Trade}
 use Rattle.brk_model.specs.Shares.{Deal, Share, lot_quantity, net_share_count, opened_share, shares_after_deal, signed_by_side}
-use Rattle.brk_model.specs.Tables.{HoldingHistoryRow, row_changes_quantity}
+use Rattle.brk_model.specs.Tables.{HoldingHistoryRow}
+use Rattle.brk_lots.specs.HistoryRows.{row_changes_quantity}
 use Rattle.brk_lots.proofs.Deals.{all_after}
 use Rattle.brk_book_theorems.specs.Books.{BooksInvariant}
 use Rattle.brk_book_theorems.proofs.Completing.{is_here, of_here}

@@ -11,7 +11,8 @@ use Rattle.brk_model.specs.Lists.{is_zero, sort_by}
 use Rattle.brk_model.specs.Records.{Trade}
 use Rattle.brk_model.specs.Shares.{Share, closed_share_count_of_deal, lot_quantity, shares_after_deal, signed_by_side}
 use Rattle.brk_model.specs.Sheets.{sheets}
-use Rattle.brk_model.specs.Tables.{HoldingHistoryRow, row_changes_quantity}
+use Rattle.brk_model.specs.Tables.{HoldingHistoryRow}
+use Rattle.brk_lots.specs.HistoryRows.{row_changes_quantity}
 use Rattle.brk_lots.proofs.History.{opened_qty}
 use Rattle.brk_explain_model.specs.Trades.{opened_lot_row}
 use Rattle.brk_book_theorems.proofs.Completing.{here_itself, is_here}

@@ -11,18 +11,18 @@ use Rattle.brk_http_model.specs.declared.problem.RequestProblem.TheVariants.{Not
 
 pub no_route : (forms : RequestParsers) (q : Request) → route_of_target forms.views q.target ≡ None → ResponseOnly (FromProblem NotFound) ≡ demand_of_request forms q
 unfolding demand_of_request
-no_route forms q e = rw e refl
+no_route forms q e = rw (demand_of_request, e) refl
 
 pub no_post : (forms : RequestParsers) (q : Request) (route : Route) → route_of_target forms.views q.target ≡ Some route → bytes_eq q.method (codes "POST") ≡ false → ResponseOnly (FromProblem NotAllowed) ≡ demand_of_request forms q
 unfolding demand_of_request
-no_post forms q route e t = rw (e, t) refl
+no_post forms q route e t = rw (demand_of_request, e, t) refl
 
 pub no_texts : (forms : RequestParsers) (q : Request) (route : Route) → route_of_target forms.views q.target ≡ Some route → bytes_eq q.method (codes "POST") ≡ true → texts_of_body q.body ≡ None
     → ResponseOnly (FromProblem BadRequest) ≡ demand_of_request forms q
 unfolding demand_of_request
-no_texts forms q route e t b = rw (e, t, b) refl
+no_texts forms q route e t b = rw (demand_of_request, e, t, b) refl
 
 pub all_there : (forms : RequestParsers) (q : Request) (route : Route) (texts : List Text) → route_of_target forms.views q.target ≡ Some route → bytes_eq q.method (codes "POST") ≡ true → texts_of_body q.body ≡ Some texts
     → demand_of_texts forms route texts ≡ demand_of_request forms q
 unfolding demand_of_request
-all_there forms q route texts e t b = rw (e, t, b) refl
+all_there forms q route texts e t b = rw (demand_of_request, e, t, b) refl

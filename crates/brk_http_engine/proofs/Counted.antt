@@ -6,7 +6,8 @@ use Rattle.brk_io.specs.Span.{IsUnchangedEnvironment, ClockAndWriterChange, Envi
 use Rattle.brk_http_model.specs.Asked.{RequestParsers, RequestDemand, ResponseOnly, DeskCall, demand_of_request}
 use Rattle.brk_http_model.specs.Found.{RequestReading, NoBytesLeft, Unreadable, CompleteRequest}
 use Rattle.brk_http_model.specs.Replies.{Response}
-use Rattle.brk_http_model.specs.Stream.{StreamState, Finished, Continues, One, IsReplyToReading, AreRepliesOfStream, AreFirstReplies, IsResponseToDemand}
+use Rattle.brk_http_model.specs.Stream.{StreamState, Finished, Continues, RequestEffect, IsEffectOfFirstRequest, IsEffectOfReading, AreRepliesOfStream, AreFirstReplies, IsResponseToDemand}
+use Rattle.brk_http_engine.proofs.Effects.{effect_of}
 use Rattle.brk_http_engine.specs.Limits.{call_limit_at_fault, call_limit_of_stream}
 use Rattle.brk_http_engine.specs.Promises.{CallScript, StreamMatchesScript, IsNextScriptedCall}
 use Rattle.brk_http_engine.specs.Turns.{ExchangeHasReply, ExchangeFailsWith}
@@ -27,22 +28,22 @@ module _ (forms : RequestParsers) where
   responds_few (DeskCall call) before after taken response (now, outcome, is, took, (made, came)) =
       let e : call_count_of_script before ≡ length ((now, call) ∷ after.0) = ap length made in omega (arith, e)
 
-  replied_few : (n : ℕ) (found : RequestReading) (before after : CallScript) (taken : List ℕ) (reply : Text) (next : StreamState) → IsReplyToReading forms IsNextScriptedCall n found before taken reply next after
-      → call_count_of_script before ≤ call_count_of_script after + 1
-  replied_few n NoBytesLeft before after taken reply next h = elim h [ ]
-  replied_few n (Unreadable problem) before after taken reply next (is, ends, none, same) = same_script before after 1 same
-  replied_few n (CompleteRequest request rest) before after taken reply next h = responds_few (demand_of_request forms request) before after taken h.response h.responds
+  replied_few : (n : ℕ) (found : RequestReading) (effect : RequestEffect CallScript) → IsEffectOfReading forms IsNextScriptedCall n found effect
+      → call_count_of_script effect.base ≤ call_count_of_script effect.after + 1
+  replied_few n NoBytesLeft effect h = elim h [ ]
+  replied_few n (Unreadable problem) effect (is, ends, none, same) = same_script effect.base effect.after 1 same
+  replied_few n (CompleteRequest request rest) effect h = responds_few (demand_of_request forms request) effect.base effect.after effect.moments h.response h.responds
 
-  one_few : (n : ℕ) (input : Text) (before after : CallScript) (taken : List ℕ) (reply : Text) (next : StreamState) → One forms IsNextScriptedCall n input before taken reply next after
-      → call_count_of_script before ≤ call_count_of_script after + 1
-  one_few n input before after taken reply next h = replied_few n h.found before after taken reply next h.replied
+  one_few : (n : ℕ) (input : Text) (effect : RequestEffect CallScript) → IsEffectOfFirstRequest forms IsNextScriptedCall n input effect
+      → call_count_of_script effect.base ≤ call_count_of_script effect.after + 1
+  one_few n input effect h = replied_few n h.found effect h.replied
 
   replies_few : (rs : List Text) (n : ℕ) (next : StreamState) (before after : CallScript) (moments : List ℕ) → AreRepliesOfStream forms IsNextScriptedCall n next before moments rs after
       → call_count_of_script before ≤ call_count_of_script after + length rs
   replies_few rs n Finished before after moments (none, asked, same) = same_script before after (length rs) same
   replies_few [] n (Continues input) before after moments (none, asked, same) = same_script before after 0 same
   replies_few (reply ∷ rs) n (Continues input) before after moments (taken, more, next, mid, split, first, others) =
-      let one : call_count_of_script before ≤ call_count_of_script mid + 1 = one_few n input before mid taken reply next first in
+      let one : call_count_of_script before ≤ call_count_of_script mid + 1 = one_few n input (effect_of before taken reply next mid) first in
       let rest : call_count_of_script mid ≤ call_count_of_script after + length rs = replies_few rs (n + 1) next mid after more others in
       omega (arith, one, rest)
 
@@ -50,7 +51,7 @@ module _ (forms : RequestParsers) where
       → call_count_of_script before ≤ call_count_of_script after + length rs
   begins_few [] n input rest before after moments (is, asked, same) = same_script before after 0 same
   begins_few (reply ∷ rs) n input rest before after moments (taken, more, left, mid, split, first, others) =
-      let one : call_count_of_script before ≤ call_count_of_script mid + 1 = one_few n input before mid taken reply (Continues left) first in
+      let one : call_count_of_script before ≤ call_count_of_script mid + 1 = one_few n input (effect_of before taken reply (Continues left) mid) first in
       let later : call_count_of_script mid ≤ call_count_of_script after + length rs = begins_few rs (n + 1) left rest mid after more others in
       omega (arith, one, later)
 
@@ -58,8 +59,8 @@ module _ (forms : RequestParsers) where
     failed_few : (n : ℕ) (input : Text) (span : EnvironmentChange CallScript C) (kind : FaultKind) → ExchangeFailsWith forms IsNextScriptedCall gives n input span kind → call_count_of_script span.base ≤ call_count_of_script span.after + call_limit_at_fault kind
     failed_few n input span kinds.Read h = same_script span.base span.after 0 h.base
     failed_few n input span kinds.Memory (inl h) = same_script span.base span.after 1 h.base
-    failed_few n input span kinds.Memory (inr (reply, next, h, wrote)) = one_few n input span.base span.after h.taken reply next h.one
-    failed_few n input span kinds.Write (reply, next, size, h, wrote) = one_few n input span.base span.after h.taken reply next h.one
+    failed_few n input span kinds.Memory (inr (reply, next, h, wrote)) = one_few n input (effect_of span.base h.taken reply next span.after) h.one
+    failed_few n input span kinds.Write (reply, next, size, h, wrote) = one_few n input (effect_of span.base h.taken reply next span.after) h.one
 
     pub tells_few : (input : Text) (script : CallScript) (outside : ClockAndWriterChange C) (result : Result ℕ ServeFault) → StreamMatchesScript forms gives input script outside result → call_count_of_script script ≤ call_limit_of_stream result
     tells_few input script outside (Ok count) h =

@@ -4,6 +4,7 @@ pub mod ReplyLemmas
 pub mod AskLemmas
 pub mod TurnLemmas
 pub mod StreamLemmas
+pub mod Effects
 pub mod Simulated
 pub mod Promised
 pub mod Called

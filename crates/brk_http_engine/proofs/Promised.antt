@@ -8,7 +8,8 @@ use Rattle.brk_io.specs.Span.{IsUnchangedEnvironment, ClockAndWriterChange, Envi
 use Rattle.brk_http_model.specs.Asked.{RequestParsers, RequestDemand, ResponseOnly, DeskCall, demand_of_request}
 use Rattle.brk_http_model.specs.Found.{RequestReading, NoBytesLeft, Unreadable, CompleteRequest}
 use Rattle.brk_http_model.specs.Replies.{Response}
-use Rattle.brk_http_model.specs.Stream.{CallRelation, StreamState, Finished, Continues, One, IsReplyToReading, AreRepliesOfStream, AreFirstReplies, IsResponseToDemand}
+use Rattle.brk_http_model.specs.Stream.{CallRelation, StreamState, Finished, Continues, RequestEffect, IsEffectOfFirstRequest, IsEffectOfReading, AreRepliesOfStream, AreFirstReplies, IsResponseToDemand}
+use Rattle.brk_http_engine.proofs.Effects.{effect_of, effect_between}
 use Rattle.brk_http_engine.specs.Promises.{StreamRefinesModel, CallScript, StreamMatchesScript, IsNextScriptedCall}
 use Rattle.brk_http_engine.specs.Turns.{ExchangeHasReply, ExchangeFailsWith, IsStreamResult}
 use Rattle.brk_http_engine.specs.declared.stream.ServeFault.{ServeFault}
@@ -34,7 +35,7 @@ module _ {D B C : Type 0} (forms : RequestParsers) (acts : CallRelation D) (does
   answered_carries : (n : ℕ) (input : Text) (old new : D) (clock later : C) (was now : Option Text) (reply : Text) (next : StreamState) → ExchangeHasReply forms acts gives n input (change_between old new clock later was now) reply next
       → RefinesFromEveryBase old new (λ base after. ExchangeHasReply forms does gives n input (change_between base after clock later was now) reply next)
   answered_carries n input old new clock later was now reply next h good =
-      let r = sim.one forms acts does honest stands earlier steps n input old new h.taken reply next h.one good in
+      let r = sim.one forms acts does honest stands earlier steps n input (effect_of old h.taken reply next new) h.one good in
       (r.0, λ base stood. let k = r.1 base stood in (k.0, k.1, record { taken = h.taken; moments = h.moments; one = k.2 }))
 
   untouched_carries : (old new : D) (clock later : C) (was now : Option Text) → IsUnchangedEnvironment (change_between old new clock later was now)
@@ -98,18 +99,18 @@ module _ {D C : Type 0} (forms : RequestParsers) (acts : CallRelation D) (gives 
   responds_told (DeskCall call) old new taken response (now, outcome, is, took, acted) after made =
       (((now, call) ∷ after.0, outcome ∷ after.1), (new, acted, made), (now, outcome, is, took, (refl, refl)))
 
-  replied_told : (n : ℕ) (found : RequestReading) (old new : D) (taken : List ℕ) (reply : Text) (next : StreamState) → IsReplyToReading forms acts n found old taken reply next new
-      → ExtendsScript old new (λ before after. IsReplyToReading forms IsNextScriptedCall n found before taken reply next after)
-  replied_told n NoBytesLeft old new taken reply next h after made = elim h [ ]
-  replied_told n (Unreadable problem) old new taken reply next (is, ends, none, same) after made = (after, stayed old new after same made, (is, ends, none, refl))
-  replied_told n (CompleteRequest request rest) old new taken reply next h after made =
-      let r = responds_told (demand_of_request forms request) old new taken h.response h.responds after made in
+  replied_told : (n : ℕ) (found : RequestReading) (effect : RequestEffect D) → IsEffectOfReading forms acts n found effect
+      → ExtendsScript effect.base effect.after (λ before after. IsEffectOfReading forms IsNextScriptedCall n found (effect_between effect before after))
+  replied_told n NoBytesLeft effect h after made = elim h [ ]
+  replied_told n (Unreadable problem) effect (is, ends, none, same) after made = (after, stayed effect.base effect.after after same made, (is, ends, none, refl))
+  replied_told n (CompleteRequest request rest) effect h after made =
+      let r = responds_told (demand_of_request forms request) effect.base effect.after effect.moments h.response h.responds after made in
       (r.0, r.1, record { response = h.response; closes = h.closes; responds = r.2; last = h.last; bytes = h.bytes; follows = h.follows })
 
-  one_told : (n : ℕ) (input : Text) (old new : D) (taken : List ℕ) (reply : Text) (next : StreamState) → One forms acts n input old taken reply next new
-      → ExtendsScript old new (λ before after. One forms IsNextScriptedCall n input before taken reply next after)
-  one_told n input old new taken reply next h after made =
-      let r = replied_told n h.found old new taken reply next h.replied after made in (r.0, r.1, record { found = h.found; finds = h.finds; replied = r.2 })
+  one_told : (n : ℕ) (input : Text) (effect : RequestEffect D) → IsEffectOfFirstRequest forms acts n input effect
+      → ExtendsScript effect.base effect.after (λ before after. IsEffectOfFirstRequest forms IsNextScriptedCall n input (effect_between effect before after))
+  one_told n input effect h after made =
+      let r = replied_told n h.found effect h.replied after made in (r.0, r.1, record { found = h.found; finds = h.finds; replied = r.2 })
 
   replies_told : (rs : List Text) (n : ℕ) (next : StreamState) (old new : D) (moments : List ℕ) → AreRepliesOfStream forms acts n next old moments rs new
       → ExtendsScript old new (λ before after. AreRepliesOfStream forms IsNextScriptedCall n next before moments rs after)
@@ -117,7 +118,7 @@ module _ {D C : Type 0} (forms : RequestParsers) (acts : CallRelation D) (gives 
   replies_told [] n (Continues input) old new moments (none, asked, same) after made = (after, stayed old new after same made, (none, asked, refl))
   replies_told (reply ∷ rs) n (Continues input) old new moments (taken, more, next, mid, split, first, others) after made =
       let l = replies_told rs (n + 1) next mid new more others after made in
-      let k = one_told n input old mid taken reply next first l.0 l.1 in
+      let k = one_told n input (effect_of old taken reply next mid) first l.0 l.1 in
       (k.0, k.1, (taken, more, next, l.0, split, k.2, l.2))
 
   begins_told : (rs : List Text) (n : ℕ) (input rest : Text) (old new : D) (moments : List ℕ) → AreFirstReplies forms acts n input old moments rs rest new
@@ -125,13 +126,13 @@ module _ {D C : Type 0} (forms : RequestParsers) (acts : CallRelation D) (gives 
   begins_told [] n input rest old new moments (is, asked, same) after made = (after, stayed old new after same made, (is, asked, refl))
   begins_told (reply ∷ rs) n input rest old new moments (taken, more, left, mid, split, first, others) after made =
       let l = begins_told rs (n + 1) left rest mid new more others after made in
-      let k = one_told n input old mid taken reply (Continues left) first l.0 l.1 in
+      let k = one_told n input (effect_of old taken reply (Continues left) mid) first l.0 l.1 in
       (k.0, k.1, (taken, more, left, l.0, split, k.2, l.2))
 
   answered_told : (n : ℕ) (input : Text) (old new : D) (clock later : C) (was now : Option Text) (reply : Text) (next : StreamState) → ExchangeHasReply forms acts gives n input (change_between old new clock later was now) reply next
       → ExtendsScript old new (λ before after. ExchangeHasReply forms IsNextScriptedCall gives n input (change_between before after clock later was now) reply next)
   answered_told n input old new clock later was now reply next h after made =
-      let r = one_told n input old new h.taken reply next h.one after made in (r.0, r.1, record { taken = h.taken; moments = h.moments; one = r.2 })
+      let r = one_told n input (effect_of old h.taken reply next new) h.one after made in (r.0, r.1, record { taken = h.taken; moments = h.moments; one = r.2 })
 
   untouched_told : (old new : D) (clock later : C) (was now : Option Text) → IsUnchangedEnvironment (change_between old new clock later was now)
       → ExtendsScript old new (λ before after. IsUnchangedEnvironment (change_between before after clock later was now))

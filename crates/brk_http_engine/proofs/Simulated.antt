@@ -5,7 +5,8 @@ use Rattle.brk_model.specs.Run.{Call, Outcome}
 use Rattle.brk_http_model.specs.Asked.{RequestParsers, RequestDemand, ResponseOnly, DeskCall, demand_of_request}
 use Rattle.brk_http_model.specs.Found.{RequestReading, NoBytesLeft, Unreadable, CompleteRequest}
 use Rattle.brk_http_model.specs.Replies.{Response}
-use Rattle.brk_http_model.specs.Stream.{CallRelation, StreamState, Finished, Continues, One, IsReplyToReading, AreRepliesOfStream, AreFirstReplies, IsResponseToDemand}
+use Rattle.brk_http_model.specs.Stream.{CallRelation, StreamState, Finished, Continues, RequestEffect, IsEffectOfFirstRequest, IsEffectOfReading, AreRepliesOfStream, AreFirstReplies, IsResponseToDemand}
+use Rattle.brk_http_engine.proofs.Effects.{effect_of, effect_between}
 
 module _ {D B : Type 0} (forms : RequestParsers) (acts : CallRelation D) (does : CallRelation B) (honest : D → Type 0) (stands : D → B → Type 0)
     (earlier : (old : D) (now : ℕ) (call : Call) (outcome : Outcome) (new : D) → acts old now call outcome new → honest new → honest old)
@@ -23,22 +24,22 @@ module _ {D B : Type 0} (forms : RequestParsers) (acts : CallRelation D) (does :
   responds (DeskCall call) old new taken response (now, outcome, is, took, acted) good =
       (earlier old now call outcome new acted good, λ base stood. let h = steps old now call outcome new acted good base stood in (h.0, h.1, (now, outcome, is, took, h.2)))
 
-  replied : (n : ℕ) (found : RequestReading) (old new : D) (taken : List ℕ) (reply : Text) (next : StreamState) → IsReplyToReading forms acts n found old taken reply next new
-      → RefinesFromEveryBase old new (λ base after. IsReplyToReading forms does n found base taken reply next after)
-  replied n NoBytesLeft old new taken reply next h good = elim h [ ]
-  replied n (Unreadable problem) old new taken reply next (is, ends, none, same) good =
+  replied : (n : ℕ) (found : RequestReading) (effect : RequestEffect D) → IsEffectOfReading forms acts n found effect
+      → RefinesFromEveryBase effect.base effect.after (λ base after. IsEffectOfReading forms does n found (effect_between effect base after))
+  replied n NoBytesLeft effect h good = elim h [ ]
+  replied n (Unreadable problem) effect (is, ends, none, same) good =
       (subst honest same good, λ base stood. (base, subst (λ d. stands d base) (sym same) stood, (is, ends, none, refl)))
-  replied n (CompleteRequest request rest) old new taken reply next h good =
-      let r = responds (demand_of_request forms request) old new taken h.response h.responds good in (
+  replied n (CompleteRequest request rest) effect h good =
+      let r = responds (demand_of_request forms request) effect.base effect.after effect.moments h.response h.responds good in (
         r.0,
         λ base stood. let k = r.1 base stood in
             (k.0, k.1, record { response = h.response; closes = h.closes; responds = k.2; last = h.last; bytes = h.bytes; follows = h.follows }),
       )
 
-  pub one : (n : ℕ) (input : Text) (old new : D) (taken : List ℕ) (reply : Text) (next : StreamState) → One forms acts n input old taken reply next new
-      → RefinesFromEveryBase old new (λ base after. One forms does n input base taken reply next after)
-  one n input old new taken reply next h good =
-      let r = replied n h.found old new taken reply next h.replied good in
+  pub one : (n : ℕ) (input : Text) (effect : RequestEffect D) → IsEffectOfFirstRequest forms acts n input effect
+      → RefinesFromEveryBase effect.base effect.after (λ base after. IsEffectOfFirstRequest forms does n input (effect_between effect base after))
+  one n input effect h good =
+      let r = replied n h.found effect h.replied good in
       (r.0, λ base stood. let k = r.1 base stood in (k.0, k.1, record { found = h.found; finds = h.finds; replied = k.2 }))
 
   -- the replies of a stream over a desk are those over each base that it stood for
@@ -50,7 +51,7 @@ module _ {D B : Type 0} (forms : RequestParsers) (acts : CallRelation D) (does :
       (subst honest same good, λ base stood. (base, subst (λ d. stands d base) (sym same) stood, (none, asked, refl)))
   replies_carry (reply ∷ rs) n (Continues input) old new moments (taken, more, next, mid, split, first, others) good =
       let later = replies_carry rs (n + 1) next mid new more others good in
-      let now = one n input old mid taken reply next first later.0 in (
+      let now = one n input (effect_of old taken reply next mid) first later.0 in (
         now.0,
         λ base stood.
             let k = now.1 base stood in
@@ -65,7 +66,7 @@ module _ {D B : Type 0} (forms : RequestParsers) (acts : CallRelation D) (does :
       (subst honest same good, λ base stood. (base, subst (λ d. stands d base) (sym same) stood, (is, asked, refl)))
   begins_carry (reply ∷ rs) n input rest old new moments (taken, more, left, mid, split, first, others) good =
       let later = begins_carry rs (n + 1) left rest mid new more others good in
-      let now = one n input old mid taken reply (Continues left) first later.0 in (
+      let now = one n input (effect_of old taken reply (Continues left) mid) first later.0 in (
         now.0,
         λ base stood.
             let k = now.1 base stood in

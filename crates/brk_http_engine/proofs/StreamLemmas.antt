@@ -10,7 +10,8 @@ use Rattle.brk_io.specs.Span.{EnvironmentChange}
 use Rattle.brk_io.specs.Moments.{ClockReturnsInOrder}
 use Rattle.brk_http_model.specs.Asked.{RequestParsers}
 use Rattle.brk_http_model.specs.Found.{NoBytesLeft, ReadsFirstRequest}
-use Rattle.brk_http_model.specs.Stream.{CallRelation, StreamState, Finished, Continues, One, AreRepliesOfStream, AreFirstReplies}
+use Rattle.brk_http_model.specs.Stream.{CallRelation, StreamState, Finished, Continues, IsEffectOfFirstRequest, AreRepliesOfStream, AreFirstReplies}
+use Rattle.brk_http_engine.proofs.Effects.{effect_of}
 use Rattle.brk_http_engine.specs.Turns.{ExchangeHasReply, ExchangeCompletesWith, ExchangeFailsWith, StreamFailsWith, IsStreamResult}
 use Rattle.brk_http_engine.specs.declared.turning.Turn.TheVariants as turn
 use Rattle.brk_http_engine.specs.declared.turning.FaultKind.{FaultKind}
@@ -33,15 +34,15 @@ moments_more gives first mid last [] ns e h = subst (λ c. ClockReturnsInOrder g
 moments_more gives first mid last (m ∷ ms) ns (c, g, more) h = (c, g, moments_more gives c mid last ms ns more h)
 
 module _ {B C : Type 0} (forms : RequestParsers) (does : CallRelation B) (gives : C → ℕ → C → Type 0) where
-  one_same : (n n' : ℕ) (i i' : Text) (b b' : B) (taken : List ℕ) (reply : Text) (next : StreamState) (after : B) → n' ≡ n → i' ≡ i → b' ≡ b → One forms does n' i' b' taken reply next after
-      → One forms does n i b taken reply next after
+  one_same : (n n' : ℕ) (i i' : Text) (b b' : B) (taken : List ℕ) (reply : Text) (next : StreamState) (after : B) → n' ≡ n → i' ≡ i → b' ≡ b → IsEffectOfFirstRequest forms does n' i' (effect_of b' taken reply next after)
+      → IsEffectOfFirstRequest forms does n i (effect_of b taken reply next after)
   one_same n n' i i' b b' taken reply next after en ei eb h =
-      subst (λ m. One forms does m i b taken reply next after) en
-      (subst (λ j. One forms does n' j b taken reply next after) ei (subst (λ c. One forms does n' i' c taken reply next after) eb h))
+      subst (λ m. IsEffectOfFirstRequest forms does m i (effect_of b taken reply next after)) en
+      (subst (λ j. IsEffectOfFirstRequest forms does n' j (effect_of b taken reply next after)) ei (subst (λ c. IsEffectOfFirstRequest forms does n' i' (effect_of c taken reply next after)) eb h))
 
   -- one reply more, after which the stream goes on
   begins_more : (rs : List Text) (n k : ℕ) (i j : Text) (b m : B) (ms taken : List ℕ) (reply rest : Text) (after : B) → AreFirstReplies forms does n i b ms rs j m → n + length rs ≡ k
-      → One forms does k j m taken reply (Continues rest) after → AreFirstReplies forms does n i b (ms ++ taken) (rs ++ reply ∷ []) rest after
+      → IsEffectOfFirstRequest forms does k j (effect_of m taken reply (Continues rest) after) → AreFirstReplies forms does n i b (ms ++ taken) (rs ++ reply ∷ []) rest after
   begins_more [] n k i j b m ms taken reply rest after (ei, em, eb) count one =
       (taken, [], rest, after, ap (λ l. l ++ taken) em ∙ sym (append-nil taken), one_same n k i j b m taken reply (Continues rest) after (omega (arith, count)) ei eb one, (refl, refl, refl))
   begins_more (x ∷ rs) n k i j b m ms taken reply rest after (t, more, left, mid, e, first, others) count one =
@@ -49,7 +50,7 @@ module _ {B C : Type 0} (forms : RequestParsers) (does : CallRelation B) (gives 
 
   -- one reply more, which is the last
   begins_last : (rs : List Text) (n k : ℕ) (i j : Text) (b m : B) (ms taken : List ℕ) (reply : Text) (after : B) → AreFirstReplies forms does n i b ms rs j m → n + length rs ≡ k
-      → One forms does k j m taken reply Finished after → AreRepliesOfStream forms does n (Continues i) b (ms ++ taken) (rs ++ reply ∷ []) after
+      → IsEffectOfFirstRequest forms does k j (effect_of m taken reply Finished after) → AreRepliesOfStream forms does n (Continues i) b (ms ++ taken) (rs ++ reply ∷ []) after
   begins_last [] n k i j b m ms taken reply after (ei, em, eb) count one =
       (taken, [], Finished, after, ap (λ l. l ++ taken) em ∙ sym (append-nil taken), one_same n k i j b m taken reply Finished after (omega (arith, count)) ei eb one, (refl, refl, refl))
   begins_last (x ∷ rs) n k i j b m ms taken reply after (t, more, left, mid, e, first, others) count one =

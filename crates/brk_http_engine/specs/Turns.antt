@@ -13,7 +13,7 @@ use Rattle.brk_http_model.specs.Asked.{RequestParsers, demand_of_request}
 use Rattle.brk_http_model.specs.Found.{Request, ReadsFirstRequest, NoBytesLeft}
 use Rattle.brk_http_model.specs.Replies.{Response, is_fault_response, reply_text}
 use Rattle.brk_http_model.specs.Stream.{CallRelation, IsResponseToDemand, most_requests_per_stream, StreamState}
-use Rattle.brk_http_model.specs.Stream.{Finished, Continues, One, AreRepliesOfStream, AreFirstReplies}
+use Rattle.brk_http_model.specs.Stream.{Finished, Continues, IsEffectOfFirstRequest, AreRepliesOfStream, AreFirstReplies}
 use Rattle.brk_io.specs.Span.{IsUnchangedEnvironment, EnvironmentChange}
 use Rattle.brk_io.specs.Moments.{ClockReturnsInOrder}
 use Rattle.brk_http_engine.specs.declared.turning.Turn.{Turn}
@@ -30,8 +30,8 @@ pub record ExchangeHasReply {B C : Type 0} (forms : RequestParsers) (does : Call
   pub taken : List ℕ
   -- The clock returned these timestamps, in order.
   pub moments : ClockReturnsInOrder gives span.clock taken span.later
-  -- In the model it is the reply to the first request of the input.
-  pub one : One forms does n input span.base taken reply next span.after
+  -- In the model it is the effect of the first request of the input.
+  pub one : IsEffectOfFirstRequest forms does n input (record { base = span.base; moments = taken; reply = reply; next = next; after = span.after })
 
 -- After `n` replies the request `request` was executed, and `reply` is its reply. The reply is the
 -- last of its stream (`closes`) if it reaches the limit of replies, if the request asks to close

@@ -1,13 +1,12 @@
 -- The call of the desk that a request makes, or the response that it has without one because a
 -- check fails.
-use Rattle.std.specs.Prelude.{List, map, Option, Some, None, Ok, Err, if◌then◌else◌, codes, bytes_eq}
+use Rattle.std.specs.Prelude.{List, map, Some, None, Ok, Err, not, if◌then◌else◌, codes, bytes_eq}
 use Rattle.brk_money.specs.Spelling.{Text}
 use Rattle.brk_model.specs.Answers.{Fields}
 use Rattle.brk_model.specs.Commands.{Command, Refused}
 use Rattle.brk_model.specs.Forms.{ReadResult}
 use Rattle.brk_model.specs.Parse.{parse_by_first_field, row_parsers}
 use Rattle.brk_model.specs.Ask.{parse_query, view_parsers}
-use Rattle.brk_model.specs.Records.{Key}
 use Rattle.brk_model.specs.Run.{Call, Do, Ask, Did, NoView}
 use Rattle.brk_model.specs.Queries.{Query}
 use Rattle.brk_http_model.specs.Bodies.{texts_of_body}
@@ -32,36 +31,31 @@ pub data RequestDemand : Type 0 where
   ResponseOnly : Response → RequestDemand
   DeskCall : Call → RequestDemand
 
--- The demand of a row: the call of its command with the key `key`, or the response that the row is
--- refused.
-abbrev pub demand_of_row : Option Key → ReadResult Command → RequestDemand
-demand_of_row key (Ok command) = DeskCall (Do command key)
-demand_of_row key (Err refusal) = ResponseOnly (FromOutcome (Did (Refused refusal)))
-
--- The demand of a query: its call, or the response that the query is refused.
-abbrev pub demand_of_query : ReadResult Query → RequestDemand
-demand_of_query (Ok query) = DeskCall (Ask query)
-demand_of_query (Err refusal) = ResponseOnly (FromOutcome (NoView refusal))
-
--- The demand of the texts of a body: a row or a query, by the route.
+-- The demand of the texts of a body by the route: the call of the row or of the query that they
+-- parse as, or the response that the row or the query is refused.
 abbrev pub demand_of_texts : RequestParsers → Route → Fields → RequestDemand
-demand_of_texts forms (ToRow key) texts = demand_of_row key (forms.row texts)
-demand_of_texts forms (ToView view) texts = demand_of_query (forms.query view texts)
+demand_of_texts forms (ToRow key) texts =
+    elim (forms.row texts) [
+      | Err refusal ↦ ResponseOnly (FromOutcome (Did (Refused refusal)))
+      | Ok command ↦ DeskCall (Do command key)
+    ]
+demand_of_texts forms (ToView view) texts =
+    elim (forms.query view texts) [
+      | Err refusal ↦ ResponseOnly (FromOutcome (NoView refusal))
+      | Ok query ↦ DeskCall (Ask query)
+    ]
 
--- The demand of a body by its route; the response `BadRequest` if the body is not a JSON list of
--- texts.
-abbrev pub demand_of_body : RequestParsers → Route → Option Fields → RequestDemand
-demand_of_body forms route None = ResponseOnly (FromProblem BadRequest)
-demand_of_body forms route (Some texts) = demand_of_texts forms route texts
-
--- The demand of a request by the route of its target: the response `NotFound` if there is no route,
--- otherwise `NotAllowed` if the method is not POST, otherwise the demand of its body.
-abbrev pub demand_at_route : RequestParsers → Option Route → Request → RequestDemand
-demand_at_route forms None request = ResponseOnly (FromProblem NotFound)
-demand_at_route forms (Some route) request =
-    if bytes_eq request.method (codes "POST") then demand_of_body forms route (texts_of_body request.body) else ResponseOnly (FromProblem NotAllowed)
-
--- The demand of the request: the call that it makes, or the response of the first check that fails,
--- in the sequence target, method, body, format.
+-- The demand of the request: the response of the first check that fails, or the demand of its
+-- texts. The checks are, in sequence: the target has a route, the method is POST, and the body is a
+-- JSON list of texts.
 unfoldable pub demand_of_request : RequestParsers → Request → RequestDemand
-demand_of_request forms request = demand_at_route forms (route_of_target forms.views request.target) request
+demand_of_request forms request =
+    elim (route_of_target forms.views request.target) [
+      | None ↦ ResponseOnly (FromProblem NotFound)
+      | Some route ↦
+          if not (bytes_eq request.method (codes "POST")) then ResponseOnly (FromProblem NotAllowed)
+          else elim (texts_of_body request.body) [
+            | None ↦ ResponseOnly (FromProblem BadRequest)
+            | Some texts ↦ demand_of_texts forms route texts
+          ]
+    ]

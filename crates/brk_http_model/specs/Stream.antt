@@ -41,37 +41,42 @@ abbrev pub stream_after_reply : Bool → Text → StreamState
 stream_after_reply true rest = Finished
 stream_after_reply false rest = Continues rest
 
--- The bytes `reply` are the reply to `request`, after `n` earlier requests. It takes the clock
--- readings `taken` and leads from `base` to `after`. The stream ends with it if the request is
--- number `most_requests_per_stream` or asks to close the stream, or if the response is a fault;
--- otherwise it continues with the bytes `rest`.
-pub record IsReplyToRequest {B : Type 0} (forms : RequestParsers) (does : CallRelation B) (n : ℕ) (request : Request) (rest : Text)
-    (base : B) (taken : List ℕ) (reply : Text) (next : StreamState) (after : B) : Type 0 where
+-- The effect of one request of a stream: the base before it, the clock readings that it takes, its
+-- reply, the state of the stream after the reply, and the base after it.
+pub record RequestEffect (B : Type 0) : Type 0 where
+  pub base : B
+  pub moments : List ℕ
+  pub reply : Text
+  pub next : StreamState
+  pub after : B
+
+-- The request `request` has the effect `effect`, after `n` earlier requests. The stream ends with
+-- its reply if the request is number `most_requests_per_stream` or asks to close the stream, or if
+-- the response is a fault; otherwise it continues with the bytes `rest`.
+pub record IsEffectOfRequest {B : Type 0} (forms : RequestParsers) (does : CallRelation B) (n : ℕ) (request : Request) (rest : Text)
+    (effect : RequestEffect B) : Type 0 where
   pub response : Response
   pub closes : Bool
-  pub responds : IsResponseToDemand does (demand_of_request forms request) base taken response after
+  pub responds : IsResponseToDemand does (demand_of_request forms request) effect.base effect.moments response effect.after
   pub last : closes ≡ ((n + 1 == most_requests_per_stream) || request.closes || is_fault_response response)
-  pub bytes : reply ≡ reply_text response closes
-  pub follows : next ≡ stream_after_reply closes rest
+  pub bytes : effect.reply ≡ reply_text response closes
+  pub follows : effect.next ≡ stream_after_reply closes rest
 
--- The bytes `reply` are the reply to the result of reading a request, after `n` earlier requests,
--- and `next` is the state of the stream after it. A problem ends the stream, takes no clock reading
--- and leaves the base unchanged. If no byte remains, there is no reply and this is false.
-abbrev pub IsReplyToReading : {B : Type 0} → RequestParsers → CallRelation B → ℕ → RequestReading → B → List ℕ → Text → StreamState → B → Type 0
-IsReplyToReading forms does n NoBytesLeft base taken reply next after = ⊥
-IsReplyToReading forms does n (Unreadable problem) base taken reply next after =
-    (reply ≡ reply_text (FromProblem problem) true) × (next ≡ Finished) × (taken ≡ []) × (after ≡ base)
-IsReplyToReading forms does n (CompleteRequest request rest) base taken reply next after =
-    IsReplyToRequest forms does n request rest base taken reply next after
+-- The result of reading a request has the effect `effect`, after `n` earlier requests. A problem is
+-- answered, ends the stream, takes no clock reading and leaves the base unchanged. If no byte
+-- remains, there is no reply and this is false.
+abbrev pub IsEffectOfReading : {B : Type 0} → RequestParsers → CallRelation B → ℕ → RequestReading → RequestEffect B → Type 0
+IsEffectOfReading forms does n NoBytesLeft effect = ⊥
+IsEffectOfReading forms does n (Unreadable problem) effect =
+    (effect.reply ≡ reply_text (FromProblem problem) true) × (effect.next ≡ Finished) × (effect.moments ≡ []) × (effect.after ≡ effect.base)
+IsEffectOfReading forms does n (CompleteRequest request rest) effect = IsEffectOfRequest forms does n request rest effect
 
--- The bytes `reply` are the first reply to `input`, the bytes that remain on a stream, after `n`
--- earlier requests of it. The reply takes the clock readings `taken` and leads from `base` to
--- `after`, and `next` is the state of the stream after it.
-pub record One {B : Type 0} (forms : RequestParsers) (does : CallRelation B) (n : ℕ) (input : Text)
-    (base : B) (taken : List ℕ) (reply : Text) (next : StreamState) (after : B) : Type 0 where
+-- The first request of `input` has the effect `effect`, after `n` earlier requests of the stream.
+pub record IsEffectOfFirstRequest {B : Type 0} (forms : RequestParsers) (does : CallRelation B) (n : ℕ) (input : Text)
+    (effect : RequestEffect B) : Type 0 where
   pub found : RequestReading
   pub finds : ReadsFirstRequest input found
-  pub replied : IsReplyToReading forms does n found base taken reply next after
+  pub replied : IsEffectOfReading forms does n found effect
 
 -- The list contains exactly the replies to the rest of a stream in the given state, after `n`
 -- earlier requests. They take the clock readings `moments` and lead from `base` to `after`.
@@ -80,7 +85,9 @@ AreRepliesOfStream forms does n Finished base moments replies after = (replies �
 AreRepliesOfStream forms does n (Continues input) base moments [] after = ReadsFirstRequest input NoBytesLeft × (moments ≡ []) × (after ≡ base)
 AreRepliesOfStream {B} forms does n (Continues input) base moments (reply ∷ replies) after =
     (taken : List ℕ) × (more : List ℕ) × (next : StreamState) × (mid : B)
-    × (moments ≡ taken ++ more) × One forms does n input base taken reply next mid × AreRepliesOfStream forms does (n + 1) next mid more replies after
+    × (moments ≡ taken ++ more)
+    × IsEffectOfFirstRequest forms does n input (record { base = base; moments = taken; reply = reply; next = next; after = mid })
+    × AreRepliesOfStream forms does (n + 1) next mid more replies after
 
 -- The list contains the first replies to `input`, after `n` earlier requests, and the stream then
 -- continues with the bytes `rest`. They take the clock readings `moments` and lead from `base` to
@@ -89,5 +96,6 @@ abbrev pub AreFirstReplies : {B : Type 0} → RequestParsers → CallRelation B 
 AreFirstReplies forms does n input base moments [] rest after = (rest ≡ input) × (moments ≡ []) × (after ≡ base)
 AreFirstReplies {B} forms does n input base moments (reply ∷ replies) rest after =
     (taken : List ℕ) × (more : List ℕ) × (left : Text) × (mid : B)
-    × (moments ≡ taken ++ more) × One forms does n input base taken reply (Continues left) mid
+    × (moments ≡ taken ++ more)
+    × IsEffectOfFirstRequest forms does n input (record { base = base; moments = taken; reply = reply; next = Continues left; after = mid })
     × AreFirstReplies forms does (n + 1) left mid more replies rest after

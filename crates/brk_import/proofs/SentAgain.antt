@@ -9,7 +9,9 @@ use Rattle.sqlite.specs.State.{HasCleanDisk}
 use Rattle.std.specs.Io.KnownBytes.{Appends}
 use Rattle.brk_money.specs.Spelling.{Text}
 use Rattle.brk_money.specs.declared.fault.Fault.{Fault}
-use Rattle.brk_model.specs.Answers.{Fields, calls_of_rows, well_formed_rows_from}
+use Rattle.brk_model.specs.Answers.{Fields}
+use Rattle.brk_model_theorems.proofs.RowLaws.{answered-of, calls-of-decided}
+use Rattle.brk_model_theorems.specs.RowCalls.{RowsAreAnsweredByCalls, calls_of_rows, well_formed_rows_from}
 use Rattle.brk_model.specs.Base.{Base}
 use Rattle.brk_model.specs.Batch as model
 use Rattle.brk_model.specs.Batch.{BatchRowsAreDecided, BatchEnding, MatchesEnding, step_of_row}
@@ -186,7 +188,7 @@ module _ {S C : Type 0} (g : Ghosts S) (rests : RecoversOnlyLastCommit g) (form 
       moments = [];
       mid = one.clock;
       taken = refl;
-      settled = record { named = c.answered.settled.named; rows_only = tt; answered = record { replies = []; one_each = refl; run = same; all = refl }; each = refl };
+      settled = record { named = c.answered.settled.named; rows_only = tt; answered = answered-of form step_of_row c.answered.name base after [] [] [] (record { replies = []; one_each = refl; run = same; all = refl }); each = refl };
       begins = begins_front (Some text) (batch_header c.answered.name ∷ []) (c.answered.rows ++ correct_end_record (length c.answered.rows) ∷ []) c.answered.ends.0;
     }
 
@@ -285,16 +287,24 @@ module _ {S C : Type 0} (g : Ghosts S) (rests : RecoversOnlyLastCommit g) (form 
       answers = answers;
       mid_base = stood;
       first = first;
+      first_calls = early;
       retry_answers = c.answered.answers;
       others = c.moments;
       asked = c.taken;
       second = c.answered.settled;
+      retry_calls = late;
       written = wrote;
       run = one-run base stood last (calls_of_rows c.answered.name moments (well_formed_rows_from form 1 front)) (calls_of_rows c.answered.name c.moments (well_formed_rows_from form 1 c.answered.rows))
-          first.answered.replies c.answered.settled.answered.replies first.answered.run c.answered.settled.answered.run;
-      stored = done-kept base stood (calls_of_rows c.answered.name moments (well_formed_rows_from form 1 front)) first.answered.replies first.answered.run;
-      repeated = (left-over stood last (calls_of_rows c.answered.name c.moments (well_formed_rows_from form 1 c.answered.rows)) c.answered.settled.answered.replies c.answered.settled.answered.run).1;
+          early.replies late.replies early.run late.run;
+      stored = done-kept base stood (calls_of_rows c.answered.name moments (well_formed_rows_from form 1 front)) early.replies early.run;
+      repeated = (left-over stood last (calls_of_rows c.answered.name c.moments (well_formed_rows_from form 1 c.answered.rows)) late.replies late.run).1;
     }
+      where
+        early : RowsAreAnsweredByCalls form step_of_row c.answered.name base moments front answers stood
+        early = calls-of-decided first
+
+        late : RowsAreAnsweredByCalls form step_of_row c.answered.name stood c.moments c.answered.rows c.answered.answers last
+        late = calls-of-decided c.answered.settled
 
     one_from_part : stood ≡ after → FirstRunRows after → RunAndRetryEqualOneRun form gives (Some text) base last one two
     one_from_part same p =

@@ -4,11 +4,13 @@ use Rattle.std.specs.Prelude.{Ok}
 use Rattle.std.specs.List.{AllByRecursion}
 use Rattle.std.proofs.lemmas.List.{length-append}
 use Rattle.brk_money.specs.Spelling.{Text}
-use Rattle.brk_model.specs.Answers.{Fields, CallsHaveAnswers, RowCall, RowStep, answer_to_row_call, calls_of_rows, well_formed_rows_from, with_well_formed_row, answers_interleaved_with_refusals}
+use Rattle.brk_model.specs.Answers.{Fields, RowStep}
+use Rattle.brk_model_theorems.specs.RowCalls.{CallsHaveAnswers, RowCall, answer_to_row_call, calls_of_rows, well_formed_rows_from, with_well_formed_row, answers_interleaved_with_refusals, RowsAreAnsweredByCalls}
 use Rattle.brk_model.specs.Batch.{BatchRowsAreDecided}
 use Rattle.brk_model.specs.Commands.{Answer}
 use Rattle.brk_model.specs.Forms.{ReadResult}
 use Rattle.brk_model.specs.Input.{IsEndRecord}
+use Rattle.brk_model_theorems.proofs.RowLaws.{answered-of, calls-of-decided}
 use Rattle.brk_batch_engine.proofs.Pushes.{calls_length, calls_push, formed_push, run_push, woven_push}
 
 -- calls in turn have one answer each
@@ -21,32 +23,35 @@ turned step base after (c ∷ cs) (a ∷ rs) r = let more = turned step (answer_
 module _ {S X : Type 0} (form : Fields → ReadResult X) (step : RowStep S X) (name : Text) (base mid after : S) (moments : List ℕ) (rows : List Fields) (answers : List Answer)
     (h : BatchRowsAreDecided form step name base moments rows answers mid) (row : Fields) (command : X) (formed : form row ≡ Ok command) (moment : ℕ) (answer : Answer)
     (acted : step mid moment command (record { batch = name; row = 1 + length rows }) ≡ (answer, after)) where
+  asked : RowsAreAnsweredByCalls form step name base moments rows answers mid
+  asked = calls-of-decided h
+
   calls : well_formed_rows_from form 1 (rows ++ row ∷ []) ≡ well_formed_rows_from form 1 rows ++ (1 + length rows, command) ∷ []
   calls = formed_push form 1 rows row ∙ ap (λ (o : ReadResult X). well_formed_rows_from form 1 rows ++ with_well_formed_row o (1 + length rows) []) formed
 
   longer : length (well_formed_rows_from form 1 (rows ++ row ∷ [])) ≡ length (well_formed_rows_from form 1 rows) + 1
   longer = ap length calls ∙ length-append (well_formed_rows_from form 1 rows) ((1 + length rows, command) ∷ [])
 
-  run : CallsHaveAnswers step base (calls_of_rows name (moments ++ moment ∷ []) (well_formed_rows_from form 1 (rows ++ row ∷ []))) (h.answered.replies ++ answer ∷ []) after
+  run : CallsHaveAnswers step base (calls_of_rows name (moments ++ moment ∷ []) (well_formed_rows_from form 1 (rows ++ row ∷ []))) (asked.replies ++ answer ∷ []) after
   run =
-      rw (calls, calls_push name moments (well_formed_rows_from form 1 rows) moment (1 + length rows, command) h.answered.one_each)
-      (run_push step base mid after _ h.answered.replies _ answer h.answered.run acted)
+      rw (calls, calls_push name moments (well_formed_rows_from form 1 rows) moment (1 + length rows, command) asked.one_each)
+      (run_push step base mid after _ asked.replies _ answer asked.run acted)
 
-  replied : length h.answered.replies ≡ length (well_formed_rows_from form 1 rows)
-  replied = turned step base mid (calls_of_rows name moments (well_formed_rows_from form 1 rows)) h.answered.replies h.answered.run ∙ calls_length name moments (well_formed_rows_from form 1 rows) h.answered.one_each
+  replied : length asked.replies ≡ length (well_formed_rows_from form 1 rows)
+  replied = turned step base mid (calls_of_rows name moments (well_formed_rows_from form 1 rows)) asked.replies asked.run ∙ calls_length name moments (well_formed_rows_from form 1 rows) asked.one_each
 
-  wove : answers_interleaved_with_refusals form (rows ++ row ∷ []) (h.answered.replies ++ answer ∷ []) ≡ answers_interleaved_with_refusals form rows h.answered.replies ++ answer ∷ []
-  wove = rw formed at (woven_push form 1 rows row h.answered.replies (answer ∷ []) replied)
+  wove : answers_interleaved_with_refusals form (rows ++ row ∷ []) (asked.replies ++ answer ∷ []) ≡ answers_interleaved_with_refusals form rows asked.replies ++ answer ∷ []
+  wove = rw formed at (woven_push form 1 rows row asked.replies (answer ∷ []) replied)
 
   pub settled_push : AllByRecursion (λ r. ¬ (IsEndRecord r)) (rows ++ row ∷ []) → BatchRowsAreDecided form step name base (moments ++ moment ∷ []) (rows ++ row ∷ []) (answers ++ answer ∷ []) after
   settled_push only = record {
     named = h.named;
     rows_only = only;
-    answered = record {
-      replies = h.answered.replies ++ answer ∷ [];
-      one_each = length-append moments (moment ∷ []) ∙ ap (λ (n : ℕ). n + 1) h.answered.one_each ∙ sym longer;
+    answered = answered-of form step name base after (moments ++ moment ∷ []) (rows ++ row ∷ []) (answers ++ answer ∷ []) (record {
+      replies = asked.replies ++ answer ∷ [];
+      one_each = length-append moments (moment ∷ []) ∙ ap (λ (n : ℕ). n + 1) asked.one_each ∙ sym longer;
       run = run;
-      all = ap (λ (l : List Answer). l ++ answer ∷ []) h.answered.all ∙ sym wove;
-    };
+      all = ap (λ (l : List Answer). l ++ answer ∷ []) asked.all ∙ sym wove;
+    });
     each = length-append answers (answer ∷ []) ∙ ap (λ (n : ℕ). n + 1) h.each ∙ sym (length-append rows (row ∷ []));
   }

@@ -2,7 +2,8 @@
 use Rattle.std.specs.Prelude.{◌≡◌, ◌⊎◌, ◌++◌, [], ◌∷◌, ℕ, List, Option}
 use Rattle.std.specs.Io.KnownBytes.{Appends}
 use Rattle.brk_money.specs.Spelling.{Text}
-use Rattle.brk_model.specs.Answers.{Fields, CallsHaveAnswers, calls_of_rows, well_formed_rows_from}
+use Rattle.brk_model.specs.Answers.{Fields}
+use Rattle.brk_model_theorems.specs.RowCalls.{RowsAreAnsweredByCalls, CallsHaveAnswers, calls_of_rows, well_formed_rows_from}
 use Rattle.brk_model.specs.Base.{Base}
 use Rattle.brk_model.specs.Batch.{BatchRowsAreDecided, step_of_row}
 use Rattle.brk_model.specs.Commands.{Answer, Command}
@@ -61,21 +62,25 @@ pub record RunAndRetryEqualOneRun {C : Type 0} (form : Fields → ReadResult Com
   pub answers : List Answer
   pub mid_base : Base
   pub first : BatchRowsAreDecided form step_of_row name base moments front answers mid_base
+  -- The calls of the first rows, with their answers.
+  pub first_calls : RowsAreAnsweredByCalls form step_of_row name base moments front answers mid_base
   -- The answers of the retry to all rows, its timestamps, and its lines.
   pub retry_answers : List Answer
   pub others : List ℕ
   pub asked : ClockReturnsInOrder gives two.clock others two.later
   pub second : BatchRowsAreDecided form step_of_row name mid_base others rows retry_answers after
+  -- The calls of the retry, with their answers.
+  pub retry_calls : RowsAreAnsweredByCalls form step_of_row name mid_base others rows retry_answers after
   pub written : Appends two.old two.new (answer_lines_from 1 retry_answers ++ batch_end_line retry_answers)
   -- The one run: the rows that the first run accepted, at its timestamps, then the rows of the
   -- retry whose keys `mid_base` does not contain, at the timestamps of the retry.
   pub run : CallsHaveAnswers step_of_row base
-      (accepted_calls (calls_of_rows name moments (well_formed_rows_from form 1 front)) first.answered.replies
+      (accepted_calls (calls_of_rows name moments (well_formed_rows_from form 1 front)) first_calls.replies
       ++ calls_with_new_keys mid_base (calls_of_rows name others (well_formed_rows_from form 1 rows)))
-      (accepted_answers first.answered.replies
-      ++ answers_for_new_keys mid_base (calls_of_rows name others (well_formed_rows_from form 1 rows)) second.answered.replies) after
+      (accepted_answers first_calls.replies
+      ++ answers_for_new_keys mid_base (calls_of_rows name others (well_formed_rows_from form 1 rows)) retry_calls.replies) after
   -- The base `mid_base` contains each row that the first run accepted, under its key.
-  pub stored : AcceptedCallsAreStored mid_base (calls_of_rows name moments (well_formed_rows_from form 1 front)) first.answered.replies
+  pub stored : AcceptedCallsAreStored mid_base (calls_of_rows name moments (well_formed_rows_from form 1 front)) first_calls.replies
   -- The retry answers each row whose key `mid_base` contains with the stored line, or refuses it if
   -- another row is stored under the key.
-  pub repeated : AnswersMatchStoredReplies mid_base (calls_of_rows name others (well_formed_rows_from form 1 rows)) second.answered.replies
+  pub repeated : AnswersMatchStoredReplies mid_base (calls_of_rows name others (well_formed_rows_from form 1 rows)) retry_calls.replies

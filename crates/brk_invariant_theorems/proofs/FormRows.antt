@@ -18,7 +18,9 @@ use Rattle.brk_model.specs.Lists.{all_distinct, is_zero, sort_by}
 use Rattle.brk_model.specs.Records.{Account, Customer, StatusChange, Permission, Security, Trade, Movement}
 use Rattle.brk_model.specs.Base.{Base, account_with_id, broker_id_in_accounts, broker_with_id, completed_trades, customer_with_id, has_status, is_completed, last_status_change, last_status_stamp_of_trade, completion_price, tax_rate_sum_of_customer, security_name, security_with_symbol, tax_rate_record_with_id, trade_with_id}
 use Rattle.brk_model.specs.Derived.{settlement_amount, balance_of_account, cash_trades, commission_total_of_broker, deal_of_trade, due_day, trades_of_account, trades_of_position, pending_trades, holding_summary_quantity, postings_sorted_by_stamp, posting_of_movement, posting_of_trade, postings_of_base, due_day_of_completion_stamp}
-use Rattle.brk_model.specs.Tables.{HistoryRow, Tables, account_row, broker_row, history_rows, holding_row, last_trade_row, holding_history_rows_of_lot, request_row, security_row, settlement_row, summary_rows, tables_of_base_in_schema, trade_row, numbered_move_rows}
+use Rattle.brk_model.specs.Tables.{HistoryRow, HoldingHistoryRow, Tables, account_row, broker_row, history_rows, holding_row, last_trade_row, request_row, security_row, settlement_row, summary_rows, tables_of_base_in_schema, trade_row, numbered_move_rows}
+use Rattle.brk_lots.proofs.HistoryRows.{rows_of_lots_are}
+use Rattle.brk_lots.specs.HistoryRows.{changing_rows_of_lot}
 use Rattle.brk_model.specs.Sheets.{sheets, tables_sorted_by_key}
 use Rattle.brk_model.specs.Adopted.{base_of_tables}
 use Rattle.brk_model.specs.Joins.{history_rows_with_trade_id, trade_row_with_id}
@@ -370,14 +372,15 @@ form_of base books k =
           All-rows (λ r. is_well_formed_summary_row third_schema T r ≡ true) done a.id s.symbol
           (and3 (has_account T a.id) (has_security T s.symbol) (nat_le (nat_abs (holding_summary_quantity done a.id s.symbol)) greatest_summary) (has_account_is base a.id ∙ f) (has_security_is base s.symbol ∙ g)
           (le-leb _ greatest_summary (k.summaries a.id s.symbol)))) listed)) (held_each base)));
-      holding_history = rows_form (is_well_formed_holding_history_row T) holding_history_key (flat_map (holding_history_rows_of_lot done) done)
-          (All-flat_map (λ r. is_well_formed_holding_history_row T r ≡ true) (holding_history_rows_of_lot done) done (All-map done (λ t h.
+      holding_history = subst (λ (rows : List HoldingHistoryRow). list_all (is_well_formed_holding_history_row T) (rows_sorted_by_key holding_history_key rows) ≡ true) (sym (rows_of_lots_are done done))
+          (rows_form (is_well_formed_holding_history_row T) holding_history_key (flat_map (changing_rows_of_lot done) done)
+          (All-flat_map (λ r. is_well_formed_holding_history_row T r ≡ true) (changing_rows_of_lot done) done (All-map done (λ t h.
           All-history (λ l n. has_trade T l && has_trade T n ≡ true) done t
           (All-mapped (λ d. has_trade T t.id && has_trade T d.trade ≡ true) deal_of_trade (sort_by (λ x y. nat_lt (last_status_stamp_of_trade x) (last_status_stamp_of_trade y)) (trades_of_position done t.account t.symbol))
           (All-sort (λ u. has_trade T t.id && has_trade T u.id ≡ true) (λ x y. nat_lt (last_status_stamp_of_trade x) (last_status_stamp_of_trade y)) (trades_of_position done t.account t.symbol)
           (All-filter (λ u. has_trade T t.id && has_trade T u.id ≡ true) (λ u. bytes_eq u.symbol t.symbol) (trades_of_account done t.account)
           (All-filter (λ u. has_trade T t.id && has_trade T u.id ≡ true) (λ u. u.account == t.account) done
-          (All-map done (λ u g. and_from (has_trade T t.id) (has_trade T u.id) (there base t h.0) (there base u g.0)) dones)))))) dones));
+          (All-map done (λ u g. and_from (has_trade T t.id) (has_trade T u.id) (there base t h.0) (there base u g.0)) dones)))))) dones)));
       settlements = mapped_form (is_well_formed_settlement_row T) settlement_key (settlement_row base.accounts base.rule) done (All-map done (λ t h. settlement_whole base t h) dones);
       cash = rows_form (is_well_formed_cash_row T) cash_key [] tt;
       moves = rows_form (is_well_formed_move_row T) move_key (numbered_move_rows 1 (postings_sorted_by_stamp (postings_of_base base))) (moves_whole base books k told dones);

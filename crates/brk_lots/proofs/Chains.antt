@@ -10,7 +10,8 @@ use Rattle.brk_money.specs.declared.side.Side.TheVariants.{Buy, Sell}
 use Rattle.brk_model.specs.Lists.{is_zero}
 use Rattle.brk_model.specs.Shares.{Share, Deal, Touch, signed_by_side, replay, shares_after_deal, opened_share, closed_share_count_of_deal, lot_quantity, changes_lot_quantity, touch_of_lot}
 use Rattle.brk_lots.specs.Deals.{IsLaterDeal, AreAscendingDeals}
-use Rattle.brk_model.specs.Tables.{HoldingHistoryRow, row_changes_quantity, holding_history_rows_of_deals, touch_of_row, holding_history_row}
+use Rattle.brk_model.specs.Tables.{HoldingHistoryRow, holding_history_row}
+use Rattle.brk_lots.specs.HistoryRows.{row_changes_quantity, holding_history_rows_of_deals, touch_of_row}
 use Rattle.brk_lots.specs.Chains.{changes_of_lot, ShrinksTowardZero, IsLotHistory}
 use Rattle.brk_lots.proofs.Runs.{count_of, without}
 use Rattle.brk_lots.proofs.Changes.{all_from, shares_appended}

@@ -10,6 +10,7 @@ pub mod Closed
 pub mod Unmet
 pub mod Left
 pub mod Books
+pub mod HistoryRows
 pub mod Chains
 pub mod History
 pub mod Cuts

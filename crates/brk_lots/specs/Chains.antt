@@ -2,7 +2,8 @@
 use Rattle.std.specs.Prelude.{◌≡◌, ℕ, ◌<◌, ℤ, pos, List, [], ◌∷◌, ◌++◌, filter, map}
 use Rattle.brk_money.specs.declared.side.Side.{Side}
 use Rattle.brk_model.specs.Shares.{Share, Deal, Lot, Touch, signed_by_side, shares_after_deal, lots_of_shares, opened_shares, touches_of_existing_lots}
-use Rattle.brk_model.specs.Tables.{HoldingHistoryRow, row_changes_quantity, holding_history_rows_of_deals, touch_of_row, holding_history_row}
+use Rattle.brk_model.specs.Tables.{HoldingHistoryRow, holding_history_row}
+use Rattle.brk_lots.specs.HistoryRows.{row_changes_quantity, holding_history_rows_of_deals, touch_of_row}
 use Rattle.brk_lots.specs.declared.replay.DealTouch.{DealTouch}
 use Rattle.brk_lots.specs.Lots.{list_in_closing_order}
 

@@ -5,6 +5,7 @@ pub mod Against
 pub mod Closing
 pub mod Deals
 pub mod Books
+pub mod HistoryRows
 pub mod Chains
 pub mod Walks
 pub mod Values

@@ -1,6 +1,6 @@
--- The answers to the rows of a batch: refusals of malformed rows, and between them the answers of a
--- run. The definitions hold for any base `B`, commands `C`, format checks and step.
-use Rattle.std.specs.Prelude.{◌≡◌, ℕ, ◌+◌, List, [], ◌∷◌, length, Ok, Err}
+-- The answers to the rows of a batch, and the base after them. The definitions hold for any base
+-- `B`, commands `C`, format checks and step.
+use Rattle.std.specs.Prelude.{◌≡◌, ℕ, ◌+◌, List, [], ◌∷◌, Ok, Err}
 use Rattle.brk_money.specs.Spelling.{Text}
 use Rattle.brk_model.specs.Records.{Key}
 use Rattle.brk_model.specs.Forms.{ReadResult}
@@ -15,62 +15,40 @@ Fields = List Text
 abbrev pub RowStep : Type 0 → Type 0 → Type 0
 RowStep B C = B → ℕ → C → Key → Answer × B
 
--- The call that a well-formed row makes: its key, the clock reading (`now`) and its command.
-pub record RowCall (C : Type 0) : Type 0 where
-  pub key : Key
-  pub now : ℕ
-  pub command : C
+-- The result of rows: their answers, in order, the base after the last of them, and the clock
+-- readings that they do not take.
+pub record ResultOfRows (B : Type 0) : Type 0 where
+  pub answers : List Answer
+  pub base : B
+  pub moments : List ℕ
 
--- The answer of `step` to the call of a row on `base`, and the base after it.
-abbrev pub answer_to_row_call : {B C : Type 0} → RowStep B C → B → RowCall C → Answer × B
-answer_to_row_call step base call = step base call.now call.command call.key
+-- The result `rest` with `answer` in front of its answers.
+abbrev pub result_with_answer_in_front : {B : Type 0} → Answer → ResultOfRows B → ResultOfRows B
+result_with_answer_in_front answer rest = record { answers = answer ∷ rest.answers; base = rest.base; moments = rest.moments }
 
--- The calls, executed in sequence by `step` from `base` on, have exactly these answers, and `after`
--- is the base after the last. It is false if the lists have different lengths.
-abbrev pub CallsHaveAnswers : {B C : Type 0} → RowStep B C → B → List (RowCall C) → List Answer → B → Type 0
-CallsHaveAnswers step base [] [] after = after ≡ base
-CallsHaveAnswers step base (call ∷ calls) (answer ∷ answers) after =
-    (answer ≡ (answer_to_row_call step base call).0) × CallsHaveAnswers step (answer_to_row_call step base call).1 calls answers after
-CallsHaveAnswers step base [] (answer ∷ answers) after = ⊥
-CallsHaveAnswers step base (call ∷ calls) [] after = ⊥
+-- The result of a row that has this answer and leads to this base, and of the rows after it: `more`
+-- gives their result from that base and the clock readings `moments`.
+abbrev pub answer_then_more : {B : Type 0} → Answer × B → List ℕ → (B → List ℕ → ResultOfRows B) → ResultOfRows B
+answer_then_more answered moments more = result_with_answer_in_front answered.0 (more answered.1 moments)
 
--- The list `rest` with the row number `n` and the command of the row in front; `rest` alone if the
--- row was refused as malformed.
-abbrev pub with_well_formed_row : {C : Type 0} → ReadResult C → ℕ → List (ℕ × C) → List (ℕ × C)
-with_well_formed_row (Ok command) n rest = (n, command) ∷ rest
-with_well_formed_row (Err refusal) n rest = rest
+-- The result of a row under the key `key`, and of the rows after it, whose result `more` gives. A
+-- malformed row is answered with its refusal, takes no clock reading and leaves the base unchanged.
+-- A command takes the next clock reading, and `step` gives its answer and the base after it. If no
+-- clock reading is left for it, neither it nor a row after it has an answer.
+abbrev pub row_then_more : {B C : Type 0} → RowStep B C → ReadResult C → Key → B → List ℕ → (B → List ℕ → ResultOfRows B) → ResultOfRows B
+row_then_more step (Err refusal) key base moments more = answer_then_more (Refused refusal, base) moments more
+row_then_more step (Ok command) key base (now ∷ moments) more = answer_then_more (step base now command key) moments more
+row_then_more step (Ok command) key base [] more = record { answers = []; base = base; moments = [] }
 
--- The commands of the well-formed rows, each with its row number; the first row has the number `n`.
-abbrev pub well_formed_rows_from : {C : Type 0} → (Fields → ReadResult C) → ℕ → List Fields → List (ℕ × C)
-well_formed_rows_from form n [] = []
-well_formed_rows_from form n (row ∷ rows) = with_well_formed_row (form row) n (well_formed_rows_from form (n + 1) rows)
+-- The result of the rows of a batch, in sequence, from `base` on with the clock readings `moments`.
+-- The first row has the number `n`, and the key of a row is the batch with its number.
+abbrev pub result_of_rows : {B C : Type 0} → (Fields → ReadResult C) → RowStep B C → Text → ℕ → B → List ℕ → List Fields → ResultOfRows B
+result_of_rows form step batch n base moments [] = record { answers = []; base = base; moments = moments }
+result_of_rows form step batch n base moments (row ∷ rows) =
+    row_then_more step (form row) (record { batch = batch; row = n }) base moments (λ after left. result_of_rows form step batch (n + 1) after left rows)
 
--- The calls of the well-formed rows of the batch `batch`, each with its row number and the next of
--- the clock readings. Readings or rows that are left over are dropped.
-abbrev pub calls_of_rows : {C : Type 0} → Text → List ℕ → List (ℕ × C) → List (RowCall C)
-calls_of_rows batch (moment ∷ moments) (row ∷ rows) =
-    record { key = record { batch = batch; row = row.0 }; now = moment; command = row.1 } ∷ calls_of_rows batch moments rows
-calls_of_rows batch [] rows = []
-calls_of_rows batch (moment ∷ moments) [] = []
-
--- The answers to a row and those after it: its refusal if the row is malformed, otherwise the next
--- of `answers` if there is one, followed by what `more` returns for the remaining answers.
-abbrev pub answers_to_row_and_rest : {C : Type 0} → ReadResult C → (List Answer → List Answer) → List Answer → List Answer
-answers_to_row_and_rest (Err refusal) more answers = Refused refusal ∷ more answers
-answers_to_row_and_rest (Ok command) more (answer ∷ answers) = answer ∷ more answers
-answers_to_row_and_rest (Ok command) more [] = more []
-
--- The answers to the rows in sequence: the refusal of a malformed row, otherwise the next of
--- `answers`.
-abbrev pub answers_interleaved_with_refusals : {C : Type 0} → (Fields → ReadResult C) → List Fields → List Answer → List Answer
-answers_interleaved_with_refusals form [] answers = []
-answers_interleaved_with_refusals form (row ∷ rows) answers = answers_to_row_and_rest (form row) (answers_interleaved_with_refusals form rows) answers
-
--- The rows of the batch have exactly these answers and lead from `base` to `after`. Malformed rows
--- are refused; the others are executed in sequence by `step`, with one clock reading each.
-pub record RowsAreAnswered {B C : Type 0} (form : Fields → ReadResult C) (step : RowStep B C) (batch : Text) (base : B) (moments : List ℕ)
-    (rows : List Fields) (answers : List Answer) (after : B) : Type 0 where
-  pub replies : List Answer
-  pub one_each : length moments ≡ length (well_formed_rows_from form 1 rows)
-  pub run : CallsHaveAnswers step base (calls_of_rows batch moments (well_formed_rows_from form 1 rows)) replies after
-  pub all : answers ≡ answers_interleaved_with_refusals form rows replies
+-- The rows of the batch, numbered from 1, have exactly these answers, take all clock readings
+-- `moments`, and lead from `base` to `after`.
+abbrev pub RowsAreAnswered : {B C : Type 0} → (Fields → ReadResult C) → RowStep B C → Text → B → List ℕ → List Fields → List Answer → B → Type 0
+RowsAreAnswered form step batch base moments rows answers after =
+    result_of_rows form step batch 1 base moments rows ≡ record { answers = answers; base = after; moments = [] }

@@ -1,6 +1,7 @@
 -- The batch text: the bytes that answer a batch, and the base after it. Computed defines it as a
 -- function, which is easier to read first. Here a text may be unknown (None), as for a reader whose
--- content no contract specifies; then any records may be its records.
+-- content no contract specifies; then any records may be its records. The theorems on retries and
+-- on keys are over this relation.
 use Rattle.std.specs.Prelude.{◌≡◌, ◌⊎◌, ℕ, List, [], ◌∷◌, ◌++◌, length, Option, Some}
 use Rattle.std.specs.List.{AllByRecursion}
 use Rattle.brk_money.specs.Spelling.{Text}

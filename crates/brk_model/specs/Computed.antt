@@ -7,7 +7,7 @@ use Rattle.brk_model.specs.Base.{Base}
 use Rattle.brk_model.specs.Forms.{ReadResult, is_batch_name}
 use Rattle.brk_model.specs.Parse.{parse_row}
 use Rattle.brk_model.specs.Commands.{Answer, Refused}
-use Rattle.brk_model.specs.Answers.{Fields, RowStep, RowCall, answer_to_row_call, well_formed_rows_from, calls_of_rows, answers_interleaved_with_refusals}
+use Rattle.brk_model.specs.Answers.{Fields, RowStep, ResultOfRows, result_of_rows}
 use Rattle.brk_model.specs.Input.{input_text}
 use Rattle.brk_model.specs.Lines.{answer_lines_from, batch_end_line}
 use Rattle.brk_model.specs.Batch.{BatchResult, BatchEnding, CorrectEnd, BadHeader, NoEnd, BadEnd, step_of_row}
@@ -16,31 +16,15 @@ use Rattle.brk_model.specs.Batch.{BatchResult, BatchEnding, CorrectEnd, BadHeade
 abbrev pub AnswersAndBase : Type 0 → Type 0
 AnswersAndBase B = List Answer × B
 
--- The run `run` with `answer` in front of its answers.
-abbrev pub with_answer_in_front : {B : Type 0} → Answer → AnswersAndBase B → AnswersAndBase B
-with_answer_in_front answer run = (answer ∷ run.0, run.1)
-
--- The answer, followed by the answers that `more` returns for the base after it.
-abbrev pub answer_followed_by_more : {B : Type 0} → Answer × B → (B → AnswersAndBase B) → AnswersAndBase B
-answer_followed_by_more answered more = with_answer_in_front answered.0 (more answered.1)
-
--- The answers of `step` to the calls, executed in sequence from `base` on, and the base after the
--- last.
-abbrev pub answers_and_base_of_calls : {B C : Type 0} → RowStep B C → B → List (RowCall C) → AnswersAndBase B
-answers_and_base_of_calls step base [] = ([], base)
-answers_and_base_of_calls step base (call ∷ calls) = answer_followed_by_more (answer_to_row_call step base call) (λ b. answers_and_base_of_calls step b calls)
-
--- The run with the refusals of the malformed rows inserted among its answers, at the places of
--- their rows.
-abbrev pub run_interleaved_with_refusals : {B C : Type 0} → (Fields → ReadResult C) → List Fields → AnswersAndBase B → AnswersAndBase B
-run_interleaved_with_refusals form rows run = (answers_interleaved_with_refusals form rows run.0, run.1)
+-- The answers and the base of a result of rows, without the clock readings.
+abbrev pub answers_and_base_of_result : {B : Type 0} → ResultOfRows B → AnswersAndBase B
+answers_and_base_of_result result = (result.answers, result.base)
 
 -- The answers to the rows of the batch `name`, numbered from 1 and executed in sequence from `base`
 -- on, and the base after the last. Each well-formed row takes the next of the clock readings
 -- `moments`; malformed rows are refused.
 abbrev pub answers_and_base_of_rows : {B C : Type 0} → (Fields → ReadResult C) → RowStep B C → Text → B → List ℕ → List Fields → AnswersAndBase B
-answers_and_base_of_rows form step name base moments rows =
-    run_interleaved_with_refusals form rows (answers_and_base_of_calls step base (calls_of_rows name moments (well_formed_rows_from form 1 rows)))
+answers_and_base_of_rows form step name base moments rows = answers_and_base_of_result (result_of_rows form step name 1 base moments rows)
 
 -- True if the record is an end record, correct or not: its first field is the word `end`.
 abbrev pub is_end_record : Fields → Bool

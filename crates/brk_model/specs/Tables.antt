@@ -243,25 +243,22 @@ holding_row done t = record {
 abbrev pub holding_history_row : ℕ → Touch → HoldingHistoryRow
 holding_history_row trade touch = record { lot = touch.lot; trade = trade; before = touch.before; after = touch.after }
 
--- The effect that a HOLDING_HISTORY row records: its lot, with the quantities before and after.
-abbrev pub touch_of_row : HoldingHistoryRow → Touch
-touch_of_row row = record { lot = row.lot; before = row.before; after = row.after }
+-- The HOLDING_HISTORY rows `rows` with the row of a lot that the trade with the id `trade` touched
+-- in front; `rows` alone if the lot's quantity did not change.
+abbrev pub rows_with_lot_touch : ℕ → Touch → List HoldingHistoryRow → List HoldingHistoryRow
+rows_with_lot_touch trade touch rows = if changes_lot_quantity touch then holding_history_row trade touch ∷ rows else rows
 
--- True if the quantities before and after of a HOLDING_HISTORY row differ.
-abbrev pub row_changes_quantity : HoldingHistoryRow → Bool
-row_changes_quantity row = changes_lot_quantity (touch_of_row row)
-
--- One HOLDING_HISTORY row of the lot `lot` for each deal, whether or not it changes the lot; the
+-- The HOLDING_HISTORY rows of the lot `lot`: one for each deal that changes the lot's quantity. The
 -- deals are applied in sequence, from the position `shares` on.
-abbrev pub holding_history_rows_of_deals : ℕ → List Share → List Deal → List HoldingHistoryRow
-holding_history_rows_of_deals lot shares [] = []
-holding_history_rows_of_deals lot shares (d ∷ deals) =
-    holding_history_row d.trade (touch_of_lot lot d shares) ∷ holding_history_rows_of_deals lot (shares_after_deal shares d) deals
+abbrev pub holding_history_of_lot : ℕ → List Share → List Deal → List HoldingHistoryRow
+holding_history_of_lot lot shares [] = []
+holding_history_of_lot lot shares (d ∷ deals) =
+    rows_with_lot_touch d.trade (touch_of_lot lot d shares) (holding_history_of_lot lot (shares_after_deal shares d) deals)
 
 -- The HOLDING_HISTORY rows of the lot that the completed trade `t` opened: one for each deal of its
 -- position that changes the lot's quantity.
 abbrev pub holding_history_rows_of_lot : List Trade → Trade → List HoldingHistoryRow
-holding_history_rows_of_lot done t = filter row_changes_quantity (holding_history_rows_of_deals t.id [] (deals_of_position done t.account t.symbol))
+holding_history_rows_of_lot done t = holding_history_of_lot t.id [] (deals_of_position done t.account t.symbol)
 
 -- The HOLDING_SUMMARY row of the account `account` in the symbol `symbol`; no row if its quantity
 -- is 0.

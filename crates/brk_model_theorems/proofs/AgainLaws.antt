@@ -10,7 +10,8 @@ use Rattle.brk_model.specs.Base.{Base}
 use Rattle.brk_model.specs.Forms.{ReadResult}
 use Rattle.brk_model.specs.Commands.{Command, Answer, Refused}
 use Rattle.brk_model.specs.Keyed.{keyed_step}
-use Rattle.brk_model.specs.Answers.{Fields, RowCall, CallsHaveAnswers, answer_to_row_call, with_well_formed_row, well_formed_rows_from, calls_of_rows, answers_interleaved_with_refusals, answers_to_row_and_rest, RowsAreAnswered}
+use Rattle.brk_model.specs.Answers.{Fields}
+use Rattle.brk_model_theorems.specs.RowCalls.{RowCall, CallsHaveAnswers, answer_to_row_call, with_well_formed_row, well_formed_rows_from, calls_of_rows, answers_interleaved_with_refusals, answers_to_row_and_rest, RowsAreAnsweredByCalls}
 use Rattle.brk_model.specs.Input.{input_text, IsBatchName, IsEndRecord, batch_header, correct_end_record}
 use Rattle.brk_model.specs.Lines.{answer_lines_from, batch_end_line, is_refused_answer, refused_answer_count}
 use Rattle.brk_model.specs.Batch.{BatchResult, BatchEnding, CorrectEnd, BadHeader, NoEnd, BadEnd, BatchRowsAreDecided, IsResultOfBatch, HasNoHeader, MatchesEnding, IsResultOfTextWithHeader, step_of_row}
@@ -18,6 +19,7 @@ use Rattle.brk_model.specs.Computed.{complete_batch}
 use Rattle.brk_model_theorems.specs.Laws.{SomeRunLeadsTo, IsBatchWithoutRefusals, answer_to_retry}
 use Rattle.brk_model_theorems.proofs.KeptLaws.{Grows, grows-on, run-grows, still, remembers, answers-again}
 use Rattle.brk_model_theorems.proofs.RunLaws.{rows-run}
+use Rattle.brk_model_theorems.proofs.RowLaws.{calls-of-decided}
 use Rattle.brk_model_theorems.proofs.BatchLaws.{length-calls, All-back}
 
 -- ---- the calls of a batch
@@ -106,11 +108,11 @@ pub settled-again : (form : Fields → ReadResult Command) (name : Text) (moment
 settled-again form name moments others rows answers told base after later last none first g second =
     (two.all ∙ ap (answers_interleaved_with_refusals form rows) again.0 ∙ woven-again form rows one.replies ∙ ap (map answer_to_retry) (sym one.all), again.1)
   where
-    one : RowsAreAnswered form step_of_row name base moments rows answers after
-    one = first.answered
+    one : RowsAreAnsweredByCalls form step_of_row name base moments rows answers after
+    one = calls-of-decided first
 
-    two : RowsAreAnswered form step_of_row name later others rows told last
-    two = second.answered
+    two : RowsAreAnsweredByCalls form step_of_row name later others rows told last
+    two = calls-of-decided second
 
     formed : List (ℕ × Command)
     formed = well_formed_rows_from form 1 rows

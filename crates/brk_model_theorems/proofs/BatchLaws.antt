@@ -11,38 +11,20 @@ use Rattle.brk_model.specs.Base.{Base}
 use Rattle.brk_model.specs.Forms.{ReadResult, is_batch_name}
 use Rattle.brk_model.specs.Parse.{parse_row}
 use Rattle.brk_model.specs.Commands.{Answer, Refused}
-use Rattle.brk_model.specs.Answers.{Fields, RowStep, RowCall, answer_to_row_call, CallsHaveAnswers, well_formed_rows_from, with_well_formed_row, calls_of_rows, answers_interleaved_with_refusals, answers_to_row_and_rest}
+use Rattle.brk_model.specs.Answers.{Fields, RowStep}
+use Rattle.brk_model_theorems.specs.RowCalls.{RowCall, CallsHaveAnswers, answer_to_row_call, RowsAreAnsweredByCalls, well_formed_rows_from, with_well_formed_row, calls_of_rows, answers_interleaved_with_refusals, answers_to_row_and_rest}
 use Rattle.brk_model.specs.Input.{input_text, BeginsWithRecords, HasExactlyRecords, IsBatchName, IsEndRecord, batch_header, correct_end_record}
 use Rattle.brk_model.specs.Batch.{BatchResult, BadEnd, BatchRowsAreDecided, IsResultOfTextWithHeader, IsResultOfTextWithoutHeader, IsResultOfBatch, step_of_row}
-use Rattle.brk_model.specs.Computed.{AnswersAndBase, answers_and_base_of_calls, answers_and_base_of_rows, is_end_record, RowsAndEndRecord, with_row_in_front, split_at_end_record, batch_name_of_header, has_correct_row_count, batch_without_end_line, complete_batch, batch_with_end_record, batch_without_end_record, batch_of_rows, batch_with_optional_name, batch_of_records, batch_of_input}
+use Rattle.brk_model.specs.Computed.{AnswersAndBase, answers_and_base_of_rows, is_end_record, RowsAndEndRecord, with_row_in_front, split_at_end_record, batch_name_of_header, has_correct_row_count, batch_without_end_line, complete_batch, batch_with_end_record, batch_without_end_record, batch_of_rows, batch_with_optional_name, batch_of_records, batch_of_input}
+use Rattle.brk_model_theorems.proofs.RowLaws.{takes-first}
 
--- ---- a run and its answers
-
-pub run_of : {B C : Type 0} (step : RowStep B C) (base : B) (calls : List (RowCall C)) → CallsHaveAnswers step base calls (answers_and_base_of_calls step base calls).0 (answers_and_base_of_calls step base calls).1
-run_of step base [] = refl
-run_of step base (call ∷ calls) = (refl, run_of step (answer_to_row_call step base call).1 calls)
-
-pub length-in_turn : {B C : Type 0} (step : RowStep B C) (base : B) (calls : List (RowCall C)) → length (answers_and_base_of_calls step base calls).0 ≡ length calls
-length-in_turn step base [] = refl
-length-in_turn step base (call ∷ calls) = ap suc (length-in_turn step (answer_to_row_call step base call).1 calls)
-
--- moments past the last row are not asked for
-pub calls-take : {C : Type 0} (name : Text) (moments : List ℕ) (rows : List (ℕ × C)) → calls_of_rows name (take (length rows) moments) rows ≡ calls_of_rows name moments rows
-calls-take name [] [] = refl
-calls-take name [] (row ∷ rows) = refl
-calls-take name (moment ∷ moments) [] = refl
-calls-take name (moment ∷ moments) (row ∷ rows) = ap (λ calls. record { key = record { batch = name; row = row.0 }; now = moment; command = row.1 } ∷ calls) (calls-take name moments rows)
+-- ---- the calls of rows
 
 pub length-calls : {C : Type 0} (name : Text) (moments : List ℕ) (rows : List (ℕ × C)) → length rows ≤ length moments → length (calls_of_rows name moments rows) ≡ length rows
 length-calls name [] [] h = refl
 length-calls name [] (row ∷ rows) h = absurd (omega (h, arith))
 length-calls name (moment ∷ moments) [] h = refl
 length-calls name (moment ∷ moments) (row ∷ rows) h = ap suc (length-calls name moments rows (omega (h, arith)))
-
-pub length-taken : {X : Type 0} (n : ℕ) (xs : List X) → n ≤ length xs → length (take n xs) ≡ n
-length-taken zero xs h = refl
-length-taken (suc n) [] h = absurd (omega (h, arith))
-length-taken (suc n) (x ∷ xs) h = ap suc (length-taken n xs (omega (h, arith)))
 
 -- ---- the rows in form, and all of them
 
@@ -64,6 +46,21 @@ length-woven form n (row ∷ rows) answers h = one (form row) n (well_formed_row
     one (Ok command) n rest more k [] each h = absurd (omega (h, arith))
     one (Ok command) n rest more k (answer ∷ answers) each h = ap suc (each answers (omega (h, arith)))
     one (Err refusal) n rest more k answers each h = ap suc (each answers h)
+
+length-turns : {B C : Type 0} (step : RowStep B C) (base after : B) (calls : List (RowCall C)) (answers : List Answer) → CallsHaveAnswers step base calls answers after → length answers ≡ length calls
+length-turns step base after [] [] r = refl
+length-turns step base after [] (answer ∷ answers) r = absurd r
+length-turns step base after (call ∷ calls) [] r = absurd r
+length-turns step base after (call ∷ calls) (answer ∷ answers) r = ap suc (length-turns step (answer_to_row_call step base call).1 after calls answers r.1)
+
+-- rows that are answered by their calls have one answer each
+pub one-each : {B C : Type 0} (form : Fields → ReadResult C) (step : RowStep B C) (name : Text) (base after : B) (moments : List ℕ) (rows : List Fields) (answers : List Answer)
+    → RowsAreAnsweredByCalls form step name base moments rows answers after → length answers ≡ length rows
+one-each {C = C} form step name base after moments rows answers h =
+    let formed : List (ℕ × C) = well_formed_rows_from form 1 rows in
+    ap length h.all
+    ∙ length-woven form 1 rows h.replies
+    (length-turns step base after (calls_of_rows name moments formed) h.replies h.run ∙ length-calls name moments formed (omega (h.one_each, arith)))
 
 -- ---- records that end a batch
 
@@ -163,26 +160,11 @@ right_says n (word ∷ count ∷ []) h = at (bytes_eq count (decimal n)) refl
 pub settles : {B C : Type 0} (form : Fields → ReadResult C) (step : RowStep B C) (name : Text) (base : B) (moments : List ℕ) (rows : List Fields)
     → IsBatchName name → AllByRecursion (λ row. ¬ (IsEndRecord row)) rows → length rows ≤ length moments
     → BatchRowsAreDecided form step name base (take (length (well_formed_rows_from form 1 rows)) moments) rows (answers_and_base_of_rows form step name base moments rows).0 (answers_and_base_of_rows form step name base moments rows).1
-settles {B = B} {C = C} form step name base moments rows named only h = record {
-  named = named;
-  rows_only = only;
-  answered = record {
-    replies = (answers_and_base_of_calls step base calls).0;
-    one_each = length-taken (length formed) moments enough;
-    run = subst (λ cs. CallsHaveAnswers step base cs (answers_and_base_of_calls step base calls).0 (answers_and_base_of_calls step base calls).1) (sym (calls-take name moments formed)) (run_of step base calls);
-    all = refl;
-  };
-  each = length-woven form 1 rows (answers_and_base_of_calls step base calls).0 (length-in_turn step base calls ∙ length-calls name moments formed enough);
-}
-  where
-    formed : List (ℕ × C)
-    formed = well_formed_rows_from form 1 rows
-
-    calls : List (RowCall C)
-    calls = calls_of_rows name moments formed
-
-    enough : length formed ≤ length moments
-    enough = let k = formed-few form 1 rows in omega (k, h, arith)
+settles form step name base moments rows named only h =
+    let few = formed-few form 1 rows in
+    let enough : length (well_formed_rows_from form 1 rows) ≤ length moments = omega (few, h, arith) in
+    let k = takes-first form step name rows 1 base moments enough in
+    record { named = named; rows_only = only; answered = k.0; each = k.1 }
 
 -- The batch is the result of the text with the first `n` clock readings, for some `n`.
 abbrev pub Comes : {B C : Type 0} → (Fields → ReadResult C) → RowStep B C → B → List ℕ → Text → BatchResult B → Type 0

@@ -6,7 +6,7 @@ use Rattle.brk_model.specs.Records.{Kept}
 use Rattle.brk_model.specs.Base.{Base}
 use Rattle.brk_model.specs.Commands.{Command, Answer, Done, Again, Refused}
 use Rattle.brk_model.specs.Keyed.{stored_row_with_key, answer_by_stored_row, keyed_step, answer_to_repeated_row}
-use Rattle.brk_model.specs.Answers.{RowCall, CallsHaveAnswers, answer_to_row_call}
+use Rattle.brk_model_theorems.specs.RowCalls.{RowCall, CallsHaveAnswers, answer_to_row_call}
 use Rattle.brk_model.specs.Batch.{step_of_row}
 use Rattle.brk_model.specs.Run.{Did}
 use Rattle.brk_model_theorems.specs.Laws.{AnswersMatchStoredReplies, AcceptedCallsAreStored, AnswerMatchesStoredReply, IsStoredIfAccepted, answers_for_new_keys, call_of_batch_row, calls_with_new_keys, accepted_answers, accepted_calls}

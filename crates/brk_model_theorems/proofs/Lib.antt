@@ -1,3 +1,4 @@
+pub mod RowLaws
 pub mod BatchLaws
 pub mod Steps
 pub mod KeyLaws
@@ -13,5 +14,6 @@ pub mod LotLaws
 pub mod PartLaws
 pub mod LeftLaws
 pub mod StoppedLaws
+pub mod Replaced
 pub mod Conjunctions
 pub mod FormParts

@@ -6,7 +6,8 @@ use Rattle.brk_money.specs.Spelling.{Text}
 use Rattle.brk_model.specs.Base.{Base}
 use Rattle.brk_model.specs.Forms.{ReadResult}
 use Rattle.brk_model.specs.Commands.{Command, Answer, Refused}
-use Rattle.brk_model.specs.Answers.{Fields, RowCall, CallsHaveAnswers, answer_to_row_call, with_well_formed_row, well_formed_rows_from, calls_of_rows, answers_interleaved_with_refusals, answers_to_row_and_rest}
+use Rattle.brk_model.specs.Answers.{Fields}
+use Rattle.brk_model_theorems.specs.RowCalls.{RowCall, CallsHaveAnswers, answer_to_row_call, with_well_formed_row, well_formed_rows_from, calls_of_rows, answers_interleaved_with_refusals, answers_to_row_and_rest, RowsAreAnsweredByCalls}
 use Rattle.brk_model.specs.Batch.{BatchRowsAreDecided, BatchResult, IsResultOfTextWithHeader, step_of_row}
 use Rattle.brk_model.specs.Input.{BeginsWithRecords, IsEndRecord, correct_end_record, batch_header, input_text}
 use Rattle.brk_model.specs.Lines.{refused_answer_count, is_refused_answer}
@@ -14,6 +15,7 @@ use Rattle.brk_model_theorems.specs.Laws.{SomeRunLeadsTo, IsBatchWithoutRefusals
 use Rattle.brk_model_theorems.proofs.AgainLaws.{HasRecords, by_first, first-same, length-turned, name-same, none-first, others-same, right_end, settled-again}
 use Rattle.brk_model_theorems.proofs.BatchLaws.{All-front, length-calls, length-woven}
 use Rattle.brk_model_theorems.proofs.KeptLaws.{Grows, grows-on, run-grows}
+use Rattle.brk_model_theorems.proofs.RowLaws.{answered-of, calls-of-decided}
 use Rattle.brk_model_theorems.proofs.RunLaws.{rows-run}
 
 -- ---- lists in two parts
@@ -127,11 +129,12 @@ parted form name base moments front more answers after s = record {
   rest = answers_interleaved_with_refusals form more t.rest;
   replies = t.rest;
   moments_are = p.are;
-  answers_are = s.answered.all ∙ ap (answers_interleaved_with_refusals form (front ++ more)) t.are ∙ woven-joined form 1 front more t.first t.rest firsts;
+  answers_are = c.all ∙ ap (answers_interleaved_with_refusals form (front ++ more)) t.are ∙ woven-joined form 1 front more t.first t.rest firsts;
   settled = record {
     named = s.named;
     rows_only = All-front (λ row. ¬ (IsEndRecord row)) front more s.rows_only;
-    answered = record { replies = t.first; one_each = p.counted; run = t.before; all = refl };
+    answered = answered-of form step_of_row name base t.mid p.front front (answers_interleaved_with_refusals form front t.first)
+        (record { replies = t.first; one_each = p.counted; run = t.before; all = refl });
     each = length-woven form 1 front t.first firsts;
   };
   one_each = lates;
@@ -139,6 +142,9 @@ parted form name base moments front more answers after s = record {
   all = refl;
 }
   where
+    c : RowsAreAnsweredByCalls form step_of_row name base moments (front ++ more) answers after
+    c = calls-of-decided s
+
     own : List (ℕ × Command)
     own = well_formed_rows_from form 1 front
 
@@ -146,7 +152,7 @@ parted form name base moments front more answers after s = record {
     others = well_formed_rows_from form (1 + length front) more
 
     counted : length moments ≡ length own + length others
-    counted = s.answered.one_each ∙ ap length (formed-joined form 1 front more) ∙ length-joined own others
+    counted = c.one_each ∙ ap length (formed-joined form 1 front more) ∙ length-joined own others
 
     p : Parts (length own) moments
     p = parts (length own) (length others) moments counted
@@ -154,11 +160,11 @@ parted form name base moments front more answers after s = record {
     lates : length p.back ≡ length others
     lates = let a = ap length p.are ∙ length-joined p.front p.back in let b = p.counted in let c = counted in omega (a, b, c, arith)
 
-    t : Turned base (calls_of_rows name p.front own) (calls_of_rows name p.back others) s.answered.replies after
-    t = turned base (calls_of_rows name p.front own) (calls_of_rows name p.back others) s.answered.replies after
-        (subst (λ calls. CallsHaveAnswers step_of_row base calls s.answered.replies after)
+    t : Turned base (calls_of_rows name p.front own) (calls_of_rows name p.back others) c.replies after
+    t = turned base (calls_of_rows name p.front own) (calls_of_rows name p.back others) c.replies after
+        (subst (λ calls. CallsHaveAnswers step_of_row base calls c.replies after)
         (ap (λ ms. calls_of_rows name ms (well_formed_rows_from form 1 (front ++ more))) p.are ∙ ap (calls_of_rows name (p.front ++ p.back)) (formed-joined form 1 front more)
-        ∙ calls-joined name p.front p.back own others p.counted) s.answered.run)
+        ∙ calls-joined name p.front p.back own others p.counted) c.run)
 
     firsts : length t.first ≡ length own
     firsts = length-turned (calls_of_rows name p.front own) t.first base t.mid t.before ∙ length-calls name p.front own (let e = p.counted in omega (e, arith))
@@ -172,16 +178,19 @@ pub joined : (form : Fields → ReadResult Command) (name : Text) (base mid afte
 joined form name base mid after early late front more first replies s only lates r = record {
   named = s.named;
   rows_only = only;
-  answered = record {
-    replies = s.answered.replies ++ replies;
+  answered = answered-of form step_of_row name base after (early ++ late) (front ++ more) (first ++ answers_interleaved_with_refusals form more replies) (record {
+    replies = c.replies ++ replies;
     one_each = counted;
-    run = subst (λ calls. CallsHaveAnswers step_of_row base calls (s.answered.replies ++ replies) after) (sym calls)
-        (in-turn-joined base mid after (calls_of_rows name early own) (calls_of_rows name late others) s.answered.replies replies s.answered.run r);
+    run = subst (λ calls. CallsHaveAnswers step_of_row base calls (c.replies ++ replies) after) (sym calls)
+        (in-turn-joined base mid after (calls_of_rows name early own) (calls_of_rows name late others) c.replies replies c.run r);
     all = told;
-  };
-  each = ap length told ∙ length-woven form 1 (front ++ more) (s.answered.replies ++ replies) enough;
+  });
+  each = ap length told ∙ length-woven form 1 (front ++ more) (c.replies ++ replies) enough;
 }
   where
+    c : RowsAreAnsweredByCalls form step_of_row name base early front first mid
+    c = calls-of-decided s
+
     own : List (ℕ × Command)
     own = well_formed_rows_from form 1 front
 
@@ -189,10 +198,10 @@ joined form name base mid after early late front more first replies s only lates
     others = well_formed_rows_from form (1 + length front) more
 
     calls : calls_of_rows name (early ++ late) (well_formed_rows_from form 1 (front ++ more)) ≡ calls_of_rows name early own ++ calls_of_rows name late others
-    calls = ap (calls_of_rows name (early ++ late)) (formed-joined form 1 front more) ∙ calls-joined name early late own others s.answered.one_each
+    calls = ap (calls_of_rows name (early ++ late)) (formed-joined form 1 front more) ∙ calls-joined name early late own others c.one_each
 
-    firsts : length s.answered.replies ≡ length own
-    firsts = length-turned (calls_of_rows name early own) s.answered.replies base mid s.answered.run ∙ length-calls name early own (let e = s.answered.one_each in omega (e, arith))
+    firsts : length c.replies ≡ length own
+    firsts = length-turned (calls_of_rows name early own) c.replies base mid c.run ∙ length-calls name early own (let e = c.one_each in omega (e, arith))
 
     rests : length replies ≡ length others
     rests = length-turned (calls_of_rows name late others) replies mid after r ∙ length-calls name late others (let e = lates in omega (e, arith))
@@ -201,13 +210,13 @@ joined form name base mid after early late front more first replies s only lates
     all_formed = ap length (formed-joined form 1 front more) ∙ length-joined own others
 
     counted : length (early ++ late) ≡ length (well_formed_rows_from form 1 (front ++ more))
-    counted = let a = length-joined early late in let b = s.answered.one_each in let c = lates in let d = all_formed in omega (a, b, c, d, arith)
+    counted = let a = length-joined early late in let b = c.one_each in let c = lates in let d = all_formed in omega (a, b, c, d, arith)
 
-    enough : length (s.answered.replies ++ replies) ≡ length (well_formed_rows_from form 1 (front ++ more))
-    enough = let a = length-joined s.answered.replies replies in let b = firsts in let c = rests in let d = all_formed in omega (a, b, c, d, arith)
+    enough : length (c.replies ++ replies) ≡ length (well_formed_rows_from form 1 (front ++ more))
+    enough = let a = length-joined c.replies replies in let b = firsts in let c = rests in let d = all_formed in omega (a, b, c, d, arith)
 
-    told : first ++ answers_interleaved_with_refusals form more replies ≡ answers_interleaved_with_refusals form (front ++ more) (s.answered.replies ++ replies)
-    told = ap (λ l. l ++ answers_interleaved_with_refusals form more replies) s.answered.all ∙ sym (woven-joined form 1 front more s.answered.replies replies firsts)
+    told : first ++ answers_interleaved_with_refusals form more replies ≡ answers_interleaved_with_refusals form (front ++ more) (c.replies ++ replies)
+    told = ap (λ l. l ++ answers_interleaved_with_refusals form more replies) c.all ∙ sym (woven-joined form 1 front more c.replies replies firsts)
 
 -- ---- a part settled again
 
@@ -246,7 +255,7 @@ completed-by form name base mid last moments others front more answers told none
 
     lates : drop (length moments) others ≡ p.late
     lates =
-        ap (λ (n : ℕ). drop n others) (one.answered.one_each ∙ sym p.settled.answered.one_each) ∙ ap (drop (length p.early)) p.moments_are ∙ drop-front p.early p.late
+        ap (λ (n : ℕ). drop n others) ((calls-of-decided one).one_each ∙ sym (calls-of-decided p.settled).one_each) ∙ ap (drop (length p.early)) p.moments_are ∙ drop-front p.early p.late
 
     rests : drop (length front) told ≡ answers_interleaved_with_refusals form more p.replies
     rests = ap (λ (n : ℕ). drop n told) (sym p.settled.each) ∙ ap (drop (length p.first)) p.answers_are ∙ drop-front p.first p.rest ∙ p.all

@@ -11,7 +11,7 @@ use Rattle.brk_model.specs.Keyed.{keyed_step, answer_by_stored_row, answer_and_b
 use Rattle.brk_model.specs.Step.{step}
 use Rattle.brk_model.specs.Tests.{stamp_of_next_command}
 use Rattle.brk_model.specs.Run.{Call, Do, Ask, Outcome, Did, Saw, NoView, Failed, IsOutcomeOfCall, Run}
-use Rattle.brk_model.specs.Answers.{RowCall, CallsHaveAnswers, answer_to_row_call}
+use Rattle.brk_model_theorems.specs.RowCalls.{RowCall, CallsHaveAnswers, answer_to_row_call}
 use Rattle.brk_model.specs.Batch.{step_of_row}
 use Rattle.brk_model_theorems.specs.Laws.{stamp_of_reply, stamps_of_outcome, accepted_stamps, StampsAscendFrom, base_after_outcome, base_after_answer, base_after_accepted_commands, call_of_batch_row}
 use Rattle.brk_model_theorems.proofs.Steps.{Accepted, accepted, reply-stamp, next-above}

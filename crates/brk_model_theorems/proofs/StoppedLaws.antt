@@ -9,7 +9,8 @@ use Rattle.brk_model.specs.Base.{Base}
 use Rattle.brk_model.specs.Forms.{ReadResult}
 use Rattle.brk_model.specs.Records.{Key}
 use Rattle.brk_model.specs.Commands.{Command, Answer, Done, Again, Refused}
-use Rattle.brk_model.specs.Answers.{Fields, CallsHaveAnswers, calls_of_rows, well_formed_rows_from, with_well_formed_row, answers_interleaved_with_refusals, answers_to_row_and_rest}
+use Rattle.brk_model.specs.Answers.{Fields}
+use Rattle.brk_model_theorems.specs.RowCalls.{CallsHaveAnswers, calls_of_rows, well_formed_rows_from, with_well_formed_row, answers_interleaved_with_refusals, answers_to_row_and_rest}
 use Rattle.brk_model.specs.Batch.{BatchRowsAreDecided, step_of_row}
 use Rattle.brk_model.specs.Input.{BeginsWithRecords, IsEndRecord, correct_end_record, batch_header}
 use Rattle.brk_model.specs.Lines.{refused_answer_count, is_refused_answer}

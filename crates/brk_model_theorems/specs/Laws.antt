@@ -8,7 +8,8 @@ use Rattle.brk_model.specs.Base.{Base, empty_base}
 use Rattle.brk_model.specs.Commands.{Command, Reply, Booked, Ordered, Ticked, CanceledTrade, CompletedTrade, Changed, MovedCash, Answer, Done, Again, Refused}
 use Rattle.brk_model.specs.Rows.{line_text, row_text}
 use Rattle.brk_model.specs.Keyed.{stored_row_with_key, keyed_step, answer_to_repeated_row}
-use Rattle.brk_model.specs.Answers.{Fields, RowCall}
+use Rattle.brk_model.specs.Answers.{Fields}
+use Rattle.brk_model_theorems.specs.RowCalls.{RowCall}
 use Rattle.brk_model.specs.Forms.{ReadResult}
 use Rattle.brk_model.specs.Input.{input_text}
 use Rattle.brk_model.specs.Lines.{refused_answer_count}

@@ -1,4 +1,6 @@
+pub mod RowCalls
 pub mod Laws
 pub mod Names
 pub mod Positions
+pub mod Texts
 pub mod FormParts

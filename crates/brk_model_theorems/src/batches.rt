@@ -4,7 +4,8 @@ ghost use Rattle.std.specs.Prelude.{◌≡◌, ◌⊎◌, ◌≤◌, [], ◌∷�
 ghost use Rattle.csv.specs.Reading.{records, default_config};
 ghost use Rattle.brk_model.specs.Base.{Base};
 ghost use Rattle.brk_model.specs.Commands.{Answer, Command};
-ghost use Rattle.brk_model.specs.Answers.{Fields, CallsHaveAnswers, RowCall};
+ghost use Rattle.brk_model.specs.Answers.{Fields, RowsAreAnswered};
+ghost use Rattle.brk_model_theorems.specs.RowCalls.{CallsHaveAnswers, RowCall, RowsAreAnsweredByCalls};
 ghost use Rattle.brk_model.specs.Forms.{ReadResult};
 ghost use Rattle.brk_model.specs.Parse.{parse_row};
 ghost use Rattle.brk_model.specs.Input.{BeginsWithRecords, batch_header, input_text};
@@ -15,6 +16,18 @@ ghost use Rattle.brk_model.specs.Run.{Did, Run};
 ghost use Rattle.brk_model_theorems.specs.Laws.{AnswersMatchStoredReplies, AcceptedCallsAreStored, NextRowLeadsTo, IsCompletedByRetry, SomeRunLeadsTo};
 ghost use Rattle.brk_model_theorems.specs.Laws.{IsBaseAfterInterruption, IsBatchWithoutRefusals, answer_to_retry, answers_for_new_keys, call_of_batch_row};
 ghost use Rattle.brk_model_theorems.specs.Laws.{calls_with_new_keys, accepted_answers, accepted_calls};
+
+/// Proves that the rows of a batch have these answers, one each, if and only if their calls have: a
+/// malformed row is answered with its refusal, and the well-formed rows are called in order, each
+/// with its key and one clock reading.
+pub fn rows_are_answered_by_their_calls()
+    ensures called { (form : Fields → ReadResult Command) (name : List ℕ) (base after : Base) (moments : List ℕ) (rows : List Fields) (answers : List Answer)
+        → RowsAreAnswered form step_of_row name base moments rows answers after → length answers ≡ length rows
+        → RowsAreAnsweredByCalls form step_of_row name base moments rows answers after }
+    ensures answered { (form : Fields → ReadResult Command) (name : List ℕ) (base after : Base) (moments : List ℕ) (rows : List Fields) (answers : List Answer)
+        → RowsAreAnsweredByCalls form step_of_row name base moments rows answers after
+        → RowsAreAnswered form step_of_row name base moments rows answers after × (length answers ≡ length rows) }
+{}
 
 /// Proves that the function `batch_of_input` computes the specified result of the input. It uses
 /// the first `n` clock readings, for some `n`. There must be at least as many clock readings as the

@@ -7,3 +7,4 @@ pub mod keys;
 pub mod names;
 pub mod positions;
 pub mod runs;
+pub mod texts;

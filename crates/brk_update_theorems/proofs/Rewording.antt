@@ -11,7 +11,7 @@ use Rattle.brk_model.specs.Records.{Account, Broker, Movement, SettleRule, Trade
 use Rattle.brk_model.specs.Base.{Base, broker_id_in_accounts, completed_trades, has_status, is_completed, last_status_stamp_of_trade, opening_balance_in_accounts}
 use Rattle.brk_model.specs.Shares.{lot_quantity, replay, signed_by_side}
 use Rattle.brk_model.specs.Derived.{Posting, balance_of_account, cash_trades, commission_total_of_broker, deal_of_trade, deals_of_position, trades_of_account, trades_of_broker, trades_of_position, pending_trades, postings_to_account, posting_of_movement, posting_of_trade, postings, postings_sorted_by_stamp, shares_of_position, holding_summary_quantity, trade_count_of_broker}
-use Rattle.brk_model.specs.Tables.{HoldingHistoryRow, HoldingRow, MoveRow, SettlementRow, SummaryRow, TradeRow, account_row, broker_row, rows_by_position, history_rows, holding_row, holding_history_rows_of_lot, holding_history_rows_of_deals, numbered_move_rows, request_row, settlement_row, summary_rows, tables_of_base_in_schema, tables_from_completed_trades, trade_row}
+use Rattle.brk_model.specs.Tables.{HoldingRow, MoveRow, SettlementRow, SummaryRow, TradeRow, account_row, broker_row, rows_by_position, history_rows, holding_row, holding_history_of_lot, holding_history_rows_of_lot, numbered_move_rows, request_row, settlement_row, summary_rows, tables_of_base_in_schema, tables_from_completed_trades, trade_row}
 use Rattle.brk_model.specs.Schemas.{third_schema}
 use Rattle.brk_model.specs.Keys.{account_key, broker_key, rows_sorted_by_key, history_key, holding_history_key, holding_key, move_key, request_key, settlement_key, summary_key, trade_key}
 use Rattle.brk_model.specs.Sheets.{sheets, tables_sorted_by_key}
@@ -122,7 +122,7 @@ module _ (x y z : Trade → Text) where
 
   lots_reworded : (done : List Trade) (t : Trade) → holding_history_rows_of_lot (map f done) (f t) ≡ holding_history_rows_of_lot done t
   lots_reworded done t =
-      ap (λ deals. filter (λ (row : HoldingHistoryRow). not (is_zero (row.before -ℤ row.after))) (holding_history_rows_of_deals t.id [] deals)) (deals_reworded done t.account t.symbol)
+      ap (holding_history_of_lot t.id []) (deals_reworded done t.account t.symbol)
 
   lot_changes_reworded : (done : List Trade) → flat_map (holding_history_rows_of_lot (map f done)) (map f done) ≡ flat_map (holding_history_rows_of_lot done) done
   lot_changes_reworded done = flat_map-map (holding_history_rows_of_lot (map f done)) f done ∙ (λ i. flat_map (λ t. lots_reworded done t i) done)

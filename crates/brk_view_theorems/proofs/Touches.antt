@@ -1,5 +1,5 @@
 -- The changes of lots: who made them, when, and that no two of one lot came at one moment.
-use Rattle.std.proofs.Common.{◌≡◌, ℕ, ◌==◌, List, [], ◌∷◌, Bool, true, false, not, cond, Option, Some, None, refl, sym, ap, ◌∙◌, filter, find, arith}
+use Rattle.std.proofs.Common.{◌≡◌, ℕ, ◌==◌, List, [], ◌∷◌, Bool, true, false, not, cond, Option, Some, None, refl, sym, ap, subst, ◌∙◌, filter, find, arith}
 use Rattle.std.specs.Prelude.{◌&&◌, ◌||◌, nat_lt, is_some, option_map, flat_map}
 use Rattle.std.specs.List.{AllByRecursion}
 use Rattle.std.specs.Option.{option_map_or}
@@ -8,11 +8,13 @@ use Rattle.std.proofs.lemmas.Bool.Decides.{nat_tests}
 use Rattle.brk_model.specs.Base.{Base, completed_trades, is_completed, last_status_stamp_of_trade}
 use Rattle.brk_model.specs.Derived.{deal_of_trade, deals_of_position, trades_of_account, trades_of_position}
 use Rattle.brk_model.specs.Joins.{trade_row_with_id}
-use Rattle.brk_model.specs.Keys.{holding_history_key}
+use Rattle.brk_model.specs.Keys.{holding_history_key, rows_sorted_by_key}
 use Rattle.brk_model.specs.Lists.{is_pair_less}
 use Rattle.brk_model.specs.Records.{Trade}
 use Rattle.brk_model.specs.Sheets.{sheets, tables_sorted_by_key}
-use Rattle.brk_model.specs.Tables.{HoldingHistoryRow, holding_history_rows_of_lot, tables_of_base, trade_row, tables_of_base_in_schema}
+use Rattle.brk_model.specs.Tables.{HoldingHistoryRow, tables_of_base, trade_row, tables_of_base_in_schema}
+use Rattle.brk_lots.proofs.HistoryRows.{rows_of_lots_are}
+use Rattle.brk_lots.specs.HistoryRows.{changing_rows_of_lot}
 use Rattle.brk_audit_theorems.proofs.Climbs.{Climbs}
 use Rattle.brk_audit_theorems.proofs.Members.{All-flat_map}
 use Rattle.brk_audit_theorems.proofs.Parts.{key_parts}
@@ -119,15 +121,16 @@ each_deal done account symbol =
     (All-sort (λ (t : Trade). IsAmong done t.id) _ (trades_of_position done account symbol)
     (All-filter (λ (t : Trade). IsAmong done t.id) _ (trades_of_account done account) (All-filter (λ (t : Trade). IsAmong done t.id) _ done (each_among done))))
 
-each_history : (done ts : List Trade) → AllByRecursion (λ t. AllByRecursion (λ r. IsAmong done r.trade) (holding_history_rows_of_lot done t)) ts
+each_history : (done ts : List Trade) → AllByRecursion (λ t. AllByRecursion (λ r. IsAmong done r.trade) (changing_rows_of_lot done t)) ts
 each_history done [] = tt
 each_history done (t ∷ ts) = (All-history (λ lot trade. IsAmong done trade) done t (each_deal done t.account t.symbol), each_history done ts)
 
 pub each_made : (base : Base) → AllByRecursion (λ r. IsAmong (completed_trades base) r.trade) (sheets base).holding_history
 unfolding tables_sorted_by_key tables_of_base_in_schema
 each_made base =
-    All-sort (λ (r : HoldingHistoryRow). IsAmong (completed_trades base) r.trade) _ (flat_map (holding_history_rows_of_lot (completed_trades base)) (completed_trades base))
-    (All-flat_map (λ (r : HoldingHistoryRow). IsAmong (completed_trades base) r.trade) (holding_history_rows_of_lot (completed_trades base)) (completed_trades base) (each_history (completed_trades base) (completed_trades base)))
+    subst (λ (rows : List HoldingHistoryRow). AllByRecursion (λ (r : HoldingHistoryRow). IsAmong (completed_trades base) r.trade) (rows_sorted_by_key holding_history_key rows)) (sym (rows_of_lots_are (completed_trades base) (completed_trades base)))
+    (All-sort (λ (r : HoldingHistoryRow). IsAmong (completed_trades base) r.trade) _ (flat_map (changing_rows_of_lot (completed_trades base)) (completed_trades base))
+    (All-flat_map (λ (r : HoldingHistoryRow). IsAmong (completed_trades base) r.trade) (changing_rows_of_lot (completed_trades base)) (completed_trades base) (each_history (completed_trades base) (completed_trades base))))
 
 -- ---- by the stamp of the change, then by lot
 

@@ -1,0 +1,19 @@
+-- The rows of a lot are those of its deals that change its quantity.
+use Rattle.std.proofs.Common.{◌≡◌, ℕ, List, [], ◌∷◌, filter, refl, ap}
+use Rattle.std.specs.Prelude.{flat_map}
+use Rattle.brk_model.specs.Derived.{deals_of_position}
+use Rattle.brk_model.specs.Records.{Trade}
+use Rattle.brk_model.specs.Shares.{Share, Deal, shares_after_deal, touch_of_lot}
+use Rattle.brk_model.specs.Tables.{HoldingHistoryRow, holding_history_of_lot, holding_history_rows_of_lot, rows_with_lot_touch}
+use Rattle.brk_lots.specs.HistoryRows.{changing_rows_of_lot, holding_history_rows_of_deals, row_changes_quantity}
+
+by_deals : (lot : ℕ) (shares : List Share) (deals : List Deal) → holding_history_of_lot lot shares deals ≡ filter row_changes_quantity (holding_history_rows_of_deals lot shares deals)
+by_deals lot shares [] = refl
+by_deals lot shares (d ∷ deals) = ap (rows_with_lot_touch d.trade (touch_of_lot lot d shares)) (by_deals lot (shares_after_deal shares d) deals)
+
+pub rows_of_lot_are : (done : List Trade) (t : Trade) → holding_history_rows_of_lot done t ≡ changing_rows_of_lot done t
+rows_of_lot_are done t = by_deals t.id [] (deals_of_position done t.account t.symbol)
+
+-- the rows of all lots
+pub rows_of_lots_are : (done ts : List Trade) → flat_map (holding_history_rows_of_lot done) ts ≡ flat_map (changing_rows_of_lot done) ts
+rows_of_lots_are done ts = λ i. flat_map (λ t. rows_of_lot_are done t i) ts

@@ -1,0 +1,27 @@
+-- The rows of HOLDING_HISTORY of a lot as one row for each deal, of which those that change the
+-- lot's quantity are kept.
+use Rattle.std.specs.Prelude.{ℕ, Bool, List, [], ◌∷◌, filter}
+use Rattle.brk_model.specs.Derived.{deals_of_position}
+use Rattle.brk_model.specs.Records.{Trade}
+use Rattle.brk_model.specs.Shares.{Share, Deal, Touch, changes_lot_quantity, shares_after_deal, touch_of_lot}
+use Rattle.brk_model.specs.Tables.{HoldingHistoryRow, holding_history_row}
+
+-- The lot of a HOLDING_HISTORY row, with its quantities before and after.
+abbrev pub touch_of_row : HoldingHistoryRow → Touch
+touch_of_row row = record { lot = row.lot; before = row.before; after = row.after }
+
+-- True if the quantities before and after of a HOLDING_HISTORY row differ.
+abbrev pub row_changes_quantity : HoldingHistoryRow → Bool
+row_changes_quantity row = changes_lot_quantity (touch_of_row row)
+
+-- One HOLDING_HISTORY row of the lot `lot` for each deal, whether or not it changes the lot; the
+-- deals are applied in sequence, from the position `shares` on.
+abbrev pub holding_history_rows_of_deals : ℕ → List Share → List Deal → List HoldingHistoryRow
+holding_history_rows_of_deals lot shares [] = []
+holding_history_rows_of_deals lot shares (d ∷ deals) =
+    holding_history_row d.trade (touch_of_lot lot d shares) ∷ holding_history_rows_of_deals lot (shares_after_deal shares d) deals
+
+-- The HOLDING_HISTORY rows of the lot that the completed trade `t` opened: of one for each deal of
+-- its position, those that change the lot's quantity.
+abbrev pub changing_rows_of_lot : List Trade → Trade → List HoldingHistoryRow
+changing_rows_of_lot done t = filter row_changes_quantity (holding_history_rows_of_deals t.id [] (deals_of_position done t.account t.symbol))
