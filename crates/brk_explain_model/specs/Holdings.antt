@@ -103,7 +103,8 @@ realised_gain_of_lots lots = total_by realised_gain_of_lot lots
 abbrev pub realised_gain_in_symbol : Tables → ℕ → Text → ℤ
 realised_gain_in_symbol tables account symbol = realised_gain_of_lots (lots_opened_in_symbol tables account symbol)
 
--- The sum of the costs of the remaining shares of `lots`, in cents.
+-- The cost basis of the remaining shares of `lots`, in cents: the sum of their quantities times
+-- their opening prices, below 0 for shares that were sold short.
 abbrev pub remaining_cost_of_lots : List LotDetails → ℤ
 remaining_cost_of_lots lots = total_by remaining_cost_of_lot lots
 

@@ -194,8 +194,8 @@ current_and_recorded_tax_lines o r =
 unfoldable pub trade_tax_lines : OrderDetails → ResultDetails → List Text
 trade_tax_lines o r = account_tax_status_lines o ++ map tax_rate_line r.rates ++ current_and_recorded_tax_lines o r
 
--- The text after the rate of the commission band `b`: that the rate is of 10000, and the first and
--- the last quantity of the band.
+-- The text after the rate of the commission band `b`, such as ` of 10000 for 1 to 100`: the rate is
+-- in ten-thousandths, and the band has this first and this last quantity.
 unfoldable pub band_bounds_text : Band → Text
 band_bounds_text b = codes " of 10000 for " ++ decimal b.from_qty ++ codes " to " ++ decimal b.to_qty
 
