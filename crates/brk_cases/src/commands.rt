@@ -91,8 +91,8 @@ fn execute_batch_command(
     Ok(())
 }
 
-// Serves the input as a stream of HTTP requests at the timestamp `moment`, and appends the replies
-// and their number, or the word `fault`.
+// Serves the input as a stream of HTTP requests at the timestamp `moment`. Appends the replies, and
+// then their number or, if the stream failed, the word `fault`.
 fn execute_http_command(
     alloc: Global,
     out: &mut String,

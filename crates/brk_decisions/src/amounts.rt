@@ -126,8 +126,9 @@ fn read_asset_total<S: Alter>(
     }
 }
 
-// Reads the amounts that the estimate of an order of an account needs. Changes nothing. Fails with
-// `Memory` or `Store` only.
+// Returns the amounts that the estimate of an order of an account needs. Changes nothing. Fails
+// with `Memory` or `Store` only; with `Store` also if the customer's tax rates total more than the
+// greatest rate, a symbol has no last price, or a sum overflows.
 pub(crate) fn read_estimate_amounts<S: Alter>(
     alloc: Global,
     store: &mut Store<S>,

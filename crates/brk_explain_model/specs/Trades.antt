@@ -81,8 +81,9 @@ has_completed_status u = is_same_trade_status u.status Completed
 abbrev pub sorted_statuses_of_trade : Tables → ℕ → List HistoryRow
 sorted_statuses_of_trade tables trade = sort_by (λ a b. nat_lt a.stamp b.stamp) (history_rows_with_trade_id tables trade)
 
--- The trade `u` as ordered, with the facts of its account and its security in `tables`. If one of
--- these does not exist, its names are empty, its numbers are 0 and its tax status is `Untaxed`.
+-- The trade `u` as ordered, with the facts of its account and its security in `tables`, and its
+-- status changes, the oldest first. If its account or its security does not exist, their names are
+-- empty, their numbers are 0, and the tax status is `Untaxed`.
 abbrev pub order_details_of_trade : Tables → TradeRow → OrderDetails
 order_details_of_trade tables u = record {
   trade = u;

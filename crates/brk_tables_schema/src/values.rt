@@ -167,8 +167,7 @@ pub fn optional_price_as_parameter<'a>(price: Option<Price>) -> ValueRef<'a>
     }
 }
 
-/// Converts the status of a trade to a TEXT, its code, such as CMPT, as the parameter of a
-/// statement.
+/// Returns the code of a trade's status, such as CMPT, as a TEXT parameter of a statement.
 pub fn status_as_parameter<'a>(status: Status) -> ValueRef<'a>
     ensures { owned result ≡ Text (trade_status_code status) }
 {

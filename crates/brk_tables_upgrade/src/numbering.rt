@@ -38,8 +38,9 @@ fn add_numbered_cash_row<S: Alter>(
     add_cash_row(tx, &numbered)
 }
 
-/// Inserts rows of CASH_TRANSACTION into CASH_MOVE, in order, numbered from 1. Fails with `Memory`
-/// or `Store` only.
+/// Inserts rows of CASH_TRANSACTION into CASH_MOVE, in order, numbered from 1, with the accounts of
+/// their trades. Fails with `Memory` or `Store` only; with `Store` also if one of the numbers
+/// exists or exceeds the greatest, or if one of the trades does not exist.
 pub fn add_numbered_cash_rows<S: Alter>(
     tx: &mut Transaction<'_, S>,
     rows: &[CashRow],

@@ -88,7 +88,7 @@ fn append_row(lines: &mut String, row: &Row) -> Result<(), Unread> {
 }
 
 // Appends the name of a table and its rows, sorted by their first two columns, as lines. Fails if
-// they cannot be read.
+// they cannot be read or printed.
 fn append_table<S: Alter>(
     alloc: Global,
     lines: &mut String,

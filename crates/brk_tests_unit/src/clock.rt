@@ -47,7 +47,7 @@ fn clock_readings_are_whole_milliseconds(rt: HostRuntime) {
 // Checks that the reading is the greatest stamp if the machine's time is later. 10000-01-01 00:00
 // UTC is second 253,402,300,800.
 #[test]
-fn clock_readings_end_at_the_last_stamp(rt: HostRuntime) {
+fn clock_readings_end_at_the_greatest_stamp(rt: HostRuntime) {
     let last = Stopped(Some(Duration::new(253_402_300_799, 999_000_000)));
     assert_eq!(rt; Moments::new(&last, None).now().get(), Stamp::GREATEST);
     let late = Stopped(Some(Duration::from_secs(253_402_300_800)));

@@ -62,7 +62,7 @@ records_of_looked_up_trade l =
     ++ map model.cash_record (option_to_list (option_map abstract_move_row l.cash))
     ++ map history_status_record l.history.items
 
--- A trade with its settlements, its cash rows and its statuses, as rows of the tables.
+-- The TRADE row of a trade, its SETTLEMENT and CASH_MOVE rows, and its statuses with their stamps.
 pub record LookedUpRows : Type 0 where
   pub trade : tables.TradeRow
   pub settlements : List tables.SettlementRow
