@@ -41,8 +41,10 @@ fn prove_command_and_key_are_well_formed(command: &Command, key: Option<&Key>)
 /// - `Refused` with refusal 19, if another command was accepted before under `key`;
 /// - `Refused` with the first reason that applies, if the command is refused.
 ///
-/// Fails with `Memory` or `Store` only. A refusal, a stored reply or a fault changes nothing in the
-/// open store and records no key.
+/// Fails with `Memory` or `Store` only; with `Store` also if a row that another row requires does
+/// not exist, a lot has no shares, a number or a sum is out of range, or no number is left for a
+/// cash row. A refusal, a stored reply or a fault changes nothing in the open store and records no
+/// key.
 ///
 /// A crash exposes a state that a crash before the call could expose, or the tables after the
 /// command; after `Done` only the latter.

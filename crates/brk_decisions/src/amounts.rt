@@ -31,7 +31,8 @@ pub struct Amounts {
 }
 
 // Returns the sum of the tax rates that a customer pays, in hundred-thousandths. Changes nothing.
-// Fails with `Memory` or `Store` only; with `Store` also if the sum exceeds the greatest rate.
+// Fails with `Memory` or `Store` only; with `Store` also if one of the customer's taxes does not
+// exist, or if the sum exceeds the greatest rate.
 pub(crate) fn read_tax_rate_sum<S: Alter>(
     alloc: Global,
     store: &mut Store<S>,
@@ -80,7 +81,7 @@ fn add_value_at_last_price<S: Alter>(
 
 /// Returns the market value of an account's holdings at last prices, in cents. Shares that were
 /// sold short count below 0. Changes nothing. Fails with `Memory` or `Store` only; with `Store`
-/// also if a symbol has no last price or the sum overflows.
+/// also if a held symbol has no last price or the sum overflows.
 pub fn read_holdings_value<S: Alter>(
     alloc: Global,
     store: &mut Store<S>,
@@ -109,8 +110,8 @@ fn add_balance_to_value(balance: Cents, worth: Wide) -> Option<Wide>
 }
 
 // Returns an account's balance plus the market value of its holdings, in cents. Changes nothing.
-// Fails with `Memory` or `Store` only; with `Store` also if a symbol has no last price or the sum
-// overflows.
+// Fails with `Memory` or `Store` only; with `Store` also if a held symbol has no last price or the
+// sum overflows.
 fn read_asset_total<S: Alter>(
     alloc: Global,
     store: &mut Store<S>,
@@ -127,8 +128,9 @@ fn read_asset_total<S: Alter>(
 }
 
 // Returns the amounts that the estimate of an order of an account needs. Changes nothing. Fails
-// with `Memory` or `Store` only; with `Store` also if the customer's tax rates total more than the
-// greatest rate, a symbol has no last price, or a sum overflows.
+// with `Memory` or `Store` only; with `Store` also if one of the customer's taxes does not exist,
+// their rates total more than the greatest rate, a held symbol has no last price, or a sum
+// overflows.
 pub(crate) fn read_estimate_amounts<S: Alter>(
     alloc: Global,
     store: &mut Store<S>,

@@ -24,7 +24,7 @@ use std::alloc::Global;
 // Plans the estimate of an order from the facts `found` in the tables and from `lots`, the lots of
 // the position: returns the estimate, or the refusal. The number of lots that it reads exceeds the
 // number that the order would touch by at most 16, also if it fails. Fails with `Memory` or `Store`
-// only.
+// only; with `Store` also if one of the lots that it reads has no shares.
 fn plan_estimate_over_lots<S: Alter>(
     order: &Order,
     found: &OrderPlanFacts,
@@ -48,8 +48,9 @@ fn plan_estimate_over_lots<S: Alter>(
 /// sell value of the shares that it would close, the tax, the commission, the charge and the
 /// account's assets; or the refusal. Changes nothing.
 ///
-/// Fails with `Memory` or `Store` only; with `Store` also if a row whose key another row contains
-/// does not exist.
+/// Fails with `Memory` or `Store` only; with `Store` also if the account's customer or one of the
+/// customer's taxes does not exist, the tax rates total more than the greatest rate, a held symbol
+/// has no last price, a sum overflows, or one of the lots that it reads has no shares.
 pub fn decide_estimate<S: Alter>(
     alloc: Global,
     store: &mut Store<S>,

@@ -41,7 +41,7 @@ pub(crate) fn require_account<S: Alter>(store: &mut Store<S>, id: Id) -> Result<
 
 // Returns the totals of the broker with the id `id`: the number of its completed trades and their
 // commissions in cents. Changes nothing. Fails with `Memory` or `Store` only; with `Store` also if
-// there is no such broker.
+// there is no such broker or a total is out of range.
 pub(crate) fn require_broker_totals<S: Alter>(
     store: &mut Store<S>,
     id: Id,

@@ -25,7 +25,8 @@ use std::alloc::Global;
 
 // Plans an order from the facts `found` in the tables and from `lots`, the lots of the position:
 // returns its plan, or the refusal. The number of lots that it reads exceeds the number that the
-// order would touch by at most 16, also if it fails. Fails with `Memory` or `Store` only.
+// order would touch by at most 16, also if it fails. Fails with `Memory` or `Store` only; with
+// `Store` also if one of the lots that it reads has no shares.
 fn plan_order_over_lots<S: Alter>(
     alloc: Global,
     order: &Order,
@@ -51,8 +52,9 @@ fn plan_order_over_lots<S: Alter>(
 /// Decides on an order at the clock reading `now` (Trade-Order): returns its plan, or the refusal.
 /// Changes nothing.
 ///
-/// Fails with `Memory` or `Store` only; with `Store` also if a row whose key another row contains
-/// does not exist.
+/// Fails with `Memory` or `Store` only; with `Store` also if the account's customer or one of the
+/// customer's taxes does not exist, the tax rates total more than the greatest rate, a held symbol
+/// has no last price, a sum overflows, or one of the lots that it reads has no shares.
 pub fn decide_order<S: Alter>(
     alloc: Global,
     store: &mut Store<S>,

@@ -60,7 +60,9 @@ fn order_facts_with_account(
 }
 
 // Reads the facts that decide on the estimate of an order whose account is `account`. Changes
-// nothing. Fails with `Memory` or `Store` only.
+// nothing. Fails with `Memory` or `Store` only; with `Store` also if the account's customer or one
+// of the customer's taxes does not exist, the tax rates total more than the greatest rate, a held
+// symbol has no last price, or a sum overflows.
 fn read_order_account_facts<S: Alter>(
     alloc: Global,
     store: &mut Store<S>,
@@ -77,7 +79,9 @@ fn read_order_account_facts<S: Alter>(
 }
 
 /// Reads the facts that decide on the estimate of an order: those of its account, or, if the
-/// account does not exist, only that. Changes nothing. Fails with `Memory` or `Store` only.
+/// account does not exist, only that. Changes nothing. Fails with `Memory` or `Store` only; with
+/// `Store` also if the account's customer or one of the customer's taxes does not exist, the tax
+/// rates total more than the greatest rate, a held symbol has no last price, or a sum overflows.
 pub(crate) fn read_estimate_facts<S: Alter>(
     alloc: Global,
     store: &mut Store<S>,
@@ -96,7 +100,9 @@ pub(crate) fn read_estimate_facts<S: Alter>(
 }
 
 /// Reads the facts that decide on an order: those of its estimate, and the greatest trade id.
-/// Changes nothing. Fails with `Memory` or `Store` only.
+/// Changes nothing. Fails with `Memory` or `Store` only; with `Store` also if the account's
+/// customer or one of the customer's taxes does not exist, the tax rates total more than the
+/// greatest rate, a held symbol has no last price, or a sum overflows.
 pub(crate) fn read_order_facts<S: Alter>(
     alloc: Global,
     store: &mut Store<S>,

@@ -30,8 +30,9 @@ pub struct PartyFacts {
 }
 
 // Reads the facts of the account in the row `row`, its customer and its broker. Changes nothing.
-// Fails with `Memory` or `Store` only; with `Store` also if the customer or the broker does not
-// exist.
+// Fails with `Memory` or `Store` only; with `Store` also if the customer, one of the customer's
+// taxes or the broker does not exist, the tax rates total more than the greatest rate, or a total
+// of the broker is out of range.
 fn read_parties_of_account<S: Alter>(
     alloc: Global,
     store: &mut Store<S>,
@@ -57,7 +58,9 @@ fn read_parties_of_account<S: Alter>(
 }
 
 /// Reads the facts of the account with the id `account`, its customer and its broker. Changes
-/// nothing. Fails with `Memory` or `Store` only; with `Store` also if one of them does not exist.
+/// nothing. Fails with `Memory` or `Store` only; with `Store` also if the account, the customer,
+/// one of the customer's taxes or the broker does not exist, the tax rates total more than the
+/// greatest rate, or a total of the broker is out of range.
 pub(crate) fn read_parties<S: Alter>(
     alloc: Global,
     store: &mut Store<S>,

@@ -16,7 +16,8 @@ use std::alloc::Global;
 /// Decides on a command that adds a reference record, such as a broker or a charge, at the clock
 /// reading `now`: returns its plan, or the refusal. Changes nothing.
 ///
-/// Fails with `Memory` or `Store` only.
+/// Fails with `Memory` or `Store` only; with `Store` also if the record is a tax of a customer who
+/// already pays a tax that does not exist.
 pub fn decide_reference_record<S: Alter>(
     alloc: Global,
     store: &mut Store<S>,

@@ -27,7 +27,7 @@ use std::alloc::Global;
 // Plans the result of a trade, completed at `price`, from the facts `found` in the tables and from
 // `lots`, the lots of its position: returns its plan, or the refusal. The number of lots that it
 // reads exceeds the number that the trade touches by at most 16, also if it fails. Fails with
-// `Memory` or `Store` only.
+// `Memory` or `Store` only; with `Store` also if one of the lots that it reads has no shares.
 fn plan_result_over_lots<S: Alter>(
     alloc: Global,
     found: &ResultPlanFacts,
@@ -51,7 +51,8 @@ fn plan_result_over_lots<S: Alter>(
 
 // Plans the result of the trade in `found`, completed at `price`, from these facts and from the
 // lots of its position: returns its plan, or the refusal. If `found` is `None`, the trade does not
-// exist, and it returns a refusal. Changes nothing. Fails with `Memory` or `Store` only.
+// exist, and it returns the refusal `NoTrade`. Changes nothing. Fails with `Memory` or `Store`
+// only; with `Store` also if one of the lots that it reads has no shares.
 fn plan_result_from_facts<S: Alter>(
     alloc: Global,
     store: &mut Store<S>,
@@ -83,8 +84,10 @@ fn plan_result_from_facts<S: Alter>(
 /// Decides on the result of a trade at the clock reading `now` (Trade-Result): returns its plan, or
 /// the refusal. Changes nothing.
 ///
-/// Fails with `Memory` or `Store` only; with `Store` also if a row whose key another row contains
-/// does not exist.
+/// Fails with `Memory` or `Store` only; with `Store` also if the trade exists and its account,
+/// customer, broker or security or one of the customer's taxes does not, the tax rates total more
+/// than the greatest rate, a total of the broker is out of range, no number is left for a cash row,
+/// or one of the lots that it reads has no shares.
 pub fn decide_result<S: Alter>(
     alloc: Global,
     store: &mut Store<S>,

@@ -79,7 +79,8 @@ fn read_posting_facts<S: Alter>(store: &mut Store<S>) -> Result<Posting, Fault>
 
 // Reads the facts that decide on a result of the trade `trade`, which exists. Changes nothing.
 // Fails with `Memory` or `Store` only; with `Store` also if its account, customer, broker or
-// security does not exist, or if no number is left for a cash row.
+// security or one of the customer's taxes does not exist, the tax rates total more than the
+// greatest rate, a total of the broker is out of range, or no number is left for a cash row.
 fn read_result_facts_of_trade<S: Alter>(
     alloc: Global,
     store: &mut Store<S>,
@@ -110,8 +111,9 @@ fn read_result_facts_of_trade<S: Alter>(
 
 /// Reads the facts that decide on a result of the trade with the id `trade`, or returns `None` if
 /// it does not exist. Changes nothing. Fails with `Memory` or `Store` only; with `Store` also if
-/// its account, customer, broker or security does not exist, or if no number is left for a cash
-/// row.
+/// its account, customer, broker or security or one of the customer's taxes does not exist, the tax
+/// rates total more than the greatest rate, a total of the broker is out of range, or no number is
+/// left for a cash row.
 pub(crate) fn read_result_facts<S: Alter>(
     alloc: Global,
     store: &mut Store<S>,

@@ -124,7 +124,8 @@ fn read_taxes_of_customer<S: Alter>(
 }
 
 // Returns the sum of the tax rates that a customer pays, in hundred-thousandths, or `None` if the
-// sum exceeds the greatest rate. Changes nothing. Fails with `Memory` or `Store` only.
+// sum exceeds the greatest rate. Changes nothing. Fails with `Memory` or `Store` only; with `Store`
+// also if one of the taxes does not exist.
 pub(crate) fn read_tax_rate_sum_within_limit<S: Alter>(
     alloc: Global,
     store: &mut Store<S>,
@@ -192,7 +193,8 @@ pub(crate) fn read_band_facts<S: Alter>(
 
 // Reads the facts that decide on a new tax of a customer: whether the customer exists and pays this
 // tax, the rate of the tax, and the sum of the rates that the customer pays. Changes nothing. Fails
-// with `Memory` or `Store` only.
+// with `Memory` or `Store` only; with `Store` also if one of the taxes that the customer pays does
+// not exist.
 pub(crate) fn read_customer_tax_facts<S: Alter>(
     alloc: Global,
     store: &mut Store<S>,

@@ -84,8 +84,10 @@ impl<S: Alter> Desk<S> {
     /// - `Refused` with refusal 19, if another command was accepted before under `key`;
     /// - `Refused` with the first reason that applies, if the command is refused.
     ///
-    /// Fails with `Memory` or `Store` only. A refusal, a stored reply or a fault changes nothing in
-    /// the open store and records no key.
+    /// Fails with `Memory` or `Store` only; with `Store` also if a row that another row requires
+    /// does not exist, a lot has no shares, a number or a sum is out of range, or no number is left
+    /// for a cash row. A refusal, a stored reply or a fault changes nothing in the open store and
+    /// records no key.
     ///
     /// A crash exposes a state that a crash before the call could expose, or the tables after the
     /// command; after `Done` it exposes only the tables after the command.
@@ -107,8 +109,9 @@ impl<S: Alter> Desk<S> {
 
     /// Returns the view of a query, or the refusal.
     ///
-    /// Fails with `Memory` or `Store` only. If the database is still open, it is unchanged,
-    /// whatever the result.
+    /// Fails with `Memory` or `Store` only; with `Store` also if a row that another row requires
+    /// does not exist, a lot has no shares, or a sum overflows or exceeds its limit. If the
+    /// database is still open, it is unchanged, whatever the result.
     ///
     /// A crash exposes only states that a crash before the call could expose.
     pub fn ask(&mut self, alloc: Global, query: &Query) -> Planned<View>

@@ -19,7 +19,7 @@ pub struct CashSum {
 }
 
 // Returns the sum with one cash row more, of this amount in cents. Fails with `Store` if the number
-// or the total does not fit.
+// or the total overflows.
 fn cash_sum_with_row(sum: &CashSum, amount: Cents) -> Result<CashSum, Fault>
     ensures sum { IfOk result (λ more. (more.rows ≡ sum.now.rows + 1) × (more.total ≡ sum.now.total +ℤ amount)) }
     ensures fault { OnErr result (result ≡ Err fault.Store) }
@@ -56,8 +56,8 @@ impl Visitor<MoveRow, Fault> for EarlierCashSum {
 
     ghost stops = { λ _ _ e _. e ≡ Store };
 
-    /// Counts the cash row and adds its amount if its stamp is before `until`. Fails with `Store`
-    /// if the number or the total does not fit.
+    /// Counts the cash row and adds its amount if its stamp is before `until`, otherwise does
+    /// nothing. Fails with `Store` if the number or the total overflows.
     fn visit(&mut self, item: &MoveRow) -> Result<(), Fault> {
         if item.stamp.get() < self.until.get() {
             self.sum = cash_sum_with_row(&self.sum, item.amount)?;
@@ -81,7 +81,8 @@ fn fault_of_failed_walk(stop: WalkError<Fault>) -> Fault
 }
 
 // Returns the number of the cash rows of an account with stamps before `until`, and the sum of
-// their amounts, in cents. Fails with `Memory` or `Store`.
+// their amounts, in cents. Fails with `Memory` or `Store`; with `Store` also if the number or the
+// sum overflows.
 pub(crate) fn read_cash_sum_before<S: Alter>(
     store: &mut Store<S>,
     account: Id,

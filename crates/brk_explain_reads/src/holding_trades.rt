@@ -101,9 +101,9 @@ fn push_lot_if_any(lots: &mut Vec<LotDetails>, lot: Option<LotDetails>) -> Resul
     Ok(())
 }
 
-/// Returns the completed trades of an account in a security, and the lots that they opened with
-/// their later changes, both the oldest first. Fails with `Memory` or `Store`; with `Store` also if
-/// a trade that changed a lot does not exist or has no price.
+/// Returns the completed trades of an account in a security, in the order of completion, and the
+/// lots that they opened with their later changes, in the order of opening. Fails with `Memory` or
+/// `Store`; with `Store` also if a trade that changed a lot does not exist or has no price.
 pub(crate) fn read_trades_and_lots_of_holding<S: Alter>(
     alloc: Global,
     store: &mut Store<S>,

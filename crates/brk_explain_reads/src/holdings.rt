@@ -97,8 +97,8 @@ fn holding_details_of_parts(
 /// not exist.
 ///
 /// Fails with `Memory` or `Store` only; with `Store` also if the security has no last price, or if
-/// a row does not exist that another row names. If the database is still open, it is unchanged,
-/// whatever the result.
+/// a trade that changed a lot does not exist or has no price. If the database is still open, it is
+/// unchanged, whatever the result.
 pub fn read_holding_details<S: Alter>(
     alloc: Global,
     store: &mut Store<S>,

@@ -16,9 +16,10 @@ use sqlite::Alter;
 use std::alloc::Global;
 
 // Returns the results of the completed trade of `order`: its price, closings, own lot, settlement
-// and cash row, the cash rows before it, the current tax rates and band, and the settlement day.
-// Fails with `Memory` or `Store`; with `Store` also if it has no price, or if a row that another
-// row names does not exist.
+// and cash row, the number and the sum of the cash rows before it, the current tax rates and band,
+// and the settlement day. Fails with `Memory` or `Store`; with `Store` also if it or the trade that
+// opened one of the lots has no price, if a row that another row requires does not exist, or if the
+// number or the sum overflows.
 pub(crate) fn read_result_of_trade<S: Alter>(
     alloc: Global,
     store: &mut Store<S>,

@@ -28,8 +28,9 @@ fn is_completed(trade: &TradeRow) -> bool
 /// exist.
 ///
 /// Fails with `Memory` or `Store` only; with `Store` also if a row that another row names does not
-/// exist, or if a completed trade has no price or no settlement. If the database is still open, it
-/// is unchanged, whatever the result.
+/// exist, if a completed trade has no price or no settlement, or if the number or the sum of the
+/// cash rows before it overflows. If the database is still open, it is unchanged, whatever the
+/// result.
 pub fn read_trade_details<S: Alter>(
     alloc: Global,
     store: &mut Store<S>,

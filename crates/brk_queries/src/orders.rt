@@ -31,7 +31,9 @@ pub(crate) fn view_of_submitted_trades<S: Alter>(
 
 // Returns the view of the estimate of an order, with its price, tax, commission and charge, or the
 // refusal of the order, which is not accepted here. Changes nothing. Fails with `Memory` or `Store`
-// only.
+// only; with `Store` also if the account's customer or one of the customer's taxes does not exist,
+// the tax rates total more than the greatest rate, a held symbol has no last price, a sum
+// overflows, or one of the lots that it reads has no shares.
 pub(crate) fn view_of_estimate<S: Alter>(
     alloc: Global,
     store: &mut Store<S>,

@@ -60,7 +60,8 @@ fn security_of_symbol(statuses: &[TradeStatus], symbol: &Symbol) -> Result<Optio
 }
 
 // Returns the last fifty trades of an account, the most recent first, each with its security. Reads
-// the security of each symbol once. Changes nothing. Fails with `Memory` or `Store` only.
+// the security of each symbol once. Changes nothing. Fails with `Memory` or `Store` only; with
+// `Store` also if one of the securities does not exist.
 fn read_recent_trades_with_securities<S: Alter>(
     alloc: Global,
     store: &mut Store<S>,
@@ -86,7 +87,8 @@ fn read_recent_trades_with_securities<S: Alter>(
 
 // Returns the view of the names of an account's customer and broker, and of its last fifty trades,
 // the most recent first, with their securities. Refuses with `NoAccount` if the account does not
-// exist. Changes nothing. Fails with `Memory` or `Store` only.
+// exist. Changes nothing. Fails with `Memory` or `Store` only; with `Store` also if the customer,
+// the broker or one of the securities does not exist.
 pub(crate) fn view_of_account_status<S: Alter>(
     alloc: Global,
     store: &mut Store<S>,

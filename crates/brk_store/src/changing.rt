@@ -15,7 +15,7 @@ use brk_money::{Condition, Fault};
 use sqlite::{Alter, Connection, Transaction};
 
 // Applies one change to its row within the transaction, by one SQL statement. Fails with `Store`
-// only.
+// only, also if the row to add exists or breaks another constraint of its table.
 fn apply_change<S: Alter>(tx: &mut Transaction<'_, S>, change: &Change) -> Result<(), Fault>
     ensures same_reference { tx.new.conn.ghost_name ≡ tx.old.conn.ghost_name }
     ensures step { IsTransactionStep (state S.Store tx.old.conn.now) (state S.Store tx.new.conn.now) result
@@ -91,7 +91,7 @@ fn apply_change<S: Alter>(tx: &mut Transaction<'_, S>, change: &Change) -> Resul
 }
 
 // Applies the changes in order within the transaction. Fails with `Store` only, at the first change
-// that fails.
+// that fails; the changes before it are then applied within the transaction.
 fn apply_each_change<S: Alter>(tx: &mut Transaction<'_, S>, changes: &[Change]) -> Result<(), Fault>
     ensures same_reference { tx.new.conn.ghost_name ≡ tx.old.conn.ghost_name }
     ensures step { IsTransactionStep (state S.Store tx.old.conn.now) (state S.Store tx.new.conn.now) result
@@ -105,7 +105,8 @@ fn apply_each_change<S: Alter>(tx: &mut Transaction<'_, S>, changes: &[Change]) 
 }
 
 /// Applies the changes in order in one transaction and commits it. If it fails, the open database
-/// is unchanged. Fails with `Store` only.
+/// is unchanged. Fails with `Store` only, also if a row to add exists or breaks another constraint
+/// of its table.
 pub(crate) fn apply_changes_in_transaction<S: Alter>(
     conn: &mut Connection<S>,
     changes: &[Change],

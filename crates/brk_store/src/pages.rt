@@ -149,8 +149,9 @@ impl<S: Alter> Store<S> {
     /// Returns a source of the lots of an account in a security, the newest first if `lifo`,
     /// otherwise the oldest first. It has read no row yet.
     ///
-    /// A call of the source may fail, with `Memory` or `Store` only. The remaining lots and the
-    /// open database are then unchanged, so the call may be retried.
+    /// A call of the source may fail, with `Memory` or `Store` only; with `Store` also if a lot of
+    /// the next page has no shares, or if the number of rows read exceeds 32 bits. The remaining
+    /// lots and the open database are then unchanged, so the call may be retried.
     ///
     /// A crash during its reads exposes only states that a crash before them could expose.
     pub fn lot_pages<'a>(
@@ -211,8 +212,8 @@ impl<S: Alter> Pages<'_, S, Page> {
     }
 
     // Reads the next page and adds the number of its rows to the number of rows read. Fails with
-    // `Memory` or `Store` only; with `Store` also if this number exceeds 32 bits. At an error the
-    // number is unchanged.
+    // `Memory` or `Store` only; with `Store` also if the page has more than 16 rows or a lot
+    // without shares, or if this number exceeds 32 bits. At an error the number is unchanged.
     fn read_next_page(&mut self) -> Result<Vec<HoldingRow>, Fault>
         ensures same_reference { self.new.store.ghost_name ≡ self.old.store.ghost_name }
         ensures same { self.new ≡ record self.old { store = self.new.store; read = self.new.read } }
@@ -242,8 +243,9 @@ impl<S: Alter> Pages<'_, S, Page> {
     }
 
     // Reads the next page and returns its first lot, or `None` if no lot remains. It requires that
-    // all lots of the current page were returned. Fails with `Memory` or `Store` only; the
-    // remaining lots are then unchanged.
+    // all lots of the current page were returned. Fails with `Memory` or `Store` only; with `Store`
+    // also if the page has more than 16 rows or a lot without shares, or if the number of rows read
+    // exceeds 32 bits. The remaining lots are then unchanged.
     fn read_first_lot_of_next_page(&mut self) -> Result<Option<Lot>, Fault>
         requires { length self.old.page.rows.items ≤ self.old.page.returned }
         ensures same_reference { self.new.store.ghost_name ≡ self.old.store.ghost_name }
@@ -296,8 +298,9 @@ impl<S: Alter> LotSource for Pages<'_, S, Page> {
     ghost fails = { λ _ fault _. IsCallFault fault };
 
     /// Returns the next lot, or `None` if no lot remains. Reads the next page if all lots of this
-    /// one were returned. Fails with `Memory` or `Store` only; the remaining lots are then
-    /// unchanged.
+    /// one were returned. Fails with `Memory` or `Store` only; with `Store` also if the next page
+    /// has a lot without shares, or if the number of rows read exceeds 32 bits. The remaining lots
+    /// are then unchanged.
     fn next(&mut self) -> Result<Option<Lot>, Fault> {
         match self.page.rows.get(self.page.returned) {
             Some(row) => {
