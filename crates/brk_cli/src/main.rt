@@ -26,7 +26,7 @@ fn command_line_arguments(rt: &HostRuntime) -> Result<Vec<String>, UsageFault> {
 }
 
 // Executes the job that the command-line arguments request, from standard input to standard output,
-// and returns the outcome of the program.
+// and returns its outcome, or `Usage` with the fault if the arguments cannot be read.
 fn execute_command_line(rt: &HostRuntime) -> Ending {
     match command_line_arguments(rt) {
         Ok(words) => execute_arguments(rt, words, rt.reader(), &mut rt.stdout()),

@@ -9,7 +9,9 @@ use sqlite::Alter;
 use std::alloc::Global;
 
 // Executes a query on a store: returns its view, or its refusal. Fails with `Memory` or `Store`
-// only. If the database is still open, it is unchanged, whatever the result.
+// only; with `Store` also if a row that another row requires does not exist, a lot has no shares,
+// or a sum overflows or exceeds its limit. If the database is still open, it is unchanged, whatever
+// the result.
 pub(crate) fn answer_query<S: Alter>(
     alloc: Global,
     store: &mut Store<S>,

@@ -154,7 +154,8 @@ impl<S: Alter> Desk<S> {
         Ok(())
     }
 
-    // Executes a call at the clock reading `now` and returns its outcome.
+    // Executes a call at the clock reading `now` and returns its outcome: the answer to a command
+    // or to a query, its refusal, or its fault.
     fn execute_call(&mut self, alloc: Global, now: Stamp, call: &Call) -> Outcome
         ensures executed { OutcomePost S.Store self.old self.new now call.now result }
     {
@@ -187,11 +188,11 @@ impl<S: Alter> Desk<S> {
     }
 
     /// Returns the figures of an account's statement that are not rows: the account's name, its
-    /// opening balance, and the market value of its holdings at last prices. Returns `None` if the
-    /// account does not exist.
+    /// opening balance, and the market value of its holdings at last prices, both in cents. Returns
+    /// `None` if the account does not exist.
     ///
-    /// Fails with `Memory` or `Store` only. If the database is still open, it is unchanged,
-    /// whatever the result.
+    /// Fails with `Memory` or `Store` only; with `Store` also if a held symbol has no last price or
+    /// the sum overflows. If the database is still open, it is unchanged, whatever the result.
     ///
     /// A crash exposes only states that a crash before the call could expose.
     pub fn head(&mut self, alloc: Global, account: Id) -> Result<Option<StatementHead>, Fault>
@@ -205,8 +206,9 @@ impl<S: Alter> Desk<S> {
     /// exist.
     ///
     /// Fails with `Memory` or `Store` only; with `Store` also if a row names another row that does
-    /// not exist, or if a completed trade has no price or no settlement. If the database is still
-    /// open, it is unchanged, whatever the result.
+    /// not exist, if a completed trade has no price or no settlement, or if the number or the sum
+    /// of the cash rows before it overflows. If the database is still open, it is unchanged,
+    /// whatever the result.
     ///
     /// A crash exposes only states that a crash before the call could expose.
     pub fn trade_explanation_rows(
@@ -243,8 +245,8 @@ impl<S: Alter> Desk<S> {
     /// account exists and the security does not.
     ///
     /// Fails with `Memory` or `Store` only; with `Store` also if the security has no last price, or
-    /// if a row names another row that does not exist. If the database is still open, it is
-    /// unchanged, whatever the result.
+    /// if a trade that changed a lot does not exist or has no price. If the database is still open,
+    /// it is unchanged, whatever the result.
     ///
     /// A crash exposes only states that a crash before the call could expose.
     pub fn holding_explanation_rows(

@@ -1,12 +1,12 @@
-//! Sums, differences and products of amounts. A result that does not fit is the fault `Store`: no
-//! row of a store that passed its audit leads to one.
+//! Sums, differences and products of amounts. A result that overflows is the fault `Store`: no row
+//! of a store that passed its audit leads to one.
 
 ghost use Rattle.std.specs.Prelude.{◌≡◌, ◌*ℤ◌, ◌+ℤ◌, ◌-ℤ◌, IfErr, IfOk, pos};
 ghost use Rattle.brk_model.specs.Run.{IsCallFault};
 
 use brk_money::{Fault, Price, Wide};
 
-/// Returns the sum of two amounts, in cents. Fails with `Store` if it does not fit.
+/// Returns the sum of two amounts, in cents. Fails with `Store` if the sum overflows.
 pub fn add_amounts(one: Wide, other: Wide) -> Result<Wide, Fault>
     ensures sum { IfOk result (λ sum. sum ≡ one +ℤ other) }
     ensures fault { IfErr result IsCallFault }
@@ -17,8 +17,8 @@ pub fn add_amounts(one: Wide, other: Wide) -> Result<Wide, Fault>
     }
 }
 
-/// Returns the amount `one` minus the amount `other`, in cents. Fails with `Store` if it does not
-/// fit.
+/// Returns the amount `one` minus the amount `other`, in cents. Fails with `Store` if the
+/// difference overflows.
 pub fn subtract_amounts(one: Wide, other: Wide) -> Result<Wide, Fault>
     ensures difference { IfOk result (λ difference. difference ≡ one -ℤ other) }
     ensures fault { IfErr result IsCallFault }
@@ -30,7 +30,7 @@ pub fn subtract_amounts(one: Wide, other: Wide) -> Result<Wide, Fault>
 }
 
 /// Returns the product of a number of shares and a price, in cents; below 0 if the number is. Fails
-/// with `Store` if it does not fit.
+/// with `Store` if the product overflows.
 pub fn value_of_shares_at_price(shares: i64, price: Price) -> Result<Wide, Fault>
     ensures value { IfOk result (λ value. value ≡ shares *ℤ pos price) }
     ensures fault { IfErr result IsCallFault }

@@ -120,7 +120,7 @@ pub fn open_lot_text(alloc: Global, row: &HoldingRow) -> Result<Vec<u8>, Fault>
 }
 
 // Returns the market value of a holding, in cents: its quantity times the last price, below 0 if it
-// was sold short. Fails with `Store` if it does not fit.
+// was sold short. Fails with `Store` if the product overflows.
 fn market_value_of_holding(held: &PricedHolding) -> Result<Wide, Fault>
     ensures worth { IfOk result (λ worth. worth ≡ lines.market_value_of_holding (abstract_priced_holding held.now)) }
     ensures fault { IfErr result IsCallFault }
@@ -131,8 +131,8 @@ fn market_value_of_holding(held: &PricedHolding) -> Result<Wide, Fault>
     }
 }
 
-// Returns the sum of the market values of the holdings, in cents. Fails with `Store` if it does not
-// fit.
+// Returns the sum of the market values of the holdings, in cents. Fails with `Store` if a value or
+// the sum overflows.
 fn market_value_of_holdings(all: &[PricedHolding]) -> Result<Wide, Fault>
     ensures total { IfOk result (λ total. total ≡ lines.market_value_of_holdings (map abstract_priced_holding all.now)) }
     ensures fault { IfErr result IsCallFault }
@@ -183,7 +183,7 @@ fn put_quantity_and_price(
 }
 
 // Appends to `out` the line of a holding: its symbol, its quantity, its last price and its market
-// value. Fails with `Memory` or `Store`; with `Store` if the market value does not fit.
+// value. Fails with `Memory` or `Store`; with `Store` if the market value overflows.
 #[tactic(auto, unfolding(brk_explain_model::specs::AccountLines::holding_line))]
 fn put_holding_line(alloc: Global, out: &mut Vec<u8>, held: &PricedHolding) -> Result<(), Fault>
     ensures ok { OnOk result (out.new.items ≡ out.old.items ++ line_with_line_feed (lines.holding_line (abstract_priced_holding held.now))) }
@@ -198,7 +198,7 @@ fn put_holding_line(alloc: Global, out: &mut Vec<u8>, held: &PricedHolding) -> R
 }
 
 // Appends to `out` a line for each holding, with its symbol, quantity, last price and market value.
-// Fails with `Memory` or `Store`; with `Store` if a market value does not fit.
+// Fails with `Memory` or `Store`; with `Store` if a market value overflows.
 fn put_holding_lines(alloc: Global, out: &mut Vec<u8>, all: &[PricedHolding]) -> Result<(), Fault>
     ensures ok { OnOk result (out.new.items ≡ out.old.items ++ text_of_lines (map lines.holding_line (map abstract_priced_holding all.now))) }
     ensures fault { IfErr result IsCallFault }
@@ -232,7 +232,7 @@ fn put_account_counts_line(
 
 // Appends to `out` the lines of the market value of the holdings, of the assets, and of the numbers
 // of cash rows, lots and symbols. The assets are the balance plus that value, in cents. Fails with
-// `Memory` or `Store`; with `Store` if the assets do not fit.
+// `Memory` or `Store`; with `Store` if the assets overflows.
 #[tactic(auto, unfolding(brk_explain_model::specs::AccountLines::account_total_lines))]
 fn put_account_total_lines(
     alloc: Global,
@@ -255,7 +255,7 @@ fn put_account_total_lines(
 
 /// Returns the last lines of the explanation of an account: one for each holding, the market value
 /// of the holdings, the assets, and the numbers of cash rows (`cash`), lots and symbols. Fails with
-/// `Memory` or `Store`; with `Store` if an amount does not fit.
+/// `Memory` or `Store`; with `Store` if an amount overflows.
 pub fn holding_and_total_text(
     alloc: Global,
     row: &AccountRow,

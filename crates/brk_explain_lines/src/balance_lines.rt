@@ -37,7 +37,7 @@ fn put_cash_row_line(out: &mut Vec<u8>, row: &Option<MoveRow>) -> Result<(), Fau
 
 /// Appends to `out` the lines of the cash row of a completed trade, of the opening balance, of the
 /// sum of the earlier cash rows, and of the balance before and after the trade, with the cash that
-/// it moved. Fails with `Memory` or `Store`; with `Store` if a balance does not fit.
+/// it moved. Fails with `Memory` or `Store`; with `Store` if a balance overflows.
 #[tactic(auto, unfolding(brk_explain_model::specs::TradeLines::trade_balance_lines))]
 pub(crate) fn put_balance_lines(
     alloc: Global,

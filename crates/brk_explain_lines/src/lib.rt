@@ -1,4 +1,4 @@
-//! The texts of explanations, as specified.
+//! The texts of the explanations of a trade and of an account.
 #![tactic(auto)]
 
 pub mod account;

@@ -43,7 +43,7 @@ fn put_price_and_lot_header_lines(
 
 // Appends to `out` the line of a closing by a trade on `side` at `price`: the lot's opening, the
 // closed shares, their buy value and sell value, and the lot's quantity after it. Fails with
-// `Memory` or `Store`; with `Store` if a value does not fit.
+// `Memory` or `Store`; with `Store` if a value overflows.
 #[tactic(auto, unfolding(brk_explain_model::specs::TradeLines::closed_lot_line))]
 fn put_closed_lot_line(
     alloc: Global,
@@ -76,7 +76,7 @@ fn put_closed_lot_line(
 }
 
 // Appends to `out` a line for each closing by a trade on `side` at `price`. Fails with `Memory` or
-// `Store`; with `Store` if a value does not fit.
+// `Store`; with `Store` if a value overflows.
 fn put_closed_lot_lines(
     alloc: Global,
     out: &mut Vec<u8>,
@@ -152,7 +152,7 @@ fn count_of_opened_shares(details: &ResultDetails) -> u64
 }
 
 // Appends to `out` the lines of the number of shares that a trade closed and of the number that it
-// opened. Fails with `Memory` or `Store`; with `Store` if a number does not fit.
+// opened. Fails with `Memory` or `Store`; with `Store` if the number of closed shares overflows.
 #[tactic(auto, unfolding(brk_explain_model::specs::TradeLines::share_count_lines))]
 fn put_share_count_lines(out: &mut Vec<u8>, details: &ResultDetails) -> Result<(), Fault>
     ensures ok { OnOk result (out.new.items ≡ out.old.items ++ text_of_lines (lines.share_count_lines (abstract_result_details details.now))) }
@@ -164,7 +164,7 @@ fn put_share_count_lines(out: &mut Vec<u8>, details: &ResultDetails) -> Result<(
 }
 
 // Appends to `out` the lines of the buy value, the sell value and the realised gain of the shares
-// that a trade closed. Fails with `Memory` or `Store`; with `Store` if an amount does not fit.
+// that a trade closed. Fails with `Memory` or `Store`; with `Store` if an amount overflows.
 #[tactic(auto, unfolding(brk_explain_model::specs::TradeLines::realised_gain_lines))]
 fn put_realised_gain_lines(
     alloc: Global,
@@ -187,7 +187,7 @@ fn put_realised_gain_lines(
 
 /// Appends to `out` the lines of the price of a completed trade, of the lots that it closed and
 /// opened, of the numbers of shares, and of the realised gain. Fails with `Memory` or `Store`; with
-/// `Store` if a number does not fit.
+/// `Store` if a number of shares or an amount overflows.
 #[tactic(auto, unfolding(brk_explain_model::specs::TradeLines::lot_and_gain_lines, brk_explain_model::specs::TradeLines::closed_lot_lines))]
 pub(crate) fn put_lot_and_gain_lines(
     alloc: Global,

@@ -1,5 +1,5 @@
-//! The amounts of a completed trade. A sum that does not fit is the fault `Store`: no row of a
-//! store that passed its audit leads to one.
+//! The amounts of a completed trade. A sum that overflows is the fault `Store`: no row of a store
+//! that passed its audit leads to one.
 
 ghost use Rattle.std.specs.Prelude.{◌≡◌, IfErr, IfOk, map, neg_ℤ, pos, if◌then◌else◌};
 ghost use Rattle.brk_explain_model.specs.Trades as trades;
@@ -43,7 +43,8 @@ pub(crate) fn sell_value_of_closing(side: Side, price: Price, closing: &Closing)
     }
 }
 
-/// Returns the signed amount of `cents` cents. Fails with `Store` if it does not fit.
+/// Returns the signed amount of `cents` cents. Fails with `Store` if `cents` exceeds the greatest
+/// `i128`.
 pub(crate) fn wide_amount_of_cents(cents: u128) -> Result<Wide, Fault>
     ensures amount { IfOk result (λ amount. amount ≡ pos cents) }
     ensures fault { IfErr result IsCallFault }
@@ -54,8 +55,8 @@ pub(crate) fn wide_amount_of_cents(cents: u128) -> Result<Wide, Fault>
     }
 }
 
-/// Returns the number of shares that all the closings closed. Fails with `Store` if it does not
-/// fit.
+/// Returns the number of shares that all the closings closed. Fails with `Store` if the sum
+/// overflows.
 pub(crate) fn total_closed_shares(closings: &[Closing]) -> Result<u64, Fault>
     ensures total { IfOk result (λ total. total ≡ trades.total_closed_shares (map abstract_closing closings.now)) }
     ensures fault { IfErr result IsCallFault }
@@ -71,7 +72,7 @@ pub(crate) fn total_closed_shares(closings: &[Closing]) -> Result<u64, Fault>
 }
 
 /// Returns the sum of the buy values of closings by a trade on `side` at `price`, in cents. Fails
-/// with `Store` if it does not fit.
+/// with `Store` if the sum overflows.
 pub(crate) fn buy_value_of_closings(
     side: Side,
     price: Price,
@@ -91,7 +92,7 @@ pub(crate) fn buy_value_of_closings(
 }
 
 /// Returns the sum of the sell values of closings by a trade on `side` at `price`, in cents. Fails
-/// with `Store` if it does not fit.
+/// with `Store` if the sum overflows.
 pub(crate) fn sell_value_of_closings(
     side: Side,
     price: Price,
@@ -111,7 +112,8 @@ pub(crate) fn sell_value_of_closings(
 }
 
 /// Returns the realised gain of closings by a trade on `side` at `price`, in cents: the sum of
-/// their sell values minus the sum of their buy values. Fails with `Store` if a value does not fit.
+/// their sell values minus the sum of their buy values. Fails with `Store` if a sum or the
+/// difference overflows.
 pub(crate) fn realised_gain_of_closings(
     side: Side,
     price: Price,
@@ -178,7 +180,9 @@ fn tax_on_gain(status: TaxStatus, gain: Wide, rates: TaxRate) -> Result<Wide, Fa
 }
 
 /// Returns the tax, in cents, on the realised gain of a trade at its customer's current tax rates;
-/// 0 if the account is not taxable. Fails with `Store` if a value does not fit.
+/// 0 if the account is not taxable. Fails with `Store` if a sum overflows, if the tax rates total
+/// more than the greatest rate, or if the account is taxable and the absolute value of the gain
+/// exceeds the greatest amount.
 pub(crate) fn tax_at_current_rates(
     order: &OrderDetails,
     details: &ResultDetails,

@@ -18,7 +18,8 @@ use std::alloc::Global;
 
 // Appends to `out` those lines of a completed trade that follow its status changes: lots and gain,
 // tax, commission, settlement, due day, balance and counts. Fails with `Memory` or `Store`; with
-// `Store` if an amount does not fit.
+// `Store` if an amount overflows or exceeds its limit, or if the tax rates total more than the
+// greatest rate.
 #[tactic(auto, unfolding(brk_explain_model::specs::TradeLines::completed_trade_lines))]
 fn put_completed_trade_lines(
     alloc: Global,
@@ -41,7 +42,8 @@ fn put_completed_trade_lines(
 
 // Appends to `out` those lines of a trade that follow its status changes: the lines of a completed
 // trade if `details` has its results, otherwise the lines of a trade that is not completed. Fails
-// with `Memory` or `Store`; with `Store` if an amount does not fit.
+// with `Memory` or `Store`; with `Store` if an amount overflows or exceeds its limit, or if the tax
+// rates total more than the greatest rate.
 #[tactic(auto, unfolding(brk_explain_model::specs::TradeLines::lines_after_statuses))]
 fn put_lines_after_statuses(
     alloc: Global,
@@ -60,7 +62,8 @@ fn put_lines_after_statuses(
 }
 
 /// Returns all lines of the explanation of a trade as one text. Fails with `Memory` or `Store`;
-/// with `Store` if an amount does not fit.
+/// with `Store` if an amount overflows or exceeds its limit, or if the tax rates total more than
+/// the greatest rate.
 #[tactic(auto, unfolding(brk_explain_model::specs::TradeLines::trade_explanation_lines))]
 pub fn trade_explanation_text(alloc: Global, details: &TradeDetails) -> Result<Vec<u8>, Fault>
     ensures text { IfOk result (λ text. text.items ≡ text_of_lines (lines.trade_explanation_lines (abstract_trade_details details.now))) }

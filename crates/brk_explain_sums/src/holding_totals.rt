@@ -45,7 +45,7 @@ fn put_purchase_sale_and_cost_lines(
 
 // Appends to `out` the lines of the quantity, the last price, the market value and the unrealised
 // gain of a holding, which is the market value minus its cost basis `cost`. Fails with `Memory` or
-// `Store`; with `Store` if an amount does not fit.
+// `Store`; with `Store` if an amount overflows.
 #[tactic(auto, unfolding(brk_explain_model::specs::HoldingLines::holding_value_lines))]
 fn put_holding_value_lines(
     alloc: Global,
@@ -93,8 +93,8 @@ fn put_holding_counts_line(
 
 /// Appends to `out` the last lines of the explanation of a holding: purchases, sales, realised
 /// gain, cost basis, the quantity `shares`, its market value at `price`, the unrealised gain, and
-/// the counts. Fails with `Memory` or `Store`; with `Store` if an amount does not fit or a trade
-/// has no price.
+/// the counts. Fails with `Memory` or `Store`; with `Store` if an amount overflows or a trade has
+/// no price.
 #[tactic(auto, unfolding(brk_explain_model::specs::HoldingLines::holding_total_lines))]
 pub(crate) fn put_holding_total_lines(
     alloc: Global,

@@ -1,4 +1,4 @@
-//! The texts of the explanations of a holding and of a broker, as specified.
+//! The texts of the explanations of a holding and of a broker.
 #![tactic(auto)]
 
 pub mod broker;

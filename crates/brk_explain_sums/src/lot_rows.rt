@@ -21,7 +21,7 @@ use brk_money::{Fault, Price};
 use std::alloc::Global;
 
 // Appends to `out` the line of the opening of a lot: its stamp, its trade, its quantity, its price
-// and its cost. Fails with `Memory` or `Store`; with `Store` if an amount does not fit or the trade
+// and its cost. Fails with `Memory` or `Store`; with `Store` if an amount overflows or the trade
 // that opened the lot has no price.
 #[tactic(auto, unfolding(brk_explain_model::specs::HoldingLines::lot_opening_line))]
 fn put_lot_opening_line(alloc: Global, out: &mut Vec<u8>, lot: &LotDetails) -> Result<(), Fault>
@@ -41,7 +41,7 @@ fn put_lot_opening_line(alloc: Global, out: &mut Vec<u8>, lot: &LotDetails) -> R
 
 // Appends to `out` the line of a later change of a lot that was opened at `price`: its stamp, its
 // trade, the change of the quantity, the price of the trade, the realised gain, and the quantity
-// after it. Fails with `Memory` or `Store`; with `Store` if the gain does not fit.
+// after it. Fails with `Memory` or `Store`; with `Store` if the gain overflows.
 #[tactic(auto, unfolding(brk_explain_model::specs::HoldingLines::lot_change_line))]
 fn put_lot_change_line(
     alloc: Global,
@@ -71,7 +71,7 @@ fn put_lot_change_line(
 }
 
 // Appends to `out` a line for each later change of a lot that was opened at `price`. Fails with
-// `Memory` or `Store`; with `Store` if a gain does not fit.
+// `Memory` or `Store`; with `Store` if a gain overflows.
 fn put_lot_change_lines(
     alloc: Global,
     out: &mut Vec<u8>,
@@ -88,8 +88,8 @@ fn put_lot_change_lines(
 }
 
 // Appends to `out` the line of the remaining shares of a lot: their number, the price of the lot,
-// and their cost. Fails with `Memory` or `Store`; with `Store` if an amount does not fit or the
-// trade that opened the lot has no price.
+// and their cost. Fails with `Memory` or `Store`; with `Store` if an amount overflows or the trade
+// that opened the lot has no price.
 #[tactic(auto, unfolding(brk_explain_model::specs::HoldingLines::lot_remainder_line))]
 fn put_lot_remainder_line(alloc: Global, out: &mut Vec<u8>, lot: &LotDetails) -> Result<(), Fault>
     ensures ok { OnOk result (out.new.items ≡ out.old.items ++ line_with_line_feed (lines.lot_remainder_line (abstract_lot_details lot.now))) }
@@ -113,8 +113,8 @@ fn put_lot_remainder_line(alloc: Global, out: &mut Vec<u8>, lot: &LotDetails) ->
 }
 
 // Appends to `out` the lines of a lot: its opening, each later change, and its remaining shares.
-// Fails with `Memory` or `Store`; with `Store` if an amount does not fit or the trade that opened
-// the lot has no price.
+// Fails with `Memory` or `Store`; with `Store` if an amount overflows or the trade that opened the
+// lot has no price.
 #[tactic(auto, unfolding(brk_explain_model::specs::HoldingLines::lot_history_lines))]
 fn put_lot_history_lines(alloc: Global, out: &mut Vec<u8>, lot: &LotDetails) -> Result<(), Fault>
     ensures ok { OnOk result (out.new.items ≡ out.old.items ++ text_of_lines (lines.lot_history_lines (abstract_lot_details lot.now))) }
@@ -127,7 +127,7 @@ fn put_lot_history_lines(alloc: Global, out: &mut Vec<u8>, lot: &LotDetails) -> 
 }
 
 /// Appends to `out` the lines of each lot: its opening, each later change, and its remaining
-/// shares. Fails with `Memory` or `Store`; with `Store` if an amount does not fit or a trade that
+/// shares. Fails with `Memory` or `Store`; with `Store` if an amount overflows or a trade that
 /// opened a lot has no price.
 pub(crate) fn put_all_lot_history_lines(
     alloc: Global,

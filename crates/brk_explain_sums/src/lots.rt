@@ -1,5 +1,5 @@
-//! The realised gains, remaining costs and counts of lots and of their changes. A sum that does not
-//! fit is the fault `Store`: no row of a store that passed its audit leads to one.
+//! The realised gains, remaining costs and counts of lots and of their changes. A sum that
+//! overflows is the fault `Store`: no row of a store that passed its audit leads to one.
 
 ghost use Rattle.std.specs.Prelude.{◌≡◌, ◌+◌, ◌-ℤ◌, IfErr, IfOk, if◌then◌else◌, length, map, not, pos};
 ghost use Rattle.brk_explain_model.specs.Holdings as holdings;
@@ -37,8 +37,9 @@ fn price_increase_of_change(price: Price, change: &PricedLotChange) -> i128
     i128::from(change.price.get()) - i128::from(price.get())
 }
 
-/// Returns the realised gain, in cents, of a change of a lot that was opened at `price`. Fails with
-/// `Store` if it does not fit.
+/// Returns the realised gain, in cents, of a change of a lot that was opened at `price`: the
+/// quantity before the change minus the quantity after it, times the price of the change minus
+/// `price`. Fails with `Store` if the product overflows.
 pub(crate) fn realised_gain_of_change(price: Price, change: &PricedLotChange) -> Result<Wide, Fault>
     ensures gain { IfOk result (λ gain. gain ≡ holdings.realised_gain_of_change price (abstract_priced_lot_change change.now)) }
     ensures fault { IfErr result IsCallFault }
@@ -69,8 +70,8 @@ pub(crate) fn remaining_quantity_of_lot(lot: &LotDetails) -> i64
 }
 
 /// Returns the remaining quantity of a lot times the price at which it was opened, in cents: below
-/// 0 if it was sold short. Fails with `Store` if it does not fit, or if the trade that opened the
-/// lot has no price.
+/// 0 if it was sold short. Fails with `Store` if it overflows, or if the trade that opened the lot
+/// has no price.
 pub(crate) fn remaining_cost_of_lot(lot: &LotDetails) -> Result<Wide, Fault>
     ensures cost { IfOk result (λ cost. cost ≡ holdings.remaining_cost_of_lot (abstract_lot_details lot.now)) }
     ensures fault { IfErr result IsCallFault }
@@ -80,7 +81,7 @@ pub(crate) fn remaining_cost_of_lot(lot: &LotDetails) -> Result<Wide, Fault>
 }
 
 // Returns the sum of the realised gains, in cents, of changes of a lot that was opened at `price`.
-// Fails with `Store` if a value does not fit.
+// Fails with `Store` if a value overflows.
 fn realised_gain_of_changes(price: Price, changes: &[PricedLotChange]) -> Result<Wide, Fault>
     ensures total { IfOk result (λ total. total ≡ total_by (holdings.realised_gain_of_change price) (map abstract_priced_lot_change changes.now)) }
     ensures fault { IfErr result IsCallFault }
@@ -94,7 +95,7 @@ fn realised_gain_of_changes(price: Price, changes: &[PricedLotChange]) -> Result
 }
 
 // Returns the sum of the realised gains of the changes of a lot, in cents. Fails with `Store` if a
-// value does not fit, or if the trade that opened the lot has no price.
+// value overflows, or if the trade that opened the lot has no price.
 fn realised_gain_of_lot(lot: &LotDetails) -> Result<Wide, Fault>
     ensures gain { IfOk result (λ gain. gain ≡ holdings.realised_gain_of_lot (abstract_lot_details lot.now)) }
     ensures fault { IfErr result IsCallFault }
@@ -103,8 +104,8 @@ fn realised_gain_of_lot(lot: &LotDetails) -> Result<Wide, Fault>
     realised_gain_of_changes(price, &lot.changes)
 }
 
-/// Returns the sum of the realised gains of all lots, in cents. Fails with `Store` if a value does
-/// not fit, or if a trade that opened a lot has no price.
+/// Returns the sum of the realised gains of all lots, in cents. Fails with `Store` if a value
+/// overflows, or if a trade that opened a lot has no price.
 pub(crate) fn realised_gain_of_lots(lots: &[LotDetails]) -> Result<Wide, Fault>
     ensures total { IfOk result (λ total. total ≡ holdings.realised_gain_of_lots (map abstract_lot_details lots.now)) }
     ensures fault { IfErr result IsCallFault }
@@ -118,7 +119,7 @@ pub(crate) fn realised_gain_of_lots(lots: &[LotDetails]) -> Result<Wide, Fault>
 }
 
 /// Returns the sum of the costs of the remaining shares of all lots, in cents. Fails with `Store`
-/// if a value does not fit, or if a trade that opened a lot has no price.
+/// if a value overflows, or if a trade that opened a lot has no price.
 pub(crate) fn remaining_cost_of_lots(lots: &[LotDetails]) -> Result<Wide, Fault>
     ensures total { IfOk result (λ total. total ≡ holdings.remaining_cost_of_lots (map abstract_lot_details lots.now)) }
     ensures fault { IfErr result IsCallFault }
@@ -138,7 +139,7 @@ fn one_if_not_zero(left: i64) -> u64
     if left == 0 { 0 } else { 1 }
 }
 
-// Returns the sum of two counts. Fails with `Store` if it does not fit.
+// Returns the sum of two counts. Fails with `Store` if the sum overflows.
 fn add_counts(one: u64, other: u64) -> Result<u64, Fault>
     ensures sum { IfOk result (λ sum. sum ≡ one + other) }
     ensures fault { IfErr result IsCallFault }
@@ -149,8 +150,8 @@ fn add_counts(one: u64, other: u64) -> Result<u64, Fault>
     }
 }
 
-/// Returns the number of those lots whose remaining quantity is not 0. Fails with `Store` if it
-/// does not fit.
+/// Returns the number of those lots whose remaining quantity is not 0. Fails with `Store` if the
+/// number overflows.
 pub(crate) fn count_of_open_lots(lots: &[LotDetails]) -> Result<u64, Fault>
     ensures count { IfOk result (λ count. count ≡ length (holdings.lots_not_fully_closed (map abstract_lot_details lots.now))) }
     ensures fault { IfErr result IsCallFault }
@@ -169,7 +170,7 @@ fn count_of_changes(changes: &[PricedLotChange]) -> u64
     changes.len() as u64
 }
 
-/// Returns the number of the later changes of all lots. Fails with `Store` if it does not fit.
+/// Returns the number of the later changes of all lots. Fails with `Store` if the number overflows.
 pub(crate) fn count_of_lot_changes(lots: &[LotDetails]) -> Result<u64, Fault>
     ensures count { IfOk result (λ count. count ≡ holdings.count_of_lot_changes (map abstract_lot_details lots.now)) }
     ensures fault { IfErr result IsCallFault }

@@ -20,7 +20,7 @@ use std::alloc::Global;
 
 // Appends to `out` the line of a completed trade: its stamp, its id, its signed quantity, its
 // price, its signed value, the quantity `held` after it, and its type. Fails with `Memory` or
-// `Store`; with `Store` if the value does not fit or the trade has no price.
+// `Store`; with `Store` if the value overflows or the trade has no price.
 #[tactic(auto, unfolding(brk_explain_model::specs::HoldingLines::holding_trade_line))]
 fn put_holding_trade_line(
     alloc: Global,
@@ -45,8 +45,8 @@ fn put_holding_trade_line(
 }
 
 /// Appends to `out` a line for each completed trade of a holding, with the quantity of the holding
-/// after it. Fails with `Memory` or `Store`; with `Store` if a quantity or a value does not fit or
-/// a trade has no price.
+/// after it. Fails with `Memory` or `Store`; with `Store` if a quantity or a value overflows or a
+/// trade has no price.
 pub(crate) fn put_holding_trade_lines(
     alloc: Global,
     out: &mut Vec<u8>,

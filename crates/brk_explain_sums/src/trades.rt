@@ -1,6 +1,5 @@
 //! The quantities and values of completed trades, and their totals. A trade without a price and a
-//! sum that does not fit are the fault `Store`: no row of a store that passed its audit leads to
-//! one.
+//! sum that overflows are the fault `Store`: no row of a store that passed its audit leads to one.
 
 ghost use Rattle.std.specs.Prelude.{◌≡◌, ◌+ℤ◌, IfErr, IfOk, if◌then◌else◌, int_lt, map, pos};
 ghost use Rattle.brk_changes.specs.Rows.{abstract_trade_row};
@@ -35,7 +34,7 @@ pub(crate) fn signed_quantity_of_trade(row: &TradeRow) -> i64
 }
 
 /// Returns the product of the quantity and the price of a trade, in cents: below 0 for a sale.
-/// Fails with `Store` if it does not fit, or if the trade has no price.
+/// Fails with `Store` if the product overflows, or if the trade has no price.
 pub(crate) fn signed_value_of_trade(row: &TradeRow) -> Result<Wide, Fault>
     ensures value { IfOk result (λ value. value ≡ holdings.signed_value_of_trade (abstract_trade_row row.now)) }
     ensures fault { IfErr result IsCallFault }
@@ -45,7 +44,7 @@ pub(crate) fn signed_value_of_trade(row: &TradeRow) -> Result<Wide, Fault>
 }
 
 /// Returns the quantity `held` before a trade plus the quantity of the trade, which counts below 0
-/// for a sale. Fails with `Store` if it does not fit.
+/// for a sale. Fails with `Store` if the sum overflows.
 pub(crate) fn quantity_held_after_trade(held: i64, row: &TradeRow) -> Result<i64, Fault>
     ensures held { IfOk result (λ after. after ≡ held +ℤ holdings.signed_quantity_of_trade (abstract_trade_row row.now)) }
     ensures fault { IfErr result IsCallFault }
@@ -79,8 +78,8 @@ fn negative_part(amount: Wide) -> Wide
     if is_below(amount, zero) { amount } else { zero }
 }
 
-/// Returns the sum of the values of the purchases among the completed trades, in cents. Fails with
-/// `Store` if a value does not fit, or if a trade has no price.
+/// Returns the sum of the values of the purchases among the completed trades, in cents: 0 if there
+/// is none. Fails with `Store` if a value or the sum overflows, or if a trade has no price.
 pub(crate) fn total_purchase_value(done: &[TradeRow]) -> Result<Wide, Fault>
     ensures total { IfOk result (λ total. total ≡ holdings.total_purchase_value (map abstract_trade_row done.now)) }
     ensures fault { IfErr result IsCallFault }
@@ -93,8 +92,9 @@ pub(crate) fn total_purchase_value(done: &[TradeRow]) -> Result<Wide, Fault>
     Ok(total)
 }
 
-/// Returns the sum of the negated values of the sales among the completed trades, in cents: 0 if
-/// there is none. Fails with `Store` if a value does not fit, or if a trade has no price.
+/// Returns the sum of the values of the sales among the completed trades, which count below 0, in
+/// cents: 0 if there is none. Fails with `Store` if a value or the sum overflows, or if a trade has
+/// no price.
 pub(crate) fn total_sale_value(done: &[TradeRow]) -> Result<Wide, Fault>
     ensures total { IfOk result (λ total. total ≡ holdings.total_sale_value (map abstract_trade_row done.now)) }
     ensures fault { IfErr result IsCallFault }

@@ -19,7 +19,7 @@ use std::io::ErrorKind;
 pub type FileDesk = Store<FileStore<File>>;
 
 // Closes the files of a connection. At `Ok` the database file contains the last commit even without
-// its log. Fails with `Store` only.
+// its log. Fails with `Store` only, and then drops the files.
 fn close_connection(conn: Connection<FileStore<File>>) -> Result<(), Fault>
     ensures closed { OnOk result (HasLastCommitInFile conn) }
     ensures fault { OnErr result (result ≡ Err fault.Store) }
@@ -43,7 +43,8 @@ pub fn close_desk_file(store: FileDesk) -> Result<(), Fault>
     close_connection(store.into_conn())
 }
 
-// Opens a connection to the database file at `path`. Fails with `Store` only.
+// Opens a connection to the database file at `path`. Fails with `Store` only, for any error of the
+// open.
 fn open_connection(rt: &HostRuntime, path: &str) -> Result<Connection<FileStore<File>>, Fault>
     ensures opened { IfOk result IsNewConnectionToFile }
     ensures fault { OnErr result (result ≡ Err fault.Store) }
@@ -54,7 +55,9 @@ fn open_connection(rt: &HostRuntime, path: &str) -> Result<Connection<FileStore<
     }
 }
 
-// Adopts the database of a connection as a store. At a fault returns the connection with the fault.
+// Audits the database of a connection by the conditions of its own schema and, if it passes,
+// returns it as a store, upgraded to schema 3. Fails with the connection and the fault: `Damaged`
+// with the first condition that fails, `Memory` or `Store`.
 fn adopt_connection<S: Alter>(
     alloc: Global,
     conn: Connection<S>,
@@ -66,7 +69,8 @@ fn adopt_connection<S: Alter>(
 }
 
 // Adopts the database of a connection as a store. If the adoption fails, closes the file and fails
-// with the fault of the adoption.
+// with the fault of the adoption: `Damaged` with the first condition that fails, `Memory` or
+// `Store`.
 fn adopt_or_close_connection(
     rt: &HostRuntime,
     conn: Connection<FileStore<File>>,
@@ -85,7 +89,8 @@ fn adopt_or_close_connection(
 
 /// Opens the desk in the file at `path`, and upgrades a file of an older schema. Creates a desk if
 /// the file is missing or empty or has no table of a desk. Fails with `Damaged` and the first
-/// condition that fails if the file has a table of a desk and does not pass the audit.
+/// condition that fails if the file has a table of a desk and does not pass the audit, or with
+/// `Memory` or `Store`.
 ///
 /// A new desk is closed and opened again, so that its tables are in the file itself, and a file
 /// that then loses its log is never treated as a new one.
@@ -118,8 +123,8 @@ fn is_missing_or_empty(rt: &HostRuntime, path: &str) -> bool {
 }
 
 /// Opens the desk in the file at `path`, and upgrades a file of an older schema. Creates nothing.
-/// Fails with `Damaged(Schema)` if the file is missing or empty, and with `Damaged` and the first
-/// condition that fails if it does not pass the audit.
+/// Fails with `Damaged(Schema)` if the file is missing or empty, with `Damaged` and the first
+/// condition that fails if it does not pass the audit, or with `Memory` or `Store`.
 pub fn open_desk_file(rt: &HostRuntime, path: &str) -> Result<FileDesk, Fault>
     ensures opened { OpenPost result }
     ensures represented { IfOk result (λ store. RepresentsRowsOfFile over_files store) }

@@ -3,7 +3,7 @@ use brk_io::write_all_bytes;
 use std::io::Write;
 
 /// Writes `ok` and a line feed to `output`, after an audit that passed when the desk was opened.
-/// Returns the outcome of the program.
+/// Returns `Done`, or `Output` if the writer fails.
 pub(crate) fn write_audit_ok<W: Write>(output: &mut W) -> Ending {
     match write_all_bytes(output, b"ok\n") {
         Ok(()) => Ending::Done,

@@ -7,7 +7,8 @@ use sqlite::Alter;
 use std::io::{Read, Write};
 
 /// Executes a batch from `input` on a desk, and writes its lines to `output`. The timestamps are
-/// `at`, or readings of the machine's clock. Returns the outcome of the program.
+/// `at`, or readings of the machine's clock. Returns `Done`, also if rows were refused, or `Batch`
+/// with the fault if the batch ended early.
 pub(crate) fn execute_batch_job<R: Read + Drop, W: Write, S: Alter>(
     rt: &HostRuntime,
     at: Option<Stamp>,

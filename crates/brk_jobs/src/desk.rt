@@ -12,8 +12,9 @@ use brk_store::Store;
 use sqlite::{Alter, Connection};
 use std::io::{Read, Write};
 
-// Executes a job on an open desk, and returns the outcome of the program. For an audit it is
-// `Done`: the audit passed when the desk was opened.
+// Executes a job on an open desk, and returns its outcome: `Done`, or `Batch`, `Report`, `Serve`,
+// `Net` or `Open(Memory)`, by the kind of the job, if it is refused or ends early. For an audit it
+// does nothing and returns `Done`: the audit passed when the desk was opened.
 fn execute_job_at_desk<R: Read + Drop, W: Write, S: Alter>(
     rt: &HostRuntime,
     desk: &mut Desk<S>,
@@ -58,9 +59,9 @@ fn execute_job_at_desk<R: Read + Drop, W: Write, S: Alter>(
     }
 }
 
-// Executes a job on the desk of a store, and returns the outcome of the program and the store. It
-// is the only function over stores of any type that this crate calls with a store over files,
-// because each such call takes the prover some twenty seconds.
+// Executes a job on the desk of a store, and returns the outcome of the job, `Done` or its fault or
+// refusal, and the store. It is the only function over stores of any type that this crate calls
+// with a store over files, because each such call takes the prover some twenty seconds.
 fn execute_job_at_store<R: Read + Drop, W: Write, S: Alter>(
     rt: &HostRuntime,
     store: Store<S>,
@@ -74,7 +75,8 @@ fn execute_job_at_store<R: Read + Drop, W: Write, S: Alter>(
 }
 
 /// Executes a job on the desk in a file that was opened, closes the file and returns the outcome of
-/// the program. If the file could not be opened, returns its fault as the outcome.
+/// the job; if it is `Done` and the file cannot be closed, `Open` with the fault of the close. If
+/// the file could not be opened, executes nothing and returns `Open` with the fault.
 pub(crate) fn execute_job_in_file<R: Read + Drop, W: Write>(
     rt: &HostRuntime,
     opened: Result<FileDesk, Fault>,
@@ -91,7 +93,8 @@ pub(crate) fn execute_job_in_file<R: Read + Drop, W: Write>(
     }
 }
 
-/// Executes a job on a new desk in memory, and returns the outcome of the program.
+/// Executes a job on a new desk in memory, and returns the outcome of the job, or `Open` with the
+/// fault if the desk cannot be created.
 pub(crate) fn execute_job_in_memory<R: Read + Drop, W: Write>(
     rt: &HostRuntime,
     job: &Job,

@@ -8,7 +8,8 @@ use std::alloc::Global;
 use std::io::Write;
 
 /// Parses `words` as a request for the explanation of a trade, an account, a holding or a broker,
-/// and writes this explanation of a desk to `output`. Returns the outcome of the program.
+/// and writes this explanation of a desk to `output`. Returns `Done`, `Report` with the refusal or
+/// the fault, or `Open(Memory)` if memory runs out before the desk is read.
 pub(crate) fn execute_explain_job<S: Alter, W: Write>(
     alloc: Global,
     desk: &mut Desk<S>,

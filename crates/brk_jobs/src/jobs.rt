@@ -47,8 +47,8 @@ fn place_of_job(job: &Job) -> Place<'_> {
     }
 }
 
-// Opens the desk of a job, executes the job, and returns the outcome of the program. After an audit
-// that passed, writes `ok`.
+// Opens the desk of a job, executes the job, and returns its outcome, or `Open` with the fault if
+// the desk cannot be opened. After an audit that passed, writes `ok`.
 fn execute_job<R: Read + Drop, W: Write>(
     rt: &HostRuntime,
     job: &Job,
@@ -79,8 +79,9 @@ fn execute_job<R: Read + Drop, W: Write>(
 }
 
 /// Executes the job that the command-line arguments request, the program's own name first, and
-/// returns the outcome of the program. A batch is read from `input`. The output of the job, also
-/// help, is written to `output`.
+/// returns the outcome of the job; `Usage` if they request help or no job, and `Output` if the help
+/// cannot be written. A batch is read from `input`. The output of the job, also help, is written to
+/// `output`.
 pub fn execute_arguments<R: Read + Drop, W: Write>(
     rt: &HostRuntime,
     words: Vec<String>,

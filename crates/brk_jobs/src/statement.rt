@@ -7,7 +7,7 @@ use std::alloc::Global;
 use std::io::Write;
 
 /// Writes the statement of an account of a desk, from the day `from` to the day `to`, both
-/// included, to `output`. Returns the outcome of the program.
+/// included, to `output`. Returns `Done`, or `Report` with the refusal or the fault.
 pub(crate) fn execute_statement_job<S: Alter, W: Write>(
     alloc: Global,
     desk: &mut Desk<S>,
