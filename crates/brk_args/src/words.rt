@@ -176,9 +176,10 @@ fn serve_command<'a>(alloc: Global) -> Result<Command<'a>, AllocError> {
         .arg(streams_argument(alloc))
 }
 
-// Adds the subcommand `added` to `command` and returns the command, or the failure of one of them.
-// It is a function of its own because a function that holds several commands, at each place where
-// it may return, takes the prover more than a minute.
+// Adds the subcommand `added` to `command` and returns the command. Fails with the failure of the
+// first of them that failed, or if memory runs out. It is a function of its own because a function
+// that holds several commands, at each place where it may return, takes the prover more than a
+// minute.
 fn add_subcommand<'a>(
     command: Result<Command<'a>, AllocError>,
     added: Result<Command<'a>, AllocError>,
@@ -239,8 +240,8 @@ fn parse_day_argument(matches: &ArgMatches<'_>, name: &str) -> Result<Day, Usage
     parse_day(text.as_bytes()).ok_or(UsageFault::Day)
 }
 
-// Returns the statement job that the arguments request. Fails with `Day` or `Memory`, and with
-// `Words` if there is no account.
+// Returns the statement job that the arguments request. Fails with `Day` if the text of `--from` or
+// `--to` is no day, with `Memory`, or with `Words` and an empty text if there is no account.
 fn statement_job(alloc: Global, matches: &ArgMatches<'_>) -> Result<Job, UsageFault> {
     let Some(account) = matches.get_one::<u64>("account").and_then(Id::new) else {
         return Err(UsageFault::Words(String::new(alloc)));
@@ -253,7 +254,8 @@ fn statement_job(alloc: Global, matches: &ArgMatches<'_>) -> Result<Job, UsageFa
     })
 }
 
-// Returns the serve job that the arguments request. Fails with `Memory` only.
+// Returns the serve job that the arguments request; without them the port is 0 and the number of
+// streams 1. Fails with `Memory` only.
 fn serve_job(alloc: Global, matches: &ArgMatches<'_>) -> Result<Job, UsageFault> {
     Ok(Job::Serve {
         port: matches.get_one("port").unwrap_or(0),
@@ -297,7 +299,8 @@ fn explain_job(alloc: Global, matches: &ArgMatches<'_>) -> Result<Job, UsageFaul
 }
 
 // Returns the job of the subcommand `name` with its arguments `matches`: a batch for any name other
-// than those of the other five subcommands. Fails with the usage fault of the arguments.
+// than those of the other five subcommands. Fails with `Day`, `Words` or `Memory` for a statement,
+// and otherwise with `Memory` only.
 fn job_of_subcommand(
     alloc: Global,
     name: &str,
@@ -354,8 +357,8 @@ pub fn non_utf8_argument_fault(alloc: Global) -> UsageFault {
 /// Parses the command-line arguments, the program's own name first, and returns the job that they
 /// request.
 ///
-/// Fails with `Help` and its text if help or the version was requested, otherwise with the reason
-/// why the arguments request no job.
+/// Fails with `Help` and its text if help or the version was requested, with `Day` if the day of a
+/// statement is none, with `Words` and the error text if the arguments are wrong, or with `Memory`.
 pub fn read_words(words: Vec<String>) -> Result<Job, UsageFault> {
     let alloc = *words.allocator();
     let command = command_with_subcommands(alloc)?;

@@ -40,7 +40,8 @@ fn format_view(alloc: Global, query: &Query, view: &View, form: Form) -> Result<
 
 // Writes the text of a query's view, as JSON or CSV as `form` specifies.
 //
-// Fails with `Desk(Memory)` and nothing written, or with `Write` after a prefix of the text.
+// Fails with `Desk(Memory)` and nothing written, or with `Write` after a prefix of the text,
+// perhaps all of it.
 fn write_view<W: Write>(
     alloc: Global,
     query: &Query,
@@ -62,7 +63,8 @@ fn write_view<W: Write>(
 
 // Executes a query on the desk, and writes its view, as JSON or CSV as `form` specifies.
 //
-// Fails with `Refused` or `Desk` and nothing written, or with `Write` after a prefix of the text.
+// Fails with `Refused` and the refusal of the query, or with `Desk` and `Memory` or `Store`, and
+// nothing is then written; or with `Write` after a prefix of the text, perhaps all of it.
 fn execute_query_and_write_view<W: Write, S: Alter>(
     alloc: Global,
     desk: &mut Desk<S>,

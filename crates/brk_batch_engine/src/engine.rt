@@ -91,8 +91,8 @@ fn check_end_record_and_write_end_line<W: Write>(
 
 // Reads the first record, the header `batch,NAME`, and returns the name of the batch.
 //
-// Fails with `BadHeader` if there is no such record, with `Read` if the reader fails, and with
-// `Desk(Memory)`.
+// Fails with `BadHeader` if there is no record or it is no such header, with `Read` if the reader
+// fails, and with `Desk(Memory)`.
 fn read_batch_name<R: Read>(alloc: Global, records: &mut Reader<R>) -> Result<BatchName, FaultKind>
     requires { IsBatchReader records.old }
     ensures setup { OnOk result (IsBatchReader records.new) }
@@ -117,7 +117,9 @@ fn read_batch_name<R: Read>(alloc: Global, records: &mut Reader<R>) -> Result<Ba
 // returns the counts of the answers. Each record has at least one byte, so the number of rows is at
 // most the number of bytes, which limits the loop.
 //
-// At an error returns the fault with the number of decided rows, whose changes remain.
+// At an error returns the fault with the number of decided rows, whose changes remain: `NoEnd` if
+// the input ends without an end record, `BadEnd` if that is wrong, `Read` or `Write` if the reader
+// or the writer fails, or `Desk` with `Memory` or `Store`.
 fn execute_rows_and_write_lines<R: Read, W: Write, C: Clock, D: Rows>(
     alloc: Global,
     records: &mut Reader<R>,
@@ -195,8 +197,10 @@ fn execute_rows_and_write_lines<R: Read, W: Write, C: Clock, D: Rows>(
 /// Reads a batch, executes its rows in order, and writes their lines and the end line. Returns the
 /// counts of the answers.
 ///
-/// At an error returns the fault with the number of decided rows, whose changes remain. After a
-/// fault of the desk, a crash may also expose the next row as committed.
+/// At an error returns the fault with the number of decided rows, whose changes remain:
+/// `BadHeader`, `NoEnd` or `BadEnd` if the header or the end record is missing or wrong, `Read` or
+/// `Write` if the reader or the writer fails, or `Desk` with `Memory` or `Store`. After a fault of
+/// the desk, a crash may also expose the next row as committed.
 pub fn execute_batch_on_desk<R: Read + Drop, W: Write, C: Clock, D: Rows>(
     alloc: Global,
     reader: R,
