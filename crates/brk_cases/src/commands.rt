@@ -63,7 +63,7 @@ fn word_of_batch_fault(kind: FaultKind) -> &'static str {
 }
 
 // Executes the input as a batch at the timestamp `moment`, and appends its lines and, if it failed,
-// its fault with the number of decided rows.
+// the word for its fault with the number of decided rows. Fails only if memory runs out.
 fn execute_batch_command(
     alloc: Global,
     out: &mut String,
@@ -92,7 +92,7 @@ fn execute_batch_command(
 }
 
 // Serves the input as a stream of HTTP requests at the timestamp `moment`. Appends the replies, and
-// then their number or, if the stream failed, the word `fault`.
+// then their number or, if the stream failed, the word `fault`. Fails only if memory runs out.
 fn execute_http_command(
     alloc: Global,
     out: &mut String,
@@ -116,8 +116,9 @@ fn execute_http_command(
     Ok(())
 }
 
-// Writes the statement of the account from and to the days in `words`, and appends its lines, and
-// its refusal or the word `fault` if it failed.
+// Writes the statement of the account and the days, the first and the last, that `words` name, and
+// appends its lines and, if it failed, its refusal or the word `fault`. If `words` are malformed,
+// appends only the refusal 18. Fails only if memory runs out.
 fn execute_statement_command(
     alloc: Global,
     out: &mut String,
@@ -143,8 +144,9 @@ fn execute_statement_command(
     }
 }
 
-// Writes the explanation that `words` request, and appends its lines, and its refusal or the word
-// `fault` if it failed.
+// Writes the explanation that `words` request, and appends its lines and, if it failed, its refusal
+// or the word `fault`. If `words` request none, appends only the refusal 18. Fails only if memory
+// runs out.
 fn execute_explain_command(
     alloc: Global,
     out: &mut String,
@@ -170,8 +172,8 @@ fn execute_explain_command(
     }
 }
 
-// Appends the result of an audit or of an adoption: `ok`, the first condition that fails, or the
-// word `fault`.
+// Appends the result of an audit or of an adoption as an output line: `ok`, `damaged` and the first
+// condition that fails, or the word `fault`. Fails only if memory runs out.
 fn append_audit_result(out: &mut String, audited: Result<(), Fault>) -> Result<(), Failed> {
     match audited {
         Ok(()) => append_output_line(out, "ok"),
@@ -184,7 +186,8 @@ fn append_audit_result(out: &mut String, audited: Result<(), Fault>) -> Result<(
 }
 
 // Audits the open desk, or the open database by adopting it, appends the result, and returns what
-// was open. A database remains without a desk.
+// was open. A database remains without a desk. If nothing is open, appends nothing. Fails only if
+// memory runs out.
 fn execute_audit_command(alloc: Global, out: &mut String, place: Place) -> Result<Place, Failed> {
     match place {
         Place::Open(mut desk) => {
@@ -208,8 +211,9 @@ fn database_without_desk(place: Place) -> Place {
     }
 }
 
-// Adopts the open database, appends the result, and returns its desk, or the database if the
-// adoption failed.
+// Adopts the open database, or that of the open desk, appends the result, and returns its desk, or
+// the database if the adoption failed. If nothing is open, appends nothing and returns `Nothing`.
+// Fails only if memory runs out.
 fn execute_adopt_command(alloc: Global, out: &mut String, place: Place) -> Result<Place, Failed> {
     match place.into_conn() {
         Some(conn) => {
@@ -221,7 +225,8 @@ fn execute_adopt_command(alloc: Global, out: &mut String, place: Place) -> Resul
     }
 }
 
-// Executes an SQL statement, as another program would, and appends an output line if it fails.
+// Executes an SQL statement, as another program would, and appends the output line `! sql` if it
+// fails or is not UTF-8. Fails only if memory runs out.
 fn execute_sql_statement(
     out: &mut String,
     conn: &mut Connection<MemStore>,
@@ -239,7 +244,7 @@ fn execute_sql_statement(
 }
 
 // Executes each input line as an SQL statement, as another program would, on the database without
-// its desk. Returns the database.
+// its desk. Returns the database, or `Nothing` if nothing is open. Fails only if memory runs out.
 fn execute_sql_command(out: &mut String, place: Place, pieces: &[Piece]) -> Result<Place, Failed> {
     match place.into_conn() {
         Some(mut conn) => {
@@ -253,7 +258,8 @@ fn execute_sql_command(out: &mut String, place: Place, pieces: &[Piece]) -> Resu
 }
 
 // Appends the rows of all tables, adopts the database again, and returns its desk, or the database
-// if the adoption failed.
+// if the adoption failed. If nothing is open, appends nothing and returns `Nothing`. Fails only if
+// memory runs out.
 fn execute_tables_command(alloc: Global, out: &mut String, place: Place) -> Result<Place, Failed> {
     match place.into_conn() {
         Some(mut conn) => {
@@ -266,7 +272,8 @@ fn execute_tables_command(alloc: Global, out: &mut String, place: Place) -> Resu
 }
 
 // Executes a command that needs an open desk, given by its first word `verb`, the other words and
-// its input lines, and appends its output lines.
+// its input lines, and appends its output lines, or one that there is no such command. Fails only
+// if memory runs out.
 fn execute_desk_command(
     alloc: Global,
     out: &mut String,
@@ -293,7 +300,8 @@ fn execute_desk_command(
 }
 
 /// Executes a command on the open desk or database, appends its output lines, and returns the desk
-/// or database that is open after it.
+/// or database that is open after it. If the command needs a desk and none is open, appends only `!
+/// no desk`. Fails only if memory runs out.
 pub fn execute_command(
     alloc: Global,
     out: &mut String,

@@ -15,7 +15,7 @@ struct Due<'a> {
 }
 
 // Executes the pending command, if there is one, appends its output lines, and returns the desk or
-// the database that is open after it.
+// the database that is open after it. Fails only if memory runs out.
 fn execute_pending_command(
     alloc: Global,
     out: &mut String,
@@ -56,7 +56,8 @@ impl<'a> Replay<'a> {
     }
 
     // Executes the pending command, copies the line `line` to the replay, and makes it the pending
-    // command unless it is a comment or empty.
+    // command unless it is a comment or empty. Returns the state of the replay after it. Fails only
+    // if memory runs out.
     fn execute_pending_and_start_next(
         self,
         alloc: Global,
@@ -77,8 +78,9 @@ impl<'a> Replay<'a> {
         Ok(Replay { place, due })
     }
 
-    // Processes the next line of a transcript: drops an output line; adds an input line to the
-    // pending command; executes the pending command at any other line, which begins the next one.
+    // Processes the next line of a transcript, and returns the state of the replay after it: drops
+    // an output line; copies an input line and adds it to the pending command; executes the pending
+    // command at any other line, which begins the next one. Fails only if memory runs out.
     fn process_line(
         self,
         alloc: Global,

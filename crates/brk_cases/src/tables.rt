@@ -8,7 +8,8 @@ use sqlite::{Connection, MemStore, Row};
 use std::alloc::Global;
 
 // Appends the value of the column at index `at` of a row, with a bar before each but the first. A
-// value that is neither a whole number nor text, for example a null, is written as `\x00`.
+// value that is neither a whole number nor text, for example a null, is written as `\x00`. Fails
+// only if memory runs out.
 fn append_cell_text(out: &mut String, row: &Row, at: usize) -> Result<(), Failed> {
     if at > 0 {
         out.push_str("|")?;
@@ -22,7 +23,7 @@ fn append_cell_text(out: &mut String, row: &Row, at: usize) -> Result<(), Failed
 }
 
 // Appends a row of a table as an output line: the name of the table, and the values of the columns,
-// separated by bars.
+// separated by bars. Fails only if memory runs out.
 fn append_table_row(out: &mut String, table: &str, row: &Row) -> Result<(), Failed> {
     write!(out, "> {table} ")?;
     for at in 0..row.column_count() {
@@ -33,7 +34,7 @@ fn append_table_row(out: &mut String, table: &str, row: &Row) -> Result<(), Fail
 }
 
 // Appends the rows of a table, sorted by the columns `key`, each as an output line, or a line that
-// there is no such table.
+// there is no such table, also if the rows cannot be read. Fails only if memory runs out.
 fn append_rows_of_table(
     alloc: Global,
     out: &mut String,
@@ -53,7 +54,8 @@ fn append_rows_of_table(
     Ok(())
 }
 
-/// Appends the rows of all tables of a desk, each table sorted by its key, as output lines.
+/// Appends the rows of all tables of a desk, each table sorted by its key, as output lines. Fails
+/// only if memory runs out.
 pub fn append_rows_of_all_tables(
     alloc: Global,
     out: &mut String,

@@ -10,13 +10,14 @@ use brk_view_text::view_fields;
 use sqlite::MemStore;
 use std::alloc::{AllocError, Global};
 
-/// Appends the output line of a refusal: `no` and its number.
+/// Appends the output line of a refusal: `no` and its number. Fails only if memory runs out.
 pub fn append_refusal_line(out: &mut String, refusal: Refusal) -> Result<(), Failed> {
     writeln!(out, "> no {}", refusal.number())?;
     Ok(())
 }
 
-// Appends the fields of a record as an output line, separated by bars.
+// Appends the fields of a record as an output line, separated by bars. Fails only if memory runs
+// out.
 fn append_record_line(out: &mut String, record: &[String]) -> Result<(), Failed> {
     let mut sign = "> ";
     for field in record {
@@ -28,7 +29,7 @@ fn append_record_line(out: &mut String, record: &[String]) -> Result<(), Failed>
     Ok(())
 }
 
-// Appends each record of a view as an output line.
+// Appends each record of a view as an output line. Fails only if memory runs out.
 fn append_view_lines(alloc: Global, out: &mut String, view: &View) -> Result<(), Failed> {
     match view_fields(alloc, view) {
         Ok(records) => {
@@ -52,7 +53,7 @@ fn bytes_of_input_lines(alloc: Global, pieces: &[Piece]) -> Result<Vec<&[u8]>, A
 }
 
 // Parses a query from the name of a view and its arguments, and executes it on a desk. Returns the
-// view or the refusal, or fails with a fault.
+// view or the refusal of the query, 18 if the texts are no query. Fails with `Memory` or `Store`.
 fn parse_and_execute_query(
     alloc: Global,
     desk: &mut Desk<MemStore>,
@@ -66,7 +67,7 @@ fn parse_and_execute_query(
 }
 
 /// Executes the query for the view `view` on a desk, with the input lines as its arguments, and
-/// appends the records, the refusal, or the word `fault`.
+/// appends the records, the refusal, or the word `fault`. Fails only if memory runs out.
 pub fn execute_ask_command(
     alloc: Global,
     out: &mut String,
@@ -91,8 +92,9 @@ fn form_of_printed_view(word: &str) -> Form {
     }
 }
 
-/// Prints a view of a desk, and appends the text, the refusal, or the word `fault`. `words` are the
-/// form and the name of the view, the input lines its arguments.
+/// Prints a view of a desk, and appends the text and, if it failed, the refusal or the word
+/// `fault`. `words` are the form and the name of the view, the input lines its arguments. Fails
+/// only if memory runs out.
 pub fn execute_print_command(
     alloc: Global,
     out: &mut String,

@@ -68,8 +68,10 @@ fn execute_query<D: Service>(
     }
 }
 
-/// Executes the call of a request, if it makes one, and returns the response. Reads the clock once
-/// for a well-formed row, and not for any other request.
+/// Executes the call of a request, if it makes one, and returns the response: the reply, the stored
+/// reply, the view, the refusal, or the fault of the desk; without a call, the problem of the
+/// request or the refusal of its malformed row or query. Reads the clock once for a well-formed
+/// row, and not for any other request.
 pub fn execute_call_of_request<C: Clock, D: Service>(
     alloc: Global,
     clock: &mut C,

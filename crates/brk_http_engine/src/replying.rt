@@ -101,7 +101,8 @@ pub fn fields_between_commas(alloc: Global, line: &str) -> Result<Vec<String>, A
     copy_texts(alloc, &parts)
 }
 
-// Returns the body of the reply to a refused row or query, `{"no":["NUMBER",..]}`.
+// Returns the body of the reply to a refused row or query, `{"no":["NUMBER",..]}`: the number of
+// the refusal and its details. Fails only if memory runs out.
 #[tactic(auto, using(crate::proofs::PieceLemmas::refusal_parts))]
 fn refusal_body(alloc: Global, refusal: Refusal) -> Result<String, AllocError>
     ensures { IfOk result (λ s. string_bytes s ≡ response_body (FromOutcome (run.NoView refusal))) }
@@ -190,7 +191,7 @@ fn join_label_and_value(alloc: Global, label: &str, value: &str) -> Result<Strin
     Ok(text)
 }
 
-// Returns the decimal digits of a number.
+// Returns the decimal digits of a number. Fails only if memory runs out.
 fn decimal_digits(alloc: Global, n: usize) -> Result<String, AllocError>
     ensures { IfOk result (λ s. string_bytes s ≡ decimal n) }
 {
@@ -213,7 +214,7 @@ fn first_head_lines(alloc: Global, status: &str, len: usize) -> Result<String, A
 }
 
 // Returns the bytes of a reply with this status and body; with an `Allow: POST` line if `asks_post`
-// is true, and a `Connection: close` line if `closes` is true.
+// is true, and a `Connection: close` line if `closes` is true. Fails only if memory runs out.
 fn reply_bytes(
     alloc: Global,
     code: StatusCode,
@@ -232,8 +233,8 @@ fn reply_bytes(
     Ok(text)
 }
 
-/// Returns the bytes of the reply with this response, with a `Connection: close` line if `closes`
-/// is true.
+/// Returns the bytes of the reply with this response, its status, head and JSON body, with a
+/// `Connection: close` line if `closes` is true. Fails only if memory runs out.
 pub fn reply_text<D: Service>(
     alloc: Global,
     told: &ServiceResponse<D::Reply, D::View>,

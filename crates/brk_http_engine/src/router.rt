@@ -18,7 +18,8 @@ pub enum RouteKind {
     View,
 }
 
-/// Creates the router of the three routes `/rows`, `/rows/{batch}/{n}` and `/ask/{view}`.
+/// Creates the router of the three routes `/rows`, `/rows/{batch}/{n}` and `/ask/{view}`. Fails if
+/// the router refuses a route or memory runs out.
 pub fn new_router(alloc: Global) -> Result<Router<RouteKind>, InsertError>
     ensures { IfOk result (λ router. router ≡ all_router_rows) }
 {

@@ -23,10 +23,10 @@ pub struct ServeFault {
     pub kind: FaultKind,
 }
 
-// Serves the requests of a stream with a router of the three routes, in order, and returns the
-// number of replies.
+// Serves the requests of a stream with a router of the three routes, in order, at most 1,000, and
+// returns the number of replies.
 //
-// Fails with the fault and the number of replies before it.
+// Fails with the fault, `Read`, `Write` or `Memory`, and the number of replies before it.
 fn serve_with_router<R: Read + Drop, W: Write, C: Clock, D: Service>(
     alloc: Global,
     router: &Router<RouteKind>,
@@ -72,9 +72,9 @@ fn serve_with_router<R: Read + Drop, W: Write, C: Clock, D: Service>(
 /// Serves the requests of a stream, in order, at most 1,000, and returns the number of replies. No
 /// view may have an empty name.
 ///
-/// Each request makes at most one call of the desk. Fails with the fault and the number of replies
-/// before it. After a fault of memory or of the writer, the next request may have been executed;
-/// after a fault of the reader it was not.
+/// Each request makes at most one call of the desk. Fails with the fault, `Read`, `Write` or
+/// `Memory`, and the number of replies before it. After a fault of memory or of the writer, the
+/// next request may have been executed; after a fault of the reader it was not.
 pub fn serve_requests<R: Read + Drop, W: Write, C: Clock, D: Service>(
     alloc: Global,
     reader: R,

@@ -121,7 +121,8 @@ fn execute_and_format_reply<C: Clock, D: Service>(
 }
 
 /// Reads the next request, after `done` replies, executes it and writes its reply. Returns `Ended`
-/// if no input is left, `Closed` if the reply is the last of the stream, otherwise `Open`.
+/// if no input is left, `Closed` if the reply is the last of the stream, otherwise `Open`. A
+/// request that cannot be read is not executed: the reply names its problem and is the last.
 ///
 /// Fails with `Read`, and no request is executed. After `Memory` or `Write` the request may have
 /// been executed.

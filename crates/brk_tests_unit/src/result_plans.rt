@@ -162,7 +162,8 @@ fn case_without_later_stamp() -> Case {
     }
 }
 
-// Returns `case_without_later_stamp`, and the broker's commissions are at their limit too.
+// Returns `case_without_later_stamp` with the broker's commissions at their limit, so that the
+// commission of the trade exceeds it.
 fn case_beyond_broker_limit() -> Case {
     Case {
         commissions: 100_000_000_000_000_000,
@@ -170,7 +171,8 @@ fn case_beyond_broker_limit() -> Case {
     }
 }
 
-// Returns `case_beyond_broker_limit`, and the balance is at its lower limit too.
+// Returns `case_beyond_broker_limit` with the balance at its lower limit, so that the amount of the
+// purchase exceeds it.
 fn case_beyond_balance_limit() -> Case {
     Case {
         held: Some(9_999_999_899),
@@ -179,8 +181,8 @@ fn case_beyond_balance_limit() -> Case {
     }
 }
 
-// Returns `case_beyond_balance_limit`, and the shares held are 99 below their limit, so that 100
-// more exceed it.
+// Returns `case_beyond_balance_limit` with the shares held 99 below their limit, so that 100 more
+// exceed it.
 fn case_beyond_summary_limit() -> Case {
     Case {
         held: Some(9_999_999_900),
@@ -188,7 +190,7 @@ fn case_beyond_summary_limit() -> Case {
     }
 }
 
-// Returns `case_beyond_summary_limit`, and there is no commission band for the trade either.
+// Returns `case_beyond_summary_limit` without a commission band for the trade.
 fn case_without_commission_band() -> Case {
     Case {
         rate: None,
@@ -196,7 +198,7 @@ fn case_without_commission_band() -> Case {
     }
 }
 
-// Returns `case_without_commission_band`, and the trade has this status.
+// Returns `case_without_commission_band` with this status of the trade.
 fn case_of_wrong_status(status: Status) -> Case {
     Case {
         status,
