@@ -24,7 +24,7 @@ use std::io::Write;
 
 // Writes the explanation of the trade with the id. Fails with `Refused` (`NoTrade`) if the trade
 // does not exist, before it writes anything; with `Desk` if a read fails, memory runs out or an
-// amount does not fit; and with `Write` if the writer fails. If the database is still open, it is
+// amount overflows; and with `Write` if the writer fails. If the database is still open, it is
 // unchanged.
 fn write_trade_explanation<W: Write, S: Alter>(
     alloc: Global,
@@ -46,9 +46,9 @@ fn write_trade_explanation<W: Write, S: Alter>(
     }
 }
 
-// Writes all lines of the explanation of an account, from its row and holdings in `details` and from
-// its cash rows and lots, which it reads. Fails with `Desk` if a read fails, memory runs out or an
-// amount does not fit, and with `Write` if the writer fails. The open database is unchanged.
+// Writes all lines of the explanation of an account, from its row and holdings in `details` and
+// from its cash rows and lots, which it reads. Fails with `Desk` if a read fails, memory runs out
+// or an amount overflows, and with `Write` if the writer fails. The open database is unchanged.
 fn write_account_lines<W: Write, S: Alter>(
     alloc: Global,
     desk: &mut Desk<S>,
@@ -73,8 +73,8 @@ fn write_account_lines<W: Write, S: Alter>(
 
 // Writes the explanation of the account with the id. Fails with `Refused` (`NoAccount`) if the
 // account does not exist, before it writes anything; with `Desk` if a read fails, memory runs out
-// or an amount does not fit; and with `Write` if the writer fails. If the database is still open,
-// it is unchanged.
+// or an amount overflows; and with `Write` if the writer fails. If the database is still open, it
+// is unchanged.
 fn write_account_explanation<W: Write, S: Alter>(
     alloc: Global,
     desk: &mut Desk<S>,
@@ -97,8 +97,8 @@ fn write_account_explanation<W: Write, S: Alter>(
 
 // Writes the explanation of the holding of an account in a security. Fails with `Refused`
 // (`NoAccount`) if the account does not exist, or (`NoSecurity`) if only the security does not
-// exist, before it writes anything; with `Desk` if a read fails, memory runs out or an amount does
-// not fit; and with `Write` if the writer fails. If the database is still open, it is unchanged.
+// exist, before it writes anything; with `Desk` if a read fails, memory runs out or an amount
+// overflows; and with `Write` if the writer fails. If the database is still open, it is unchanged.
 fn write_holding_explanation<W: Write, S: Alter>(
     alloc: Global,
     desk: &mut Desk<S>,
@@ -123,7 +123,7 @@ fn write_holding_explanation<W: Write, S: Alter>(
 
 // Writes all lines of the explanation of a broker, from its row and number of accounts in `details`
 // and from the completed trades of its accounts, which it reads. Fails with `Desk` if a read fails,
-// memory runs out or a sum does not fit, and with `Write` if the writer fails. The open database is
+// memory runs out or a sum overflows, and with `Write` if the writer fails. The open database is
 // unchanged.
 fn write_broker_lines<W: Write, S: Alter>(
     alloc: Global,
@@ -147,7 +147,7 @@ fn write_broker_lines<W: Write, S: Alter>(
 
 // Writes the explanation of the broker with the id. Fails with `Refused` (`NoBroker`) if the broker
 // does not exist, before it writes anything; with `Desk` if a read fails, memory runs out or an
-// amount does not fit; and with `Write` if the writer fails. If the database is still open, it is
+// amount overflows; and with `Write` if the writer fails. If the database is still open, it is
 // unchanged.
 fn write_broker_explanation<W: Write, S: Alter>(
     alloc: Global,
@@ -174,9 +174,11 @@ fn write_broker_explanation<W: Write, S: Alter>(
 ///
 /// Fails with `Refused` and nothing written if a record does not exist: with refusal 5 (`NoTrade`)
 /// for the trade, 1 (`NoAccount`) for the account, also of a holding, 4 (`NoSecurity`) for the
-/// security of a holding whose account exists, and 3 (`NoBroker`) for the broker. After `Desk` only
-/// whole lines are written, from the first on and never the last one. After `Write` whole lines are
-/// written, from the first on, and a part of the next one.
+/// security of a holding whose account exists, and 3 (`NoBroker`) for the broker. Fails with `Desk`
+/// if a read fails, memory runs out, a row that another row requires does not exist, or an amount
+/// overflows or exceeds its limit: only whole lines are then written, from the first on and never
+/// the last one. After `Write` whole lines are written, from the first on, and a part of the next
+/// one.
 ///
 /// A crash exposes only states that a crash before the call could expose.
 pub fn write_explanation<W: Write, S: Alter>(

@@ -13,7 +13,7 @@ use brk_report_lines::{LinesFault, write_line};
 use std::alloc::Global;
 use std::io::Write;
 
-// Returns `total` plus `amount`, in cents. Fails with `Desk(Store)` if the sum does not fit.
+// Returns `total` plus `amount`, in cents. Fails with `Desk(Store)` if the sum overflows.
 fn total_plus_amount(total: Wide, amount: Cents) -> Result<Wide, LinesFault>
     ensures sum { IfOk result (λ sum. sum ≡ total +ℤ amount) }
     ensures fault { OnErr result (result ≡ Err (Desk fault.Store)) }
@@ -24,7 +24,7 @@ fn total_plus_amount(total: Wide, amount: Cents) -> Result<Wide, LinesFault>
     }
 }
 
-// Returns `total` plus `commission`, in cents. Fails with `Desk(Store)` if the sum does not fit.
+// Returns `total` plus `commission`, in cents. Fails with `Desk(Store)` if the sum overflows.
 fn total_plus_commission(total: Wide, commission: Amount) -> Result<Wide, LinesFault>
     ensures sum { IfOk result (λ sum. sum ≡ total +ℤ pos commission) }
     ensures fault { OnErr result (result ≡ Err (Desk fault.Store)) }
@@ -62,8 +62,9 @@ impl<W: Write> Visitor<MoveRow, LinesFault> for CashPostingWriter<'_, W> {
     ghost stops = { λ p r e q. FailsWithinLines (cash_posting_line (abstract_move_row r) (p.balance +ℤ r.amount)
         ∷ []) (W.contents p.writer.now) (W.contents q.writer.now) e };
 
-    /// Writes the line of the cash row with the balance after it, and counts it. Fails with `Desk`
-    /// or `Write`; the balance and the count are then unchanged.
+    /// Writes the line of the cash row with the balance after it, and counts it. Fails with
+    /// `Desk(Memory)`, with `Desk(Store)` if the balance or the count overflows, or with `Write`;
+    /// the balance and the count are then unchanged.
     fn visit(&mut self, item: &MoveRow) -> Result<(), LinesFault> {
         let balance = total_plus_amount(self.balance, item.amount)?;
         let Some(count) = self.count.checked_add(1) else {
@@ -105,8 +106,8 @@ impl<W: Write> Visitor<HoldingRow, LinesFault> for OpenLotWriter<'_, W> {
 
     ghost stops = { λ p r e q. FailsWithinLines (open_lot_line (abstract_holding_row r) ∷ []) (W.contents p.writer.now) (W.contents q.writer.now) e };
 
-    /// Writes the line of the lot, and counts it. Fails with `Desk` or `Write`; the count is then
-    /// unchanged.
+    /// Writes the line of the lot, and counts it. Fails with `Desk(Memory)`, with `Desk(Store)` if
+    /// the count overflows, or with `Write`; the count is then unchanged.
     fn visit(&mut self, item: &HoldingRow) -> Result<(), LinesFault> {
         let Some(count) = self.count.checked_add(1) else {
             return Err(LinesFault::Desk(Fault::Store));
@@ -151,7 +152,8 @@ impl<W: Write> Visitor<TradeRow, LinesFault> for TradeCommissionWriter<'_, W> {
         ∷ []) (W.contents p.writer.now) (W.contents q.writer.now) e };
 
     /// Writes the line of the trade with the running total of the commissions, and counts it. Fails
-    /// with `Desk` or `Write`; the total and the count are then unchanged.
+    /// with `Desk(Memory)`, with `Desk(Store)` if the total or the count overflows, or with
+    /// `Write`; the total and the count are then unchanged.
     fn visit(&mut self, item: &TradeRow) -> Result<(), LinesFault> {
         let total = total_plus_commission(self.total, item.commission)?;
         let Some(count) = self.count.checked_add(1) else {

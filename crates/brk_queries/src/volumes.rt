@@ -142,8 +142,9 @@ fn read_volumes_of_brokers_named<S: Alter>(
     Ok(found)
 }
 
-// Returns the view of the volumes in the sector of the brokers with these names that have a pending
-// request for a security in it. Changes nothing. Fails with `Memory` or `Store` only.
+// Returns the view of the volumes in the sector, in cents, of the brokers with these names that
+// have a pending request for a security in it, sorted by volume, descending, then by name and id,
+// ascending. Changes nothing. Fails with `Memory` or `Store` only.
 pub(crate) fn view_of_broker_volumes<S: Alter>(
     alloc: Global,
     store: &mut Store<S>,

@@ -26,7 +26,9 @@ fn fault_from_walk_error(stop: WalkError<LinesFault>) -> LinesFault
 }
 
 /// Returns the balance before the day `from`, in cents: `opening` plus the amounts of the cash rows
-/// of an account on earlier days. Does not change the desk. Fails with `Desk` only.
+/// of an account on earlier days. Does not change the desk. Fails with `Desk` only: with
+/// `Desk(Memory)` or `Desk(Store)` if a read fails, and with `Desk(Store)` also if the sum
+/// overflows.
 pub(crate) fn read_balance_before_day<S: Alter>(
     desk: &mut Desk<S>,
     account: Id,
@@ -52,7 +54,8 @@ pub(crate) fn read_balance_before_day<S: Alter>(
 
 /// Writes a line for each cash row of an account from the day `from` to the day `to`, both
 /// included. Returns the number of these rows, and `opening` plus their amounts, in cents. Does not
-/// change the desk. Fails with `Desk` or `Write`.
+/// change the desk. Fails with `Desk` if a read fails, memory runs out, or the number or the sum
+/// overflows, or with `Write`.
 pub(crate) fn write_cash_lines<W: Write, S: Alter>(
     alloc: Global,
     desk: &mut Desk<S>,
@@ -87,7 +90,8 @@ pub(crate) fn write_cash_lines<W: Write, S: Alter>(
 }
 
 /// Writes a line for each lot of an account, sorted by symbol, then by opening stamp, and returns
-/// the number of lots. Does not change the desk. Fails with `Desk` or `Write`.
+/// the number of lots. Does not change the desk. Fails with `Desk` if a read fails, memory runs out
+/// or the number overflows, or with `Write`.
 pub(crate) fn write_lot_lines<W: Write, S: Alter>(
     alloc: Global,
     desk: &mut Desk<S>,

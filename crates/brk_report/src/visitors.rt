@@ -31,7 +31,7 @@ impl Line for HoldingRow {
 
     ghost line = { λ r. lot_line (abstract_holding_row r) };
 
-    /// Returns the line of the lot with its line feed. Fails with `Memory` or `Store`.
+    /// Returns the line of the lot with its line feed. Fails with `Memory` only.
     fn line(&self, alloc: Global) -> Result<Vec<u8>, Fault> {
         lot_line(alloc, self)
     }
@@ -43,7 +43,7 @@ impl Line for MoveRow {
 
     ghost line = { λ r. cash_row_line (abstract_move_row r) };
 
-    /// Returns the line of the cash row with its line feed. Fails with `Memory` or `Store`.
+    /// Returns the line of the cash row with its line feed. Fails with `Memory` only.
     fn line(&self, alloc: Global) -> Result<Vec<u8>, Fault> {
         cash_row_line(alloc, self)
     }
@@ -81,8 +81,7 @@ impl Visitor<MoveRow, LinesFault> for Sum {
 
     ghost stops = { λ p row e q. e ≡ Desk Store };
 
-    /// Adds the amount of the cash row to the total. Fails with `Desk(Store)` if the sum does not
-    /// fit.
+    /// Adds the amount of the cash row to the total. Fails with `Desk(Store)` if the sum overflows.
     fn visit(&mut self, item: &MoveRow) -> Result<(), LinesFault> {
         self.total = total_plus_amount(self.total, item.amount)?;
         Ok(())
@@ -116,8 +115,9 @@ impl<R: Line, W: Write> Visitor<R, LinesFault> for Lines<'_, W> {
 
     ghost stops = { λ p r e q. FailsWithinLines (R.line r ∷ []) (W.contents p.writer.now) (W.contents q.writer.now) e };
 
-    /// Writes the line of the record and counts the record. Fails with `Desk` or `Write`; the count
-    /// is then unchanged.
+    /// Writes the line of the record and counts the record. Fails with `Desk` and the fault of the
+    /// line, with `Desk(Store)` if the count overflows, or with `Write`; the count is then
+    /// unchanged.
     fn visit(&mut self, item: &R) -> Result<(), LinesFault> {
         let Some(count) = self.count.checked_add(1) else {
             return Err(LinesFault::Desk(Fault::Store));
@@ -176,7 +176,8 @@ impl<W: Write> Visitor<MoveRow, LinesFault> for CashLines<'_, W> {
     ghost stops = { λ p r e q. FailsWithinLines (cash_row_line (abstract_move_row r) ∷ []) (W.contents p.writer.now) (W.contents q.writer.now) e };
 
     /// Writes the line of the cash row, counts the row and adds its amount to the total. Fails with
-    /// `Desk` or `Write`; the count and the total are then unchanged.
+    /// `Desk(Memory)`, with `Desk(Store)` if the total or the count overflows, or with `Write`; the
+    /// count and the total are then unchanged.
     fn visit(&mut self, item: &MoveRow) -> Result<(), LinesFault> {
         let total = total_plus_amount(self.moved.total, item.amount)?;
         let Some(count) = self.moved.count.checked_add(1) else {

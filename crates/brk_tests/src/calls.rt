@@ -12,8 +12,9 @@ use std::alloc::{AllocError, Global};
 use std::process::Abort;
 use std::test::Fail;
 
-// Returns the text of an outcome: for a command its answer, for a query its refusal or the number
-// of trades in its view. Fails only if memory runs out.
+// Returns the text of an outcome: `ok` and the stamp of a command that books only a stamp, `again`
+// and the stored reply, `no` and the refusal of a command or a query, the number of submitted
+// trades of their view, and otherwise `something else`. Fails only if memory runs out.
 fn format_outcome(alloc: Global, outcome: &Outcome) -> Result<String, AllocError> {
     match outcome {
         Outcome::Did(Answer::Done(Reply::Booked(stamp))) => {

@@ -75,7 +75,8 @@ fn append_cell(lines: &mut String, value: ValueRef<'_>) -> Result<(), Unread> {
     }
 }
 
-// Appends the values of a row, separated by commas, as a line.
+// Appends the values of a row, separated by commas, as a line. Fails if a value cannot be read or
+// printed.
 fn append_row(lines: &mut String, row: &Row) -> Result<(), Unread> {
     for at in 0..row.column_count() {
         if at > 0 {
@@ -104,7 +105,7 @@ fn append_table<S: Alter>(
     Ok(())
 }
 
-// Appends the names and the rows of these tables as lines. Fails if they cannot be read.
+// Appends the names and the rows of these tables as lines. Fails if they cannot be read or printed.
 fn append_tables<S: Alter>(
     alloc: Global,
     lines: &mut String,
@@ -117,7 +118,8 @@ fn append_tables<S: Alter>(
     Ok(())
 }
 
-/// Returns the names and the rows of all tables of a desk as lines. Fails if they cannot be read.
+/// Returns the names and the rows of all tables of a desk as lines. Fails if they cannot be read or
+/// printed.
 pub fn read_all_tables<S: Alter>(
     alloc: Global,
     conn: &mut Connection<S>,
@@ -153,7 +155,8 @@ fn expect_rows_of_tables(
 }
 
 /// Checks all tables of a store: the reference tables equal those after the batch `SET`, and the
-/// names and rows of the other tables are the wanted lines.
+/// names and rows of the other tables are the wanted lines. Fails with `name` and the number of the
+/// first other line.
 pub fn expect_all_tables(
     alloc: Global,
     store: Store<MemStore>,

@@ -102,7 +102,8 @@ impl Rows for Last {
         }
     }
 
-    // Returns the answer that the command names, and stores the timestamp of an accepted one.
+    // Returns the answer that the command names, and stores the timestamp of an accepted one. Fails
+    // with `Store` if the command names no answer.
     fn call(
         desk: &mut Last,
         alloc: Global,
