@@ -14,8 +14,8 @@ use brk_orders::{Direction, Movement};
 use brk_ref::MovedAmount;
 use std::alloc::{AllocError, Global};
 
-// Returns the row of a deposit, as it is stored under a key: its fields joined by byte 31. Fails if
-// memory runs out.
+// Returns the row of a deposit, as it is stored under a key: `deposit`, the account and the amount,
+// joined by byte 31. Fails if memory runs out.
 fn deposit_row_text(alloc: Global, account: Id, amount: MovedAmount) -> Result<String, AllocError>
     ensures { IfOk result (λ row. string_bytes row ≡ model.row_text (DepositCash account amount)) }
 {
@@ -26,8 +26,8 @@ fn deposit_row_text(alloc: Global, account: Id, amount: MovedAmount) -> Result<S
     )
 }
 
-// Returns the row of a withdrawal, as it is stored under a key: its fields joined by byte 31. Fails
-// if memory runs out.
+// Returns the row of a withdrawal, as it is stored under a key: `withdraw`, the account and the
+// amount, joined by byte 31. Fails if memory runs out.
 fn withdrawal_row_text(
     alloc: Global,
     account: Id,
@@ -42,8 +42,8 @@ fn withdrawal_row_text(
     )
 }
 
-/// Returns the row of a deposit or a withdrawal, as it is stored under a key: its fields joined by
-/// byte 31. Fails if memory runs out.
+/// Returns the row of a deposit or a withdrawal, as it is stored under a key: `deposit` or
+/// `withdraw`, the account and the amount, joined by byte 31. Fails if memory runs out.
 pub fn movement_row_text(alloc: Global, movement: &Movement) -> Result<String, AllocError>
     ensures { IfOk result (λ row. string_bytes row ≡ model.row_text (movement_command movement.now)) }
 {
@@ -61,8 +61,8 @@ fn settlement_day_row_from_day_text(alloc: Global, day: &str) -> Result<String, 
     format!(in alloc; "oneday\x1f{day}")
 }
 
-/// Returns the row that sets the settlement day, as it is stored under a key: its fields joined by
-/// byte 31. Fails with `Memory` only.
+/// Returns the row that sets the settlement day, as it is stored under a key: `oneday` and the day,
+/// such as `2024-03-01`, joined by byte 31. Fails with `Memory` only.
 pub fn settlement_day_row_text(alloc: Global, day: Day) -> Result<String, Fault>
     ensures row { IfOk result (λ row. string_bytes row ≡ model.row_text (SetOneDay day)) }
     ensures fault { OnErr result (result ≡ Err Memory) }

@@ -71,8 +71,10 @@ fn append_last_order_fields(row: &mut String, order: &Order) -> Result<(), Alloc
     )
 }
 
-/// Returns the row of an order, as it is stored under a key: its fields joined by byte 31. PRICE is
-/// empty if the order asks for none. Fails if memory runs out.
+/// Returns the row of an order, as it is stored under a key: `order`, the account, the type, the
+/// symbol, the quantity, the price, `cash` or `margin`, `lifo` or `fifo`, and the names and the tax
+/// id of the executor, joined by byte 31. The price is empty if the order asks for none. Fails if
+/// memory runs out.
 pub fn order_row_text(alloc: Global, order: &Order) -> Result<String, AllocError>
     ensures { IfOk result (λ row. string_bytes row ≡ model.row_text (PlaceOrder (abstract_order order.now))) }
 {
@@ -96,8 +98,8 @@ fn append_tick_fields(row: &mut String, tick: &Tick) -> Result<(), AllocError>
     )
 }
 
-/// Returns the row of a feed of these ticks, as it is stored under a key: its fields joined by byte
-/// 31. Fails if memory runs out.
+/// Returns the row of a feed of these ticks, as it is stored under a key: `feed`, and the symbol,
+/// the price and the quantity of each tick, joined by byte 31. Fails if memory runs out.
 pub fn feed_row_text(alloc: Global, ticks: &[Tick]) -> Result<String, AllocError>
     ensures { IfOk result (λ row. string_bytes row ≡ model.row_text (FeedTicks (abstract_ticks ticks.now))) }
 {
@@ -108,16 +110,16 @@ pub fn feed_row_text(alloc: Global, ticks: &[Tick]) -> Result<String, AllocError
     Ok(row)
 }
 
-/// Returns the row that cancels a trade, as it is stored under a key: its fields joined by byte 31.
-/// Fails if memory runs out.
+/// Returns the row that cancels a trade, as it is stored under a key: `cancel` and the id of the
+/// trade, joined by byte 31. Fails if memory runs out.
 pub fn cancel_row_text(alloc: Global, trade: Id) -> Result<String, AllocError>
     ensures { IfOk result (λ row. string_bytes row ≡ model.row_text (CancelTrade trade)) }
 {
     format!(in alloc; "cancel\x1f{}", trade.get())
 }
 
-/// Returns the row that completes a trade, as it is stored under a key: its fields joined by byte
-/// 31. Fails if memory runs out.
+/// Returns the row that completes a trade, as it is stored under a key: `result`, the id of the
+/// trade and the price, joined by byte 31. Fails if memory runs out.
 pub fn result_row_text(alloc: Global, completion: &Completion) -> Result<String, AllocError>
     ensures { IfOk result (λ row. string_bytes row ≡ model.row_text (completion_command completion.now)) }
 {

@@ -10,7 +10,7 @@ use brk_money::Refusal;
 use brk_orders::{Direction, parse_cash_movement, parse_requested_settlement_day};
 
 // Parses the command of a deposit or a withdrawal, by `direction`, from the fields after its kind.
-// Refuses malformed fields with `BadText`.
+// Refuses malformed fields, or a wrong number of them, with `BadText`.
 fn parse_movement_command(direction: Direction, fields: &[&[u8]]) -> Result<Command, Refusal>
     ensures { ParsesAs abstract_command result (read_movement_command (cash_movement_command direction) (texts_of_fields fields.now)) }
 {
@@ -21,7 +21,7 @@ fn parse_movement_command(direction: Direction, fields: &[&[u8]]) -> Result<Comm
 }
 
 // Parses the command that sets the settlement day from the fields after its kind. Refuses malformed
-// fields with `BadText`.
+// fields, or a wrong number of them, with `BadText`.
 fn parse_settlement_day_command(fields: &[&[u8]]) -> Result<Command, Refusal>
     ensures { ParsesAs abstract_command result (read_and_wrap SetOneDay read_settlement_day (texts_of_fields fields.now)) }
 {

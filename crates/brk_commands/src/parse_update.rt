@@ -16,7 +16,8 @@ use brk_orders::{
 use std::alloc::Global;
 
 // Parses the command that updates executors' names from the fields after its kind. Refuses
-// malformed fields with `BadText`, and more than 20 ids with `TooMany`. Fails with `Memory` only.
+// malformed fields, or a wrong number of them, with `BadText`, and more than 20 ids with `TooMany`.
+// Fails with `Memory` only.
 fn parse_executor_update_command(alloc: Global, fields: &[&[u8]]) -> Planned<Command>
     ensures read { IfOk result (λ read. ParsesAs abstract_command read (read_and_wrap ChangeExecutors read_distinct_ids (texts_of_fields fields.now))) }
     ensures fault { OnErr result (result ≡ Err Memory) }
@@ -28,7 +29,7 @@ fn parse_executor_update_command(alloc: Global, fields: &[&[u8]]) -> Planned<Com
 }
 
 // Parses the command that updates settlement texts from the fields after its kind. Refuses
-// malformed fields with `BadText`.
+// malformed fields, or a wrong number of them, with `BadText`.
 fn parse_cash_type_update_command(fields: &[&[u8]]) -> Result<Command, Refusal>
     ensures { ParsesAs abstract_command result (read_cash_type_update (texts_of_fields fields.now)) }
 {
@@ -39,7 +40,7 @@ fn parse_cash_type_update_command(fields: &[&[u8]]) -> Result<Command, Refusal>
 }
 
 // Parses the command that updates cash texts from the fields after its kind. Refuses malformed
-// fields with `BadText`. Fails with `Memory` only.
+// fields, or a wrong number of them, with `BadText`. Fails with `Memory` only.
 fn parse_cash_text_update_command(alloc: Global, fields: &[&[u8]]) -> Planned<Command>
     ensures read { IfOk result (λ read. ParsesAs abstract_command read (read_cash_name_update (texts_of_fields fields.now))) }
     ensures fault { OnErr result (result ≡ Err Memory) }

@@ -19,16 +19,16 @@ use brk_plans::Reference;
 use brk_ref::{Account, Band, Broker, Charge, Customer, CustomerTax, Listing, Permission, Tax};
 use std::alloc::{AllocError, Global};
 
-// Returns the row that adds a broker, as it is stored under a key: its fields joined by byte 31.
-// Fails if memory runs out.
+// Returns the row that adds a broker, as it is stored under a key: `broker`, the id and the name,
+// joined by byte 31. Fails if memory runs out.
 fn broker_row_text(alloc: Global, broker: &Broker) -> Result<String, AllocError>
     ensures { IfOk result (λ row. string_bytes row ≡ model.row_text (AddBroker (abstract_broker broker.now))) }
 {
     format!(in alloc; "broker\x1f{}\x1f{}", broker.id.get(), broker.name.as_str())
 }
 
-// Returns the row that adds a customer, as it is stored under a key: its fields joined by byte 31.
-// Fails if memory runs out.
+// Returns the row that adds a customer, as it is stored under a key: `customer`, the id, the tier,
+// the tax id, the last name and the first name, joined by byte 31. Fails if memory runs out.
 fn customer_row_text(alloc: Global, customer: &Customer) -> Result<String, AllocError>
     ensures { IfOk result (λ row. string_bytes row ≡ model.row_text (AddCustomer (abstract_customer customer.now))) }
 {
@@ -42,8 +42,9 @@ fn customer_row_text(alloc: Global, customer: &Customer) -> Result<String, Alloc
     )
 }
 
-// Returns the row that adds an account, as it is stored under a key: its fields joined by byte 31.
-// Fails if memory runs out.
+// Returns the row that adds an account, as it is stored under a key: `account`, the id, the
+// customer, the broker, the name, the number of the tax status and the opening balance, joined by
+// byte 31. Fails if memory runs out.
 fn account_row_text(alloc: Global, account: &Account) -> Result<String, AllocError>
     ensures { IfOk result (λ row. string_bytes row ≡ model.row_text (AddAccount (abstract_account account.now))) }
 {
@@ -58,8 +59,9 @@ fn account_row_text(alloc: Global, account: &Account) -> Result<String, AllocErr
     )
 }
 
-// Returns the row that adds a permission, as it is stored under a key: its fields joined by byte
-// 31. Fails if memory runs out.
+// Returns the row that adds a permission, as it is stored under a key: `permission`, the account,
+// the access text, the tax id, the last name and the first name, joined by byte 31. Fails if memory
+// runs out.
 fn permission_row_text(alloc: Global, permission: &Permission) -> Result<String, AllocError>
     ensures { IfOk result (λ row. string_bytes row ≡ model.row_text (AddPermission (abstract_permission permission.now))) }
 {
@@ -73,8 +75,8 @@ fn permission_row_text(alloc: Global, permission: &Permission) -> Result<String,
     )
 }
 
-// Returns the row that lists a security, as it is stored under a key: its fields joined by byte 31.
-// Fails if memory runs out.
+// Returns the row that lists a security, as it is stored under a key: `security`, the symbol, the
+// name, the exchange, the sector and the first price, joined by byte 31. Fails if memory runs out.
 fn listing_row_text(alloc: Global, listing: &Listing) -> Result<String, AllocError>
     ensures { IfOk result (λ row. string_bytes row ≡ model.row_text (AddSecurity (abstract_listing listing.now))) }
 {
@@ -89,8 +91,8 @@ fn listing_row_text(alloc: Global, listing: &Listing) -> Result<String, AllocErr
     )
 }
 
-// Returns the row that adds a charge, as it is stored under a key: its fields joined by byte 31.
-// Fails if memory runs out.
+// Returns the row that adds a charge, as it is stored under a key: `charge`, the trade type, the
+// tier and the amount, joined by byte 31. Fails if memory runs out.
 fn charge_row_text(alloc: Global, charge: &Charge) -> Result<String, AllocError>
     ensures { IfOk result (λ row. string_bytes row ≡ model.row_text (AddCharge (abstract_charge charge.now))) }
 {
@@ -102,8 +104,9 @@ fn charge_row_text(alloc: Global, charge: &Charge) -> Result<String, AllocError>
     )
 }
 
-// Returns the row that adds a commission band, as it is stored under a key: its fields joined by
-// byte 31. Fails if memory runs out.
+// Returns the row that adds a commission band, as it is stored under a key: `band`, the tier, the
+// trade type, the exchange, the first and the last quantity and the rate, in hundredths of a
+// percent, joined by byte 31. Fails if memory runs out.
 fn band_row_text(alloc: Global, band: &Band) -> Result<String, AllocError>
     ensures { IfOk result (λ row. string_bytes row ≡ model.row_text (AddBand (abstract_band band.now))) }
 {
@@ -118,8 +121,8 @@ fn band_row_text(alloc: Global, band: &Band) -> Result<String, AllocError>
     )
 }
 
-// Returns the row that adds a tax with its rate, as it is stored under a key: its fields joined by
-// byte 31. Fails if memory runs out.
+// Returns the row that adds a tax with its rate, as it is stored under a key: `taxrate`, the id,
+// the name and the rate, in hundred-thousandths, joined by byte 31. Fails if memory runs out.
 fn tax_rate_row_text(alloc: Global, tax: &Tax) -> Result<String, AllocError>
     ensures { IfOk result (λ row. string_bytes row ≡ model.row_text (AddTaxRate (abstract_tax_rate tax.now))) }
 {
@@ -131,16 +134,16 @@ fn tax_rate_row_text(alloc: Global, tax: &Tax) -> Result<String, AllocError>
     )
 }
 
-// Returns the row that adds a tax of a customer, as it is stored under a key: its fields joined by
-// byte 31. Fails if memory runs out.
+// Returns the row that adds a tax of a customer, as it is stored under a key: `custtax`, the id of
+// the customer and the id of the tax, joined by byte 31. Fails if memory runs out.
 fn customer_tax_row_text(alloc: Global, pays: &CustomerTax) -> Result<String, AllocError>
     ensures { IfOk result (λ row. string_bytes row ≡ model.row_text (AddCustomerTax (abstract_customer_tax pays.now))) }
 {
     format!(in alloc; "custtax\x1f{}\x1f{}", pays.customer.get(), pays.tax.get())
 }
 
-/// Returns the row that adds a record of reference data, as it is stored under a key: its fields
-/// joined by byte 31. Fails if memory runs out.
+/// Returns the row that adds a record of reference data, as it is stored under a key: its fields,
+/// the kind first, joined by byte 31. Fails if memory runs out.
 pub fn reference_row_text(alloc: Global, reference: &Reference) -> Result<String, AllocError>
     ensures { IfOk result (λ row. string_bytes row ≡ model.row_text (books.command_adding_record reference.now)) }
 {

@@ -18,8 +18,8 @@ fn append_trade_id_after_separator(row: &mut String, trade: Id) -> Result<(), Al
     write!(row, "\x1f{}", trade.get())
 }
 
-// Returns the row that updates the executors' names of trades, as it is stored under a key: its
-// fields joined by byte 31. Fails if memory runs out.
+// Returns the row that updates the executors' names of trades, as it is stored under a key:
+// `upname` and the ids of the trades, joined by byte 31. Fails if memory runs out.
 fn executor_update_row_text(alloc: Global, trades: &[Id]) -> Result<String, AllocError>
     ensures { IfOk result (λ row. string_bytes row ≡ model.row_text (ChangeExecutors trades.now)) }
 {
@@ -31,7 +31,8 @@ fn executor_update_row_text(alloc: Global, trades: &[Id]) -> Result<String, Allo
 }
 
 // Returns the row that updates the settlement texts of an account's trades between two stamps, as
-// it is stored under a key: its fields joined by byte 31. Fails if memory runs out.
+// it is stored under a key: `upcash`, the account and the two stamps, joined by byte 31. Fails if
+// memory runs out.
 fn cash_type_update_row_text(alloc: Global, account: Id, span: Span) -> Result<String, AllocError>
     ensures { IfOk result (λ row. string_bytes row ≡ model.row_text (ChangeCashTypes account span.first span.last)) }
 {
@@ -44,7 +45,8 @@ fn cash_type_update_row_text(alloc: Global, account: Id, span: Span) -> Result<S
 }
 
 // Returns the row that updates the cash texts of a symbol's trades between two stamps, as it is
-// stored under a key: its fields joined by byte 31. Fails if memory runs out.
+// stored under a key: `uptext`, the symbol and the two stamps, joined by byte 31. Fails if memory
+// runs out.
 fn cash_text_update_row_text(
     alloc: Global,
     symbol: &Symbol,
@@ -60,8 +62,8 @@ fn cash_text_update_row_text(
     )
 }
 
-/// Returns the row of a text update, as it is stored under a key: its fields joined by byte 31.
-/// Fails if memory runs out.
+/// Returns the row of a text update, as it is stored under a key: its fields, the kind first,
+/// joined by byte 31. Fails if memory runs out.
 pub fn update_row_text(alloc: Global, update: &Update) -> Result<String, AllocError>
     ensures { IfOk result (λ row. string_bytes row ≡ model.row_text (text_update_command update.now)) }
 {

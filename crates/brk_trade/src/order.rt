@@ -288,7 +288,8 @@ fn create_new_trade_changes(
 }
 
 // Returns the row changes of an accepted order with the placement, the commission in cents, the id
-// and the stamp that are passed. Fails if memory runs out.
+// and the stamp that are passed: its TRADE row, its first TRADE_HISTORY row and its request, if
+// any, are added, and the last stamp is set. Fails if memory runs out.
 fn create_order_changes(
     alloc: Global,
     order: &Order,

@@ -32,7 +32,8 @@ fn parse_submitted_trades_query(arguments: &[&[u8]]) -> Result<Query, Refusal>
 }
 
 // Parses the query of an order's estimate, whose arguments are the ten fields of the order. Refuses
-// malformed arguments with `BadText`, `BadQty`, `BadPrice` or `BadType`. Fails with `Memory` only.
+// malformed arguments, or a wrong number of them, with `BadText`, `BadQty`, `BadPrice` or
+// `BadType`. Fails with `Memory` only.
 fn parse_estimate_query(alloc: Global, arguments: &[&[u8]]) -> Planned<Query>
     ensures read { IfOk result (λ read. ParsesAs abstract_query read (read_and_wrap EstimateOf read_order (texts_of_fields arguments.now))) }
     ensures fault { OnErr result (result ≡ Err Memory) }

@@ -13,7 +13,8 @@ use brk_ref::{TaxId, parse_id};
 use std::alloc::Global;
 
 // Parses the query of the balances and market values of a customer's accounts from its one
-// argument, the id of the customer. Refuses malformed arguments with `BadText`.
+// argument, the id of the customer. Refuses malformed arguments, or a wrong number of them, with
+// `BadText`.
 pub(crate) fn parse_position_query(arguments: &[&[u8]]) -> Result<Query, Refusal>
     ensures { ParsesAs abstract_query result (read_single_argument (read_and_wrap PositionOf read_id) (texts_of_fields arguments.now)) }
 {
@@ -27,8 +28,8 @@ pub(crate) fn parse_position_query(arguments: &[&[u8]]) -> Result<Query, Refusal
 }
 
 // Parses the query of the balances and market values of a customer's accounts from its one
-// argument, the tax id of the customer. Refuses malformed arguments with `BadText`. Fails with
-// `Memory` only.
+// argument, the tax id of the customer. Refuses malformed arguments, or a wrong number of them,
+// with `BadText`. Fails with `Memory` only.
 pub(crate) fn parse_position_of_tax_id_query(alloc: Global, arguments: &[&[u8]]) -> Planned<Query>
     ensures read { IfOk result (λ read. ParsesAs abstract_query read
         (read_single_argument (read_and_wrap PositionOfTaxId read_tax_id) (texts_of_fields arguments.now))) }
@@ -44,7 +45,7 @@ pub(crate) fn parse_position_of_tax_id_query(alloc: Global, arguments: &[&[u8]])
 }
 
 // Parses the query of an account's last trades and their statuses from its one argument, the id of
-// the account. Refuses malformed arguments with `BadText`.
+// the account. Refuses malformed arguments, or a wrong number of them, with `BadText`.
 pub(crate) fn parse_recent_trades_query(arguments: &[&[u8]]) -> Result<Query, Refusal>
     ensures { ParsesAs abstract_query result (read_single_argument (read_and_wrap RecentOf read_id) (texts_of_fields arguments.now)) }
 {
@@ -58,7 +59,8 @@ pub(crate) fn parse_recent_trades_query(arguments: &[&[u8]]) -> Result<Query, Re
 }
 
 // Parses the query of the names of an account's customer and broker, and of its last trades, from
-// its one argument, the id of the account. Refuses malformed arguments with `BadText`.
+// its one argument, the id of the account. Refuses malformed arguments, or a wrong number of them,
+// with `BadText`.
 pub(crate) fn parse_account_status_query(arguments: &[&[u8]]) -> Result<Query, Refusal>
     ensures { ParsesAs abstract_query result (read_single_argument (read_and_wrap StatusOf read_id) (texts_of_fields arguments.now)) }
 {

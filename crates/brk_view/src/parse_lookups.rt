@@ -29,7 +29,7 @@ pub(crate) fn parse_trades_query(alloc: Global, arguments: &[&[u8]]) -> Planned<
 }
 
 // Parses the query of an account's trades between two stamps from its arguments: the account, the
-// first stamp and the last. Refuses malformed arguments with `BadText`.
+// first stamp and the last. Refuses malformed arguments, or a wrong number of them, with `BadText`.
 pub(crate) fn parse_account_trades_query(arguments: &[&[u8]]) -> Result<Query, Refusal>
     ensures { ParsesAs abstract_query result
         (read_value_and_stamps read_id (λ account first last. TradesOfAccount account first last) (texts_of_fields arguments.now)) }
@@ -51,7 +51,8 @@ pub(crate) fn parse_account_trades_query(arguments: &[&[u8]]) -> Result<Query, R
 }
 
 // Parses the query of a symbol's trades between two stamps from its arguments: the symbol, the
-// first stamp and the last. Refuses malformed arguments with `BadText`. Fails with `Memory` only.
+// first stamp and the last. Refuses malformed arguments, or a wrong number of them, with `BadText`.
+// Fails with `Memory` only.
 pub(crate) fn parse_symbol_trades_query(alloc: Global, arguments: &[&[u8]]) -> Planned<Query>
     ensures read { IfOk result (λ read. ParsesAs abstract_query read
         (read_value_and_stamps read_symbol (λ symbol first last. TradesOfSymbol symbol first last) (texts_of_fields arguments.now))) }
@@ -74,7 +75,8 @@ pub(crate) fn parse_symbol_trades_query(alloc: Global, arguments: &[&[u8]]) -> P
 }
 
 // Parses the query of the lots that the oldest trade of an account at or after a stamp touched,
-// from its arguments: the account and the stamp. Refuses malformed arguments with `BadText`.
+// from its arguments: the account and the stamp. Refuses malformed arguments, or a wrong number of
+// them, with `BadText`.
 pub(crate) fn parse_lots_query(arguments: &[&[u8]]) -> Result<Query, Refusal>
     ensures { ParsesAs abstract_query result (read_lots_query (texts_of_fields arguments.now)) }
 {
