@@ -72,8 +72,8 @@ impl Formed for AccountRow {
 impl Formed for Permission {
     ghost form = { λ schema tables row. form.is_well_formed_permission_row tables (of.abstract_permission row) };
 
-    // Returns true if the access control list, the tax id and both names are well-formed, and the
-    // account exists.
+    // Returns true if its rights, its tax id and both names are well-formed, and the account
+    // exists.
     fn is_row_well_formed(&self, _schema: Schema, sheets: &Sheets) -> bool {
         is_well_formed_text(&self.acl)
             && is_well_formed_text(&self.tax_id)

@@ -60,8 +60,8 @@ fn account_row_text(alloc: Global, account: &Account) -> Result<String, AllocErr
 }
 
 // Returns the row that adds a permission, as it is stored under a key: `permission`, the account,
-// the access text, the tax id, the last name and the first name, joined by byte 31. Fails if memory
-// runs out.
+// the rights, the tax id, the last name and the first name, joined by byte 31. Fails if memory runs
+// out.
 fn permission_row_text(alloc: Global, permission: &Permission) -> Result<String, AllocError>
     ensures { IfOk result (λ row. string_bytes row ≡ model.row_text (AddPermission (abstract_permission permission.now))) }
 {

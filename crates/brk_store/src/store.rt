@@ -69,7 +69,8 @@ impl<S: Alter> Store<S> {
     /// table are unchanged, unless a foreign key of that table changes or deletes them by CASCADE,
     /// SET NULL or SET DEFAULT.
     ///
-    /// Fails with `Store` only. The rows and the open database are then unchanged.
+    /// Fails with `Store` only, also if a row to add exists or breaks another constraint of its
+    /// table. The rows and the open database are then unchanged.
     ///
     /// A crash exposes a state that a crash before the call could expose, or the changed rows;
     /// after `Ok` only the latter. After an error, too, a crash may expose the changed rows.

@@ -15,7 +15,8 @@ use brk_money::Fault;
 use brk_tables_schema::calls::execute_statement;
 use sqlite::{Alter, Transaction};
 
-// Creates one table of a desk, without rows. Fails with `Store` only.
+// Creates one table of a desk, without rows. Fails with `Store` only, also if a table with its name
+// exists.
 fn create_desk_table<S: Alter>(tx: &mut Transaction<'_, S>, table: Table) -> Result<(), Fault>
     ensures same_reference { tx.new.conn.ghost_name ≡ tx.old.conn.ghost_name }
     ensures step { IsConnectionStep S.Store tx.old tx.new result (λ _ a b. CreatesTableOfShape a.now b.now (table_definition_at (specified_table table))) }
@@ -24,7 +25,8 @@ fn create_desk_table<S: Alter>(tx: &mut Transaction<'_, S>, table: Table) -> Res
     execute_statement(tx, table.create_table_text(), &[])
 }
 
-// Creates the given tables of a desk in order, without rows. Fails with `Store` only.
+// Creates the given tables of a desk in order, without rows. Fails with `Store` only, also if a
+// table with one of their names exists.
 fn create_each_table<S: Alter>(tx: &mut Transaction<'_, S>, tables: &[Table]) -> Result<(), Fault>
     ensures same_reference { tx.new.conn.ghost_name ≡ tx.old.conn.ghost_name }
     ensures step { IsConnectionStep S.Store tx.old tx.new result
@@ -38,7 +40,7 @@ fn create_each_table<S: Alter>(tx: &mut Transaction<'_, S>, tables: &[Table]) ->
 }
 
 // Inserts the one row of DESK, with the id 1, the schema number 3 and no stamp. Fails with `Store`
-// only.
+// only, also if the row exists.
 fn add_desk_row<S: Alter>(tx: &mut Transaction<'_, S>) -> Result<(), Fault>
     ensures same_reference { tx.new.conn.ghost_name ≡ tx.old.conn.ghost_name }
     ensures step { IsConnectionStep S.Store tx.old tx.new result (λ _. ExecutesStatement insert_desk_row_text []) }
@@ -65,7 +67,7 @@ pub fn create_third_schema_tables<S: Alter>(tx: &mut Transaction<'_, S>) -> Resu
 
 /// Creates the tables that `schema` does not have and later schemas add, without rows: CASH_MOVE
 /// and SETTLE_RULE for schema 1, SETTLE_RULE for schema 2, none for schema 3. Fails with `Store`
-/// only.
+/// only, also if one of these tables exists.
 pub fn create_tables_of_later_schemas<S: Alter>(
     tx: &mut Transaction<'_, S>,
     schema: Schema,

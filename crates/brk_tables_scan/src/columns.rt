@@ -16,7 +16,7 @@ use brk_tables_schema::calls::statement_has_columns;
 use sqlite::{Alter, Transaction};
 
 // Returns true if the result of each statement has exactly the column names beside it, in order.
-// Changes nothing. Fails with `Store` only.
+// Changes nothing. Fails with `Store` only, also if a statement names a table that does not exist.
 fn each_heading_matches<S: Alter>(
     tx: &mut Transaction<'_, S>,
     headings: &[(&str, &[&str])],

@@ -16,7 +16,7 @@ use sqlite::{Alter, Row, Transaction};
 use sqlite_value::value::ValueRef;
 
 /// Executes the statement `text`, which creates a table or changes rows, with the parameters
-/// `params`. Fails with `Store` only.
+/// `params`. Fails with `Store` only, for any error of the database, such as a broken constraint.
 pub fn execute_statement<S: Alter>(
     tx: &mut Transaction<'_, S>,
     text: &str,
@@ -66,7 +66,7 @@ pub fn statement_compiles<S: Alter>(tx: &mut Transaction<'_, S>, text: &str) -> 
 }
 
 /// Returns true if the columns of the result of the statement `text` are exactly `names`, in order.
-/// The database is unchanged. Fails with `Store` only.
+/// The database is unchanged. Fails with `Store` only, also if the statement does not compile.
 pub fn statement_has_columns<S: Alter>(
     tx: &mut Transaction<'_, S>,
     text: &str,

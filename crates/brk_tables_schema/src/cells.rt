@@ -25,8 +25,8 @@ use sqlite::Row;
 use sqlite::types::FromSql;
 use sqlite_value::value::ValueRef;
 
-/// Returns `Ok` if the row has exactly `count` columns. Fails with `Form` only if it has more or
-/// fewer, or with `Memory`.
+/// Returns `Ok` if the row has exactly `count` columns. Fails with `Form` only, if it has more or
+/// fewer.
 pub fn check_column_count(row: &Row, count: usize) -> Result<(), DecodeError>
     ensures columns { OnOk result (length row.now ≡ count) }
     ensures form { result ≡ Err Formless → length row.now ≢ count }
@@ -38,8 +38,8 @@ pub fn check_column_count(row: &Row, count: usize) -> Result<(), DecodeError>
     }
 }
 
-// Reads the column `at` as a value of the type `T`. Fails with `Form` only if the column is missing
-// or malformed, or with `Memory`.
+// Reads the column `at` as a value of the type `T`. Fails with `Form`, only if the column is
+// missing or malformed, or with `Memory`.
 fn read_column<T: FromSql>(row: &Row, at: usize) -> Result<T, DecodeError>
     ensures value { IfOk result (T.FromSql.reads_as (column row.now at)) }
     ensures form { result ≡ Err Formless → at < length row.now → ¬ T.FromSql.is_readable (column row.now at) }
@@ -50,8 +50,8 @@ fn read_column<T: FromSql>(row: &Row, at: usize) -> Result<T, DecodeError>
     }
 }
 
-// Reads the bytes of the TEXT in the column `at`. Fails with `Form` only if the column is missing
-// or malformed, or with `Memory`.
+// Reads the bytes of the TEXT in the column `at`. Fails with `Form` only, if the column is missing
+// or has another value than a TEXT.
 fn text_bytes_in_column(row: &Row, at: usize) -> Result<&[u8], DecodeError>
     ensures value { IfOk result (λ bytes. column row.now at ≡ Text bytes.now) }
     ensures form { result ≡ Err Formless → at < length row.now → is_text_cell (λ _. true) (column row.now at) ≡ false }
@@ -62,8 +62,8 @@ fn text_bytes_in_column(row: &Row, at: usize) -> Result<&[u8], DecodeError>
     }
 }
 
-/// Reads an integer of 64 bits, of either sign, from the column `at`. Fails with `Form` only if the
-/// column is missing or malformed, or with `Memory`.
+/// Reads an integer of 64 bits, of either sign, from the column `at`. Fails with `Form`, only if
+/// the column is missing or malformed, or with `Memory`.
 pub fn integer_in_column(row: &Row, at: usize) -> Result<i64, DecodeError>
     ensures value { IfOk result (λ number. column row.now at ≡ Int number) }
     ensures form { result ≡ Err Formless → at < length row.now → is_integer_cell (column row.now at) ≡ false }
@@ -71,7 +71,7 @@ pub fn integer_in_column(row: &Row, at: usize) -> Result<i64, DecodeError>
     read_column(row, at)
 }
 
-/// Reads an integer that is not below 0 from the column `at`. Fails with `Form` only if the column
+/// Reads an integer that is not below 0 from the column `at`. Fails with `Form`, only if the column
 /// is missing or malformed, or with `Memory`.
 pub fn natural_in_column(row: &Row, at: usize) -> Result<u64, DecodeError>
     ensures value { IfOk result (λ number. column row.now at ≡ Int (pos number)) }
@@ -80,7 +80,7 @@ pub fn natural_in_column(row: &Row, at: usize) -> Result<u64, DecodeError>
     read_column(row, at)
 }
 
-/// Reads an integer from 0 to 2^32 - 1 from the column `at`. Fails with `Form` only if the column
+/// Reads an integer from 0 to 2^32 - 1 from the column `at`. Fails with `Form`, only if the column
 /// is missing or malformed, or with `Memory`.
 pub fn u32_in_column(row: &Row, at: usize) -> Result<u32, DecodeError>
     ensures value { IfOk result (λ number. column row.now at ≡ Int (pos number)) }
@@ -89,7 +89,7 @@ pub fn u32_in_column(row: &Row, at: usize) -> Result<u32, DecodeError>
     read_column(row, at)
 }
 
-/// Reads a text of UTF-8 from the column `at`. Fails with `Form` only if the column is missing or
+/// Reads a text of UTF-8 from the column `at`. Fails with `Form`, only if the column is missing or
 /// malformed, or with `Memory`.
 #[tactic(auto, using(crate::proofs::Unformed::no_text))]
 pub fn text_in_column(row: &Row, at: usize) -> Result<String, DecodeError>
@@ -99,7 +99,7 @@ pub fn text_in_column(row: &Row, at: usize) -> Result<String, DecodeError>
     read_column(row, at)
 }
 
-/// Reads a text of the format `F` from the column `at`. Fails with `Form` only if the column is
+/// Reads a text of the format `F` from the column `at`. Fails with `Form`, only if the column is
 /// missing or malformed, or with `Memory`.
 #[tactic(auto, using(crate::proofs::Unformed::no_formed_text))]
 pub fn formatted_text_in_column<F: Form>(row: &Row, at: usize) -> Result<FormedText<F>, DecodeError>
@@ -109,7 +109,7 @@ pub fn formatted_text_in_column<F: Form>(row: &Row, at: usize) -> Result<FormedT
     FormedText::new(text_in_column(row, at)?).ok_or(DecodeError::Form)
 }
 
-/// Reads the number of a row of a batch, from 1, from the column `at`. Fails with `Form` only if
+/// Reads the number of a row of a batch, from 1, from the column `at`. Fails with `Form`, only if
 /// the column is missing or malformed, or with `Memory`.
 pub fn row_number_in_column(row: &Row, at: usize) -> Result<RowNumber, DecodeError>
     ensures value { IfOk result (λ number. column row.now at ≡ Int (pos number)) }
@@ -118,7 +118,7 @@ pub fn row_number_in_column(row: &Row, at: usize) -> Result<RowNumber, DecodeErr
     RowNumber::new(natural_in_column(row, at)?).ok_or(DecodeError::Form)
 }
 
-/// Reads an id, from 1 to 10^12, from the column `at`. Fails with `Form` only if the column is
+/// Reads an id, from 1 to 10^12, from the column `at`. Fails with `Form`, only if the column is
 /// missing or malformed, or with `Memory`.
 pub fn id_in_column(row: &Row, at: usize) -> Result<Id, DecodeError>
     ensures value { IfOk result (λ id. column row.now at ≡ Int (pos id)) }
@@ -127,7 +127,7 @@ pub fn id_in_column(row: &Row, at: usize) -> Result<Id, DecodeError>
     Id::new(natural_in_column(row, at)?).ok_or(DecodeError::Form)
 }
 
-/// Reads the number of a cash row (CM_ID), from 1, from the column `at`. Fails with `Form` only if
+/// Reads the number of a cash row (CM_ID), from 1, from the column `at`. Fails with `Form`, only if
 /// the column is missing or malformed, or with `Memory`.
 pub fn cash_row_id_in_column(row: &Row, at: usize) -> Result<MoveId, DecodeError>
     ensures value { IfOk result (λ id. column row.now at ≡ Int (pos id)) }
@@ -136,7 +136,7 @@ pub fn cash_row_id_in_column(row: &Row, at: usize) -> Result<MoveId, DecodeError
     MoveId::new(natural_in_column(row, at)?).ok_or(DecodeError::Form)
 }
 
-/// Reads an id from the column `at`, or returns `None` if the column is null. Fails with `Form`
+/// Reads an id from the column `at`, or returns `None` if the column is null. Fails with `Form`,
 /// only if the column is missing or malformed, or with `Memory`.
 pub fn optional_id_in_column(row: &Row, at: usize) -> Result<Option<Id>, DecodeError>
     ensures value { IfOk result (λ id. column row.now at ≡ optional_natural_as_value id) }
@@ -149,7 +149,7 @@ pub fn optional_id_in_column(row: &Row, at: usize) -> Result<Option<Id>, DecodeE
     Ok(Some(Id::new(number).ok_or(DecodeError::Form)?))
 }
 
-/// Reads a customer tier, from 1 to 3, from the column `at`. Fails with `Form` only if the column
+/// Reads a customer tier, from 1 to 3, from the column `at`. Fails with `Form`, only if the column
 /// is missing or malformed, or with `Memory`.
 pub fn tier_in_column(row: &Row, at: usize) -> Result<Tier, DecodeError>
     ensures value { IfOk result (λ tier. column row.now at ≡ Int (pos tier)) }
@@ -158,8 +158,8 @@ pub fn tier_in_column(row: &Row, at: usize) -> Result<Tier, DecodeError>
     Tier::new(natural_in_column(row, at)?).ok_or(DecodeError::Form)
 }
 
-/// Reads an amount in cents that is not below 0 from the column `at`. Fails with `Form` only if the
-/// column is missing or malformed, or with `Memory`.
+/// Reads an amount in cents that is not below 0 from the column `at`. Fails with `Form`, only if
+/// the column is missing or malformed, or with `Memory`.
 pub fn amount_in_column(row: &Row, at: usize) -> Result<Amount, DecodeError>
     ensures value { IfOk result (λ amount. column row.now at ≡ Int (pos amount)) }
     ensures form { result ≡ Err Formless → at < length row.now → is_amount_cell (column row.now at) ≡ false }
@@ -167,8 +167,8 @@ pub fn amount_in_column(row: &Row, at: usize) -> Result<Amount, DecodeError>
     Amount::new(natural_in_column(row, at)?).ok_or(DecodeError::Form)
 }
 
-/// Reads a volume, in shares, from the column `at`. Fails with `Form` only if the column is missing
-/// or malformed, or with `Memory`.
+/// Reads a volume, in shares, from the column `at`. Fails with `Form`, only if the column is
+/// missing or malformed, or with `Memory`.
 pub fn volume_in_column(row: &Row, at: usize) -> Result<Volume, DecodeError>
     ensures value { IfOk result (λ volume. column row.now at ≡ Int (pos volume)) }
     ensures form { result ≡ Err Formless → at < length row.now → is_amount_cell (column row.now at) ≡ false }
@@ -176,7 +176,7 @@ pub fn volume_in_column(row: &Row, at: usize) -> Result<Volume, DecodeError>
     Volume::new(natural_in_column(row, at)?).ok_or(DecodeError::Form)
 }
 
-/// Reads a quantity, in shares, from the column `at`. Fails with `Form` only if the column is
+/// Reads a quantity, in shares, from the column `at`. Fails with `Form`, only if the column is
 /// missing or malformed, or with `Memory`.
 pub fn quantity_in_column(row: &Row, at: usize) -> Result<Qty, DecodeError>
     ensures value { IfOk result (λ qty. column row.now at ≡ Int (pos qty)) }
@@ -185,8 +185,8 @@ pub fn quantity_in_column(row: &Row, at: usize) -> Result<Qty, DecodeError>
     Qty::new(u32_in_column(row, at)?).ok_or(DecodeError::Form)
 }
 
-/// Reads the price of a share, in cents, from the column `at`. Fails with `Form` only if the column
-/// is missing or malformed, or with `Memory`.
+/// Reads the price of a share, in cents, from the column `at`. Fails with `Form`, only if the
+/// column is missing or malformed, or with `Memory`.
 pub fn price_in_column(row: &Row, at: usize) -> Result<Price, DecodeError>
     ensures value { IfOk result (λ price. column row.now at ≡ Int (pos price)) }
     ensures form { result ≡ Err Formless → at < length row.now → is_price_cell (column row.now at) ≡ false }
@@ -194,7 +194,7 @@ pub fn price_in_column(row: &Row, at: usize) -> Result<Price, DecodeError>
     Price::new(u32_in_column(row, at)?).ok_or(DecodeError::Form)
 }
 
-/// Reads a commission rate, in hundredths of a percent, from the column `at`. Fails with `Form`
+/// Reads a commission rate, in hundredths of a percent, from the column `at`. Fails with `Form`,
 /// only if the column is missing or malformed, or with `Memory`.
 pub fn commission_rate_in_column(row: &Row, at: usize) -> Result<Rate, DecodeError>
     ensures value { IfOk result (λ rate. column row.now at ≡ Int (pos rate)) }
@@ -203,7 +203,7 @@ pub fn commission_rate_in_column(row: &Row, at: usize) -> Result<Rate, DecodeErr
     Rate::new(u32_in_column(row, at)?).ok_or(DecodeError::Form)
 }
 
-/// Reads a tax rate, in hundred-thousandths, from the column `at`. Fails with `Form` only if the
+/// Reads a tax rate, in hundred-thousandths, from the column `at`. Fails with `Form`, only if the
 /// column is missing or malformed, or with `Memory`.
 pub fn tax_rate_in_column(row: &Row, at: usize) -> Result<TaxRate, DecodeError>
     ensures value { IfOk result (λ rate. column row.now at ≡ Int (pos rate)) }
@@ -212,7 +212,7 @@ pub fn tax_rate_in_column(row: &Row, at: usize) -> Result<TaxRate, DecodeError>
     TaxRate::new(u32_in_column(row, at)?).ok_or(DecodeError::Form)
 }
 
-/// Reads a charge, in cents, from the column `at`. Fails with `Form` only if the column is missing
+/// Reads a charge, in cents, from the column `at`. Fails with `Form`, only if the column is missing
 /// or malformed, or with `Memory`.
 pub fn charge_amount_in_column(row: &Row, at: usize) -> Result<ChargeAmount, DecodeError>
     ensures value { IfOk result (λ amount. column row.now at ≡ Int (pos amount)) }
@@ -221,7 +221,7 @@ pub fn charge_amount_in_column(row: &Row, at: usize) -> Result<ChargeAmount, Dec
     ChargeAmount::new(u32_in_column(row, at)?).ok_or(DecodeError::Form)
 }
 
-/// Reads an amount in cents, of either sign, from the column `at`. Fails with `Form` only if the
+/// Reads an amount in cents, of either sign, from the column `at`. Fails with `Form`, only if the
 /// column is missing or malformed, or with `Memory`.
 pub fn cents_in_column(row: &Row, at: usize) -> Result<Cents, DecodeError>
     ensures value { IfOk result (λ cents. column row.now at ≡ Int cents) }
@@ -230,7 +230,7 @@ pub fn cents_in_column(row: &Row, at: usize) -> Result<Cents, DecodeError>
     Cents::new(integer_in_column(row, at)?).ok_or(DecodeError::Form)
 }
 
-/// Reads a stamp, in milliseconds since 1970-01-01 UTC, from the column `at`. Fails with `Form`
+/// Reads a stamp, in milliseconds since 1970-01-01 UTC, from the column `at`. Fails with `Form`,
 /// only if the column is missing or malformed, or with `Memory`.
 pub fn stamp_in_column(row: &Row, at: usize) -> Result<Stamp, DecodeError>
     ensures value { IfOk result (λ stamp. column row.now at ≡ Int (pos stamp)) }
@@ -239,7 +239,7 @@ pub fn stamp_in_column(row: &Row, at: usize) -> Result<Stamp, DecodeError>
     Stamp::new(integer_in_column(row, at)?).ok_or(DecodeError::Form)
 }
 
-/// Reads a day, as the number of days since 1970-01-01, from the column `at`. Fails with `Form`
+/// Reads a day, as the number of days since 1970-01-01, from the column `at`. Fails with `Form`,
 /// only if the column is missing or malformed, or with `Memory`.
 pub fn day_in_column(row: &Row, at: usize) -> Result<Day, DecodeError>
     ensures value { IfOk result (λ day. column row.now at ≡ Int (pos day)) }
@@ -249,7 +249,7 @@ pub fn day_in_column(row: &Row, at: usize) -> Result<Day, DecodeError>
 }
 
 /// Reads a stamp, in milliseconds since 1970-01-01 UTC, from the column `at`, or returns `None` if
-/// the column is null. Fails with `Form` only if the column is missing or malformed, or with
+/// the column is null. Fails with `Form`, only if the column is missing or malformed, or with
 /// `Memory`.
 pub fn optional_stamp_in_column(row: &Row, at: usize) -> Result<Option<Stamp>, DecodeError>
     ensures value { IfOk result (λ stamp. column row.now at ≡ optional_natural_as_value stamp) }
@@ -263,7 +263,7 @@ pub fn optional_stamp_in_column(row: &Row, at: usize) -> Result<Option<Stamp>, D
 }
 
 /// Reads the price of a share, in cents, from the column `at`, or returns `None` if the column is
-/// null. Fails with `Form` only if the column is missing or malformed, or with `Memory`.
+/// null. Fails with `Form`, only if the column is missing or malformed, or with `Memory`.
 pub fn optional_price_in_column(row: &Row, at: usize) -> Result<Option<Price>, DecodeError>
     ensures value { IfOk result (λ price. column row.now at ≡ optional_natural_as_value price) }
     ensures form { result ≡ Err Formless → at < length row.now → is_null_or_natural_cell is_price (column row.now at) ≡ false }
@@ -275,8 +275,8 @@ pub fn optional_price_in_column(row: &Row, at: usize) -> Result<Option<Price>, D
     Ok(Some(Price::new(cents).ok_or(DecodeError::Form)?))
 }
 
-/// Reads the tax status with the number in the column `at`. Fails with `Form` only if the column is
-/// missing or malformed, or with `Memory`.
+/// Reads the tax status with the number in the column `at`. Fails with `Form`, only if the column
+/// is missing or malformed, or with `Memory`.
 pub fn tax_status_in_column(row: &Row, at: usize) -> Result<TaxStatus, DecodeError>
     ensures value { IfOk result (λ tax_status. column row.now at ≡ Int (pos (tax_status_number tax_status))) }
     ensures form { result ≡ Err Formless → at < length row.now → is_tax_status_cell (column row.now at) ≡ false }
@@ -284,7 +284,7 @@ pub fn tax_status_in_column(row: &Row, at: usize) -> Result<TaxStatus, DecodeErr
     TaxStatus::from_number(natural_in_column(row, at)?).ok_or(DecodeError::Form)
 }
 
-/// Reads a flag from the column `at`: 1 as true and 0 as false. Fails with `Form` only if the
+/// Reads a flag from the column `at`: 1 as true and 0 as false. Fails with `Form`, only if the
 /// column is missing or malformed, or with `Memory`.
 pub fn flag_in_column(row: &Row, at: usize) -> Result<bool, DecodeError>
     ensures value { IfOk result (λ is. column row.now at ≡ flag_as_value is) }
@@ -297,8 +297,8 @@ pub fn flag_in_column(row: &Row, at: usize) -> Result<bool, DecodeError>
     }
 }
 
-/// Reads the trade type with the code in the column `at`, such as TMB. Fails with `Form` only if
-/// the column is missing or malformed, or with `Memory`.
+/// Reads the trade type with the code in the column `at`, such as TMB. Fails with `Form` only, if
+/// the column is missing or malformed.
 pub fn trade_type_in_column(row: &Row, at: usize) -> Result<TradeType, DecodeError>
     ensures value { IfOk result (λ kind. column row.now at ≡ Text (trade_type_code kind)) }
     ensures form { result ≡ Err Formless → at < length row.now → is_trade_type_cell (column row.now at) ≡ false }
@@ -335,8 +335,8 @@ fn parse_status(bytes: &[u8]) -> Option<Status>
     None
 }
 
-/// Reads the status with the code in the column `at`, such as CMPT. Fails with `Form` only if the
-/// column is missing or malformed, or with `Memory`.
+/// Reads the status with the code in the column `at`, such as CMPT. Fails with `Form` only, if the
+/// column is missing or malformed.
 pub fn status_in_column(row: &Row, at: usize) -> Result<Status, DecodeError>
     ensures value { IfOk result (λ status. column row.now at ≡ Text (trade_status_code status)) }
     ensures form { result ≡ Err Formless → at < length row.now → is_status_cell (column row.now at) ≡ false }
@@ -370,8 +370,8 @@ fn parse_cash_type(bytes: &[u8]) -> Option<CashType>
     None
 }
 
-/// Reads the cash type of a settlement with the text in the column `at`. Fails with `Form` only if
-/// the column is missing or malformed, or with `Memory`.
+/// Reads the cash type of a settlement with the text in the column `at`. Fails with `Form` only, if
+/// the column is missing or malformed.
 pub fn cash_type_in_column(row: &Row, at: usize) -> Result<CashType, DecodeError>
     ensures value { IfOk result (λ kind. column row.now at ≡ Text (cash_type_text kind)) }
     ensures form { result ≡ Err Formless → at < length row.now → is_text_cell is_cash_type_text (column row.now at) ≡ false }

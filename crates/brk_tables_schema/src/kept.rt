@@ -42,7 +42,7 @@ impl Record for Kept {
 
     ghost forms = { kept_column_cell_checks };
 
-    /// Decodes a row of KEPT. Fails with `Form` only if a column is malformed or the number of
+    /// Decodes a row of KEPT. Fails with `Form`, only if a column is malformed or the number of
     /// columns is not 4, or with `Memory`.
     fn from_row(row: &Row) -> Result<Kept, DecodeError> {
         check_column_count(row, 4)?;

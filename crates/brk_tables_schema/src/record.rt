@@ -22,7 +22,7 @@ pub trait Record: Drop {
     /// The check of each column of a row that encodes a record, in the order of the columns.
     ghost forms: { List (Value → Bool) };
 
-    /// Decodes a row. Fails with `Form` only if a column is malformed or the number of columns is
+    /// Decodes a row. Fails with `Form`, only if a column is malformed or the number of columns is
     /// wrong, or with `Memory`.
     fn from_row(row: &Row) -> Result<Self, DecodeError>
         ensures value { IfOk result (λ r. cells r ≡ row.now) }
@@ -30,7 +30,7 @@ pub trait Record: Drop {
 }
 
 /// Decodes the first of the rows, or returns `None` if there are no rows. Fails with `Store` only,
-/// also if the row is malformed.
+/// if the row is malformed or memory runs out.
 pub fn decode_first_row<T: Record>(rows: &[Row]) -> Result<Option<T>, Fault>
     ensures value { IfOk result (λ o. option_map T.cells o ≡ slice_get rows.now 0) }
     ensures fault { OnErr result (result ≡ Err Store) }
@@ -54,7 +54,7 @@ pub fn decode_rows<T: Record>(alloc: Global, rows: &[Row]) -> Result<Vec<T>, Fau
     }
 }
 
-/// Decodes all rows, in order. Fails with `Form` only if one of them is malformed, or with
+/// Decodes all rows, in order. Fails with `Form`, only if one of them is malformed, or with
 /// `Memory`.
 #[tactic(auto, using(crate::proofs::Unformed::not_all))]
 pub fn decode_records<T: Record>(alloc: Global, rows: &[Row]) -> Result<Vec<T>, DecodeError>

@@ -27,7 +27,7 @@ impl Record for AccountRow {
 
     ghost forms = { account_column_cell_checks };
 
-    /// Decodes a row of CUSTOMER_ACCOUNT. Fails with `Form` only if a column is malformed or the
+    /// Decodes a row of CUSTOMER_ACCOUNT. Fails with `Form`, only if a column is malformed or the
     /// number of columns is not 7, or with `Memory`.
     fn from_row(row: &Row) -> Result<AccountRow, DecodeError> {
         check_column_count(row, 7)?;
@@ -50,7 +50,7 @@ impl Record for Band {
 
     ghost forms = { band_column_cell_checks };
 
-    /// Decodes a row of COMMISSION_RATE. Fails with `Form` only if a column is malformed or the
+    /// Decodes a row of COMMISSION_RATE. Fails with `Form`, only if a column is malformed or the
     /// number of columns is not 6, or with `Memory`.
     fn from_row(row: &Row) -> Result<Band, DecodeError> {
         check_column_count(row, 6)?;
@@ -70,7 +70,7 @@ impl Record for BrokerRow {
 
     ghost forms = { broker_column_cell_checks };
 
-    /// Decodes a row of BROKER. Fails with `Form` only if a column is malformed or the number of
+    /// Decodes a row of BROKER. Fails with `Form`, only if a column is malformed or the number of
     /// columns is not 4, or with `Memory`.
     fn from_row(row: &Row) -> Result<BrokerRow, DecodeError> {
         check_column_count(row, 4)?;
@@ -90,7 +90,7 @@ impl Record for Charge {
 
     ghost forms = { charge_column_cell_checks };
 
-    /// Decodes a row of CHARGE. Fails with `Form` only if a column is malformed or the number of
+    /// Decodes a row of CHARGE. Fails with `Form`, only if a column is malformed or the number of
     /// columns is not 3, or with `Memory`.
     fn from_row(row: &Row) -> Result<Charge, DecodeError> {
         check_column_count(row, 3)?;
@@ -107,7 +107,7 @@ impl Record for Customer {
 
     ghost forms = { customer_column_cell_checks };
 
-    /// Decodes a row of CUSTOMER. Fails with `Form` only if a column is malformed or the number of
+    /// Decodes a row of CUSTOMER. Fails with `Form`, only if a column is malformed or the number of
     /// columns is not 5, or with `Memory`.
     fn from_row(row: &Row) -> Result<Customer, DecodeError> {
         check_column_count(row, 5)?;
@@ -126,7 +126,7 @@ impl Record for Permission {
 
     ghost forms = { permission_column_cell_checks };
 
-    /// Decodes a row of ACCOUNT_PERMISSION. Fails with `Form` only if a column is malformed or the
+    /// Decodes a row of ACCOUNT_PERMISSION. Fails with `Form`, only if a column is malformed or the
     /// number of columns is not 5, or with `Memory`.
     fn from_row(row: &Row) -> Result<Permission, DecodeError> {
         check_column_count(row, 5)?;
@@ -145,7 +145,7 @@ impl Record for Security {
 
     ghost forms = { security_column_cell_checks };
 
-    /// Decodes a row of SECURITY. Fails with `Form` only if a column is malformed or the number of
+    /// Decodes a row of SECURITY. Fails with `Form`, only if a column is malformed or the number of
     /// columns is not 4, or with `Memory`.
     fn from_row(row: &Row) -> Result<Security, DecodeError> {
         check_column_count(row, 4)?;
@@ -163,7 +163,7 @@ impl Record for Tax {
 
     ghost forms = { tax_rate_column_cell_checks };
 
-    /// Decodes a row of TAXRATE. Fails with `Form` only if a column is malformed or the number of
+    /// Decodes a row of TAXRATE. Fails with `Form`, only if a column is malformed or the number of
     /// columns is not 3, or with `Memory`.
     fn from_row(row: &Row) -> Result<Tax, DecodeError> {
         check_column_count(row, 3)?;
@@ -180,7 +180,7 @@ impl Record for CustomerTax {
 
     ghost forms = { customer_tax_column_cell_checks };
 
-    /// Decodes a row of CUSTOMER_TAXRATE. Fails with `Form` only if a column is malformed or the
+    /// Decodes a row of CUSTOMER_TAXRATE. Fails with `Form`, only if a column is malformed or the
     /// number of columns is not 2, or with `Memory`.
     fn from_row(row: &Row) -> Result<CustomerTax, DecodeError> {
         check_column_count(row, 2)?;

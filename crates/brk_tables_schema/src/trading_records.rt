@@ -33,7 +33,7 @@ impl Record for HoldingRow {
 
     ghost forms = { holding_column_cell_checks };
 
-    /// Decodes a row of HOLDING. Fails with `Form` only if a column is malformed or the number of
+    /// Decodes a row of HOLDING. Fails with `Form`, only if a column is malformed or the number of
     /// columns is not 6, or with `Memory`.
     fn from_row(row: &Row) -> Result<HoldingRow, DecodeError> {
         check_column_count(row, 6)?;
@@ -53,7 +53,7 @@ impl Record for SummaryRow {
 
     ghost forms = { summary_column_cell_checks };
 
-    /// Decodes a row of HOLDING_SUMMARY. Fails with `Form` only if a column is malformed or the
+    /// Decodes a row of HOLDING_SUMMARY. Fails with `Form`, only if a column is malformed or the
     /// number of columns is not 3, or with `Memory`.
     fn from_row(row: &Row) -> Result<SummaryRow, DecodeError> {
         check_column_count(row, 3)?;
@@ -70,7 +70,7 @@ impl Record for LastTrade {
 
     ghost forms = { last_trade_column_cell_checks };
 
-    /// Decodes a row of LAST_TRADE. Fails with `Form` only if a column is malformed or the number
+    /// Decodes a row of LAST_TRADE. Fails with `Form`, only if a column is malformed or the number
     /// of columns is not 4, or with `Memory`.
     fn from_row(row: &Row) -> Result<LastTrade, DecodeError> {
         check_column_count(row, 4)?;
@@ -88,7 +88,7 @@ impl Record for RequestRow {
 
     ghost forms = { request_column_cell_checks };
 
-    /// Decodes a row of TRADE_REQUEST. Fails with `Form` only if a column is malformed or the
+    /// Decodes a row of TRADE_REQUEST. Fails with `Form`, only if a column is malformed or the
     /// number of columns is not 6, or with `Memory`.
     fn from_row(row: &Row) -> Result<RequestRow, DecodeError> {
         check_column_count(row, 6)?;
@@ -108,7 +108,7 @@ impl Record for TradeRow {
 
     ghost forms = { trade_column_cell_checks };
 
-    /// Decodes a row of TRADE. Fails with `Form` only if a column is malformed or the number of
+    /// Decodes a row of TRADE. Fails with `Form`, only if a column is malformed or the number of
     /// columns is not 15, or with `Memory`.
     fn from_row(row: &Row) -> Result<TradeRow, DecodeError> {
         check_column_count(row, 15)?;
@@ -137,7 +137,7 @@ impl Record for HistoryRow {
 
     ghost forms = { history_column_cell_checks };
 
-    /// Decodes a row of TRADE_HISTORY. Fails with `Form` only if a column is malformed or the
+    /// Decodes a row of TRADE_HISTORY. Fails with `Form`, only if a column is malformed or the
     /// number of columns is not 3, or with `Memory`.
     fn from_row(row: &Row) -> Result<HistoryRow, DecodeError> {
         check_column_count(row, 3)?;
@@ -154,7 +154,7 @@ impl Record for LotChange {
 
     ghost forms = { holding_history_column_cell_checks };
 
-    /// Decodes a row of HOLDING_HISTORY. Fails with `Form` only if a column is malformed or the
+    /// Decodes a row of HOLDING_HISTORY. Fails with `Form`, only if a column is malformed or the
     /// number of columns is not 4, or with `Memory`.
     fn from_row(row: &Row) -> Result<LotChange, DecodeError> {
         check_column_count(row, 4)?;
@@ -172,7 +172,7 @@ impl Record for SettlementRow {
 
     ghost forms = { settlement_column_cell_checks };
 
-    /// Decodes a row of SETTLEMENT. Fails with `Form` only if a column is malformed or the number
+    /// Decodes a row of SETTLEMENT. Fails with `Form`, only if a column is malformed or the number
     /// of columns is not 4, or with `Memory`.
     fn from_row(row: &Row) -> Result<SettlementRow, DecodeError> {
         check_column_count(row, 4)?;
@@ -190,7 +190,7 @@ impl Record for CashRow {
 
     ghost forms = { cash_column_cell_checks };
 
-    /// Decodes a row of CASH_TRANSACTION. Fails with `Form` only if a column is malformed or the
+    /// Decodes a row of CASH_TRANSACTION. Fails with `Form`, only if a column is malformed or the
     /// number of columns is not 4, or with `Memory`.
     fn from_row(row: &Row) -> Result<CashRow, DecodeError> {
         check_column_count(row, 4)?;
@@ -208,8 +208,8 @@ impl Record for MoveRow {
 
     ghost forms = { move_column_cell_checks };
 
-    /// Decodes a row of CASH_MOVE. Fails with `Form` only if a column is malformed or the number of
-    /// columns is not 6, or with `Memory`.
+    /// Decodes a row of CASH_MOVE. Fails with `Form`, only if a column is malformed or the number
+    /// of columns is not 6, or with `Memory`.
     fn from_row(row: &Row) -> Result<MoveRow, DecodeError> {
         check_column_count(row, 6)?;
         Ok(MoveRow {
@@ -228,7 +228,7 @@ impl Record for Id {
 
     ghost forms = { is_id_cell ∷ [] };
 
-    /// Decodes a row whose only column is an id. Fails with `Form` only if the column is malformed
+    /// Decodes a row whose only column is an id. Fails with `Form`, only if the column is malformed
     /// or the number of columns is not 1, or with `Memory`.
     fn from_row(row: &Row) -> Result<Id, DecodeError> {
         check_column_count(row, 1)?;

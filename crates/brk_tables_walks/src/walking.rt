@@ -36,7 +36,8 @@ fn decode_record<R: Record>(row: &Row) -> Result<R, Fault>
 
 /// Passes the records in the rows of the query `sql` with the parameters `params` to the visitor,
 /// in the order of its result, until all are passed or an error occurs. Fails with `Failed` and the
-/// fault `Memory` or `Store`, or with `Cause` and the visitor's error.
+/// fault `Memory` or `Store`, `Store` also if a row is malformed, or with `Cause` and the visitor's
+/// error.
 pub fn walk_query_rows<S: Alter, R: Record, E, V: Visitor<R, E>>(
     conn: &mut Connection<S>,
     sql: &str,

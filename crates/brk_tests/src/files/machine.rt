@@ -165,7 +165,7 @@ fn run_batch_in_files(
 }
 
 // Returns a file in memory with these bytes, which accepts `calls` calls and fails at each later
-// call.
+// call. Fails if memory runs out.
 fn failing_file_with_bytes(alloc: Global, bytes: &[u8], calls: u64) -> Result<Fuse<Memory>, Fail> {
     let mut file = Memory::new(alloc);
     if file.write_at(0, bytes).is_err() || file.sync().is_err() {
@@ -175,7 +175,7 @@ fn failing_file_with_bytes(alloc: Global, bytes: &[u8], calls: u64) -> Result<Fu
 }
 
 /// Returns the two files of a desk in memory, with the bytes `held`. The log accepts `log_calls`
-/// calls, the database file `db_calls`; each fails at each later call.
+/// calls, the database file `db_calls`; each fails at each later call. Fails if memory runs out.
 pub fn failing_files_with_bytes(
     alloc: Global,
     held: &Held,
@@ -189,6 +189,7 @@ pub fn failing_files_with_bytes(
 
 // Appends to `bytes` the bytes that a file has after the restart: without those that were not
 // synced if `loses` is true. Returns true if the file had failed, or would fail at its next call.
+// Fails only if memory runs out.
 fn append_bytes_after_crash(
     file: &mut Fuse<Memory>,
     loses: bool,
@@ -202,7 +203,9 @@ fn append_bytes_after_crash(
     Ok(was_stopped)
 }
 
-// Returns the bytes of the files after the restart, and true if one of the files had failed.
+// Returns the bytes of the files after the restart, without those that were not synced if `loses`
+// is true, and true if one of the files had failed or would fail at its next call. Fails only if
+// memory runs out.
 fn files_after_crash(
     alloc: Global,
     files: Files<Fuse<Memory>>,
@@ -224,7 +227,9 @@ pub struct Sent {
     pub was_stopped: bool,
 }
 
-/// Executes a batch on the desk in these files until the machine crashes, if it does.
+/// Executes a batch on the desk in these files until the machine crashes as `stop` says, if it
+/// does. Returns the observation of the batch, the files after it, and whether the machine crashed.
+/// Fails if memory runs out.
 pub fn run_batch_until_crash(
     alloc: Global,
     held: &Held,
@@ -246,7 +251,7 @@ pub fn run_batch_until_crash(
     })
 }
 
-/// Returns the files of a new desk after the batch `SET`.
+/// Returns the files of a new desk after the batch `SET`. Fails if memory runs out.
 pub fn files_with_reference_data(alloc: Global) -> Result<Held, Fail> {
     let Sent { held, .. } = run_batch_until_crash(
         alloc,
@@ -289,7 +294,7 @@ fn execute_sql_in_files(
 }
 
 /// Returns these files after SQL statements of another program were executed on them. Fails if the
-/// statements fail.
+/// statements fail or memory runs out.
 pub fn files_after_sql(alloc: Global, held: &Held, text: &str) -> Result<Held, Fail> {
     let mut is_done = false;
     let files = failing_files_with_bytes(alloc, held, u64::MAX, u64::MAX)?;

@@ -36,8 +36,8 @@ pub enum Told {
     Last(&'static str, &'static str),
 }
 
-/// Serves a stream on a desk, whose bytes arrive in pieces of `size` bytes. Returns the bytes that
-/// it wrote and its result.
+/// Serves a stream, whose bytes arrive in pieces of at most `size` bytes, on a desk at 2024-03-01
+/// 00:00 UTC. Returns the bytes that it wrote and its result.
 pub fn serve_stream_in_pieces<S: Alter>(
     alloc: Global,
     desk: &mut Desk<S>,
@@ -62,7 +62,9 @@ pub fn format_post_request(alloc: Global, target: &str, body: &str) -> Result<St
     format!(in alloc; "POST {target} HTTP/1.1\r\nHost: desk\r\nContent-Length: {len}\r\n\r\n{body}")
 }
 
-/// Returns the text of a wanted reply. Fails only if memory runs out.
+/// Returns the text of a wanted reply: its status, type and content length, an `Allow: POST` line
+/// for the status 405, a `Connection: close` line if it ends the stream, and its body. Fails only
+/// if memory runs out.
 pub fn format_wanted_reply(alloc: Global, wanted: Told) -> Result<String, AllocError> {
     let (status, body, close) = match wanted {
         Told::Open(status, body) => (status, body, ""),
@@ -95,7 +97,8 @@ fn has_wanted_replies(
 }
 
 /// Serves a stream in pieces of 4,096, of seven and of one byte, each time on a new desk after the
-/// batch `SET`. Returns true if each time the replies are the wanted ones.
+/// batch `SET`. Returns true if each time the replies are the wanted ones. Fails if a desk cannot
+/// be created or memory runs out.
 pub fn has_wanted_replies_in_all_pieces(
     alloc: Global,
     bytes: &[u8],
