@@ -49,7 +49,8 @@ impl Place {
 }
 
 /// Adopts the database of a connection. Returns its desk and `Ok` if its rows pass the audit,
-/// otherwise the database without a desk, and the fault.
+/// otherwise the database without a desk, and the fault: `Damaged` with the first condition that
+/// fails, `Memory` or `Store`.
 pub fn adopt_database(alloc: Global, conn: Connection<MemStore>) -> (Place, Result<(), Fault>) {
     match Store::adopt(alloc, conn) {
         Ok(store) => (Place::Open(Desk::new(store)), Ok(())),

@@ -35,7 +35,9 @@ use std::io::{Read, Write};
 /// `n,ok,FIELDS`, `n,again,FIELDS` or `n,no,FIELDS`, and after the correct end record
 /// `end,OK,AGAIN,NO`.
 ///
-/// A fault ends the batch, also an interrupted read or write. The changes of the decided rows
+/// A fault ends the batch, also an interrupted read or write, and is returned with the number of
+/// decided rows: `BadHeader`, `NoEnd` or `BadEnd`, if the header or the end record is missing or
+/// wrong; `Read` or `Write`; or `Desk` with `Memory` or `Store`. The changes of the decided rows
 /// remain. After a fault of the desk, a crash may also expose the next row as committed: retry the
 /// batch under its name.
 pub fn run_batch<R: Read + Drop, W: Write, C: Clock, S: Alter>(

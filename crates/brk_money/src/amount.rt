@@ -45,7 +45,7 @@ impl Amount {
 }
 
 impl Cents {
-    /// Returns the absolute value of the amount.
+    /// Returns the absolute value of the amount, in cents.
     pub fn unsigned_abs(self) -> Amount
         ensures { result ≡ nat_abs self }
     {

@@ -142,7 +142,8 @@ fn requests_not_triggered(
 
 // Returns the quote after the tick. Appends the row changes of the tick to `changes`, and the ids
 // of the trades that it triggers to `ids`. A tick of another symbol changes nothing. Refuses with
-// `Range(Volume)` if the volume would exceed its limit. Fails with `Memory` only.
+// `Range(Volume)`, and appends nothing, if the volume would exceed its limit. Fails with `Memory`
+// only.
 fn apply_tick_to_quote(
     alloc: Global,
     stamp: Stamp,
@@ -176,7 +177,7 @@ fn apply_tick_to_quote(
 
 // Returns the quotes after the tick. Appends the row changes of the tick to `changes`, and the ids
 // of the trades that it triggers to `ids`. Refuses with `Range(Volume)` if a volume would exceed
-// its limit. Fails with `Memory` only.
+// its limit; a part of them may then be appended. Fails with `Memory` only.
 fn apply_tick_to_quotes(
     alloc: Global,
     stamp: Stamp,
@@ -217,7 +218,7 @@ fn prove_volumes_are_within_limit(quotes: &[Quote])
 
 // Applies the ticks in sequence to the quotes. Appends their row changes to `changes`, and the ids
 // of the trades that they trigger to `ids`. Refuses with `Range(Volume)` if a volume would exceed
-// its limit. Fails with `Memory` only.
+// its limit; a part of them may then be appended. Fails with `Memory` only.
 fn apply_ticks_to_quotes(
     alloc: Global,
     stamp: Stamp,

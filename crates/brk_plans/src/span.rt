@@ -11,7 +11,7 @@ pub struct Span {
     pub highest: Price,
 }
 
-// Returns the span of prices, widened to include the price.
+// Returns the span of prices, widened to include `price`, in cents.
 fn widen_price_span(span: Span, price: Price) -> Span
     ensures { result ≡ spec.span_including_price price span }
 {
@@ -28,8 +28,8 @@ fn widen_price_span(span: Span, price: Price) -> Span
     Span { lowest, highest }
 }
 
-/// Returns the lowest and the highest price, in cents, of the ticks that have the symbol of
-/// `first`, `first` included. Ticks of other symbols do not count.
+/// Returns the lowest and the highest price, in cents, of `first` and of those ticks of `others`
+/// that have its symbol.
 pub fn first_symbol_price_span(first: &Tick, others: &[Tick]) -> Span
     ensures { result ≡ spec.price_span_of_first_symbol first.now others.now }
 {

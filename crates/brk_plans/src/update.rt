@@ -29,8 +29,9 @@ fn refusal_if_target_is_missing(update: &Update) -> Refusal
     }
 }
 
-// Returns the row change that replaces the executor's name of a trade by its new one
-// (`toggle_executor_name`). Fails with `Memory` only.
+// Returns the row change that replaces the executor's name of a trade by its new one: with each " X
+// " replaced by a space or, if it has none, with each space replaced by " X ". Fails with `Memory`
+// only.
 fn create_executor_name_change(alloc: Global, trade: &TradeRow) -> Result<Change, Fault>
     ensures change { IfOk result (λ change. tables_after_change change ≡ executor_name_update trade.now) }
     ensures fault { OnErr result (result ≡ Err Memory) }
@@ -42,8 +43,8 @@ fn create_executor_name_change(alloc: Global, trade: &TradeRow) -> Result<Change
     })
 }
 
-// Returns the row change that replaces the settlement text of a trade by its new one
-// (`toggle_cash_type`).
+// Returns the row change that replaces the settlement text of a trade by the other text of its
+// kind, cash or margin.
 fn create_cash_type_change(settled: &SettlementText) -> Change
     ensures { tables_after_change result ≡ cash_type_update settled.now }
 {
@@ -53,8 +54,9 @@ fn create_cash_type_change(settled: &SettlementText) -> Change
     }
 }
 
-// Returns the row change that replaces the cash text of a trade by its new one
-// (`toggle_cash_text`). `security` is the name of its security. Fails with `Memory` only.
+// Returns the row change that replaces the cash text of a trade by its new one, in which " Shares
+// of " replaces " shares of ", or the other way round. `security` is the name of its security.
+// Fails with `Memory` only.
 fn create_cash_text_change(alloc: Global, security: &Name, paid: &CashText) -> Result<Change, Fault>
     ensures change { IfOk result (λ change. tables_after_change change ≡ cash_text_update security.now paid.now) }
     ensures fault { OnErr result (result ≡ Err Memory) }
@@ -66,8 +68,8 @@ fn create_cash_text_change(alloc: Global, security: &Name, paid: &CashText) -> R
     })
 }
 
-// Returns the row changes that replace the executors' names of the trades by their new ones, in
-// sequence. Fails with `Memory` only.
+// Returns the row changes that replace the executors' names of the trades, in sequence: " X " by a
+// space in a name that has it, otherwise each space by " X ". Fails with `Memory` only.
 fn create_executor_name_changes(alloc: Global, trades: &[TradeRow]) -> Result<Vec<Change>, Fault>
     ensures changes { IfOk result (λ changes. map tables_after_change changes.items ≡ map executor_name_update trades.now) }
     ensures fault { OnErr result (result ≡ Err Memory) }
@@ -79,8 +81,8 @@ fn create_executor_name_changes(alloc: Global, trades: &[TradeRow]) -> Result<Ve
     Ok(changes)
 }
 
-// Returns the row changes that replace the settlement texts of the trades by their new ones, in
-// sequence. Fails with `Memory` only.
+// Returns the row changes that replace the settlement text of each of the trades by the other text
+// of its kind, cash or margin, in sequence. Fails with `Memory` only.
 fn create_cash_type_changes(alloc: Global, settled: &[SettlementText]) -> Result<Vec<Change>, Fault>
     ensures changes { IfOk result (λ changes. map tables_after_change changes.items ≡ map cash_type_update settled.now) }
     ensures fault { OnErr result (result ≡ Err Memory) }
@@ -92,8 +94,9 @@ fn create_cash_type_changes(alloc: Global, settled: &[SettlementText]) -> Result
     Ok(changes)
 }
 
-// Returns the row changes that replace the cash texts of the trades by their new ones, in sequence.
-// `security` is the name of their security. Fails with `Memory` only.
+// Returns the row changes that replace the cash texts of the trades by their new ones, " Shares of
+// " for " shares of " or the other way round, in sequence. `security` is the name of their
+// security. Fails with `Memory` only.
 fn create_cash_text_changes(
     alloc: Global,
     security: &Name,

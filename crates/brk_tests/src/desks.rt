@@ -38,7 +38,7 @@ pub struct Step<'a> {
     pub lines: &'a str,
 }
 
-/// Returns a new desk in memory, whose tables have no rows.
+/// Returns a new desk in memory, whose tables have no rows. Fails if it cannot be created.
 pub fn new_desk_in_memory(alloc: Global) -> Result<Desk<MemStore>, Fail> {
     let Ok(store) = Store::create(Connection::open_in_memory(alloc)?) else {
         return Err("no store")?;
@@ -47,7 +47,8 @@ pub fn new_desk_in_memory(alloc: Global) -> Result<Desk<MemStore>, Fail> {
 }
 
 /// Returns a desk in memory after the batch `SET`, which adds a broker, a customer, an account, a
-/// security, charges, commission bands and a tax.
+/// security, charges, commission bands and a tax. Fails if the batch writes other lines than
+/// `SET_LINES`.
 pub fn desk_with_reference_data(alloc: Global) -> Result<Desk<MemStore>, Fail> {
     let mut desk = new_desk_in_memory(alloc)?;
     let set = Step {
@@ -94,6 +95,7 @@ fn expect_batch_lines(name: &str, told: &[u8], wanted: &str) -> Result<(), Fail>
 }
 
 // Checks that a batch completed, and that the wanted lines end with the end line of its counts.
+// Fails with `name` if not.
 fn expect_batch_counts(
     alloc: Global,
     name: &str,

@@ -3,7 +3,7 @@ use brk_money::{Condition, Fault};
 use sqlite::{Connection, MemStore};
 use std::test::Fail;
 
-// Creates the tables of a store in the database of a connection.
+// Creates the tables of a store in the database of a connection. Fails if they cannot be created.
 fn create_store(conn: Connection<MemStore>) -> Result<Store<MemStore>, Fail> {
     Ok(Store::create(conn).map_err(|_| "no store")?)
 }

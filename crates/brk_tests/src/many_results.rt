@@ -15,19 +15,21 @@ use std::test::Fail;
 const TRADES: u64 = 500;
 
 // Returns the row of order `n`, of `n` shares: every third order is a sale, and every second one
-// closes the last lots first.
+// closes the last lots first. Fails only if memory runs out.
 fn order_row(alloc: Global, n: u64) -> Result<String, Fail> {
     let kind = if n % 3 == 0 { "TMS" } else { "TMB" };
     let end = if n % 2 == 0 { "lifo" } else { "fifo" };
     Ok(format!(in alloc; "order,100,{kind},ABC,{n},,cash,{end},Ann,Lee,T10")?)
 }
 
-// Returns the row of the result of the trade with the id `n`, at 10.00.
+// Returns the row of the result of the trade with the id `n`, at 10.00. Fails only if memory runs
+// out.
 fn result_row(alloc: Global, n: u64) -> Result<String, Fail> {
     Ok(format!(in alloc; "result,{n},10.00")?)
 }
 
-// Returns the rows of all 500 trades, each order followed by its result.
+// Returns the rows of all 500 trades, each order followed by its result. Fails only if memory runs
+// out.
 fn rows_of_all_trades(alloc: Global) -> Result<Vec<String>, Fail> {
     let mut rows = Vec::new(alloc);
     for n in 1..=TRADES {
@@ -37,7 +39,7 @@ fn rows_of_all_trades(alloc: Global) -> Result<Vec<String>, Fail> {
     Ok(rows)
 }
 
-// Returns the text of a batch with the name L and these rows.
+// Returns the text of a batch with the name L and these rows. Fails only if memory runs out.
 fn format_batch_of_rows(alloc: Global, rows: &[String]) -> Result<String, Fail> {
     let mut batch = String::from_str(alloc, "batch,L\n")?;
     for row in rows {
@@ -91,7 +93,8 @@ fn run_and_check_batch(rt: &impl Abort, alloc: Global, rows: &[String]) -> Resul
     Ok(lines)
 }
 
-// Returns the calls of all rows at 2024-03-01 00:00 UTC, each under its key in batch L.
+// Returns the calls of all rows at 2024-03-01 00:00 UTC, each under its key in batch L. Fails if a
+// row is malformed.
 fn keyed_calls_of_rows(alloc: Global, rows: &[String]) -> Result<Vec<(Stamp, Call)>, Fail> {
     let mut calls = Vec::new(alloc);
     for (row, n) in rows.iter().zip(1..=2 * TRADES) {
@@ -100,7 +103,8 @@ fn keyed_calls_of_rows(alloc: Global, rows: &[String]) -> Result<Vec<(Stamp, Cal
     Ok(calls)
 }
 
-// Executes the calls of all rows as one run of the desk, and returns their outcomes.
+// Executes the calls of all rows as one run of the desk, and returns their outcomes. Fails if a row
+// is malformed.
 fn run_calls_of_rows(
     alloc: Global,
     desk: &mut Desk<MemStore>,
@@ -139,7 +143,7 @@ fn lines_of_outcomes(alloc: Global, outcomes: &[Outcome]) -> Result<String, Fail
 }
 
 // Executes the calls of all rows as one run on a new desk, checks the totals, and returns the lines
-// of the rows.
+// of the rows. Fails if a row is not accepted.
 fn run_rows_and_check_totals(
     rt: &impl Abort,
     alloc: Global,

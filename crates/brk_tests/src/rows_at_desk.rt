@@ -15,7 +15,7 @@ use std::test::Fail;
 const LOTS: u64 = 100;
 
 // Returns the text of a batch that adds account 101, and buys two shares `LOTS` times for account
-// 100 and once for account 101.
+// 100 and once for account 101. Fails only if memory runs out.
 fn batch_of_two_share_purchases(alloc: Global) -> Result<String, Fail> {
     let mut batch = String::from_str(alloc, "batch,P\naccount,101,10,1,Side,1,10000.00\n")?;
     for n in 1..=LOTS {
@@ -29,7 +29,7 @@ fn batch_of_two_share_purchases(alloc: Global) -> Result<String, Fail> {
 }
 
 // Returns the files of a desk on which account 100 has `LOTS` lots of two shares and account 101
-// has one.
+// has one. Fails if a row of the purchases is not accepted.
 fn files_with_hundred_lots(alloc: Global) -> Result<Held, Fail> {
     let set = files_with_reference_data(alloc)?;
     let batch = batch_of_two_share_purchases(alloc)?;
@@ -46,7 +46,7 @@ fn files_with_hundred_lots(alloc: Global) -> Result<Held, Fail> {
 }
 
 // Returns the text of a batch with the order and the result of a sale of `shares` shares of an
-// account.
+// account. Fails only if memory runs out.
 fn batch_of_one_sale(alloc: Global, account: u64, shares: u64) -> Result<String, Fail> {
     let trade = LOTS + 2;
     Ok(format!(in alloc;
@@ -81,7 +81,7 @@ fn sale_completes_within_calls(
 }
 
 // Returns the least number of calls of the database file with which the sale of one share of an
-// account completes, at most 8,192.
+// account completes, at most 8,192. Fails if memory runs out.
 fn least_calls_of_sale(alloc: Global, held: &Held, account: u64) -> Result<u64, Fail> {
     let mut most = 0u64;
     for bit in [4_096, 2_048, 1_024, 512, 256, 128, 64, 32, 16, 8, 4, 2, 1] {

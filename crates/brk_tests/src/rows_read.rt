@@ -14,7 +14,7 @@ use std::test::Fail;
 const LOTS: u64 = 40;
 
 // Returns the text of a batch with the orders and the results of `LOTS` purchases of one share
-// each.
+// each. Fails only if memory runs out.
 fn batch_of_one_share_purchases(alloc: Global) -> Result<String, Fail> {
     let mut batch = String::from_str(alloc, "batch,P\n")?;
     for n in 1..=LOTS {
@@ -25,7 +25,7 @@ fn batch_of_one_share_purchases(alloc: Global) -> Result<String, Fail> {
     Ok(batch)
 }
 
-// Returns a store on which account 100 has `LOTS` lots of one share each.
+// Returns a store on which account 100 has `LOTS` lots of one share each. Fails if the batch fails.
 fn store_with_forty_lots(alloc: Global) -> Result<Store<MemStore>, Fail> {
     let batch = batch_of_one_share_purchases(alloc)?;
     let mut desk = desk_with_reference_data(alloc)?;
@@ -37,7 +37,8 @@ fn store_with_forty_lots(alloc: Global) -> Result<Store<MemStore>, Fail> {
 }
 
 // Computes the closing of lots of account 100 by a sale of `count` shares, the last lots first if
-// `lifo` is true. Returns the number of touched lots and the number of rows that were read.
+// `lifo` is true. Returns the number of touched lots and the number of rows that were read. Fails
+// if the closing fails.
 fn lots_touched_and_rows_read(
     alloc: Global,
     store: &mut Store<MemStore>,

@@ -89,7 +89,7 @@ pub const LAST_FIRST_LINES: [&str; 6] = [
     "1709251200021,19.50,30.00,1895.50,2024-03-03,1800.00,1950.00,8441.40",
 ];
 
-/// Returns the text of a batch with the name T and these rows.
+/// Returns the text of a batch with the name T and these rows. Fails only if memory runs out.
 pub fn format_batch(alloc: Global, rows: &[&str]) -> Result<String, Fail> {
     let mut batch = String::from_str(alloc, "batch,T\n")?;
     for row in rows {
@@ -100,7 +100,7 @@ pub fn format_batch(alloc: Global, rows: &[&str]) -> Result<String, Fail> {
 }
 
 /// Appends a line for each reply, as a batch writes it: the number of its row, counted from
-/// `first`, the word `word`, and the reply.
+/// `first`, the word `word`, and the reply. Fails only if memory runs out.
 pub fn append_reply_lines(
     told: &mut String,
     first: u64,

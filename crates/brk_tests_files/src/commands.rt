@@ -18,7 +18,7 @@ fn split_command_line(alloc: Global, text: &str) -> Result<Vec<String>, AllocErr
 }
 
 // Appends the lines that were written to a stream, each after the mark of the stream, `mark`, and a
-// space. A last line without a line feed ends in a backslash.
+// space. A last line without a line feed ends in a backslash. Fails only if memory runs out.
 fn append_marked_lines(out: &mut String, mark: char, bytes: &[u8]) -> Result<(), Failed> {
     let text = str::from_utf8(bytes).unwrap_or("not UTF-8");
     for line in text.split_inclusive('\n') {
@@ -31,7 +31,7 @@ fn append_marked_lines(out: &mut String, mark: char, bytes: &[u8]) -> Result<(),
 }
 
 // Executes the program with these command-line arguments and this input, and appends its output,
-// its error text and its exit status.
+// its error text and its exit status. Fails only if memory runs out.
 fn run_program_and_append_output(
     rt: &HostRuntime,
     out: &mut String,
@@ -49,8 +49,9 @@ fn run_program_and_append_output(
     Ok(())
 }
 
-// Writes, copies or cuts a file, or executes SQL in it, as another program would (`verb`), and
-// appends `done`, or `failed`.
+// Writes, copies or cuts a file, or executes SQL in it, as another program would, by the word
+// `verb`: `write`, `copy`, `cut` or `sql`. Appends `done`, or `failed` if it fails or for any other
+// word. Fails only if memory runs out.
 fn change_file_and_append_result(
     rt: &HostRuntime,
     out: &mut String,
@@ -70,7 +71,7 @@ fn change_file_and_append_result(
 }
 
 /// Executes a command of a transcript with its input, `$` for the program and otherwise a change of
-/// a file, and appends its output lines.
+/// a file, and appends its output lines. Fails only if memory runs out.
 pub fn execute_transcript_command(
     rt: &HostRuntime,
     out: &mut String,

@@ -32,7 +32,7 @@ impl From<AllocError> for Failed {
 
 // Text is formatted only into memory, so a failure to format is a refused allocation.
 impl From<fmt::Error> for Failed {
-    /// Returns `Memory`.
+    /// Returns `Memory`: text is formatted only into memory.
     fn from(_: fmt::Error) -> Failed {
         Failed::Memory
     }

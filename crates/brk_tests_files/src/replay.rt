@@ -12,7 +12,8 @@ struct Due<'a> {
     input: Vec<u8>,
 }
 
-// Executes the pending command, if there is one, and appends its output lines.
+// Executes the pending command, if there is one, and appends its output lines. Fails only if memory
+// runs out.
 fn execute_pending_file_command(
     rt: &HostRuntime,
     out: &mut String,
@@ -57,7 +58,8 @@ fn add_input_to_pending_command<'a>(
 }
 
 // Processes a line that is no output line: adds an input line to the pending command, or executes
-// the pending command. Returns the command that is pending after the line.
+// the pending command. Returns the command that is pending after the line. Fails only if memory
+// runs out.
 fn process_transcript_line<'a>(
     rt: &HostRuntime,
     out: &mut String,

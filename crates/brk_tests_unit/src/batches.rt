@@ -125,7 +125,8 @@ impl Rows for Last {
         }
     }
 
-    // Returns the timestamp of an accepted command in decimal digits.
+    // Returns the timestamp of an accepted command in decimal digits. Fails only if memory runs
+    // out.
     #[tactic(auto, unfolding(brk_model::specs::Rows::reply_fields))]
     fn reply_line(alloc: Global, reply: &u64) -> Result<String, AllocError> {
         format!(in alloc; "{reply}")
@@ -238,7 +239,7 @@ impl Write for Choppy {
 }
 
 // Executes a batch on a new test desk, at the timestamp 7. Returns its result and the bytes that it
-// wrote.
+// wrote. Fails if memory runs out.
 fn run_batch_on_new_desk<R: Read + Drop>(
     alloc: Global,
     reader: R,

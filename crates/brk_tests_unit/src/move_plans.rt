@@ -19,7 +19,8 @@ struct Case {
     next: u64,
 }
 
-// Returns the facts of the tables on which the plan for the movement of a case depends.
+// Returns the facts of the tables on which the plan for the movement of a case depends. Fails if a
+// value of the case is out of range.
 fn movement_facts(case: Case) -> Result<MovementPlanFacts, Fail> {
     let balance = match case.balance {
         Some(balance) => Some(Cents::new(balance).ok_or("balance")?),

@@ -12,7 +12,7 @@ use std::process::Abort;
 use std::test::Fail;
 
 // Returns the quote of ABC, at 10.00, of which 100 more shares may be traded up to the limit of the
-// volume.
+// volume. Fails if memory runs out.
 fn quote_with_100_shares_left(alloc: Global) -> Result<Vec<Quote>, Fail> {
     let price = Price::new(1_000).ok_or("price")?;
     let volume = Volume::new(99_999_999_999_999_900).ok_or("volume")?;
@@ -61,7 +61,8 @@ fn a_feed_beyond_volume_limit_is_refused(rt: HostRuntime) -> Result<(), Fail> {
 }
 
 // Returns the facts of the tables on which the plan for a purchase of ABC at 10.00 depends, after
-// `trades` trades: a commission rate of one percent and a charge of 5.00.
+// `trades` trades: a commission rate of one percent and a charge of 5.00. Fails if a value is out
+// of range.
 fn purchase_facts(trades: u64) -> Result<OrderPlanFacts, Fail> {
     let broker = Id::new(1).ok_or("broker")?;
     let rates = TaxRate::new(20_000).ok_or("rates")?;

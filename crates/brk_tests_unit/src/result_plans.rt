@@ -43,7 +43,8 @@ fn submitted_cash_purchase() -> Case {
     }
 }
 
-// Returns the TRADE row of the trade of a case.
+// Returns the TRADE row of the trade of a case. Fails if a value of the case is out of range or
+// memory runs out.
 fn trade_row_of_case(alloc: Global, case: Case) -> Result<TradeRow, Fail> {
     let id = Id::new(1).ok_or("trade")?;
     let qty = Qty::new(case.qty).ok_or("quantity")?;
@@ -73,7 +74,8 @@ fn trade_row_of_case(alloc: Global, case: Case) -> Result<TradeRow, Fail> {
     })
 }
 
-// Returns the account of the trade of a case, with its broker, tax status and balance.
+// Returns the account of the trade of a case, with its broker, tax status and balance. Fails if a
+// value of the case is out of range.
 fn account_of_case(case: Case) -> Result<ResultAccount, Fail> {
     Ok(ResultAccount {
         broker: Id::new(1).ok_or("broker")?,
@@ -82,7 +84,8 @@ fn account_of_case(case: Case) -> Result<ResultAccount, Fail> {
     })
 }
 
-// Returns the broker totals before the result of a case.
+// Returns the broker totals before the result of a case. Fails if a value of the case is out of
+// range.
 fn broker_totals_of_case(case: Case) -> Result<BrokerTotals, Fail> {
     Ok(BrokerTotals {
         trades: TradeCount::new(0).ok_or("trades")?,
@@ -90,7 +93,8 @@ fn broker_totals_of_case(case: Case) -> Result<BrokerTotals, Fail> {
     })
 }
 
-// Returns the facts of the tables on which the plan for the result of a case depends.
+// Returns the facts of the tables on which the plan for the result of a case depends. Fails if a
+// value of the case is out of range or memory runs out.
 fn result_facts(alloc: Global, case: Case) -> Result<ResultPlanFacts, Fail> {
     let account = account_of_case(case)?;
     let broker = broker_totals_of_case(case)?;

@@ -76,7 +76,7 @@ fn format_job(alloc: Global, job: &Job) -> Result<String, AllocError> {
 }
 
 // Parses these arguments, after the name of the program. Returns the text of the job that they
-// request, or of their usage fault.
+// request, or of their usage fault. Fails if memory runs out.
 fn format_parsed_arguments(alloc: Global, words: &[&str]) -> Result<String, Fail> {
     let mut all = Vec::new(alloc);
     all.push(String::from_str(alloc, "brk")?)?;

@@ -60,7 +60,7 @@ const TABLES: &str = "DESK\n1,3,1709251200021\n\
     T,6,upname\x1f1,1709251200021,1\n";
 
 /// Returns the lines of the first `rows` rows of the batch, at most six, on a desk after the batch
-/// `SET`.
+/// `SET`. Fails only if memory runs out.
 pub fn first_lines_of_batch(alloc: Global, rows: usize) -> Result<String, Fail> {
     let (first, _) = LINES.split_at(rows.min(6));
     let mut told = String::new(alloc);
@@ -69,7 +69,7 @@ pub fn first_lines_of_batch(alloc: Global, rows: usize) -> Result<String, Fail> 
 }
 
 /// Returns all lines of the batch on a desk that has accepted its first `booked` rows, at most six,
-/// before.
+/// before. Fails only if memory runs out.
 pub fn all_lines_of_retry(alloc: Global, booked: usize) -> Result<String, Fail> {
     let booked = booked.min(6);
     let (again, rest) = LINES.split_at(booked);

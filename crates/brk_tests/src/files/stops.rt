@@ -67,7 +67,7 @@ fn fail_unless(is_so: bool, stop: Stop, what: &str) -> Result<(), Fail> {
 }
 
 // Returns all tables of a desk in memory, as text, after the batch `SET` and the first `rows` rows
-// of the batch, at most six.
+// of the batch, at most six. Fails if the tables cannot be read.
 fn tables_after_rows(alloc: Global, rows: usize) -> Result<String, Fail> {
     let batch = format_batch(alloc, &ROWS[..rows.min(6)])?;
     let conn = desk_with_reference_data(alloc)?.into_store().into_conn();
@@ -88,7 +88,7 @@ fn has_lines_audit_and_tables(seen: &Seen, lines: &str, tables: &str) -> bool {
 
 // Creates a desk until a crash, and then executes the batch `SET` on the desk that is opened or
 // created from the files. Returns two flags: the lines, the audit and the tables are as wanted; and
-// there was a crash.
+// there was a crash. Fails if memory runs out.
 fn set_up_desk_after_creation_crash(
     alloc: Global,
     stop: Stop,
@@ -159,7 +159,7 @@ struct Twice {
 }
 
 // Executes the batch until a crash, retries it on the desk that is opened after the crash, and
-// returns both observations.
+// returns both observations. Fails if memory runs out.
 fn crash_and_retry_batch(
     alloc: Global,
     stop: Stop,
@@ -264,7 +264,8 @@ fn crashes_while_a_batch_is_executed(rt: HostRuntime) -> Result<(), Fail> {
     Ok(())
 }
 
-// Executes three trades on a desk in files. Returns the observation and the files after them.
+// Executes three trades on a desk in files. Returns the observation and the files after them. Fails
+// if memory runs out.
 fn files_after_trades(alloc: Global) -> Result<Sent, Fail> {
     let batch = format_batch(alloc, &worked::ROWS[..6])?;
     let set = files_with_reference_data(alloc)?;
@@ -272,7 +273,8 @@ fn files_after_trades(alloc: Global) -> Result<Sent, Fail> {
 }
 
 // Returns the files of a desk that has three trades and that the SQL statements `change` convert to
-// an older schema, and the text of its tables in schema 3.
+// an older schema, and the text of its tables in schema 3. Fails if the tables cannot be read or
+// the statements fail.
 fn files_of_older_schema(alloc: Global, change: &str) -> Result<(Held, String), Fail> {
     let Sent { seen, held, .. } = files_after_trades(alloc)?;
     let Seen { after, .. } = seen;
@@ -294,7 +296,7 @@ struct MoveSeen {
 }
 
 // Upgrades an older desk until a crash, and then again, and returns the result of both. `tables`
-// are its tables in schema 3.
+// are its tables in schema 3. Fails if memory runs out.
 fn crash_and_retry_upgrade(
     alloc: Global,
     stop: Stop,

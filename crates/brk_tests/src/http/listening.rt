@@ -48,7 +48,7 @@ const PEERS: [(&str, Option<&str>); 6] = [
 ];
 
 // Connects a peer to the listener and sends its bytes. If `waits` is true, the peer then shuts down
-// its writing side, and waits for replies.
+// its writing side, and waits for replies. Fails if the peer cannot connect or send.
 fn connect_peer(
     rt: &HostRuntime,
     listener: &TcpListener,
@@ -64,7 +64,7 @@ fn connect_peer(
 }
 
 // Connects all peers in order. Returns those that wait for replies, with the wanted replies; the
-// others break their streams off.
+// others break their streams off. Fails if a peer cannot connect or send.
 fn connect_all_peers(
     rt: &HostRuntime,
     listener: &TcpListener,
