@@ -80,7 +80,7 @@ fn count_accounts<S: Alter>(
     Ok(store.accounts_of_customer(alloc, customer)?.len())
 }
 
-// Reads the fact that decides on a new broker: whether its id exists. Changes nothing. Fails with
+// Returns the fact that decides on a new broker: whether its id exists. Changes nothing. Fails with
 // `Memory` or `Store` only.
 fn read_broker_facts<S: Alter>(
     store: &mut Store<S>,
@@ -96,7 +96,7 @@ fn read_broker_facts<S: Alter>(
     })
 }
 
-// Reads the facts that decide on a new customer: whether its id and its tax id exist. Changes
+// Returns the facts that decide on a new customer: whether its id and its tax id exist. Changes
 // nothing. Fails with `Memory` or `Store` only.
 fn read_customer_facts<S: Alter>(
     store: &mut Store<S>,
@@ -115,8 +115,9 @@ fn read_customer_facts<S: Alter>(
     })
 }
 
-// Reads the facts that decide on a new account: whether its id, its customer and its broker exist,
-// and the number of accounts of its customer. Changes nothing. Fails with `Memory` or `Store` only.
+// Returns the facts that decide on a new account: whether its id, its customer and its broker
+// exist, and the number of accounts of its customer. Changes nothing. Fails with `Memory` or
+// `Store` only.
 fn read_account_facts<S: Alter>(
     alloc: Global,
     store: &mut Store<S>,
@@ -139,8 +140,8 @@ fn read_account_facts<S: Alter>(
     })
 }
 
-// Reads the fact that decides on a new security: whether its symbol exists. Changes nothing. Fails
-// with `Memory` or `Store` only.
+// Returns the fact that decides on a new security: whether its symbol exists. Changes nothing.
+// Fails with `Memory` or `Store` only.
 fn read_listing_facts<S: Alter>(
     store: &mut Store<S>,
     symbol: &Symbol,
@@ -155,7 +156,7 @@ fn read_listing_facts<S: Alter>(
     })
 }
 
-// Reads the fact that decides on a new tax: whether its id exists. Changes nothing. Fails with
+// Returns the fact that decides on a new tax: whether its id exists. Changes nothing. Fails with
 // `Memory` or `Store` only.
 fn read_tax_facts<S: Alter>(store: &mut Store<S>, id: Id) -> Result<ReferenceFacts, Fault>
     ensures read { ReadPost S.Store store.old store.new result (λ found t. found.same_id ≡ contains_tax_rate t id) }
@@ -168,7 +169,7 @@ fn read_tax_facts<S: Alter>(store: &mut Store<S>, id: Id) -> Result<ReferenceFac
     })
 }
 
-/// Reads the facts that decide on a new reference record. A fact that records of its kind do not
+/// Returns the facts that decide on a new reference record. A fact that records of its kind do not
 /// need is false, 0 or `None`. Changes nothing. Fails with `Memory` or `Store` only; with `Store`
 /// also if the record is a tax of a customer who already pays a tax that does not exist.
 pub(crate) fn read_reference_facts<S: Alter>(

@@ -11,7 +11,7 @@ use brk_store::Store;
 use brk_trade::MovementPlanFacts;
 use sqlite::Alter;
 
-/// Reads the facts that decide on a deposit or a withdrawal: the balance of the account, whether
+/// Returns the facts that decide on a deposit or a withdrawal: the balance of the account, whether
 /// the greatest number of movements is reached, and the number of the next cash row. Changes
 /// nothing. Fails with `Memory` or `Store` only; with `Store` also if no number is left for a cash
 /// row.

@@ -59,10 +59,11 @@ fn order_facts_with_account(
     }
 }
 
-// Reads the facts that decide on the estimate of an order whose account is `account`. Changes
-// nothing. Fails with `Memory` or `Store` only; with `Store` also if the account's customer or one
-// of the customer's taxes does not exist, the tax rates total more than the greatest rate, a held
-// symbol has no last price, or a sum overflows.
+// Returns the facts that decide on the estimate of an order whose account is `account`: its broker
+// and tax status, the last price, the permission, the charge, the rates, the assets and the shares
+// held. Changes nothing. Fails with `Memory` or `Store` only; with `Store` also if the account's
+// customer or one of the customer's taxes does not exist, the tax rates total more than the
+// greatest rate, a held symbol has no last price, or a sum overflows.
 fn read_order_account_facts<S: Alter>(
     alloc: Global,
     store: &mut Store<S>,
@@ -78,7 +79,7 @@ fn read_order_account_facts<S: Alter>(
     Ok(order_facts_with_account(account, tested, amounts))
 }
 
-/// Reads the facts that decide on the estimate of an order: those of its account, or, if the
+/// Returns the facts that decide on the estimate of an order: those of its account, or, if the
 /// account does not exist, only that. Changes nothing. Fails with `Memory` or `Store` only; with
 /// `Store` also if the account's customer or one of the customer's taxes does not exist, the tax
 /// rates total more than the greatest rate, a held symbol has no last price, or a sum overflows.
@@ -99,7 +100,7 @@ pub(crate) fn read_estimate_facts<S: Alter>(
     }
 }
 
-/// Reads the facts that decide on an order: those of its estimate, and the greatest trade id.
+/// Returns the facts that decide on an order: those of its estimate, and the greatest trade id.
 /// Changes nothing. Fails with `Memory` or `Store` only; with `Store` also if the account's
 /// customer or one of the customer's taxes does not exist, the tax rates total more than the
 /// greatest rate, a held symbol has no last price, or a sum overflows.

@@ -29,7 +29,7 @@ pub struct PartyFacts {
     pub rates: TaxRate,
 }
 
-// Reads the facts of the account in the row `row`, its customer and its broker. Changes nothing.
+// Returns the facts of the account in the row `row`, its customer and its broker. Changes nothing.
 // Fails with `Memory` or `Store` only; with `Store` also if the customer, one of the customer's
 // taxes or the broker does not exist, the tax rates total more than the greatest rate, or a total
 // of the broker is out of range.
@@ -57,7 +57,7 @@ fn read_parties_of_account<S: Alter>(
     })
 }
 
-/// Reads the facts of the account with the id `account`, its customer and its broker. Changes
+/// Returns the facts of the account with the id `account`, its customer and its broker. Changes
 /// nothing. Fails with `Memory` or `Store` only; with `Store` also if the account, the customer,
 /// one of the customer's taxes or the broker does not exist, the tax rates total more than the
 /// greatest rate, or a total of the broker is out of range.

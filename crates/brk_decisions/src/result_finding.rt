@@ -27,7 +27,7 @@ pub struct SecurityFacts {
     pub rate: Option<Rate>,
 }
 
-// Reads the facts of a trade's security, its name and its commission rate for a customer tier.
+// Returns the facts of a trade's security, its name and its commission rate for a customer tier.
 // Changes nothing. Fails with `Memory` or `Store` only; with `Store` also if the security does not
 // exist.
 fn read_security_facts<S: Alter>(
@@ -66,7 +66,7 @@ pub struct Posting {
     pub next: MoveId,
 }
 
-// Reads the settlement day and the number of the next cash row. Changes nothing. Fails with
+// Returns the settlement day and the number of the next cash row. Changes nothing. Fails with
 // `Memory` or `Store` only; with `Store` also if no number is left.
 fn read_posting_facts<S: Alter>(store: &mut Store<S>) -> Result<Posting, Fault>
     ensures read { ReadPost S.Store store.old store.new result (λ posting t. PostingFactsMatchTables t posting) }
@@ -77,7 +77,7 @@ fn read_posting_facts<S: Alter>(store: &mut Store<S>) -> Result<Posting, Fault>
     Ok(Posting { rule, next })
 }
 
-// Reads the facts that decide on a result of the trade `trade`, which exists. Changes nothing.
+// Returns the facts that decide on a result of the trade `trade`, which exists. Changes nothing.
 // Fails with `Memory` or `Store` only; with `Store` also if its account, customer, broker or
 // security or one of the customer's taxes does not exist, the tax rates total more than the
 // greatest rate, a total of the broker is out of range, or no number is left for a cash row.
@@ -109,9 +109,9 @@ fn read_result_facts_of_trade<S: Alter>(
     })
 }
 
-/// Reads the facts that decide on a result of the trade with the id `trade`, or returns `None` if
-/// it does not exist. Changes nothing. Fails with `Memory` or `Store` only; with `Store` also if
-/// its account, customer, broker or security or one of the customer's taxes does not exist, the tax
+/// Returns the facts that decide on a result of the trade with the id `trade`, or `None` if it does
+/// not exist. Changes nothing. Fails with `Memory` or `Store` only; with `Store` also if its
+/// account, customer, broker or security or one of the customer's taxes does not exist, the tax
 /// rates total more than the greatest rate, a total of the broker is out of range, or no number is
 /// left for a cash row.
 pub(crate) fn read_result_facts<S: Alter>(

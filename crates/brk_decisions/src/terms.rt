@@ -139,7 +139,7 @@ pub(crate) fn read_tax_rate_sum_within_limit<S: Alter>(
     Ok(tax_sum(&taxes))
 }
 
-// Reads the facts that decide on a new permission: whether its account exists, and whether this
+// Returns the facts that decide on a new permission: whether its account exists, and whether this
 // account has a permission for its tax id. Changes nothing. Fails with `Memory` or `Store` only.
 pub(crate) fn read_permission_facts<S: Alter>(
     store: &mut Store<S>,
@@ -158,7 +158,7 @@ pub(crate) fn read_permission_facts<S: Alter>(
     })
 }
 
-// Reads the fact that decides on a new charge: whether one of its trade type and customer tier
+// Returns the fact that decides on a new charge: whether one of its trade type and customer tier
 // exists. Changes nothing. Fails with `Memory` or `Store` only.
 pub(crate) fn read_charge_facts<S: Alter>(
     store: &mut Store<S>,
@@ -174,7 +174,7 @@ pub(crate) fn read_charge_facts<S: Alter>(
     })
 }
 
-// Reads the fact that decides on a new commission band: whether it overlaps an existing band.
+// Returns the fact that decides on a new commission band: whether it overlaps an existing band.
 // Changes nothing. Fails with `Memory` or `Store` only.
 pub(crate) fn read_band_facts<S: Alter>(
     alloc: Global,
@@ -191,10 +191,10 @@ pub(crate) fn read_band_facts<S: Alter>(
     })
 }
 
-// Reads the facts that decide on a new tax of a customer: whether the customer exists and pays this
-// tax, the rate of the tax, and the sum of the rates that the customer pays. Changes nothing. Fails
-// with `Memory` or `Store` only; with `Store` also if one of the taxes that the customer pays does
-// not exist.
+// Returns the facts that decide on a new tax of a customer: whether the customer exists and pays
+// this tax, the rate of the tax, and the sum of the rates that the customer pays. Changes nothing.
+// Fails with `Memory` or `Store` only; with `Store` also if one of the taxes that the customer pays
+// does not exist.
 pub(crate) fn read_customer_tax_facts<S: Alter>(
     alloc: Global,
     store: &mut Store<S>,

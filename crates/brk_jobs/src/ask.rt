@@ -9,7 +9,7 @@ use std::io::Write;
 
 /// Executes the query for the view `view` with these arguments on a desk, and writes its view to
 /// `output` in the format `form`. Returns `Done`, `Report` with the refusal or the fault, or
-/// `Open(Memory)` if memory runs out before the query.
+/// `Open(Memory)` if memory runs out before the query is parsed.
 pub(crate) fn execute_ask_job<S: Alter, W: Write>(
     alloc: Global,
     desk: &mut Desk<S>,

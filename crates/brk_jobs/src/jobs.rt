@@ -48,7 +48,8 @@ fn place_of_job(job: &Job) -> Place<'_> {
 }
 
 // Opens the desk of a job, executes the job, and returns its outcome, or `Open` with the fault if
-// the desk cannot be opened. After an audit that passed, writes `ok`.
+// the desk cannot be opened or closed. After an audit that passed, writes `ok`, and returns
+// `Output` if that fails.
 fn execute_job<R: Read + Drop, W: Write>(
     rt: &HostRuntime,
     job: &Job,

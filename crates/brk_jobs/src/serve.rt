@@ -10,7 +10,8 @@ use std::net::TcpListener;
 
 /// Serves `streams` streams of HTTP requests on a desk, in sequence, on `port` of 127.0.0.1. The
 /// timestamps are `at`, or readings of the machine's clock. Returns `Done`, `Serve` with the fault
-/// if memory ran out in a stream, or `Net` if the port is in use or no stream can be accepted.
+/// if memory ran out in a stream, or `Net` if the port cannot be opened or no more streams can be
+/// accepted.
 pub(crate) fn execute_serve_job<S: Alter>(
     rt: &HostRuntime,
     port: u16,

@@ -14,7 +14,7 @@ pub(crate) trait TouchReceiver {
     // The faults with which a call may fail.
     ghost fails: { Fault → Type 0 };
 
-    // Takes the next lot change.
+    // Takes the next lot change. Fails with a fault of the receiver only.
     fn add(&mut self, row: Touch) -> Result<(), Fault>
         ensures added { OnOk result ((rows : List Touch) → holds self.old rows → holds self.new (rows ++ row ∷ [])) }
         ensures fault { IfErr result fails };

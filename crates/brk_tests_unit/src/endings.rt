@@ -33,7 +33,8 @@ const BATCHES: [(FaultKind, u8, &str); 7] = [
     (FaultKind::Desk(Fault::Memory), 3, "brk: fault: memory\n"),
 ];
 
-// Checks the exit status and the error line of each fault of a batch.
+// Checks that a failed batch has the exit status 1 for a wrong header or end record, 3 for any
+// other fault, and the error line of the fault.
 #[test]
 fn exit_status_and_line_of_batch_faults(rt: HostRuntime) {
     for (kind, status, text) in BATCHES {
@@ -41,7 +42,8 @@ fn exit_status_and_line_of_batch_faults(rt: HostRuntime) {
     }
 }
 
-// Checks the exit status and the error line of a report that is refused or fails.
+// Checks that a refused report has the exit status 1 and an error line with the number of the
+// refusal, and that a failed one has 3 and the error line of the fault.
 #[test]
 fn exit_status_and_line_of_report_faults(rt: HostRuntime) {
     let alloc = rt.alloc();
@@ -66,7 +68,8 @@ const OPENS: [(Fault, u8, &str); 3] = [
     ),
 ];
 
-// Checks the exit status and the error line of each fault of opening a desk.
+// Checks that the exit status is 1 for a damaged database and 3 for any other fault of opening a
+// desk, each with the error line of the fault.
 #[test]
 fn exit_status_and_line_of_open_faults(rt: HostRuntime) {
     for (fault, status, text) in OPENS {
@@ -74,7 +77,8 @@ fn exit_status_and_line_of_open_faults(rt: HostRuntime) {
     }
 }
 
-// Checks the exit status and the error text of each usage fault.
+// Checks that the exit status is 2 for wrong arguments and for a malformed day, 3 if memory ran
+// out, each with its error text, and 0 without a text for help.
 #[test]
 fn exit_status_and_line_of_usage_faults(rt: HostRuntime) -> Result<(), Fail> {
     let alloc = rt.alloc();
@@ -89,8 +93,8 @@ fn exit_status_and_line_of_usage_faults(rt: HostRuntime) -> Result<(), Fail> {
     Ok(())
 }
 
-// Checks the exit status and the error line of the other endings: a job that is done, output or a
-// port that failed, and a stream that ended early.
+// Checks that the exit status is 0 without a line for a job that is done, and 3 with an error line
+// for output or a port that failed and for a stream that ended early.
 #[test]
 fn exit_status_and_line_of_other_endings(rt: HostRuntime) {
     let unserved = ServeFault {
