@@ -23,9 +23,10 @@ use std::alloc::Global;
 use std::io::Write;
 
 // Writes the explanation of the trade with the id. Fails with `Refused` (`NoTrade`) if the trade
-// does not exist, before it writes anything; with `Desk` if a read fails, memory runs out or an
-// amount overflows; and with `Write` if the writer fails. If the database is still open, it is
-// unchanged.
+// does not exist, before it writes anything; with `Desk` if a read fails, memory runs out, a row
+// that another row names does not exist, a completed trade has no price or no settlement, or an
+// amount overflows or exceeds its limit; and with `Write` if the writer fails. If the database is
+// still open, it is unchanged.
 fn write_trade_explanation<W: Write, S: Alter>(
     alloc: Global,
     desk: &mut Desk<S>,
@@ -72,9 +73,9 @@ fn write_account_lines<W: Write, S: Alter>(
 }
 
 // Writes the explanation of the account with the id. Fails with `Refused` (`NoAccount`) if the
-// account does not exist, before it writes anything; with `Desk` if a read fails, memory runs out
-// or an amount overflows; and with `Write` if the writer fails. If the database is still open, it
-// is unchanged.
+// account does not exist, before it writes anything; with `Desk` if a read fails, memory runs out,
+// a held symbol has no last price, or an amount overflows; and with `Write` if the writer fails. If
+// the database is still open, it is unchanged.
 fn write_account_explanation<W: Write, S: Alter>(
     alloc: Global,
     desk: &mut Desk<S>,
@@ -97,8 +98,9 @@ fn write_account_explanation<W: Write, S: Alter>(
 
 // Writes the explanation of the holding of an account in a security. Fails with `Refused`
 // (`NoAccount`) if the account does not exist, or (`NoSecurity`) if only the security does not
-// exist, before it writes anything; with `Desk` if a read fails, memory runs out or an amount
-// overflows; and with `Write` if the writer fails. If the database is still open, it is unchanged.
+// exist, before it writes anything; with `Desk` if a read fails, memory runs out, the security has
+// no last price, a completed trade has no price, or an amount overflows; and with `Write` if the
+// writer fails. If the database is still open, it is unchanged.
 fn write_holding_explanation<W: Write, S: Alter>(
     alloc: Global,
     desk: &mut Desk<S>,

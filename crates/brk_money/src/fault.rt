@@ -64,7 +64,7 @@ impl Condition {
 pub enum Fault {
     /// Out of memory.
     Memory,
-    /// The database or its disk failed.
+    /// The database or its disk failed, or its rows are malformed or contradict each other.
     Store,
     /// The database fails this condition of a desk's tables; returned only when tables are created,
     /// adopted, upgraded or audited.
