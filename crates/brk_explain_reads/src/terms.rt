@@ -49,7 +49,7 @@ fn band_contains_quantity(band: &Band, qty: Qty) -> bool
     band.from_qty.get() <= qty.get() && qty.get() <= band.to_qty.get()
 }
 
-// Returns `band` if its bounds contain the quantity, otherwise `other`.
+// Returns `band` if its bounds contain the quantity, otherwise `other`, which may be `None`.
 fn band_or_other(band: Band, qty: Qty, other: Option<Band>) -> Option<Band>
     ensures { option_map abstract_band result
         ≡ (if nat_le band.from_qty qty && nat_le qty band.to_qty then Some (abstract_band band) else option_map abstract_band other) }

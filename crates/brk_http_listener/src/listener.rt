@@ -14,7 +14,7 @@ pub trait Listener {
     /// holds for a listener that defines no relation of its own.
     ghost accepts: { Self → Result Self.Stream AcceptFault → Self → Type 0 } = { λ _ _ _. Unit {0} };
 
-    /// Waits for the next stream of a peer and accepts it.
+    /// Waits for the next stream of a peer, accepts it and returns it.
     ///
     /// Fails with `Aborted` if the peer broke it off, and with `Failed` if no stream can be
     /// accepted.
@@ -25,8 +25,8 @@ pub trait Listener {
 impl Listener for TcpListener {
     type Stream = TcpStream;
 
-    /// Waits for the next TCP stream and accepts it. Fails with `Aborted` if the peer broke the
-    /// stream off, and otherwise with `Failed`.
+    /// Waits for the next TCP stream, accepts it and returns it. Fails with `Aborted` if the peer
+    /// broke the stream off, and otherwise with `Failed`.
     fn accept_next(&mut self) -> Result<TcpStream, AcceptFault> {
         match self.accept() {
             Ok((stream, _)) => Ok(stream),

@@ -132,7 +132,7 @@ impl fmt::Display for Refusal {
     ghost output = { λ refusal. Some (refusal_text refusal) };
 
     /// Writes the number of the refusal and, after a comma, its status code or the word of its
-    /// limit, if it has one.
+    /// limit, if it has one. Fails if the formatter fails.
     fn fmt<W: fmt::Write>(&self, f: &mut fmt::Formatter<W>) -> fmt::Result {
         let number = self.number();
         match self {

@@ -59,7 +59,7 @@ impl From<Price> for Wide {
 impl fmt::Display for Wide {
     ghost output = { λ amount. Some (cents_text amount) };
 
-    /// Writes the canonical text of the amount, such as `-12.05`.
+    /// Writes the canonical text of the amount, such as `-12.05`. Fails if the formatter fails.
     fn fmt<W: fmt::Write>(&self, f: &mut fmt::Formatter<W>) -> fmt::Result {
         let amount = self.get();
         let cents = amount.unsigned_abs();

@@ -26,7 +26,8 @@ impl<'a> Failing<'a> {
 }
 
 impl Read for Failing<'_> {
-    /// Returns the next bytes, or fails once after the first ones.
+    /// Fills the buffer with the next bytes and returns their number, or fails once after the first
+    /// ones.
     fn read(&mut self, buf: &mut [u8]) -> io::Result<usize> {
         if self.before.is_empty() {
             if let Some(kind) = self.fault.take() {
@@ -65,7 +66,8 @@ impl Narrow {
 }
 
 impl Write for Narrow {
-    /// Appends at most seven bytes, or fails or accepts none once if there is no room.
+    /// Appends at most seven bytes and returns their number, or fails or accepts none once if there
+    /// is no room.
     fn write(&mut self, buf: &[u8]) -> io::Result<usize> {
         let left = self.room.saturating_sub(self.taken.len());
         if left == 0 {

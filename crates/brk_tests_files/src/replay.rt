@@ -57,9 +57,9 @@ fn add_input_to_pending_command<'a>(
     Ok(Some(due))
 }
 
-// Processes a line that is no output line: adds an input line to the pending command, or executes
-// the pending command. Returns the command that is pending after the line. Fails only if memory
-// runs out.
+// Processes a line that is no output line: copies an input line and adds it to the pending command,
+// or executes the pending command and copies any other line. Returns the command that is pending
+// after the line, or `None` if none is. Fails only if memory runs out.
 fn process_transcript_line<'a>(
     rt: &HostRuntime,
     out: &mut String,

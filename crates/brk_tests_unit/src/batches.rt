@@ -190,7 +190,7 @@ impl Long {
 }
 
 impl Read for Long {
-    // Fills the buffer with the next bytes, or fails beyond the limit.
+    // Fills the buffer with the next bytes and returns their number, or fails beyond the limit.
     fn read(&mut self, buf: &mut [u8]) -> io::Result<usize> {
         if self.at >= MAXIMUM_INPUT_BYTES {
             return Err(io::Error::from(io::ErrorKind::Other));
@@ -218,7 +218,8 @@ struct Choppy {
 }
 
 impl Write for Choppy {
-    // Appends at most three bytes, or fails or accepts none if there is no room.
+    // Appends at most three bytes and returns their number, or fails or accepts none if there is no
+    // room.
     fn write(&mut self, buf: &[u8]) -> io::Result<usize> {
         let room = self.most.saturating_sub(self.got.len());
         if room == 0 {

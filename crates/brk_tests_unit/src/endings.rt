@@ -118,7 +118,7 @@ fn exit_status_and_line_of_other_endings(rt: HostRuntime) {
 struct Closed;
 
 impl Write for Closed {
-    // Accepts no byte.
+    // Accepts no byte and returns 0.
     fn write(&mut self, _bytes: &[u8]) -> io::Result<usize> {
         Ok(0)
     }

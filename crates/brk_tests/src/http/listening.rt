@@ -47,8 +47,9 @@ const PEERS: [(&str, Option<&str>); 6] = [
     ),
 ];
 
-// Connects a peer to the listener and sends its bytes. If `waits` is true, the peer then shuts down
-// its writing side, and waits for replies. Fails if the peer cannot connect or send.
+// Connects a peer to the listener, sends its bytes and returns its stream. If `waits` is true, the
+// peer then shuts down its writing side, and waits for replies. Fails if the peer cannot connect or
+// send.
 fn connect_peer(
     rt: &HostRuntime,
     listener: &TcpListener,

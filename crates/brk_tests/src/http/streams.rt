@@ -17,7 +17,7 @@ pub struct Pieces<'a> {
 }
 
 impl Read for Pieces<'_> {
-    /// Returns the next bytes, at most `size`.
+    /// Fills the buffer with the next bytes, at most `size`, and returns their number.
     fn read(&mut self, buf: &mut [u8]) -> io::Result<usize> {
         let count = self.size.min(buf.len()).min(self.bytes.len());
         let (front, rest) = self.bytes.split_at(count);

@@ -44,7 +44,7 @@ const WANTED: &str = "Statement of account 100\n\
     Holdings                  1500.00\n\
     Cash rows 3, lots 1\n";
 
-// Returns the error of a writer with room for `room` bytes: none, so that it accepts no byte,
+// Returns the error of a writer with room for `room` bytes: `None`, so that it accepts no byte,
 // another error, or an interruption, in turn.
 fn write_error_for_room(room: usize) -> Option<ErrorKind> {
     match room % 3 {
