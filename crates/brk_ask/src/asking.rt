@@ -18,8 +18,9 @@ use sqlite::Alter;
 use std::alloc::Global;
 use std::io::Write;
 
-// Returns the text of a query's view as JSON or CSV, with or without the names of its fields, as
-// `form` specifies. Fails with `Memory` only.
+// Returns the text of a query's view: as one line of JSON if `form.json` is true, otherwise as CSV
+// rows, and with the names of its fields first if `form.heads` is true and all its records have the
+// same fields. Fails with `Memory` only.
 fn format_view(alloc: Global, query: &Query, view: &View, form: Form) -> Result<Vec<u8>, Fault>
     ensures text { IfOk result (λ text. text.items ≡ printed_view_text form (abstract_query query.now) (records_of_view view.now)) }
     ensures fault { OnErr result (result ≡ Err Memory) }
@@ -38,7 +39,8 @@ fn format_view(alloc: Global, query: &Query, view: &View, form: Form) -> Result<
     }
 }
 
-// Writes the text of a query's view, as JSON or CSV as `form` specifies.
+// Writes the text of a query's view: as JSON if `form.json` is true, otherwise as CSV, and with the
+// names of its fields first if `form.heads` is true and all its records have the same fields.
 //
 // Fails with `Desk(Memory)` and nothing written, or with `Write` after a prefix of the text,
 // perhaps all of it.
@@ -61,7 +63,9 @@ fn write_view<W: Write>(
     }
 }
 
-// Executes a query on the desk, and writes its view, as JSON or CSV as `form` specifies.
+// Executes a query on the desk, and writes its view: as JSON if `form.json` is true, otherwise as
+// CSV, and with the names of its fields first if `form.heads` is true and all its records have the
+// same fields.
 //
 // Fails with `Refused` and the refusal of the query, or with `Desk` and `Memory` or `Store`, and
 // nothing is then written; or with `Write` after a prefix of the text, perhaps all of it.
@@ -82,7 +86,8 @@ fn execute_query_and_write_view<W: Write, S: Alter>(
 }
 
 /// Parses a query from the name of a view and its arguments, executes it on the desk, and writes
-/// its view, as JSON or CSV as `form` specifies.
+/// its view: as JSON if `form.json` is true, otherwise as CSV, and with the names of its fields
+/// first if `form.heads` is true and all its records have the same fields.
 ///
 /// Fails with `Refused` 18 if the texts are no query, otherwise with the refusal of the query;
 /// nothing is then written. Fails with `Desk` and `Memory` or `Store`, and nothing is written; with

@@ -15,8 +15,8 @@ use brk_view::{View, submitted};
 use sqlite::Alter;
 use std::alloc::Global;
 
-// Returns the view of all submitted trades, sorted by id, ascending. Changes nothing. Fails with
-// `Memory` or `Store` only.
+// Returns the view of all submitted trades, sorted by id, ascending. Never refuses. Changes
+// nothing. Fails with `Memory` or `Store` only.
 pub(crate) fn view_of_submitted_trades<S: Alter>(
     alloc: Global,
     store: &mut Store<S>,

@@ -144,7 +144,7 @@ fn read_volumes_of_brokers_named<S: Alter>(
 
 // Returns the view of the volumes in the sector, in cents, of the brokers with these names that
 // have a pending request for a security in it, sorted by volume, descending, then by name and id,
-// ascending. Changes nothing. Fails with `Memory` or `Store` only.
+// ascending. Never refuses. Changes nothing. Fails with `Memory` or `Store` only.
 pub(crate) fn view_of_broker_volumes<S: Alter>(
     alloc: Global,
     store: &mut Store<S>,

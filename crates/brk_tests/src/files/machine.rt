@@ -227,9 +227,9 @@ pub struct Sent {
     pub was_stopped: bool,
 }
 
-/// Executes a batch on the desk in these files until the machine crashes as `stop` says, if it
-/// does. Returns the observation of the batch, the files after it, and whether the machine crashed.
-/// Fails if memory runs out.
+/// Executes a batch on the desk in these files until the machine crashes, at the call of the file
+/// that `stop` names, or to its end. Returns the observation of the batch, the files after it, and
+/// whether the machine crashed. Fails if memory runs out.
 pub fn run_batch_until_crash(
     alloc: Global,
     held: &Held,
