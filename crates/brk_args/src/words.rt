@@ -176,10 +176,9 @@ fn serve_command<'a>(alloc: Global) -> Result<Command<'a>, AllocError> {
         .arg(streams_argument(alloc))
 }
 
-// Adds the subcommand `added` to `command` and returns the command. Fails with the failure of the
-// first of them that failed, or if memory runs out. It is a function of its own because a function
-// that holds several commands, at each place where it may return, takes the prover more than a
-// minute.
+// Adds the subcommand `added` to `command` and returns the command. Fails if one of the two failed,
+// or if memory runs out. It is a function of its own because a function that holds several
+// commands, at each place where it may return, takes the prover more than a minute.
 fn add_subcommand<'a>(
     command: Result<Command<'a>, AllocError>,
     added: Result<Command<'a>, AllocError>,

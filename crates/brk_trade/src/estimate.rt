@@ -94,8 +94,10 @@ fn values_of_shares_to_close<L: LotSource>(source: &mut L, terms: &Terms) -> Res
     }
 }
 
-/// Estimates an order from its terms and the lots of its account and symbol, which `source` returns
-/// in the sequence in which the order closes them (Trade-Order).
+/// Returns the estimated figures of an order, in cents (Trade-Order): its price, the buy value and
+/// the sell value of the shares that it would close, the tax, the commission, the charge and the
+/// assets. They follow from its terms and from the lots of its account and symbol, which `source`
+/// returns in the sequence in which the order closes them.
 ///
 /// Fails only with a fault of the source. Reads no lot if the account holds no shares that the
 /// order would close.

@@ -117,7 +117,8 @@ fn checked_placement(order: &Order, found: &OrderPlanFacts) -> Result<Placement,
 }
 
 /// Plans the estimate of an order from the facts in the tables and the lots of its account and
-/// symbol, which `source` returns in the sequence in which the order closes them (Trade-Order).
+/// symbol, which `source` returns in the sequence in which the order closes them (Trade-Order):
+/// returns the estimate or the refusal.
 ///
 /// Refuses with the first that applies of `NoAccount`, `NoSecurity`, `NotPermitted`, `NoCharge` and
 /// `NoRate`. Fails only with a fault of the source. Reads no lot if it refuses, or if the account

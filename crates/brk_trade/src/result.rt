@@ -19,7 +19,8 @@ use brk_money::{Fault, Planned, Price, Refusal, Stamp, stamp_after};
 use brk_plans::{Completed, Plan, Reply};
 use std::alloc::Global;
 
-// Returns the reply of a completion, from the figures of the completed trade.
+// Returns the reply of a completion, from the figures of the completed trade: its stamp,
+// commission, tax, settlement amount, due day, buy value, sell value and the balance after it.
 fn create_completed_reply(outcome: &ResultFigures) -> Completed
     ensures { result ≡ completed_reply_of_figures outcome.now }
 {

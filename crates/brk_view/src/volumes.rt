@@ -65,7 +65,8 @@ fn request_bid_value(request: &RequestRow) -> u128
     u128::from(request.qty.get()) * u128::from(request.bid.get())
 }
 
-/// Returns the sum of the values of requests in cents: each has its quantity times its bid price.
+/// Returns the sum, in cents, of the bid values of requests: the quantity of each times its bid
+/// price.
 pub fn total_bid_value_of_requests(requests: &[RequestRow]) -> Wide
     ensures { result ≡ pos (sum_by request_value_at_bid (map abstract_request_row requests.now)) }
 {
