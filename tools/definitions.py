@@ -114,9 +114,11 @@ def definitions(crate, name):
     path = f'crates/{crate}/specs/{name}.antt'
     with open(path) as file:
         lines = file.read().splitlines()
-    head = []
+    head = ''
     while lines and lines[0].startswith('-- '):
-        head.append(lines.pop(0)[3:])
+        line = lines.pop(0)[3:]
+        # a list keeps its lines apart
+        head += '\n' + line if line.startswith('- ') else f' {line.strip()}' if head else line
     if not head:
         fail(f'{path} has no comment at its head')
     rows, comment, last = [], [], ''
@@ -132,7 +134,7 @@ def definitions(crate, name):
             comment = []
         elif not line.startswith('infix'):
             comment = []
-    return ' '.join(head), rows
+    return head, rows
 
 
 def origin(name, word):

@@ -1,4 +1,4 @@
-//! Sums of amounts by key: one pass over the amounts, in `n log n` steps.
+//! Sums of amounts by key.
 
 ghost use Rattle.std.specs.Prelude.{◌≡◌, ◌+◌, ◌<◌, ◌≤◌, ◌^◌, ℤ, pos, ◌+ℤ◌, nat_abs, cond, IfErr, IfOk, OnErr, OnOk, Err};
 ghost use Rattle.std.specs.Ordering.{is_eq};

@@ -44,7 +44,7 @@ IsDiskContentAfterCommand g old now command key trees =
 -- The postcondition of a call that executes a command, between the states `old` and `new` of the
 -- store. At `Ok` the call refines the model's step for the command. At an error the open store is
 -- unchanged, although a crash may expose the command as committed. `brk_store/specs/Holds.antt`
--- explains the terms of the clauses; `g` are the ghosts of the storage `S`.
+-- explains the terms of the clauses; `g` is the specification of the storage `S`.
 pub record CallPost {S : Type 0} (g : Ghosts S) (old new : Held S) (now : ℕ) (command : Command) (key : Option Key)
     (result : Result CommandAnswer Fault) : Type 0 where
   -- At `Ok` the call refines the model's step. Vacuous if the disk assumption fails.

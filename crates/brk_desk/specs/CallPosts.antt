@@ -1,9 +1,9 @@
 -- The postconditions of a desk's calls: a query, a run and an audit. The postcondition of a command
--- is `CallPost` of brk_commit. `g` are the ghosts of the storage `S`; `old` and `new` are the
--- states of the connection before and after a call. `brk_store/specs/Holds.antt` explains the other
--- terms of the clauses: `state`, `HasCleanDisk`, `is_open`, `Survives` and disk contents (`Trees`).
--- A clause with the premise `HasCleanDisk` for the new state, and the promise on crashes in
--- `survives`, are vacuous if the disk assumption fails after the call.
+-- is `CallPost` of brk_commit. `g` is the specification of the storage `S`; `old` and `new` are the
+-- connection before and after a call. `brk_store/specs/Holds.antt` explains the other terms of the
+-- clauses: `state`, `HasCleanDisk`, `is_open`, `Survives` and disk contents (`Trees`). A clause
+-- with the premise `HasCleanDisk` for the new state, and the promise on crashes in `survives`, are
+-- vacuous if the disk assumption fails after the call.
 use Rattle.brk_model.specs.Form.{has_utf8_texts}
 use Rattle.std.specs.Prelude.{◌≡◌, ℕ, List, None, map, length, Result, IfOk, IfErr, IsTrue}
 use Rattle.std.specs.List.{AllByRecursion}
@@ -69,8 +69,8 @@ pub record AskPost {S : Type 0} (g : Ghosts S) (old new : Held S) (query : Query
   pub clean : HasCleanDisk (state g new) → HasCleanDisk (state g old)
 
 -- The call `call`, a command or a query, was executed at the clock reading `now`, changed the state
--- `old` to the state `new`, and had the outcome `outcome`: some result with this outcome satisfies
--- the postcondition of the call, `CallPost` for a command and `AskPost` for a query.
+-- `old` to the state `new`, and had the outcome `outcome`: the call returned a result with this
+-- outcome that satisfies its postcondition, `CallPost` for a command and `AskPost` for a query.
 abbrev pub OutcomePost : {S : Type 0} → Ghosts S → Held S → Held S → ℕ → Call → Outcome → Type 0
 OutcomePost g old new now (call.Do command key) outcome =
     (result : Result CommandAnswer Fault) × (outcome ≡ outcome_of_command result)
@@ -120,14 +120,14 @@ pub record RunPost {S : Type 0} (g : Ghosts S) (old new : Held S) (calls : List 
   -- If the store is open after the calls, it was open before.
   pub opened : HasCleanDisk (state g new) → IsTrue (state g new).is_open → IsTrue (state g old).is_open
   -- Crash safety: a crash exposes a state that a crash before the calls could expose or, only if
-  -- the store was open, the tables of a recoverable base (`IsRecoverableDiskContent`).
+  -- the store was open, recoverable contents (`IsRecoverableDiskContent`).
   pub survives : Survives (state g old) (state g new) (CrashMayExposeDiskContent g old calls outcomes)
-  -- If some outcome is `Done`, a crash exposes only the tables of recoverable bases
+  -- If some outcome is `Done`, a crash exposes only recoverable contents
   -- (`IsRecoverableDiskContent`).
   pub durable : HasCleanDisk (state g new) → (base : Base) → Represents g old base → ¬ OutcomesAcknowledgeNothing outcomes
       → CrashStatesSatisfy g new (IsRecoverableDiskContent base calls outcomes)
   -- If a crash before the calls exposes only the tables of `base`, a crash after them exposes only
-  -- the tables of recoverable bases (`IsRecoverableDiskContent`).
+  -- recoverable contents (`IsRecoverableDiskContent`).
   pub stays_durable : HasCleanDisk (state g new) → (base : Base) → Represents g old base → CrashStatesSatisfy g old (IsDiskContentOfRows (sheets base))
       → CrashStatesSatisfy g new (IsRecoverableDiskContent base calls outcomes)
   -- If the disk assumption holds after the calls, it held before.
@@ -145,9 +145,10 @@ ReachesAuditedState g new base calls outcomes =
     (after : Base) × Represents g new after × PassesAudit third_schema (sheets after)
     × IsRunWithSumsAndTaxes base (map model_call calls) (map model_outcome outcomes) after
 
--- The guarantee of a run: under the disk assumption the calls reach an audited state
--- (`ReachesAuditedState`), from any base that the store represented, from tables without rows, and
--- from rows of any schema that pass their audit and were upgraded to schema 3.
+-- The guarantee of a run: what the postcondition of a run implies for the books. Under the disk
+-- assumption the calls reach an audited state (`ReachesAuditedState`), from any base that the store
+-- represented, from tables without rows, and from rows of any schema that pass their audit and were
+-- upgraded to schema 3.
 pub record RunGuarantee {S : Type 0} (g : Ghosts S) (old new : Held S) (calls : List (ℕ × Call)) (outcomes : List Outcome) : Type 0 where
   -- From any base that the store represented before the calls.
   pub from_represented_base : HasCleanDisk (state g new) → (base : Base) → Represents g old base → ReachesAuditedState g new base calls outcomes

@@ -13,10 +13,10 @@ abbrev pub AcknowledgesNothing : Outcome → Type 0
 AcknowledgesNothing (Did (Done reply)) = ⊥
 AcknowledgesNothing _ = Unit {0}
 
--- One of the calls is a command that returned a fault, and no outcome after it is `Done`. The calls
--- before this command run from `base` to a base `before`, with their outcomes. `after` is the base
--- after the command on `before`, as if it had not failed. So `after` has the changes of the calls
--- before the command, of the command, and of no call after it.
+-- The run was `earlier`, then a command that returned a fault, then `later`. `before` is the base
+-- after `earlier`, and `after` the base after the command on `before`, as if it had not failed. No
+-- call in `later` has the outcome `Done`; so `after` has the changes of `earlier` and of the
+-- command, and no other.
 pub record HasUnacknowledgedCommand (base : Base) (calls : List (ℕ × Call)) (outcomes : List Outcome) (after : Base) : Type 0 where
   -- The calls before the command, the command with its clock reading and its key, and the calls
   -- after it.

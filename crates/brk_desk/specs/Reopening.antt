@@ -22,14 +22,14 @@ pub record RepresentsDurableBase {S : Type 0} (g : Ghosts S) (store : Held S) (b
   pub alone : CrashStatesSatisfy g store (IsDiskContentOfRows (sheets base))
 
 -- `conn` is in the state of a new connection to a database with the disk contents `trees`. Under
--- the disk assumption it is open, without a transaction and without a savepoint; its number of rows
--- that the last statement changed and its last inserted rowid are 0; its current database equals
--- its committed database, and `trees` are the disk contents of this database.
+-- the disk assumption it is as after `sqlite3_open`: it is open, in autocommit mode, without
+-- savepoints, `sqlite3_changes()` and `sqlite3_last_insert_rowid()` are 0; its current database
+-- equals its committed one, and its disk contents are `trees`.
 pub record IsNewConnectionToDiskContent {S : Type 0} (g : Ghosts S) (trees : Trees) (conn : Held S) : Type 0 where
   -- The connection is to a database with these disk contents.
   pub over : IsConnectionToDiskContent g trees conn
-  -- Under the disk assumption it is open, without a transaction, a savepoint or a counted change,
-  -- and its current state is committed.
+  -- Under the disk assumption it is open, in autocommit mode, without savepoints, with
+  -- `sqlite3_changes()` 0, and its current state is committed.
   pub opens : HasCleanDisk (state g conn) → Opens (state g conn)
 
 -- `conn` is in the state of a new connection (`IsNewConnectionToDiskContent`) to disk contents that
@@ -54,9 +54,9 @@ pub record AdoptsBaseWithoutDamage {S : Type 0} (g : Ghosts S) (store : Held S) 
   -- At `Ok` the store represents `base`, and a crash exposes only its tables.
   pub represented : OnOk result (RepresentsDurableBase g store base)
 
--- The adoption with the result `result` did not fail with `Damaged`. The store after it at `Ok`,
--- and the connection that it returned at `Memory` or `Store`, represents a base that satisfies
--- `May`, and a crash exposes only the tables of this base.
+-- The adoption with the result `result` did not fail with `Damaged`. `store` is the store at `Ok`,
+-- and at `Memory` or `Store` the returned connection. It represents a base that satisfies `May`,
+-- and a crash exposes only the tables of this base.
 pub record IsRecovered {S : Type 0} (g : Ghosts S) (store : Held S) (result : Result (Unit {0}) Fault) (May : Base → Type 0) : Type 0 where
   -- The base that is represented after the adoption.
   pub base : Base

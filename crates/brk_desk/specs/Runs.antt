@@ -15,9 +15,9 @@ pub record IsRunWithOutcomes {S : Type 0} (g : Ghosts S) (old new : Held S) (cal
   -- `old`, each later one in the state after the call before it, and the last one ends in `new`.
   -- Without calls `new` equals `old`.
   pub executed : IsCallSequence (λ old now call outcome new. OutcomePost g old new now call outcome) old calls outcomes new
-  -- The postcondition of a run.
+  -- The postcondition of a run: answers, tables and crashes (`RunPost`).
   pub post : RunPost g old new calls outcomes
-  -- The guarantee of a run.
+  -- The guarantee of a run: sums, taxes and the audit (`RunGuarantee`).
   pub guarantee : RunGuarantee g old new calls outcomes
 
 -- Exactly some calls of the desk were executed between the state `old` and the state `new`, in

@@ -10,8 +10,7 @@ use brk_view::{Query, View};
 /// A call of a run of a desk: a command or a query.
 #[derive(Drop)]
 pub enum Call {
-    /// A command, with its key if it has one. It is booked if it is accepted, and under its key it
-    /// is accepted at most once.
+    /// A command, with its key if it has one. `Desk::call` describes its effect.
     Do(Command, Option<Key>),
     /// A query, which changes nothing.
     Ask(Query),

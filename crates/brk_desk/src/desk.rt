@@ -18,9 +18,15 @@ use sqlite::Alter;
 use std::alloc::Global;
 use std::marker::Model;
 
-/// A desk, which executes commands and answers queries over one store. In contracts the value of a
-/// desk is the state of the connection of its store, and `t` are the tables that the store
-/// contains.
+/// A desk, which executes commands and answers queries over one store. A *base* is the abstract
+/// state of a brokerage; a desk *represents* it if its tables are those of the base. A command is
+/// *acknowledged* once its call has returned `Done`.
+///
+/// A *crash* is the end of the process or the machine at any time. It *exposes* what the next open
+/// of the database finds, after SQLite's own recovery.
+///
+/// In contracts the value of a desk is the connection of its store (`Held S`), and `t` are the rows
+/// that the store holds.
 ///
 /// The clauses `called` of `call`, `asked`, `audited`, `read` and `walked` are the postconditions
 /// of a command, of a query, of an audit, of a read and of a walk.
@@ -77,24 +83,24 @@ impl<S: Alter> Desk<S> {
     }
 
     /// Executes `command` at the clock reading `now` and, if it is accepted, commits it with its
-    /// key in one transaction. Returns:
+    /// key in one transaction. Returns an `Answer`:
     ///
     /// - `Done` with the reply, after the commit, if the command is accepted;
     /// - `Again` with the stored reply, if this same command was accepted before under `key`;
     /// - `Refused` with refusal 19, if another command was accepted before under `key`;
     /// - `Refused` with the first reason that applies, if the command is refused.
     ///
-    /// Fails with `Memory` or `Store` only; with `Store` also if a row that another row requires
-    /// does not exist, a lot has no shares, a number or a sum is out of range, or no number is left
-    /// for a cash row. A refusal, a stored reply or a fault changes nothing in the open store and
-    /// records no key.
+    /// Fails with `Memory` or `Store` only; `Store` may also mean that a row that another row
+    /// requires does not exist, that a lot has no shares, that a number or a sum is out of range,
+    /// or that no number is left for a cash row. A refusal, a stored reply or a fault changes
+    /// nothing in the open store and records no key; but after a fault a crash may still expose the
+    /// command as committed.
     ///
     /// A crash exposes a state that a crash before the call could expose, or the tables after the
     /// command; after `Done` it exposes only the tables after the command.
     ///
-    /// After a fault, too, a crash may expose the command as committed. With a key, retry under the
-    /// same key: the command is then executed at most once. Without a key a retry may execute it
-    /// twice, so read the tables before a retry.
+    /// After a fault, with a key, retry under the same key: the command is then accepted at most
+    /// once. Without a key a retry may accept it twice, so read the tables before a retry.
     pub fn call(
         &mut self,
         alloc: Global,
@@ -109,9 +115,9 @@ impl<S: Alter> Desk<S> {
 
     /// Returns the view of a query, or the refusal.
     ///
-    /// Fails with `Memory` or `Store` only; with `Store` also if a row that another row requires
-    /// does not exist, a lot has no shares, or a sum overflows or exceeds its limit. If the
-    /// database is still open, it is unchanged, whatever the result.
+    /// Fails with `Memory` or `Store` only; `Store` may also mean that a row that another row
+    /// requires does not exist, that a lot has no shares, or that a sum overflows or exceeds its
+    /// limit. If the database is still open, it is unchanged, whatever the result.
     ///
     /// A crash exposes only states that a crash before the call could expose.
     pub fn ask(&mut self, alloc: Global, query: &Query) -> Planned<View>
@@ -124,14 +130,14 @@ impl<S: Alter> Desk<S> {
     /// outcome for each to `out`. A query, a refusal, a stored reply or a fault changes nothing in
     /// the open store, and the next call is executed.
     ///
-    /// Fails with `Memory` only. No call was executed then: the desk and the outcomes in `out` are
-    /// unchanged. The fault of an outcome is `Memory` or `Store`.
+    /// Fails with `Memory` only. The desk and the outcomes in `out` are then unchanged. The fault
+    /// of an outcome is `Memory` or `Store`.
     ///
-    /// A crash exposes a state that a crash before the run could expose, or the tables of the
-    /// represented base with every acknowledged command applied, and at most one more command: one
-    /// that returned a fault, with no change acknowledged after it. It exposes only such tables if
-    /// the run acknowledges a change, or if a crash before the run exposed only the tables of the
-    /// represented base.
+    /// A crash exposes a state that a crash before the run could expose, or tables with the changes
+    /// of every acknowledged command, and of at most one more: one that returned a fault, and after
+    /// which no command was acknowledged. If the run acknowledges a command, or if a crash before
+    /// the run exposed only the tables of the represented base, it exposes only such tables with
+    /// these changes.
     pub fn run(
         &mut self,
         alloc: Global,
@@ -191,8 +197,9 @@ impl<S: Alter> Desk<S> {
     /// opening balance, and the market value of its holdings at last prices, both in cents. Returns
     /// `None` if the account does not exist.
     ///
-    /// Fails with `Memory` or `Store` only; with `Store` also if a held symbol has no last price or
-    /// the sum overflows. If the database is still open, it is unchanged, whatever the result.
+    /// Fails with `Memory` or `Store` only; `Store` may also mean that a held symbol has no last
+    /// price or that the sum overflows. If the database is still open, it is unchanged, whatever
+    /// the result.
     ///
     /// A crash exposes only states that a crash before the call could expose.
     pub fn head(&mut self, alloc: Global, account: Id) -> Result<Option<StatementHead>, Fault>
@@ -205,10 +212,10 @@ impl<S: Alter> Desk<S> {
     /// Returns the rows that the explanation of a trade needs, or `None` if the trade does not
     /// exist.
     ///
-    /// Fails with `Memory` or `Store` only; with `Store` also if a row names another row that does
-    /// not exist, if a completed trade has no price or no settlement, or if the number or the sum
-    /// of the cash rows before it overflows. If the database is still open, it is unchanged,
-    /// whatever the result.
+    /// Fails with `Memory` or `Store` only; `Store` may also mean that a row that the explanation
+    /// reads does not exist, that a completed trade has no price or no settlement, or that the
+    /// number or the sum of the cash rows before it overflows. If the database is still open, it is
+    /// unchanged, whatever the result.
     ///
     /// A crash exposes only states that a crash before the call could expose.
     pub fn trade_explanation_rows(
@@ -225,8 +232,8 @@ impl<S: Alter> Desk<S> {
     /// Returns the row of an account and its holding summaries with last prices, or `None` if the
     /// account does not exist.
     ///
-    /// Fails with `Memory` or `Store` only; with `Store` also if a symbol has no last price. If the
-    /// database is still open, it is unchanged, whatever the result.
+    /// Fails with `Memory` or `Store` only; `Store` may also mean that a symbol has no last price.
+    /// If the database is still open, it is unchanged, whatever the result.
     ///
     /// A crash exposes only states that a crash before the call could expose.
     pub fn account_explanation_rows(
@@ -244,9 +251,9 @@ impl<S: Alter> Desk<S> {
     /// needs. Refuses with `NoAccount` if the account does not exist, and with `NoSecurity` if the
     /// account exists and the security does not.
     ///
-    /// Fails with `Memory` or `Store` only; with `Store` also if the security has no last price, or
-    /// if a trade that changed a lot does not exist or has no price. If the database is still open,
-    /// it is unchanged, whatever the result.
+    /// Fails with `Memory` or `Store` only; `Store` may also mean that the security has no last
+    /// price, or that a trade that changed a lot does not exist or has no price. If the database is
+    /// still open, it is unchanged, whatever the result.
     ///
     /// A crash exposes only states that a crash before the call could expose.
     pub fn holding_explanation_rows(
@@ -286,8 +293,8 @@ impl<S: Alter> Desk<S> {
     /// `Store` after a prefix of the trades. If the database is still open, it is unchanged,
     /// whatever the result.
     ///
-    /// `ready`: the visitor must accept records, and accepts them after the walk too. `leads`: the
-    /// state of the visitor after the walk is one that its calls can reach.
+    /// `ready`: the visitor must be ready to take records, and is so after the walk. `leads`: the
+    /// walk changes the visitor only by calls of `visit`, so far as the visitor's own `leads` says.
     ///
     /// A crash exposes only states that a crash before the call could expose.
     pub fn visit_completed_trades<E, V: Visitor<TradeRow, E>>(
@@ -313,8 +320,8 @@ impl<S: Alter> Desk<S> {
     /// `Store` after a prefix of the rows. If the database is still open, it is unchanged, whatever
     /// the result.
     ///
-    /// `ready`: the visitor must accept records, and accepts them after the walk too. `leads`: the
-    /// state of the visitor after the walk is one that its calls can reach.
+    /// `ready`: the visitor must be ready to take records, and is so after the walk. `leads`: the
+    /// walk changes the visitor only by calls of `visit`, so far as the visitor's own `leads` says.
     ///
     /// A crash exposes only states that a crash before the call could expose.
     pub fn visit_cash_rows<E, V: Visitor<MoveRow, E>>(
@@ -341,8 +348,8 @@ impl<S: Alter> Desk<S> {
     /// `Store` after a prefix of the lots. If the database is still open, it is unchanged, whatever
     /// the result.
     ///
-    /// `ready`: the visitor must accept records, and accepts them after the walk too. `leads`: the
-    /// state of the visitor after the walk is one that its calls can reach.
+    /// `ready`: the visitor must be ready to take records, and is so after the walk. `leads`: the
+    /// walk changes the visitor only by calls of `visit`, so far as the visitor's own `leads` says.
     ///
     /// A crash exposes only states that a crash before the call could expose.
     pub fn visit_lots<E, V: Visitor<HoldingRow, E>>(
@@ -366,8 +373,8 @@ impl<S: Alter> Desk<S> {
     /// type `E`, after a prefix of the rows. If the database is still open, it is unchanged,
     /// whatever the result.
     ///
-    /// `callable`: the closure must have no precondition, however often it is called. `called`: it
-    /// is called with each row, in order, until its first error.
+    /// `callable`: the closure must accept every record, at its first and at each later call.
+    /// `called`: it is called with each row, in order, until its first error.
     ///
     /// A crash exposes only states that a crash before the call could expose.
     pub fn walk_cash<E: From<Fault>, F: FnMut(&MoveRow) -> Result<(), E> + Drop>(
@@ -391,8 +398,8 @@ impl<S: Alter> Desk<S> {
     /// type `E`, after a prefix of the lots. If the database is still open, it is unchanged,
     /// whatever the result.
     ///
-    /// `callable`: the closure must have no precondition, however often it is called. `called`: it
-    /// is called with each lot, in order, until its first error.
+    /// `callable`: the closure must accept every record, at its first and at each later call.
+    /// `called`: it is called with each lot, in order, until its first error.
     ///
     /// A crash exposes only states that a crash before the call could expose.
     pub fn walk_lots<E: From<Fault>, F: FnMut(&str, &Lot) -> Result<(), E> + Drop>(

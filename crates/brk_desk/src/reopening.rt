@@ -1,4 +1,5 @@
-//! Theorem: the adoption of a crash state never fails with `Damaged`.
+//! Theorem: the adoption of a crash state of a store that represented a base does not fail with
+//! `Damaged`.
 
 ghost use Rattle.std.specs.Prelude.{◌≡◌, ◌⊎◌, ℕ, List, None, Ok, Option, Result, map};
 ghost use Rattle.sqlite.specs.Held.{Held, state};
@@ -27,9 +28,12 @@ ghost use Rattle.brk_store.specs.Holds.{CreatePost};
 
 use sqlite::Alter;
 
-/// Proves that recovery never reports damage: if a state that a crash exposes is opened and
-/// adopted, the adoption does not fail with `Damaged`. It may fail with `Memory` or `Store`. All
-/// clauses are under the disk assumption: every read so far returned what was written.
+/// Proves that recovery never reports damage. Let a store represent a base, and let a crash expose
+/// only the tables of this base. If a crash state of a call or a run of this store is opened and
+/// adopted, the adoption does not fail with `Damaged`. The same holds after a crash that follows an
+/// adoption of rows that pass, and after a crash that follows a creation, except for states that
+/// were possible before it. The adoption may fail with `Memory` or `Store`. All clauses are under
+/// the disk assumption: every read so far returned what was written.
 pub fn recovery_never_reports_damage<S: Alter>()
     // After the creation of the tables, the store represents the empty base, and a crash exposes
     // only its tables.
@@ -41,17 +45,17 @@ pub fn recovery_never_reports_damage<S: Alter>()
     ensures adopted { (trees : Trees) (conn store : Held S) → IsNewConnectionToDiskContent S.Store trees conn
         → StoreNamedTablesMatchDeskDefinitions S.Store conn → AdoptPost S.Store conn store (Ok tt)
         → HasCleanDisk (state S.Store store) → RepresentsPassingRowsDurably S.Store conn store }
-    // After a crash in the adoption of a newly opened database whose rows pass the audit of their
-    // schema, perhaps an older one, a later adoption does not fail with `Damaged`. If it succeeds,
-    // the store represents the base that the same rows determine.
+    // After a crash that follows the adoption of a newly opened database whose rows pass the audit
+    // of their schema, perhaps an older one, a later adoption does not fail with `Damaged`. If it
+    // succeeds, the store represents the base that the same rows determine.
     ensures crash_in_adoption { (trees : Trees) (first left conn store : Held S)
         (stopped result : Result (Unit {0}) faults.Fault) (schema : Schema) (rows : Tables)
         → IsNewConnectionToDiskContent S.Store trees first → StoresRowsWithAuditResult (abstract_schema schema) rows (state S.Store first).now None
         → AdoptPost S.Store first left stopped → HasCleanDisk (state S.Store left)
         → IsNewConnectionAfterCrash S.Store left conn → AdoptPost S.Store conn store result → HasCleanDisk (state S.Store store)
         → AdoptsBaseWithoutDamage S.Store store result (base_of_tables rows) }
-    // After a crash in the creation of the tables, the adopted store represents the empty base.
-    // Nothing is specified for a state that a crash before the creation could expose.
+    // After a crash that follows the creation of the tables, the adopted store represents the empty
+    // base. Nothing is specified for a state that a crash before the creation could expose.
     ensures crash_in_creation { (first left conn store : Held S) (created result : Result (Unit {0}) faults.Fault) (trees : Trees)
         → CreatePost S.Store first left created
         → HasCleanDisk (state S.Store left) → (state S.Store left).may_leave trees → IsNewConnectionToDiskContent S.Store trees conn

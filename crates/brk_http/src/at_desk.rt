@@ -44,8 +44,8 @@ impl<S: Alter> Service for DeskService<S> {
 
     ghost shown = { records_of_view };
 
-    /// Parses the fields of a row: returns a command, or the refusal of a malformed row. Fails if
-    /// memory runs out.
+    /// Parses the fields of a row: returns a command, or the refusal of a malformed row. Its faults
+    /// are not specified here.
     fn parse_row(alloc: Global, row: &[&[u8]]) -> Planned<Command> {
         parse_row(alloc, row)
     }
@@ -70,7 +70,7 @@ impl<S: Alter> Service for DeskService<S> {
     }
 
     /// Parses the arguments of the view with the name `view`: returns a query, or the refusal of a
-    /// malformed query. Fails if memory runs out.
+    /// malformed query. Its faults are not specified here.
     fn parse_query(alloc: Global, view: &str, arguments: &[&[u8]]) -> Planned<Query> {
         parse_query(alloc, view, arguments)
     }

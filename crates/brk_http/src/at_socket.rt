@@ -13,8 +13,8 @@ use std::marker::PhantomData;
 use std::net::{Shutdown, TcpStream};
 use std::time::Duration;
 
-/// The time limit in seconds: a stream whose peer neither sends nor accepts a byte for this time is
-/// ended.
+/// The time limit of each read and write on a socket, in seconds. That a stream ends at it is only
+/// tested.
 pub const STREAM_TIMEOUT_SECONDS: u64 = 30;
 
 // The time limit in milliseconds for each read after the last reply; the bytes that it reads are
@@ -62,11 +62,13 @@ impl<C: Clock, S: Alter> StreamServer for SocketServer<C, S> {
 
     ghost serves = { DeskServesStream S.Store };
 
-    /// Serves the requests of a TCP stream to its end, drains the socket, and returns the number of
-    /// requests that were answered.
+    /// Serves the requests of a TCP stream, and returns the number of replies, or the fault that
+    /// ended the stream.
     ///
-    /// Fails with the fault that ended the stream early; with `Read`, and no request is executed,
-    /// if the time limits of the socket cannot be set.
+    /// The contract says only that the desk changed by a sequence of its calls, how many calls
+    /// there are at most, and that there are at most 1,000 replies (`ServesStreamByCalls`). Tested
+    /// only: the time limits, which fail with `Read` before any request if they cannot be set, and
+    /// the draining of the socket after the last reply.
     fn serve_accepted_stream(
         alloc: Global,
         stream: TcpStream,

@@ -11,8 +11,9 @@ use std::alloc::Global;
 use std::net::TcpStream;
 
 /// Accepts and serves `streams` streams of a listener, in sequence: each is served to its end
-/// before the next one is accepted. A stream that its peer breaks off, or that is idle for 30
-/// seconds, counts as one, and the next one is served.
+/// before the next one is accepted. A stream that its peer broke off, or that ended with `Read` or
+/// `Write`, counts as one, and the next one is served. (An idle stream ends with `Read` or `Write`
+/// after `STREAM_TIMEOUT_SECONDS`; this is only tested.)
 ///
 /// Fails with `Stream` at the first stream that ended because memory ran out, and with `Net` if the
 /// listener accepts no more streams. No stream is accepted after a fault.

@@ -21,8 +21,8 @@ use sqlite::Alter;
 use std::alloc::Global;
 use std::io::{Read, Write};
 
-/// Serves the requests of a stream, at most 1,000, and returns their number. The reply to one is
-/// written before the next one is parsed.
+/// Serves the requests of a stream, at most 1,000, and returns their number. No request is executed
+/// after a reply that was not written.
 ///
 /// `POST /rows` and `POST /rows/BATCH/N` with a JSON list of texts execute a row, without a key or
 /// with the key (BATCH, N), under which it is accepted at most once. `POST /ask/VIEW` executes a

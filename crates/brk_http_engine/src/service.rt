@@ -50,8 +50,8 @@ pub trait Service {
     /// The model's view, a list of records of texts, that a view represents.
     ghost shown: { Self.View → queries.View };
 
-    /// Parses the fields of a row: returns a command, or the refusal of a malformed row. Fails if
-    /// memory runs out.
+    /// Parses the fields of a row: returns a command, or the refusal of a malformed row. Its faults
+    /// are not specified here.
     fn parse_row(alloc: Global, row: &[&[u8]]) -> Planned<Self::Command>
         ensures { IfOk result (λ read. ParsesAs command_of read (forms.row (texts_of_fields row.now))) };
 
@@ -63,7 +63,7 @@ pub trait Service {
             (λ view. (view.now ≡ name.now) × (list_any (λ v. bytes_eq v name.now) forms.views ≡ Bool.true)) };
 
     /// Parses the arguments of the view with the name `view`: returns a query, or the refusal of a
-    /// malformed query. Fails if memory runs out.
+    /// malformed query. Its faults are not specified here.
     fn parse_query(alloc: Global, view: &str, arguments: &[&[u8]]) -> Planned<Self::Query>
         ensures { IfOk result (λ read. ParsesAs query_of read (forms.query view.now (texts_of_fields arguments.now))) };
 

@@ -26,8 +26,9 @@ use std::io::{Read, Write};
 /// the counts of the answers.
 ///
 /// The input is comma-separated: `batch,NAME`, then the rows, then `end,N` with the number of rows.
-/// Only the first 67,108,864 bytes of an input are read. A row is executed only if a record follows
-/// it, so the last row of such an input is not executed: it is refused with 18.
+/// Only the first 67,108,864 bytes of an input count. A row is executed only if a record follows
+/// it. So if the input, or what counts of it, ends without an end record, its last row is not
+/// executed: it is refused with 18.
 ///
 /// Row n of batch NAME has the key (NAME, n), under which it is accepted at most once. Each decided
 /// row that is well-formed and has a record after it is one call of the desk; one more call may
@@ -35,11 +36,10 @@ use std::io::{Read, Write};
 /// `n,ok,FIELDS`, `n,again,FIELDS` or `n,no,FIELDS`, and after the correct end record
 /// `end,OK,AGAIN,NO`.
 ///
-/// A fault ends the batch, also an interrupted read or write, and is returned with the number of
-/// decided rows: `BadHeader`, `NoEnd` or `BadEnd`, if the header or the end record is missing or
-/// wrong; `Read` or `Write`; or `Desk` with `Memory` or `Store`. The changes of the decided rows
-/// remain. After a fault of the desk, a crash may also expose the next row as committed: retry the
-/// batch under its name.
+/// A fault ends the batch and is returned with the number of decided rows: `BadHeader`, `NoEnd` or
+/// `BadEnd`, if the header or the end record is missing or wrong; `Read` or `Write`; or `Desk` with
+/// `Memory` or `Store`. The changes of the decided rows remain. After a fault of the desk, a crash
+/// may also expose the next row as committed: retry the batch under its name.
 pub fn run_batch<R: Read + Drop, W: Write, C: Clock, S: Alter>(
     alloc: Global,
     reader: R,

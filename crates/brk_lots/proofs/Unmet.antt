@@ -1,5 +1,5 @@
 -- Of a position that has nothing on the other side of a trade the trade closes nothing.
-use Rattle.std.proofs.Common.{◌≡◌, ℕ, ◌-◌, ◌*◌, zero, suc, min, true, false, cond, List, Bool, length, refl, sym, ap, ◌∙◌, arith}
+use Rattle.std.proofs.Common.{◌≡◌, ℕ, ◌*◌, zero, suc, min, true, false, cond, List, Bool, length, refl, sym, ap, ◌∙◌, arith}
 use Rattle.std.proofs.lemmas.Bool.{ltb-false}
 use Rattle.brk_money.specs.Kinds.{is_same_side}
 use Rattle.brk_money.specs.declared.side.Side.{Side}

@@ -1,5 +1,5 @@
 -- The rows of a closing are what its deal does to the shares of the position.
-use Rattle.std.proofs.Common.{◌≡◌, ◌≢◌, ℕ, pos, ◌+◌, ◌*◌, ◌-◌, eqb, Bool, true, false, not, cond, List, [], ◌∷◌, ◌++◌, take, drop, map, reverse, replicate, refl, sym, ap, ◌∙◌, append-nil}
+use Rattle.std.proofs.Common.{◌≡◌, ◌≢◌, ℕ, ◌+◌, ◌-◌, eqb, Bool, true, false, not, cond, List, [], ◌∷◌, ◌++◌, Option, drop, map, reverse, replicate, refl, sym, ap, ◌∙◌, append-nil}
 use Rattle.std.specs.List.{filter}
 use Rattle.std.specs.Option.{option_to_list}
 use Rattle.std.proofs.lemmas.List.{map-append}
@@ -10,16 +10,16 @@ use Rattle.brk_model.specs.Shares.{Share, Deal, first_shares_of_lots, lots_of_sh
 use Rattle.brk_lots.specs.declared.closing.Closing.{Closing}
 use Rattle.brk_lots.specs.declared.lot.Lot.{Lot}
 use Rattle.brk_lots.specs.declared.lot.Touch.{Touch}
-use Rattle.brk_lots.specs.Closing.{IsClosingOfDeal}
+use Rattle.brk_lots.specs.Closing.{AreLotsTouchedByDeal, IsClosingOfDeal}
 use Rattle.brk_lots.specs.Lots.{share_of_lot, shares_of_lots, list_in_closing_order, abstract_lot, abstract_touch}
 use Rattle.brk_lots.specs.Position.{IsPositionInAnyOrder, AreOpenedByOtherTrades}
-use Rattle.brk_lots.specs.Walks.{closed_share_count, touches_of_first_shares, cost_of_first_shares, buy_value_by_side, sell_value_by_side}
-use Rattle.brk_lots.proofs.Runs.{count_of, cost, without, run_lots}
-use Rattle.brk_lots.proofs.Changes.{row, changes, firsts_walk, changes_walk, cost_taken}
+use Rattle.brk_lots.specs.Walks.{closed_share_count, touches_of_first_shares}
+use Rattle.brk_lots.proofs.Runs.{count_of, without, run_lots}
+use Rattle.brk_lots.proofs.Changes.{row, changes, firsts_walk, changes_walk}
 use Rattle.brk_lots.proofs.Ends.{reverse_first, all_end, walk_end, shares_end, without_end, shares_reverse, met_end}
 use Rattle.brk_lots.proofs.Counts.{OneSide, all_shares, walk_side}
 use Rattle.brk_lots.proofs.Deals.{all_without}
-use Rattle.brk_lots.proofs.Plain.{after_is, touches_are, lots_alike, met_is, bought_is, sold_is}
+use Rattle.brk_lots.proofs.Plain.{after_is, touches_are, lots_alike, met_is}
 
 -- True if the number `before` of the trade of the share `u` differs from the number `after`.
 abbrev changed : (ℕ → ℕ) → (ℕ → ℕ) → Share → Bool
@@ -117,32 +117,21 @@ rows_are d ls w fresh =
     ∙ map_end abstract_touch d.is_lifo (changes us (shares_after_deal us d))
     ∙ ap (list_in_closing_order d.is_lifo) (sym (touches_are d side.0 us one left (all_shares (λ v. v.trade ≢ d.trade) ls fresh)))
 
--- what the loop takes is the closing of the deal
-pub closes : (d : Deal) (ls : List Lot) (closing : Closing) → IsPositionInAnyOrder ls → AreOpenedByOtherTrades d.trade ls
+-- what the loop takes are the lots that the deal touches
+pub lots_closed : (d : Deal) (ls : List Lot) (rows : List Touch) (lot : Option Lot) → IsPositionInAnyOrder ls → AreOpenedByOtherTrades d.trade ls
     → let walk = list_in_closing_order d.is_lifo ls in let k = closed_share_count d.side d.qty walk in
-    closing.touched.items ≡ touches_of_first_shares k walk
-    → map abstract_lot (option_to_list closing.opened) ≡ lots_of_shares (replicate (d.qty - k) (opened_share d))
-    → closing.buy_value ≡ pos (buy_value_by_side d.side (k * d.price) (cost_of_first_shares k walk))
-    → closing.sell_value ≡ pos (sell_value_by_side d.side (k * d.price) (cost_of_first_shares k walk))
-    → IsClosingOfDeal d ls closing
-closes d ls closing w fresh rows lot buy sell =
-    let us = shares_of_lots ls in
-    let walk = list_in_closing_order d.is_lifo ls in
-    let k = closed_share_count d.side d.qty walk in
-    let same : k ≡ closed_share_count_of_deal d us = met_closes d ls w in
-    let taken : cost_of_first_shares k walk ≡ cost (take (closed_share_count_of_deal d us) (list_in_closing_order d.is_lifo us)) =
-    sym (cost_taken k walk) ∙ ap (λ (vs : List Share). cost (take k vs)) (shares_end d.is_lifo ls) ∙ ap (λ n. cost (take n (list_in_closing_order d.is_lifo us))) same in
-    record {
-      touched = ap (map abstract_touch) rows ∙ rows_are d ls w fresh;
-      opened = lot ∙ ap (λ n. lots_of_shares (replicate (d.qty - n) (opened_share d))) same;
-      bought = buy ∙ ap (λ n. pos (buy_value_by_side d.side (n * d.price) (cost_of_first_shares k walk))) same ∙ ap (λ n. pos (buy_value_by_side d.side (closed_share_count_of_deal d us * d.price) n)) taken ∙ ap (λ n. pos n) (sym (bought_is d us));
-      sold = sell ∙ ap (λ n. pos (sell_value_by_side d.side (n * d.price) (cost_of_first_shares k walk))) same ∙ ap (λ n. pos (sell_value_by_side d.side (closed_share_count_of_deal d us * d.price) n)) taken ∙ ap (λ n. pos n) (sym (sold_is d us));
-    }
+    rows ≡ touches_of_first_shares k walk
+    → map abstract_lot (option_to_list lot) ≡ lots_of_shares (replicate (d.qty - k) (opened_share d))
+    → AreLotsTouchedByDeal d ls rows lot
+lots_closed d ls rows lot w fresh taken left = record {
+  touched = ap (map abstract_touch) taken ∙ rows_are d ls w fresh;
+  opened = left ∙ ap (λ n. lots_of_shares (replicate (d.qty - n) (opened_share d))) (met_closes d ls w);
+}
 
 -- and back: the rows and the opened lot of a closing are those that the loop takes
 pub rows_back : (d : Deal) (ls : List Lot) (closing : Closing) → IsPositionInAnyOrder ls → AreOpenedByOtherTrades d.trade ls → IsClosingOfDeal d ls closing
     → closing.touched.items ≡ touches_of_first_shares (closed_share_count d.side d.qty (list_in_closing_order d.is_lifo ls)) (list_in_closing_order d.is_lifo ls)
-rows_back d ls closing w fresh h = touches_same _ _ (h.touched ∙ sym (rows_are d ls w fresh))
+rows_back d ls closing w fresh h = touches_same _ _ (h.lots.touched ∙ sym (rows_are d ls w fresh))
 
 pub opened_back : (d : Deal) (ls : List Lot) (closing : Closing) → IsClosingOfDeal d ls closing → option_to_list closing.opened ≡ run_lots (d.qty - closed_share_count_of_deal d (shares_of_lots ls)) (opened_share d)
-opened_back d ls closing h = lots_same _ _ (h.opened ∙ lots_alike (d.qty - closed_share_count_of_deal d (shares_of_lots ls)) (opened_share d))
+opened_back d ls closing h = lots_same _ _ (h.lots.opened ∙ lots_alike (d.qty - closed_share_count_of_deal d (shares_of_lots ls)) (opened_share d))

@@ -1,19 +1,33 @@
 -- Postconditions of closing lots with a deal.
-use Rattle.std.specs.Prelude.{◌≡◌, pos, List, map}
+use Rattle.std.specs.Prelude.{◌≡◌, pos, List, Option, map}
 use Rattle.std.specs.Option.{option_to_list}
 use Rattle.brk_model.specs.Shares.{Deal, lots_of_shares, touches_of_existing_lots, opened_shares, buy_value, sell_value}
 use Rattle.brk_lots.specs.declared.lot.Lot.{Lot}
+use Rattle.brk_lots.specs.declared.lot.Touch.{Touch}
+use Rattle.brk_lots.specs.declared.closing.ClosedLots.{ClosedLots}
 use Rattle.brk_lots.specs.declared.closing.Closing.{Closing}
 use Rattle.brk_lots.specs.Lots.{shares_of_lots, list_in_closing_order, abstract_lot, abstract_touch}
+use Rattle.brk_lots.specs.Values.{closing_values_of_deal}
 use Rattle.brk_lots.specs.Position.{AreOpenedByOtherTrades, AreOpenedBeforeStamp}
+
+-- `rows` are the lots that the deal `d` closes or reduces of the lots `ls`, and `lot` is the lot
+-- that it opens.
+pub record AreLotsTouchedByDeal (d : Deal) (ls : List Lot) (rows : List Touch) (lot : Option Lot) : Type 0 where
+  -- The lots that it closes or reduces, in the sequence in which it takes them.
+  pub touched : map abstract_touch rows ≡ list_in_closing_order d.is_lifo (touches_of_existing_lots d (shares_of_lots ls))
+  -- The lot of the shares that it opens.
+  pub opened : map abstract_lot (option_to_list lot) ≡ lots_of_shares (opened_shares d (shares_of_lots ls))
+
+-- The value `closed` has the effect of the deal `d` on the shares of the lots `ls`: the touched
+-- lots, the opened lot, and the values of exactly the shares that it closes.
+pub record AreLotsClosedByDeal (d : Deal) (ls : List Lot) (closed : ClosedLots) : Type 0 where
+  pub lots : AreLotsTouchedByDeal d ls closed.touched.items closed.opened
+  pub values : closed.values ≡ closing_values_of_deal d (shares_of_lots ls)
 
 -- The value `closing` has the effect of the deal `d` on the shares of the lots `ls`: the touched
 -- lots, the opened lot, the buy value and the sell value.
 pub record IsClosingOfDeal (d : Deal) (ls : List Lot) (closing : Closing) : Type 0 where
-  -- The lots that it closes or reduces, in the sequence in which it takes them.
-  pub touched : map abstract_touch closing.touched.items ≡ list_in_closing_order d.is_lifo (touches_of_existing_lots d (shares_of_lots ls))
-  -- The lot of the shares that it opens.
-  pub opened : map abstract_lot (option_to_list closing.opened) ≡ lots_of_shares (opened_shares d (shares_of_lots ls))
+  pub lots : AreLotsTouchedByDeal d ls closing.touched.items closing.opened
   -- The buy value and the sell value of exactly the shares that it closes.
   pub bought : closing.buy_value ≡ pos (buy_value d (shares_of_lots ls))
   pub sold : closing.sell_value ≡ pos (sell_value d (shares_of_lots ls))

@@ -1,18 +1,18 @@
 //! Trades that close no lot.
 
-ghost use Rattle.std.specs.Prelude.{◌≡◌, List, Bool, false, pos};
+ghost use Rattle.std.specs.Prelude.{◌≡◌, List, Bool, false};
 ghost use Rattle.brk_model.specs.Shares as model;
 ghost use Rattle.brk_lots.specs.declared.lot.Lot.{Lot};
 ghost use Rattle.brk_lots.specs.Against.{closes_lots};
 ghost use Rattle.brk_lots.specs.Books.{lot_quantity_sum};
-ghost use Rattle.brk_lots.specs.Closing.{IsClosingOfDeal};
+ghost use Rattle.brk_lots.specs.Closing.{AreLotsClosedByDeal};
 ghost use Rattle.brk_lots.specs.Lots.{shares_of_lots};
 ghost use Rattle.brk_lots.specs.Position.{AreOpenedByOtherTrades, IsPositionInAnyOrder};
 ghost use Rattle.brk_lots.specs.Values.{closing_values_of_deal};
 
-use crate::closing::{Closing, opened_lot};
+use crate::closing::{ClosedLots, opened_lot};
 use crate::values::Values;
-use brk_money::{Amount, Id, Price, Qty, Side, Stamp, Wide};
+use brk_money::{Amount, Id, Price, Qty, Side, Stamp};
 use std::alloc::Global;
 
 /// Returns true if a trade of the side closes lots of a position that holds `held` shares (HS_QTY):
@@ -29,7 +29,8 @@ pub fn closes_lots(side: Side, held: i64) -> bool
 /// Returns the effect of a trade that closes no lot: it opens a lot of all its shares
 /// (Trade-Result). The buy value and the sell value of the closed shares are 0.
 ///
-/// The caller checks with `closes_lots` that the trade closes no lot.
+/// The caller checks with `closes_lots` that the trade closes no lot. No lot of the position may
+/// have been opened by `trade`.
 pub fn open_lot_without_closing(
     alloc: Global,
     side: Side,
@@ -37,25 +38,26 @@ pub fn open_lot_without_closing(
     trade: Id,
     price: Price,
     stamp: Stamp,
-) -> Closing
-    ensures closing { (ls : List Lot) (lifo : Bool) → IsPositionInAnyOrder ls → AreOpenedByOtherTrades trade ls
+) -> ClosedLots
+    ensures closed { (ls : List Lot) (lifo : Bool) → IsPositionInAnyOrder ls → AreOpenedByOtherTrades trade ls
         → closes_lots side (lot_quantity_sum ls) ≡ false →
-        IsClosingOfDeal (record { trade = trade; side = side; qty = qty; price = price; stamp = stamp; is_lifo = lifo }) ls result }
-    ensures bought { result.buy_value ≡ pos 0 }
-    ensures sold { result.sell_value ≡ pos 0 }
+        AreLotsClosedByDeal (record { trade = trade; side = side; qty = qty; price = price; stamp = stamp; is_lifo = lifo }) ls result }
+    ensures bought { result.values.buy_value ≡ 0 }
+    ensures sold { result.values.sell_value ≡ 0 }
 {
-    Closing {
+    ClosedLots {
         touched: Vec::new(alloc),
         opened: opened_lot(side, qty.get(), trade, price, stamp),
-        buy_value: Wide::new(0),
-        sell_value: Wide::new(0),
+        values: zero_closing_values(),
     }
 }
 
 /// Returns the buy value and the sell value of an order that would close no share: both are 0.
 pub fn zero_closing_values() -> Values
-    ensures { (d : model.Deal) (ls : List Lot) → IsPositionInAnyOrder ls → closes_lots d.side (lot_quantity_sum ls) ≡ false
+    ensures values { (d : model.Deal) (ls : List Lot) → IsPositionInAnyOrder ls → closes_lots d.side (lot_quantity_sum ls) ≡ false
         → result ≡ closing_values_of_deal d (shares_of_lots ls) }
+    ensures bought { result.buy_value ≡ 0 }
+    ensures sold { result.sell_value ≡ 0 }
 {
     Values {
         buy_value: Amount::new(0).unwrap(),

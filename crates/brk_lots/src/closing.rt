@@ -5,17 +5,30 @@ ghost use Rattle.brk_model.specs.Shares.{lots_of_shares, touches_of_existing_lot
 ghost use Rattle.brk_lots.specs.declared.lot.Lot.{Lot};
 ghost use Rattle.brk_lots.specs.Lots.{abstract_lot, shares_of_lots};
 ghost use Rattle.brk_lots.specs.Position.{AreOpenedByOtherTrades};
-ghost use Rattle.brk_lots.specs.Closing.{IsClosingOfDeal};
+ghost use Rattle.brk_lots.specs.Closing.{AreLotsClosedByDeal, IsClosingOfDeal};
 ghost use Rattle.brk_lots.specs.Sources.{YieldsPosition, AreLotsOfFaithfulSource};
 
 use crate::lot::{Lot, Touch, signed_qty};
 use crate::source::LotSource;
+use crate::values::Values;
 use crate::walk::close_lots_with_values;
 use brk_money::{Fault, Id, Price, Qty, Side, Stamp, Wide};
 use std::alloc::Global;
 
-/// The effect of a trade on a position: the lots that it closes or reduces, and the lot that it
-/// opens.
+/// The effect of a trade on a position: the lots that it closes or reduces, the lot that it opens,
+/// and the values of the shares that it closes.
+#[derive(Drop)]
+pub struct ClosedLots {
+    /// The lots that it closes or reduces, in the sequence in which the source returns them.
+    pub touched: Vec<Touch>,
+    /// The lot that it opens with the remaining shares, or `None` if none remain.
+    pub opened: Option<Lot>,
+    /// Buy value and sell value of the closed shares, in cents.
+    pub values: Values,
+}
+
+/// The effect of a trade on a position, as `ClosedLots`, with its values as `Wide`, the type of
+/// sums over many shares.
 #[derive(Drop)]
 pub struct Closing {
     /// The lots that it closes or reduces, in the sequence in which the source returns them.
@@ -55,8 +68,58 @@ pub(crate) fn opened_lot(
 /// shares (Trade-Result). Returns the changes of lots and the values of the closed shares. No lot
 /// of the source may have been opened by `trade`.
 ///
-/// Requests at most one lot more than it touches, also if it fails. Fails with a fault of the
-/// source or with `Memory`.
+/// Requests at most one lot for each share. At `Ok` it requests at most one lot more than it closes
+/// or reduces; if it fails, at most one more than the trade would close or reduce, over the lots of
+/// a position under the disk assumption. Fails with a fault of the source or with `Memory`.
+pub fn close_with_amounts<L: LotSource>(
+    alloc: Global,
+    source: &mut L,
+    side: Side,
+    qty: Qty,
+    trade: Id,
+    price: Price,
+    stamp: Stamp,
+) -> Result<ClosedLots, Fault>
+    ensures leads { L.leads source.old source.new }
+    // Over the lots of a position from the trade's end, it is the effect of the trade on the shares
+    // of that position.
+    ensures closed { IfOk result (λ closed. (ls : List Lot) (lifo : Bool)
+        → YieldsPosition (AreLotsOfFaithfulSource (L.reads_faithfully source.new) (L.remaining source.old)) lifo ls → AreOpenedByOtherTrades trade ls →
+        AreLotsClosedByDeal (record { trade = trade; side = side; qty = qty; price = price; stamp = stamp; is_lifo = lifo }) ls closed) }
+    // Both values are at most that of the quantity at the greatest price.
+    ensures bought { IfOk result (λ closed. closed.values.buy_value ≤ qty * greatest_price) }
+    ensures sold { IfOk result (λ closed. closed.values.sell_value ≤ qty * greatest_price) }
+    ensures asked { IfOk result (λ closed. L.asked source.new ≤ L.asked source.old + vec_len closed.touched + 1) }
+    // Also if it fails, it has requested at most one lot for each share, and at most one lot more
+    // than the trade closes or reduces.
+    ensures requests_at_most_shares { L.asked source.new ≤ L.asked source.old + qty }
+    ensures requests_at_most_touched { (ls : List Lot) (lifo : Bool)
+        → YieldsPosition (AreLotsOfFaithfulSource (L.reads_faithfully source.new) (L.remaining source.old)) lifo ls → AreOpenedByOtherTrades trade ls →
+        L.asked source.new
+        ≤ L.asked source.old
+        + length (touches_of_existing_lots (record { trade = trade; side = side; qty = qty; price = price; stamp = stamp; is_lifo = lifo }) (shares_of_lots ls))
+        + 1 }
+    // At `Ok` the source counted no fault. A fault is that of a call of the source, unchanged, or
+    // `Memory`.
+    ensures faulted { IfOk result (λ closed. L.faulted source.new ≡ L.faulted source.old) }
+    ensures fault { IfErr result (λ fault. (fault ≡ Fault.Memory) ⊎ ((before : L) × L.fails before fault source.new)) }
+    ensures remaining { (ls : List Lot) → AreLotsOfFaithfulSource (L.reads_faithfully source.new) (L.remaining source.old) ls
+        → (n : ℕ) × L.remaining source.new (drop n ls) }
+{
+    let mut touched = Vec::new(alloc);
+    let taken = close_lots_with_values(source, side, qty, price, &mut touched)?;
+    Ok(ClosedLots {
+        touched,
+        opened: opened_lot(side, taken.left, trade, price, stamp),
+        values: taken.values,
+    })
+}
+
+/// Closes lots as `close_with_amounts`, and returns the values of the closed shares as `Wide`.
+///
+/// Requests at most one lot for each share. At `Ok` it requests at most one lot more than it closes
+/// or reduces; if it fails, at most one more than the trade would close or reduce, over the lots of
+/// a position under the disk assumption. Fails with a fault of the source or with `Memory`.
 pub fn close<L: LotSource>(
     alloc: Global,
     source: &mut L,
@@ -85,18 +148,18 @@ pub fn close<L: LotSource>(
         ≤ L.asked source.old
         + length (touches_of_existing_lots (record { trade = trade; side = side; qty = qty; price = price; stamp = stamp; is_lifo = lifo }) (shares_of_lots ls))
         + 1 }
-    // Every fault of the source is returned, unchanged.
+    // At `Ok` the source counted no fault. A fault is that of a call of the source, unchanged, or
+    // `Memory`.
     ensures faulted { IfOk result (λ closing. L.faulted source.new ≡ L.faulted source.old) }
     ensures fault { IfErr result (λ fault. (fault ≡ Fault.Memory) ⊎ ((before : L) × L.fails before fault source.new)) }
     ensures remaining { (ls : List Lot) → AreLotsOfFaithfulSource (L.reads_faithfully source.new) (L.remaining source.old) ls
         → (n : ℕ) × L.remaining source.new (drop n ls) }
 {
-    let mut touched = Vec::new(alloc);
-    let taken = close_lots_with_values(source, side, qty, price, &mut touched)?;
+    let closed = close_with_amounts(alloc, source, side, qty, trade, price, stamp)?;
     Ok(Closing {
-        touched,
-        opened: opened_lot(side, taken.left, trade, price, stamp),
-        buy_value: Wide::from(taken.values.buy_value),
-        sell_value: Wide::from(taken.values.sell_value),
+        touched: closed.touched,
+        opened: closed.opened,
+        buy_value: Wide::from(closed.values.buy_value),
+        sell_value: Wide::from(closed.values.sell_value),
     })
 }

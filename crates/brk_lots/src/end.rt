@@ -6,8 +6,7 @@ use crate::lot::Lot;
 use crate::source::LotSource;
 use brk_money::Fault;
 
-/// A source of the lots of a position, which returns them from one end. It never allocates and
-/// never fails.
+/// A source of the lots of a position, which returns them from one end. It never fails.
 #[derive(Drop)]
 pub struct PositionEnd<'a> {
     lots: &'a [Lot],

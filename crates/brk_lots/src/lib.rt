@@ -18,7 +18,7 @@ pub mod values;
 mod walk;
 
 pub use against::{closes_lots, open_lot_without_closing, zero_closing_values};
-pub use closing::{Closing, close};
+pub use closing::{ClosedLots, Closing, close, close_with_amounts};
 pub use deal::Deal;
 pub use end::PositionEnd;
 pub use lot::{Lot, Touch, are_same_side};

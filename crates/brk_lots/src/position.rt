@@ -48,7 +48,7 @@ impl Position {
     }
 
     /// Creates a position of these lots, the oldest first. Returns `None` if they do not form one.
-    /// Never allocates.
+    /// Takes no allocator.
     pub fn from_lots(mut lots: Vec<Lot>) -> Option<Position>
         ensures { MatchOption result (IsPosition lots.items → ⊥) (λ position. (position ≡ lots.items) × IsPosition lots.items) }
     {
@@ -76,8 +76,9 @@ impl Position {
         all_lots_precede_trade(self.lots(), trade, stamp)
     }
 
-    /// Applies `closing`, the effect of a trade on this position. The position then has the shares
-    /// that the trade did not close, followed by those that it opened.
+    /// Applies `closing`, the effect on this position of a trade that it accepts (`accepts_trade`).
+    /// The position then has the shares that the trade did not close, followed by those that it
+    /// opened.
     ///
     /// Fails with `Memory` only. The position is then unchanged.
     pub fn apply(&mut self, closing: &Closing) -> Result<(), Fault>
@@ -96,8 +97,8 @@ impl Position {
         Ok(())
     }
 
-    /// Returns a source of the lots: the newest first if `lifo`, otherwise the oldest first. Never
-    /// allocates.
+    /// Returns a source of the lots: the newest first if `lifo`, otherwise the oldest first. Takes
+    /// no allocator.
     pub fn from_end(&self, lifo: bool) -> PositionEnd<'_>
         ensures remaining { ⟦<PositionEnd<'static> as LotSource>⟧.remaining result (list_in_closing_order lifo self.now) }
         ensures asked { ⟦<PositionEnd<'static> as LotSource>⟧.asked result ≡ 0 }

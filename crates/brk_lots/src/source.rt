@@ -19,11 +19,11 @@ pub trait LotSource {
     /// lead.
     ghost leads: { Self → Self → Type 0 };
 
-    /// The number of lots that were requested so far. A request that returned no lot need not
-    /// count.
+    /// A count of the lots that were requested so far, kept by the source: a call raises it by at
+    /// most 1.
     ghost asked: { Self → ℕ };
 
-    /// The number of faults so far.
+    /// A count of the faults so far, kept by the source: a call that succeeds does not change it.
     ghost faulted: { Self → ℕ };
 
     /// The effect of a call that fails: the source before it, the fault, and the source after it.

@@ -41,10 +41,11 @@ pub(crate) fn closing_values(side: Side, traded: u64, opened: u64) -> Values
 }
 
 /// Returns the buy value and the sell value, in cents, of the shares that an order at `price` would
-/// close (Trade-Order). Changes no lot and never allocates.
+/// close (Trade-Order).
 ///
-/// It requests at most one lot more than the order would touch, also if it fails. Fails with a
-/// fault of the source only.
+/// It requests at most one lot for each share and, over the lots of a position under the disk
+/// assumption, at most one lot more than a trade that opened none of them would close or reduce,
+/// also if it fails. Fails with a fault of the source only.
 pub fn estimate_closing_values<L: LotSource>(
     source: &mut L,
     side: Side,
@@ -66,7 +67,7 @@ pub fn estimate_closing_values<L: LotSource>(
         ≤ L.asked source.old
         + length (touches_of_existing_lots (record { trade = trade; side = side; qty = qty; price = price; stamp = stamp; is_lifo = lifo }) (shares_of_lots ls))
         + 1 }
-    // Every fault of the source is returned, unchanged.
+    // At `Ok` the source counted no fault. A fault is that of a call of the source, unchanged.
     ensures faulted { IfOk result (λ values. L.faulted source.new ≡ L.faulted source.old) }
     ensures fault { IfErr result (λ fault. (before : L) × L.fails before fault source.new) }
     ensures remaining { (ls : List Lot) → AreLotsOfFaithfulSource (L.reads_faithfully source.new) (L.remaining source.old) ls

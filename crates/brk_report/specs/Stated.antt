@@ -21,7 +21,7 @@ use Rattle.brk_report.specs.declared.visitors.CashCountAndTotal.{CashCountAndTot
 
 -- The call between the states `old` and `new` of the desk's store changes nothing: the rows and the
 -- open database are unchanged, and a crash exposes only states that a crash before the call could
--- expose. `g` are the ghosts of the storage `S`.
+-- expose. `g` is the specification of the storage `S`.
 pub record PreservesDesk {S : Type 0} (g : Ghosts S) (old new : Held S) : Type 0 where
   -- The store holds after the call the rows that it held before.
   pub same_rows : (t : Tables) → HoldsRows g old t → HoldsRows g new t

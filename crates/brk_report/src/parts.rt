@@ -38,8 +38,9 @@ pub(crate) fn write_header_lines<W: Write>(
 
 /// Writes a line for each cash row of an account from the day `from` to the day `to`, both
 /// included, and the line of the closing amount, which is `opening` plus these rows, in cents.
-/// Returns the number of these cash rows. Does not change the desk. Fails with `Desk` if a read
-/// fails, memory runs out, or the amount or the number overflows, or with `Write`.
+/// Returns the number of these cash rows. If the database is still open, it is unchanged. Fails
+/// with `Desk` if a read fails, memory runs out, or the amount or the number overflows, or with
+/// `Write`.
 pub(crate) fn write_cash_and_closing_lines<W: Write, S: Alter>(
     alloc: Global,
     desk: &mut Desk<S>,
@@ -60,8 +61,9 @@ pub(crate) fn write_cash_and_closing_lines<W: Write, S: Alter>(
 }
 
 /// Writes a line for each lot of an account, the line of the market value `holdings`, in cents, and
-/// the line of the number of cash rows, `cash`, and of lots. Does not change the desk. Fails with
-/// `Desk` if a read fails, memory runs out or the number of lots overflows, or with `Write`.
+/// the line of the number of cash rows, `cash`, and of lots. If the database is still open, it is
+/// unchanged. Fails with `Desk` if a read fails, memory runs out or the number of lots overflows,
+/// or with `Write`.
 pub(crate) fn write_lot_and_total_lines<W: Write, S: Alter>(
     alloc: Global,
     desk: &mut Desk<S>,

@@ -1,5 +1,4 @@
-//! The parts of a statement that are computed or written row by row. The functions do not change
-//! the desk.
+//! The parts of a statement that are computed or written row by row.
 
 ghost use Rattle.std.specs.Prelude.{◌≡◌, ◌+ℤ◌, IfErr};
 ghost use Rattle.brk_model.specs.Statement.{cash_move_rows_before_day, cash_move_rows_of_account, cash_row_total};
@@ -26,9 +25,9 @@ fn fault_from_walk_error(stop: WalkError<LinesFault>) -> LinesFault
 }
 
 /// Returns the balance before the day `from`, in cents: `opening` plus the amounts of the cash rows
-/// of an account on earlier days. Does not change the desk. Fails with `Desk` only: with
-/// `Desk(Memory)` or `Desk(Store)` if a read fails, and with `Desk(Store)` also if the sum
-/// overflows.
+/// of an account on earlier days. If the database is still open, it is unchanged. Fails with `Desk`
+/// only: with `Desk(Memory)` or `Desk(Store)` if a read fails, and with `Desk(Store)` also if the
+/// sum overflows.
 pub(crate) fn read_balance_before_day<S: Alter>(
     desk: &mut Desk<S>,
     account: Id,
@@ -53,9 +52,9 @@ pub(crate) fn read_balance_before_day<S: Alter>(
 }
 
 /// Writes a line for each cash row of an account from the day `from` to the day `to`, both
-/// included. Returns the number of these rows, and `opening` plus their amounts, in cents. Does not
-/// change the desk. Fails with `Desk` if a read fails, memory runs out, or the number or the sum
-/// overflows, or with `Write`.
+/// included. Returns the number of these rows, and `opening` plus their amounts, in cents. If the
+/// database is still open, it is unchanged. Fails with `Desk` if a read fails, memory runs out, or
+/// the number or the sum overflows, or with `Write`.
 pub(crate) fn write_cash_lines<W: Write, S: Alter>(
     alloc: Global,
     desk: &mut Desk<S>,
@@ -90,8 +89,8 @@ pub(crate) fn write_cash_lines<W: Write, S: Alter>(
 }
 
 /// Writes a line for each lot of an account, sorted by symbol, then by opening stamp, and returns
-/// the number of lots. Does not change the desk. Fails with `Desk` if a read fails, memory runs out
-/// or the number overflows, or with `Write`.
+/// the number of lots. If the database is still open, it is unchanged. Fails with `Desk` if a read
+/// fails, memory runs out or the number overflows, or with `Write`.
 pub(crate) fn write_lot_lines<W: Write, S: Alter>(
     alloc: Global,
     desk: &mut Desk<S>,

@@ -13,8 +13,9 @@ use std::alloc::Global;
 use std::io::Write;
 
 // Writes all lines of the statement of an account that exists, from the day `from` to the day `to`,
-// both included. `head` has its name, its opening balance and its market value. Does not change the
-// desk. Fails with `Desk` if a read fails, memory runs out or a sum overflows, or with `Write`.
+// both included. `head` has its name, its opening balance and its market value. If the database is
+// still open, it is unchanged. Fails with `Desk` if a read fails, memory runs out or a sum
+// overflows, or with `Write`.
 fn write_statement_lines<W: Write, S: Alter>(
     alloc: Global,
     desk: &mut Desk<S>,
@@ -41,10 +42,10 @@ fn write_statement_lines<W: Write, S: Alter>(
 /// is unchanged, whatever the result.
 ///
 /// Fails with `Refused` 18 if `from` is after `to`, otherwise with `Refused` 1 if the account does
-/// not exist; nothing is then written. Fails with `Desk(Memory)` or `Desk(Store)`, with
-/// `Desk(Store)` also if a held symbol has no last price or a sum overflows: only whole lines are
-/// then written, from the first on and never the last one. After `Write` whole lines are written,
-/// from the first on, and a part of the next one.
+/// not exist; nothing is then written. Fails with `Desk(Memory)` or `Desk(Store)`; `Desk(Store)`
+/// may also mean that a held symbol has no last price or that a sum overflows. After `Desk` only
+/// whole lines are written, from the first on and never the last one. After `Write` whole lines are
+/// written, from the first on, and a prefix of the next one, perhaps empty or all of it.
 pub fn statement<W: Write, S: Alter>(
     alloc: Global,
     desk: &mut Desk<S>,

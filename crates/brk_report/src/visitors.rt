@@ -116,8 +116,7 @@ impl<R: Line, W: Write> Visitor<R, LinesFault> for Lines<'_, W> {
     ghost stops = { λ p r e q. FailsWithinLines (R.line r ∷ []) (W.contents p.writer.now) (W.contents q.writer.now) e };
 
     /// Writes the line of the record and counts the record. Fails with `Desk` and the fault of the
-    /// line, with `Desk(Store)` if the count overflows, or with `Write`; the count is then
-    /// unchanged.
+    /// line, with `Desk(Store)` if the count overflows, or with `Write`.
     fn visit(&mut self, item: &R) -> Result<(), LinesFault> {
         let Some(count) = self.count.checked_add(1) else {
             return Err(LinesFault::Desk(Fault::Store));
@@ -176,8 +175,7 @@ impl<W: Write> Visitor<MoveRow, LinesFault> for CashLines<'_, W> {
     ghost stops = { λ p r e q. FailsWithinLines (cash_row_line (abstract_move_row r) ∷ []) (W.contents p.writer.now) (W.contents q.writer.now) e };
 
     /// Writes the line of the cash row, counts the row and adds its amount to the total. Fails with
-    /// `Desk(Memory)`, with `Desk(Store)` if the total or the count overflows, or with `Write`; the
-    /// count and the total are then unchanged.
+    /// `Desk(Memory)`, with `Desk(Store)` if the total or the count overflows, or with `Write`.
     fn visit(&mut self, item: &MoveRow) -> Result<(), LinesFault> {
         let total = total_plus_amount(self.moved.total, item.amount)?;
         let Some(count) = self.moved.count.checked_add(1) else {

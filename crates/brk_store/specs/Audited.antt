@@ -32,7 +32,7 @@ use Rattle.brk_audit_theorems.specs.Passing.{PassesAudit}
 use Rattle.brk_invariant_theorems.specs.Sound.{AuditInvariant}
 use Rattle.brk_store.specs.Holds.{IsDiskContentOfRows, HoldsRows, WasOpenAndIsUnchanged}
 
--- ---- answers of an audit
+-- ---- results of an audit
 
 -- The database `db` contains the tables of `schema` with the rows `t`, whose texts are UTF-8.
 -- `answer` is the result of the audit of `t` by the conditions of `schema`: the first condition
@@ -47,9 +47,9 @@ abbrev pub IsDatabaseAuditResultBySchema : Schema → Database → Option Condit
 IsDatabaseAuditResultBySchema schema db (Some condition.NotEmpty) = ⊥
 -- `Schema`: the database does not have the schema (`DatabaseHasSchema`).
 IsDatabaseAuditResultBySchema schema db (Some condition.Schema) = ¬ DatabaseHasSchema schema db
--- `Form`: the database has the schema, and for all rows `t` that it contains with texts in UTF-8,
--- the audit of `t` returns `Form`. So the result is `Form`, too, if the database contains no such
--- rows, for example because a text is not UTF-8.
+-- `Form`: the database has the schema, and either it contains no rows with texts in UTF-8 that can
+-- be read as rows of the schema (for example a text is not UTF-8), or the audit of its rows returns
+-- `Form`.
 IsDatabaseAuditResultBySchema schema db (Some condition.Form) =
     DatabaseHasSchema schema db × ((t : Tables) → HasDeskTablesInSchema schema t db → IsTrue (has_utf8_texts t) → IsAuditResult schema t (Some condition.Form))
 -- Any other result, `None` included, is that of the audit of the rows that the database contains.
@@ -69,9 +69,9 @@ IsDatabaseAuditResult db (Some condition.NotEmpty) = ⊥
 IsDatabaseAuditResult db (Some condition.Schema) = IsSchemaOfDatabase None db
 IsDatabaseAuditResult db answer = (schema : known.Schema) × IsDatabaseAuditResultBySchema (abstract_schema schema) db answer
 
--- `P` holds for the answer of the audit that a call made, if the call returned this result: for
--- `None` at `Ok`, and for the condition at `Damaged`. Vacuous at `Memory` and `Store`, which say
--- nothing about the database.
+-- `P` holds of the first condition that failed in the audit of a call with this result: of `None`
+-- at `Ok`, and of the condition at `Damaged`. Vacuous at `Memory` and `Store`, which say nothing
+-- about the database.
 abbrev pub AuditAnswerSatisfies : Result (Unit {0}) Fault → (Option Condition → Type 0) → Type 0
 AuditAnswerSatisfies (Ok x) P = P None
 AuditAnswerSatisfies (Err (Damaged failing)) P = P (Some failing)
@@ -80,17 +80,18 @@ AuditAnswerSatisfies (Err Store) P = ⊤
 
 -- ---- premises on the database
 
--- For each schema: if the current database of the connection `held` has all tables of the schema,
--- by name and with exactly their columns, these tables have the definitions of the desk's tables:
--- their types, keys and foreign keys (`NamedTablesMatchDeskDefinitions`). So a database without
--- these tables, for example an empty one, satisfies it. Vacuous if the disk assumption fails, or
--- once the database is closed.
+-- No table of another program passes for a desk's: for each schema, if the current database of the
+-- connection `held` has all tables of the schema, by name and with exactly their columns, these are
+-- defined as a desk defines them, with its types, keys and foreign keys
+-- (`NamedTablesMatchDeskDefinitions`). So a database without these tables, for example an empty
+-- one, satisfies it. Vacuous if the disk assumption fails, or once the database is closed.
 abbrev pub StoreNamedTablesMatchDeskDefinitions : {S : Type 0} → Ghosts S → Held S → Type 0
 StoreNamedTablesMatchDeskDefinitions g held = HasCleanDisk (state g held) → IsTrue (state g held).is_open → NamedTablesMatchDeskDefinitions (state g held).now
 
--- If the current database of the connection `held` has all tables of schema 3, by name and with
--- exactly their columns, these tables have the definitions of the desk's tables: their types, keys
--- and foreign keys. Vacuous if the disk assumption fails, or once the database is closed.
+-- No table of another program passes for a desk's in schema 3: if the current database of the
+-- connection `held` has all tables of schema 3, by name and with exactly their columns, these are
+-- defined as a desk defines them, with its types, keys and foreign keys. Vacuous if the disk
+-- assumption fails, or once the database is closed.
 abbrev pub StoreNamedTablesMatchThirdSchema : {S : Type 0} → Ghosts S → Held S → Type 0
 StoreNamedTablesMatchThirdSchema g held =
     HasCleanDisk (state g held) → IsTrue (state g held).is_open → NamedTablesMatchSchemaDefinitions third_schema (state g held).now
@@ -141,8 +142,8 @@ IsUpgradedDiskContent db trees =
 -- The postcondition of an adoption: an audit by the conditions of the schema that the database has
 -- and, at `Ok`, a store that holds the rows, converted to schema 3. `old` is the connection before
 -- the call, and `new` the connection or the store after it. The clauses with the premise
--- `StoreNamedTablesMatchDeskDefinitions` are vacuous for a database that has all tables of a schema
--- by their names and columns, but with other definitions.
+-- `StoreNamedTablesMatchDeskDefinitions` promise nothing of a database whose tables have the names
+-- and columns of a desk's, but another definition.
 pub record AdoptPost {S : Type 0} (g : Ghosts S) (old new : Held S) (result : Result (Unit {0}) Fault) : Type 0 where
   -- `Ok` is returned only if the rows pass, and `Damaged` only with the first condition that fails.
   -- Vacuous if the disk assumption fails after the call, or if the old database does not satisfy
@@ -163,8 +164,8 @@ pub record AdoptPost {S : Type 0} (g : Ghosts S) (old new : Held S) (result : Re
       → OnOk result (StoreHasThirdSchema g old ⊎ IsTrue (state g new).is_open)
   -- At an error: if the database is open after the call, it was open before and is unchanged.
   pub same : HasCleanDisk (state g new) → IsTrue (state g new).is_open → OnErr result (WasOpenAndIsUnchanged (state g old) (state g new))
-  -- A crash exposes a state that a crash before the call could expose or, if rows of an older
-  -- schema passed their audit, the tables of their base in schema 3.
+  -- A crash exposes a state that a crash before the call could expose or, if the rows of an older
+  -- schema pass their audit, the tables after the upgrade to schema 3.
   pub survives : StoreNamedTablesMatchDeskDefinitions g old → Survives (state g old) (state g new) (IsUpgradedDiskContent (state g old).now)
   -- If the database had schema 3, the adoption satisfies the postcondition of an audit by schema 3,
   -- which writes nothing.

@@ -1,18 +1,27 @@
--- The rows that a store holds, and the postconditions of its calls. The clauses use these terms. A
--- value of `Held S` is the connection of a store in contracts: a connection to a database that is
--- kept in a storage of the type `S`, for example files or memory, with the schema of the database
--- and the open transaction. `Ghosts S` is the specification of this storage: the contents that it
--- has, its faults, and the contents that a crash of it may expose. `state g store` is the state of
--- the connection by the specification `g`, with the fields `is_open`, true if the store is open;
--- `now`, the current database; `committed`, the database at the last commit; `may_leave`, the disk
--- contents that a crash may expose. `Trees` are disk contents: the rows of each table and index of
--- a database, by number. `HasCleanDisk` is the disk assumption: every read so far returned what was
--- written. `Survives old new P`: a crash after the call exposes disk contents that a crash before
--- it could expose, or contents that satisfy `P`; no contents satisfy `λ _. ⊥`. `IfOk` and `OnOk`
--- are vacuous at an error, `IfErr` and `OnErr` at `Ok`. A store, its connection and its database
--- are open if `is_open` of their state is true. A clause with the premise `HasCleanDisk` for the
--- new state, and the promise on crashes in `survives`, are vacuous if the disk assumption fails
--- after the call.
+-- The rows that a store holds, and the postconditions of its calls. Terms:
+-- - `Held S`: in contracts, a connection to a database in a storage of the type `S` (files,
+--   memory), with its SQLite schema and its open transaction.
+-- - `Ghosts S`, `g`: the specification of the storage (a ghost has a meaning in proofs only): its
+--   contents, its faults, and the contents that a crash may expose.
+-- - `state g conn`: the state of the connection. `now` is the database as the connection sees it,
+--   changes of its open transaction included; `committed` is the database at the last commit;
+--   `may_leave` holds of the disk contents that a crash may expose.
+-- - `Trees`: disk contents, the rows of each table and index of a database, by the number of its
+--   tree (compare SQLite's root page).
+-- - A store, its connection and its database are *open* (`is_open`) until a fault of the disk
+--   closes them: an I/O error, a full disk or damage. Nothing else closes them.
+-- - *Disk assumption* (`HasCleanDisk`): every read so far returned what was written.
+-- - `Survives old new P`: a crash in the state `new` exposes contents that a crash in the state
+--   `old` could expose, or contents that satisfy `P`. With `λ _. ⊥` for `P`: only the former.
+-- - `IfOk r P`, `IfErr r P`: `P` of the value, or of the error. `OnOk r Q`, `OnErr r Q`: `Q`, which
+--   does not depend on it. All are vacuous for the other case.
+-- - `Tables`: the rows of all tables of a desk, `t` in the clauses; *the rows `t`* and *the tables
+--   of a base* (`sheets base`) are values of this type.
+-- - *Schema 1*, *2* or *3*, and *a schema* without more, is a version of the desk's tables; *SQLite
+--   schema* is what SQLite calls a schema.
+-- - A clause is *vacuous* if it promises nothing. A clause with the premise `HasCleanDisk` for the
+--   new state, and the promise on crashes in `survives`, are vacuous if the disk assumption fails
+--   after the call.
 use Rattle.std.specs.Prelude.{◌≡◌, ◌⊎◌, ℕ, true, false, Result, Err, IfOk, OnOk, OnErr, IsTrue}
 use Rattle.sqlite_trees.specs.declared.store.Store.{Ghosts}
 use Rattle.sqlite_trees.specs.Tree.{Trees}
@@ -72,8 +81,9 @@ pub record ApplyPost {S V E : Type 0} (g : Ghosts S) (old new : Held S) (result 
   -- At `Ok` the store was open, is open, and has committed its current state.
   pub opened : HasCleanDisk (state g new)
       → OnOk result (IsTrue (state g old).is_open × IsTrue (state g new).is_open × ((state g new).committed ≡ (state g new).now))
-  -- At `Ok` the database schema is unchanged. The rows of each other table are unchanged too,
-  -- unless a foreign key of that table changes or deletes them by CASCADE, SET NULL or SET DEFAULT.
+  -- At `Ok` the SQLite schema of the database is unchanged. The rows of each other table are
+  -- unchanged too, unless a foreign key of that table changes or deletes them by CASCADE, SET NULL
+  -- or SET DEFAULT.
   pub others : HasCleanDisk (state g new)
       → OnOk result ((t : Tables) (tree : DeskTable → ℕ) → HasTables desk_tables t tree (state g old).now
       → PreservesUnrelatedTables tree (state g old).now (state g new).now)
@@ -114,8 +124,9 @@ pub record CreatePost {S : Type 0} (g : Ghosts S) (old new : Held S) (result : R
   pub durable : HasCleanDisk (state g new) → OnOk result (CrashStatesSatisfy g new (IsDiskContentOfRows tables_without_rows))
 
 -- `conn` is a connection to a database with the disk contents `trees`. Under the disk assumption
--- its current database has these contents and, if it is open, the disk contents of its current and
--- of its committed database list their tables and obey their definitions.
+-- its current database has these contents and, if it is open, its current and its committed
+-- database are well-formed: their `sqlite_schema` lists their tables, and the rows obey the
+-- definitions.
 pub record IsConnectionToDiskContent {S : Type 0} (g : Ghosts S) (trees : Trees) (conn : Held S) : Type 0 where
   pub live : HasCleanDisk (state g conn) → IsLive (state g conn)
   pub same : HasCleanDisk (state g conn) → (state g conn).now.trees ≡ trees

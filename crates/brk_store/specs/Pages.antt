@@ -20,7 +20,7 @@ abbrev pub unread_rows : Bool → ℕ → List HoldingRow → List HoldingRow
 unread_rows ended read rows = if ended then [] else drop read rows
 
 -- The lots that a source of pages has not returned yet: first the lots of `pending`, the rows that
--- were read and not yet returned, then the lots of `rows` after the first `read`, or none of these
--- if `ended` is true.
+-- were read and not yet returned, then, unless `ended`, the lots of `rows` from number `read` + 1
+-- on.
 abbrev pub remaining_page_lots : List row.HoldingRow → Bool → ℕ → List HoldingRow → List Lot
 remaining_page_lots pending ended read rows = map lot_of_row (map abstract_holding_row pending ++ unread_rows ended read rows)

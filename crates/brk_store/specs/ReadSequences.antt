@@ -11,8 +11,8 @@ use Rattle.brk_store.specs.Holds.{HoldsRows, ReadPost, WasOpenAndIsUnchanged}
 
 -- The postcondition of any number of reads: the store holds the rows that it held before them; if
 -- the database is open after them, it was open before and is unchanged; a crash exposes only states
--- that a crash before the reads could expose. The last two parts are vacuous if the disk assumption
--- fails after the reads.
+-- that a crash before the reads could expose. Of a crash, and of the open database, nothing is
+-- promised if the disk assumption fails after the reads.
 pub record IsUnchangedByReads {S : Type 0} (g : Ghosts S) (old new : Held S) : Type 0 where
   pub same_rows : (t : Tables) → HoldsRows g old t → HoldsRows g new t
   pub same : HasCleanDisk (state g new) → IsTrue (state g new).is_open → WasOpenAndIsUnchanged (state g old) (state g new)

@@ -20,9 +20,9 @@ use sqlite::{Alter, Connection, Transaction};
 use std::alloc::Global;
 
 /// Returns the first condition of `schema` that the rows of its tables fail, or `None` if they
-/// pass. Changes nothing. Fails with `Memory` or `Store` only. The result is specified only if the
-/// database has the schema (`DatabaseHasSchema`) and its tables have the definitions of the desk's
-/// tables (`NamedTablesMatchSchemaDefinitions`).
+/// pass. If the database is still open, it is unchanged. Fails with `Memory` or `Store` only. The
+/// result is specified only if the database has the schema (`DatabaseHasSchema`) and its tables
+/// have the definitions of the desk's tables (`NamedTablesMatchSchemaDefinitions`).
 pub(crate) fn audit_rows_of_schema<S: Alter>(
     tx: &mut Transaction<'_, S>,
     alloc: Global,
@@ -41,10 +41,10 @@ pub(crate) fn audit_rows_of_schema<S: Alter>(
     }
 }
 
-// Returns the first condition of schema 3 that the database fails, or `None` if it passes. Changes
-// nothing. Fails with `Memory` or `Store` only. The result is specified only if tables with the
-// names and columns of schema 3 have the definitions of the desk's tables
-// (`NamedTablesMatchSchemaDefinitions`).
+// Returns the first condition of schema 3 that the database fails, or `None` if it passes. If the
+// database is still open, it is unchanged. Fails with `Memory` or `Store` only. The result is
+// specified only if tables with the names and columns of schema 3 have the definitions of the
+// desk's tables (`NamedTablesMatchSchemaDefinitions`).
 fn first_failing_condition<S: Alter>(
     tx: &mut Transaction<'_, S>,
     alloc: Global,
@@ -61,8 +61,8 @@ fn first_failing_condition<S: Alter>(
     audit_rows_of_schema(tx, alloc, Schema::Third)
 }
 
-// Audits the database by the conditions of schema 3 in a transaction, which is rolled back. Fails
-// with `Damaged` and the first condition that fails, or with `Memory` or `Store`.
+// Audits the database by the conditions of schema 3 in a transaction, which ends without a commit.
+// Fails with `Damaged` and the first condition that fails, or with `Memory` or `Store`.
 #[tactic(auto, using(crate::proofs::Closing::audit_passes, crate::proofs::Closing::audit_fails, crate::proofs::Closing::audit_gives_up))]
 fn audit_database<S: Alter>(conn: &mut Connection<S>, alloc: Global) -> Result<(), Fault>
     requires { conn.old.in_transaction ≡ false }

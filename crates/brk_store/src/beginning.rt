@@ -13,8 +13,8 @@ pub(crate) fn begin_transaction<S: Alter>(conn: &mut Connection<S>) -> Transacti
     ensures begun { result.conn.now ≡ record conn.old { in_transaction = true } }
     ensures settled { IsTrue (state S.Store conn.old).is_open → (state S.Store conn.old).now ≡ (state S.Store conn.old).committed }
 {
-    // The value is not needed: the call shows that an open database outside a transaction is in its
-    // committed state.
+    // The value is not needed: by the contract of the call, an open database outside a transaction
+    // is in its committed state.
     let _is_autocommit = conn.is_autocommit();
     conn.transaction()
 }

@@ -1,5 +1,5 @@
-//! Reads of brokers by name, and of a broker's requests and accounts. Each read is a transaction of
-//! its own, which is rolled back.
+//! Reads of brokers by name, and of a broker's requests and accounts. Each read begins a
+//! transaction and ends it without a commit (no clause states this).
 
 ghost use Rattle.std.specs.Prelude.{◌≡◌, ◌==◌, IfErr, bytes_eq, filter, map};
 ghost use Rattle.brk_changes.specs.Rows.{abstract_request_row};
@@ -19,8 +19,8 @@ use std::alloc::Global;
 
 #[tactic(auto, using(crate::proofs::Ending::is_read_of))]
 impl<S: Alter> Store<S> {
-    /// Returns the brokers with the name `name`, sorted by id, ascending. Changes nothing. Fails
-    /// with `Memory` or `Store`.
+    /// Returns the brokers with the name `name`, sorted by id, ascending. If the database is still
+    /// open, it is unchanged. Fails with `Memory` or `Store`.
     pub fn brokers_named(&mut self, alloc: Global, name: &Name) -> Result<Vec<BrokerRow>, Fault>
         ensures read { ReadPost S.Store self.old self.new result (AreMatchingRows Brokers abstract_broker_row (λ r. bytes_eq r.name name.now)) }
         ensures fault { IfErr result IsCallFault }
@@ -29,8 +29,8 @@ impl<S: Alter> Store<S> {
         brk_tables_views::brokers_with_name(&mut tx, alloc, name)
     }
 
-    /// Returns the requests of a broker, sorted by trade, ascending. Changes nothing. Fails with
-    /// `Memory` or `Store`.
+    /// Returns the requests (TRADE_REQUEST: pending trades) of a broker, sorted by trade,
+    /// ascending. If the database is still open, it is unchanged. Fails with `Memory` or `Store`.
     pub fn requests_of_broker(
         &mut self,
         alloc: Global,
@@ -43,8 +43,8 @@ impl<S: Alter> Store<S> {
         brk_tables_views::requests_of_broker(&mut tx, alloc, broker)
     }
 
-    /// Returns the ids of the accounts of a broker, ascending. Changes nothing. Fails with `Memory`
-    /// or `Store`.
+    /// Returns the ids of the accounts of a broker, ascending. If the database is still open, it is
+    /// unchanged. Fails with `Memory` or `Store`.
     pub fn accounts_of_broker(&mut self, alloc: Global, broker: Id) -> Result<Vec<Id>, Fault>
         ensures read { ReadPost S.Store self.old self.new result (λ all t. all.items ≡ map (λ r. r.id) (filter (λ r. r.broker == broker) t.accounts)) }
         ensures fault { IfErr result IsCallFault }

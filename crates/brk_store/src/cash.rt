@@ -1,5 +1,5 @@
-//! Reads of cash rows and of the settlement day. Each read of the database is a transaction of its
-//! own, which is rolled back.
+//! Reads of cash rows and of the settlement day. Each read of the database begins a transaction and
+//! ends it without a commit (no clause states this).
 
 ghost use Rattle.std.specs.Prelude.{◌≡◌, ◌+◌, Err, OnErr, filter, is_none, length, nat_le, option_map, reverse, slice_get};
 ghost use Rattle.brk_money.specs.declared.fault.Fault.TheVariants as fault;
@@ -23,7 +23,8 @@ const GREATEST_MOVEMENT_COUNT: u64 = 1_000_000_000_000;
 #[tactic(auto, using(crate::proofs::Ending::is_read_of))]
 impl<S: Alter> Store<S> {
     /// Returns the settlement day, the first day whose completions settle after one day, in days
-    /// since 1970-01-01, or `None` if none is set. Changes nothing. Fails with `Store` only.
+    /// since 1970-01-01, or `None` if none is set. If the database is still open, it is unchanged.
+    /// Fails with `Store` only.
     pub fn settlement_day(&mut self) -> Result<Option<Day>, Fault>
         ensures read { ReadPost S.Store self.old self.new result (λ day t. day ≡ t.rule) }
         ensures fault { OnErr result (result ≡ Err fault.Store) }
@@ -32,8 +33,8 @@ impl<S: Alter> Store<S> {
         brk_tables_cash::settlement_day(&mut tx)
     }
 
-    /// Returns the cash row of a trade, or `None` if it has none. Changes nothing. Fails with
-    /// `Store` only.
+    /// Returns the cash row of a trade, or `None` if it has none. If the database is still open, it
+    /// is unchanged. Fails with `Store` only.
     pub fn cash_row(&mut self, trade: Id) -> Result<Option<MoveRow>, Fault>
         ensures read { ReadPost S.Store self.old self.new result (IsFirstMatch CashMoves abstract_move_row (is_cash_row_of_trade trade)) }
         ensures fault { OnErr result (result ≡ Err fault.Store) }
@@ -42,8 +43,8 @@ impl<S: Alter> Store<S> {
         brk_tables_cash::cash_row_by_trade(&mut tx, trade)
     }
 
-    // Returns the cash row with the greatest number (CM_ID), or `None` if there is no cash row.
-    // Changes nothing. Fails with `Store` only.
+    // Returns the cash row with the greatest number (CM_ID), or `None` if there is no cash row. If
+    // the database is still open, it is unchanged. Fails with `Store` only.
     fn last_cash_row(&mut self) -> Result<Option<MoveRow>, Fault>
         ensures read { ReadPost S.Store self.old self.new result (λ o t. option_map abstract_move_row o ≡ slice_get (reverse t.moves) 0) }
         ensures fault { OnErr result (result ≡ Err fault.Store) }
@@ -53,8 +54,8 @@ impl<S: Alter> Store<S> {
     }
 
     // Returns true if there are at least `GREATEST_MOVEMENT_COUNT` deposits and withdrawals, which
-    // it counts: its time grows with the number of cash rows. Changes nothing. Fails with `Store`
-    // only.
+    // it counts: its time grows with the number of cash rows. If the database is still open, it is
+    // unchanged. Fails with `Store` only.
     fn has_maximum_movements_by_count(&mut self) -> Result<bool, Fault>
         ensures read { ReadPost S.Store self.old self.new result (λ all t. all ≡ nat_le greatest_id (length (filter (λ r. is_none r.trade) t.moves))) }
         ensures fault { OnErr result (result ≡ Err fault.Store) }
@@ -64,8 +65,8 @@ impl<S: Alter> Store<S> {
     }
 
     /// Returns the number of the next cash row: one more than the greatest number, or 1 if there is
-    /// no cash row. Changes nothing. Fails with `Store` only, also if the greatest `MoveId` is in
-    /// use.
+    /// no cash row. If the database is still open, it is unchanged. Fails with `Store` only, also
+    /// if the greatest `MoveId` is in use.
     pub fn next_cash_row_number(&mut self) -> Result<MoveId, Fault>
         ensures read { ReadPost S.Store self.old self.new result (λ next t. next ≡ last_cash_row_number_or_zero t + 1) }
         ensures fault { OnErr result (result ≡ Err fault.Store) }
@@ -80,8 +81,9 @@ impl<S: Alter> Store<S> {
         }
     }
 
-    /// Returns true if there are at least `Id::GREATEST` deposits and withdrawals. Changes nothing.
-    /// Fails with `Store` only.
+    /// Returns true if there are at least `Id::GREATEST` (1,000,000,000,000) deposits and
+    /// withdrawals together. If the database is still open, it is unchanged. Fails with `Store`
+    /// only.
     pub fn has_maximum_movements(&mut self) -> Result<bool, Fault>
         ensures read { ReadPost S.Store self.old self.new result (λ all t. all ≡ nat_le greatest_id (length (filter (λ r. is_none r.trade) t.moves))) }
         ensures fault { OnErr result (result ≡ Err fault.Store) }

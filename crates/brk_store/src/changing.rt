@@ -116,8 +116,8 @@ pub(crate) fn apply_changes_in_transaction<S: Alter>(
     ensures applied { ApplyPost S.Store conn.old conn.new result (tables_after_changes changes.now) }
     ensures fault { OnErr result (result ≡ Err fault.Store) }
 {
-    // The value is not needed: the call shows that an open database outside a transaction is in its
-    // committed state.
+    // The value is not needed: by the contract of the call, an open database outside a transaction
+    // is in its committed state.
     let _is_autocommit = conn.is_autocommit();
     let mut tx = conn.transaction();
     // The value is not needed: the read succeeds only if the store is open.
@@ -138,8 +138,8 @@ pub(crate) fn create_tables_in_transaction<S: Alter>(conn: &mut Connection<S>) -
     ensures created { CreatePost S.Store conn.old conn.new result }
     ensures fault { IfErr result (λ f. (f ≡ fault.Store) ⊎ (f ≡ fault.Damaged NotEmpty)) }
 {
-    // The value is not needed: the call shows that an open database outside a transaction is in its
-    // committed state.
+    // The value is not needed: by the contract of the call, an open database outside a transaction
+    // is in its committed state.
     let _is_autocommit = conn.is_autocommit();
     let mut tx = conn.transaction();
     if brk_tables_create::has_some_desk_table(&mut tx)? {

@@ -1,5 +1,5 @@
-//! Reads of the completed trades of a holding. Each read is a transaction of its own, which is
-//! rolled back.
+//! Reads of the completed trades of a holding. Each read begins a transaction and ends it without a
+//! commit (no clause states this).
 
 ghost use Rattle.std.specs.Prelude.{◌≡◌, ◌==◌, ◌&&◌, IfErr, bytes_eq, filter, map};
 ghost use Rattle.brk_model.specs.Joins.{trade_rows_oldest_first};
@@ -18,8 +18,8 @@ use std::alloc::Global;
 #[tactic(auto, using(crate::proofs::Ending::is_read_of))]
 impl<S: Alter> Store<S> {
     /// Returns the ids of the completed trades of an account in a security, sorted by the stamp of
-    /// completion and then by id, the oldest first. Changes nothing. Fails with `Memory` or
-    /// `Store`.
+    /// completion and then by id, the oldest first. If the database is still open, it is unchanged.
+    /// Fails with `Memory` or `Store`.
     pub fn completed_trades_of_holding(
         &mut self,
         alloc: Global,

@@ -1,5 +1,5 @@
-//! Reads for the views of an account's trades. Each read is a transaction of its own, which is
-//! rolled back.
+//! Reads for the views of an account's trades. Each read begins a transaction and ends it without a
+//! commit (no clause states this).
 
 ghost use Rattle.std.specs.Prelude.{◌≡◌, ◌==◌, IfErr, map, take};
 ghost use Rattle.brk_changes.specs.Rows.{abstract_history_row, abstract_trade_row};
@@ -19,8 +19,8 @@ use std::alloc::Global;
 #[tactic(auto, using(crate::proofs::Ending::is_read_of))]
 impl<S: Alter> Store<S> {
     /// Returns the ten most recent trades of an account, or all if it has fewer, sorted by the
-    /// stamp of their last status change and then by id, the most recent first. Changes nothing.
-    /// Fails with `Memory` or `Store`.
+    /// stamp of their last status change and then by id, the most recent first. If the database is
+    /// still open, it is unchanged. Fails with `Memory` or `Store`.
     pub fn last_ten_trades_of_account(
         &mut self,
         alloc: Global,
@@ -35,8 +35,8 @@ impl<S: Alter> Store<S> {
     }
 
     /// Returns the fifty most recent trades of an account, or all if it has fewer, sorted by the
-    /// stamp of their last status change and then by id, the most recent first. Changes nothing.
-    /// Fails with `Memory` or `Store`.
+    /// stamp of their last status change and then by id, the most recent first. If the database is
+    /// still open, it is unchanged. Fails with `Memory` or `Store`.
     pub fn last_fifty_trades_of_account(
         &mut self,
         alloc: Global,
@@ -51,8 +51,8 @@ impl<S: Alter> Store<S> {
     }
 
     /// Returns the rows of TRADE_HISTORY of a trade: the statuses that it reached and their stamps,
-    /// sorted by the code of the status, ascending. Changes nothing. Fails with `Memory` or
-    /// `Store`.
+    /// sorted by the code of the status, ascending. If the database is still open, it is unchanged.
+    /// Fails with `Memory` or `Store`.
     pub fn history_of_trade(&mut self, alloc: Global, trade: Id) -> Result<Vec<HistoryRow>, Fault>
         ensures read { ReadPost S.Store self.old self.new result (AreMatchingRows TradeHistory abstract_history_row (λ r. r.trade == trade)) }
         ensures fault { IfErr result IsCallFault }

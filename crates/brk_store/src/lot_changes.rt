@@ -1,5 +1,5 @@
-//! Reads of lot changes, sorted by lot and then by trade. Each read is a transaction of its own,
-//! which is rolled back.
+//! Reads of lot changes, sorted by lot and then by trade. Each read begins a transaction and ends
+//! it without a commit (no clause states this).
 
 ghost use Rattle.std.specs.Prelude.{◌==◌, IfErr};
 ghost use Rattle.brk_changes.specs.Rows.{abstract_lot_change_row};
@@ -17,8 +17,8 @@ use std::alloc::Global;
 
 #[tactic(auto, using(crate::proofs::Ending::is_read_of))]
 impl<S: Alter> Store<S> {
-    /// Returns the changes that a trade made to lots, sorted by lot, ascending. Changes nothing.
-    /// Fails with `Memory` or `Store`.
+    /// Returns the changes that a trade made to lots, sorted by lot, ascending. If the database is
+    /// still open, it is unchanged. Fails with `Memory` or `Store`.
     pub fn lot_changes_by_trade(
         &mut self,
         alloc: Global,
@@ -32,7 +32,8 @@ impl<S: Alter> Store<S> {
     }
 
     /// Returns all changes of the lot that the trade `lot` opened, sorted by the trade that made
-    /// the change, ascending. Changes nothing. Fails with `Memory` or `Store`.
+    /// the change, ascending. If the database is still open, it is unchanged. Fails with `Memory`
+    /// or `Store`.
     pub fn lot_changes_of_lot(&mut self, alloc: Global, lot: Id) -> Result<Vec<LotChange>, Fault>
         ensures read { ReadPost S.Store self.old self.new result (AreMatchingRows HoldingHistory abstract_lot_change_row (λ r. r.lot == lot)) }
         ensures fault { IfErr result IsCallFault }

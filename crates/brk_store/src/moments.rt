@@ -1,5 +1,5 @@
-//! Reads of trades of any status by the stamps of their last status. Each read is a transaction of
-//! its own, which is rolled back.
+//! Reads of trades of any status by the stamps of their last status. Each read begins a transaction
+//! and ends it without a commit (no clause states this).
 
 ghost use Rattle.std.specs.Prelude.{◌≡◌, ◌==◌, ◌&&◌, Err, IfErr, OnErr, bytes_eq, filter, map, nat_le, option_map, option_to_list, take};
 ghost use Rattle.brk_money.specs.declared.fault.Fault.TheVariants as fault;
@@ -20,9 +20,10 @@ use std::alloc::Global;
 
 #[tactic(auto, using(crate::proofs::Ending::is_read_of))]
 impl<S: Alter> Store<S> {
-    /// Returns the first trades of an account, at most twenty, whose last status change has a stamp
-    /// in a span, both ends included, the oldest first. Changes nothing. Fails with `Memory` or
-    /// `Store`.
+    /// Of the trades of an account whose last status change has a stamp in a span, both ends
+    /// included, returns the twenty oldest, or all if there are fewer, sorted by this stamp and
+    /// then by id, ascending. If the database is still open, it is unchanged. Fails with `Memory`
+    /// or `Store`.
     pub fn first_twenty_trades_of_account(
         &mut self,
         alloc: Global,
@@ -39,9 +40,10 @@ impl<S: Alter> Store<S> {
         )
     }
 
-    /// Returns the first trades of a symbol, at most twenty, whose last status change has a stamp
-    /// in a span, both ends included, the oldest first. Changes nothing. Fails with `Memory` or
-    /// `Store`.
+    /// Of the trades of a symbol whose last status change has a stamp in a span, both ends
+    /// included, returns the twenty oldest, or all if there are fewer, sorted by this stamp and
+    /// then by id, ascending. If the database is still open, it is unchanged. Fails with `Memory`
+    /// or `Store`.
     pub fn first_twenty_trades_of_symbol(
         &mut self,
         alloc: Global,
@@ -58,9 +60,9 @@ impl<S: Alter> Store<S> {
         )
     }
 
-    /// Returns the oldest trade of an account whose last status change has a stamp of at least
-    /// `first`, or `None` if there is none; trades of one stamp are sorted by id. Changes nothing.
-    /// Fails with `Store` only.
+    /// Of the trades of an account whose last status change has a stamp of at least `first`,
+    /// returns the oldest, and of several with this stamp the one with the least id, or `None` if
+    /// there is none. If the database is still open, it is unchanged. Fails with `Store` only.
     pub fn first_trade_of_account_since(
         &mut self,
         account: Id,

@@ -1,4 +1,4 @@
-//! Reads of the balance of an account and of the totals of a broker.
+//! Reads of the balance of an account and of the totals in the row of a broker.
 
 ghost use Rattle.std.specs.Prelude.{IfSome, IfNone, ℕ, ◌≤◌, pos, ◌≡◌, ◌==◌, Err, OnErr, find, option_map};
 ghost use Rattle.brk_money.specs.declared.fault.Fault.TheVariants as fault;
@@ -13,8 +13,8 @@ use brk_money::{Cents, Fault, Id};
 use brk_ref::BrokerRow;
 use sqlite::Alter;
 
-// Returns the totals in a broker's row, the number of its completed trades and the sum of their
-// commissions in cents, or `None` only if one of them is out of range.
+// Returns the totals in a broker's row, B_NUM_TRADES and B_COMM_TOTAL (in cents), or `None` only if
+// one of them is out of range.
 fn totals_in_broker_row(row: &BrokerRow) -> Option<BrokerTotals>
     ensures none { IfNone result ((n : ℕ) → pos n ≡ row.now.trades → n ≤ TradeCount.GREATEST → row.now.commissions ≤ Amount.GREATEST → ⊥) }
     ensures some { IfSome result (λ numbers. (pos numbers.trades ≡ row.now.trades) × (numbers.commissions ≡ row.now.commissions)) }
@@ -36,9 +36,9 @@ fn totals_in_broker_row(row: &BrokerRow) -> Option<BrokerTotals>
 
 #[tactic(auto, using(crate::proofs::Ending::is_read_of))]
 impl<S: Alter> Store<S> {
-    /// Returns the totals of a broker, the number of its completed trades and the sum of their
-    /// commissions in cents, or `None` if the broker does not exist. Changes nothing. Fails with
-    /// `Store` only, also if a total is out of range.
+    /// Returns the totals in the row of a broker, B_NUM_TRADES and B_COMM_TOTAL (in cents), or
+    /// `None` if the broker does not exist. If the database is still open, it is unchanged. Fails
+    /// with `Store` only, also if a total is out of range.
     pub fn broker_totals(&mut self, broker: Id) -> Result<Option<BrokerTotals>, Fault>
         ensures read { ReadPost S.Store self.old self.new result (λ numbers t. AreBrokerTotals numbers (find (λ r. r.id == broker) t.brokers)) }
         ensures fault { OnErr result (result ≡ Err fault.Store) }
@@ -53,7 +53,7 @@ impl<S: Alter> Store<S> {
     }
 
     /// Returns the balance of an account in cents (CA_BAL), or `None` if the account does not
-    /// exist. Changes nothing. Fails with `Store` only.
+    /// exist. If the database is still open, it is unchanged. Fails with `Store` only.
     pub fn account_balance(&mut self, account: Id) -> Result<Option<Cents>, Fault>
         ensures read { ReadPost S.Store self.old self.new result (λ balance t. balance ≡ option_map (λ r. r.balance) (find (λ r. r.id == account) t.accounts)) }
         ensures fault { OnErr result (result ≡ Err fault.Store) }

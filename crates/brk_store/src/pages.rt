@@ -30,12 +30,12 @@ pub struct Page {
     ghost some_shares: { All (λ r. r.qty ≢ pos 0) rows.items },
 }
 
-/// A source of the lots of an account in a security, sorted by age, from one end. It reads at most
-/// 15 rows more than the lots that it returns (`rows_read`). It borrows the store.
+/// A source of the lots of an account in a security, the oldest first or the newest first. Of the
+/// rows that it reads, at most 15 are not yet returned as lots (`rows_read`). It borrows the store.
 pub type LotPages<'a, S> = Pages<'a, S, Page>;
 
-/// A source of lots that reads a borrowed store in pages. The page is a type parameter, so that the
-/// contract of a caller can state the store's state after the source is dropped.
+/// A source of lots that reads a borrowed store in pages. `P` is always `Page` (`LotPages`). It is
+/// a parameter, so that the contract of a caller can use the store after the source is dropped.
 pub struct Pages<'a, S: Alter, P> {
     store: &'a mut Store<S>,
     alloc: Global,
@@ -73,7 +73,8 @@ impl<S: Alter, P: Drop> Drop for Pages<'_, S, P> {
 
 // Returns a page of the lots of an account in a security: at most 16 after the first `skipped`,
 // sorted by the stamp of their opening and then by trade, the newest first if `lifo`, otherwise the
-// oldest first. Changes nothing. Fails with `Memory` or `Store` only.
+// oldest first. If the database is still open, it is unchanged. Fails with `Memory` or `Store`
+// only.
 fn read_page<S: Alter>(
     store: &mut Store<S>,
     alloc: Global,
@@ -101,9 +102,9 @@ fn is_valid_page(rows: &[HoldingRow]) -> bool
 }
 
 // Returns a page of the lots of an account in a security: at most 16 after the first `skipped`, the
-// newest first if `lifo`, otherwise the oldest first, each with shares. Changes nothing. Fails with
-// `Memory` or `Store` only; with `Store` also if the page has more than 16 rows, or a lot without
-// shares.
+// newest first if `lifo`, otherwise the oldest first, each with shares. If the database is still
+// open, it is unchanged. Fails with `Memory` or `Store` only; with `Store` also if the page has
+// more than 16 rows, or a lot without shares.
 fn read_valid_page<S: Alter>(
     store: &mut Store<S>,
     alloc: Global,
@@ -149,9 +150,9 @@ impl<S: Alter> Store<S> {
     /// Returns a source of the lots of an account in a security, the newest first if `lifo`,
     /// otherwise the oldest first. It has read no row yet.
     ///
-    /// A call of the source may fail, with `Memory` or `Store` only; with `Store` also if a lot of
-    /// the next page has no shares, or if the number of rows read exceeds 32 bits. The remaining
-    /// lots and the open database are then unchanged, so the call may be retried.
+    /// A call of the source may fail, with `Memory` or `Store` only; `Store` may also mean that a
+    /// lot of the next page has no shares, or that the number of rows read exceeds 32 bits. The
+    /// remaining lots and the open database are then unchanged, so the call may be retried.
     ///
     /// A crash during its reads exposes only states that a crash before them could expose.
     pub fn lot_pages<'a>(
@@ -297,10 +298,10 @@ impl<S: Alter> LotSource for Pages<'_, S, Page> {
 
     ghost fails = { λ _ fault _. IsCallFault fault };
 
-    /// Returns the next lot, or `None` if no lot remains. Reads the next page if all lots of this
-    /// one were returned. Fails with `Memory` or `Store` only; with `Store` also if the next page
-    /// has a lot without shares, or if the number of rows read exceeds 32 bits. The remaining lots
-    /// are then unchanged.
+    /// Returns the next lot, or `None` if no lot remains. Fails with `Memory` or `Store` only;
+    /// `Store` may also mean that the next page has a lot without shares, or that the number of
+    /// rows read exceeds 32 bits. The remaining lots are then unchanged. If the database is still
+    /// open, it is unchanged. `rows_read` limits the number of rows that are read.
     fn next(&mut self) -> Result<Option<Lot>, Fault> {
         match self.page.rows.get(self.page.returned) {
             Some(row) => {

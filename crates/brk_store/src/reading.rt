@@ -1,5 +1,5 @@
-//! Reads of brokers, customers and accounts, of stored replies, and of the last stamp. Each read is
-//! a transaction of its own, which is rolled back.
+//! Reads of brokers, customers and accounts, of stored replies, and of the last stamp. Each read
+//! begins a transaction and ends it without a commit (no clause states this).
 
 ghost use Rattle.std.specs.Prelude.{◌≡◌, ◌==◌, ◌&&◌, Err, IfErr, OnErr, bytes_eq};
 ghost use Rattle.brk_money.specs.declared.fault.Fault.TheVariants as fault;
@@ -19,7 +19,8 @@ use std::alloc::Global;
 #[tactic(auto, using(crate::proofs::Ending::is_read_of))]
 impl<S: Alter> Store<S> {
     /// Returns the stamp of the last accepted command, in milliseconds since 1970-01-01 UTC, or
-    /// `None` if no command was accepted. Changes nothing. Fails with `Store` only.
+    /// `None` if no command was accepted. If the database is still open, it is unchanged. Fails
+    /// with `Store` only.
     pub fn last_stamp(&mut self) -> Result<Option<Stamp>, Fault>
         ensures read { ReadPost S.Store self.old self.new result (λ last t. last ≡ t.last) }
         ensures fault { OnErr result (result ≡ Err fault.Store) }
@@ -28,8 +29,8 @@ impl<S: Alter> Store<S> {
         brk_tables_schema::last_stamp(&mut tx)
     }
 
-    /// Returns the broker with the id `id`, or `None` if there is none. Changes nothing. Fails with
-    /// `Store` only.
+    /// Returns the broker with the id `id`, or `None` if there is none. If the database is still
+    /// open, it is unchanged. Fails with `Store` only.
     pub fn broker(&mut self, id: Id) -> Result<Option<BrokerRow>, Fault>
         ensures read { ReadPost S.Store self.old self.new result (IsFirstMatch Brokers abstract_broker_row (λ r. r.id == id)) }
         ensures fault { OnErr result (result ≡ Err fault.Store) }
@@ -38,8 +39,8 @@ impl<S: Alter> Store<S> {
         brk_tables_reference::broker_by_id(&mut tx, id)
     }
 
-    /// Returns the customer with the id `id`, or `None` if there is none. Changes nothing. Fails
-    /// with `Store` only.
+    /// Returns the customer with the id `id`, or `None` if there is none. If the database is still
+    /// open, it is unchanged. Fails with `Store` only.
     pub fn customer(&mut self, id: Id) -> Result<Option<Customer>, Fault>
         ensures read { ReadPost S.Store self.old self.new result (IsFirstMatch Customers abstract_customer (λ r. r.id == id)) }
         ensures fault { OnErr result (result ≡ Err fault.Store) }
@@ -48,8 +49,8 @@ impl<S: Alter> Store<S> {
         brk_tables_reference::customer_by_id(&mut tx, id)
     }
 
-    /// Returns the customer with the tax id `tax_id`, or `None` if there is none. Changes nothing.
-    /// Fails with `Store` only.
+    /// Returns the customer with the tax id `tax_id`, or `None` if there is none. If the database
+    /// is still open, it is unchanged. Fails with `Store` only.
     pub fn customer_by_tax_id(&mut self, tax_id: &TaxId) -> Result<Option<Customer>, Fault>
         ensures read { ReadPost S.Store self.old self.new result (IsFirstMatch Customers abstract_customer (λ r. bytes_eq r.tax_id tax_id.now)) }
         ensures fault { OnErr result (result ≡ Err fault.Store) }
@@ -58,8 +59,8 @@ impl<S: Alter> Store<S> {
         brk_tables_reference::customer_by_tax_id(&mut tx, tax_id)
     }
 
-    /// Returns the account with the id `id`, or `None` if there is none. Changes nothing. Fails
-    /// with `Store` only.
+    /// Returns the account with the id `id`, or `None` if there is none. If the database is still
+    /// open, it is unchanged. Fails with `Store` only.
     pub fn account(&mut self, id: Id) -> Result<Option<AccountRow>, Fault>
         ensures read { ReadPost S.Store self.old self.new result (IsFirstMatch Accounts abstract_account_row (λ r. r.id == id)) }
         ensures fault { OnErr result (result ≡ Err fault.Store) }
@@ -68,8 +69,8 @@ impl<S: Alter> Store<S> {
         brk_tables_reference::account_by_id(&mut tx, id)
     }
 
-    /// Returns the accounts of a customer, sorted by id, ascending. Changes nothing. Fails with
-    /// `Memory` or `Store`.
+    /// Returns the accounts of a customer, sorted by id, ascending. If the database is still open,
+    /// it is unchanged. Fails with `Memory` or `Store`.
     pub fn accounts_of_customer(
         &mut self,
         alloc: Global,
@@ -82,8 +83,9 @@ impl<S: Alter> Store<S> {
         brk_tables_reference::accounts_of_customer(&mut tx, alloc, customer)
     }
 
-    /// Returns the row of KEPT under `key`, which has the stored request and the stored reply, or
-    /// `None` if there is none. Changes nothing. Fails with `Store` only.
+    /// Returns the row of KEPT under `key`: the text of the accepted row and of its reply, or
+    /// `None` if there is none. If the database is still open, it is unchanged. Fails with `Store`
+    /// only.
     pub fn stored_reply_by_key(&mut self, key: &Key) -> Result<Option<Kept>, Fault>
         ensures read { ReadPost S.Store self.old self.new result (IsFirstMatch KeptRows abstract_kept_row (λ k. bytes_eq k.key.batch key.now.batch
             && (k.key.row == key.now.row))) }

@@ -11,8 +11,7 @@ ghost use Rattle.brk_store.specs.Holds.{IsDiskContentOfRows, HoldsRows, IsConnec
 
 use sqlite::Alter;
 
-/// Proves that a connection to a database holds the rows `t`, if its disk contents `trees` are
-/// those of a database with the rows `t`.
+/// Proves that a connection to the disk contents of the rows `t` holds the rows `t`.
 pub fn connection_holds_rows_of_disk_content<S: Alter>()
     ensures { (t : Tables) (trees : Trees) (conn : Held S) → IsDiskContentOfRows t trees → IsConnectionToDiskContent S.Store trees conn
         → HoldsRows S.Store conn t }

@@ -6,7 +6,10 @@ use std::marker::Model;
 
 /// A connection to a database with the tables of a desk. `HoldsRows` states which rows these tables
 /// have; the type itself ensures only that no transaction is open between calls. In contracts the
-/// value of a store is the state of its connection.
+/// value of a store is its connection (`Held S`).
+///
+/// A *crash* is the end of the process or the machine at any time. It *exposes* what the next open
+/// of the database finds, after SQLite's own recovery.
 pub struct Store<S: Alter> {
     pub(crate) conn: Connection<S>,
 }
@@ -41,11 +44,11 @@ impl<S: Alter> Store<S> {
     /// Creates the tables of a desk in the database of `conn`, commits them and returns the store.
     /// The tables have no rows, except for one row of DESK. The rows of other tables are unchanged.
     ///
-    /// Errors return the connection; a database that is still open is unchanged.
-    /// `Damaged(NotEmpty)` is returned only if a table with the name of a desk's table exists; if
-    /// one exists, the error is this one or `Store`. `Store` is returned also if a transaction is
-    /// open on `conn`, and then the connection is unchanged; otherwise no transaction is open on
-    /// the returned connection.
+    /// Errors return the connection; a database that is still open is unchanged. The fault
+    /// `Damaged(NotEmpty)`, which here means no damage but that tables of a desk exist, is returned
+    /// only if a table with the name of a desk's table exists; if one exists, the fault is this one
+    /// or `Store`. The fault `Store` is returned also if a transaction is open on `conn`, and then
+    /// the connection is unchanged; otherwise no transaction is open on the returned connection.
     ///
     /// A crash exposes a state that a crash before the call could expose, or the tables without
     /// rows; after `Ok` only the latter. After an error, too, a crash may expose the created
@@ -54,7 +57,7 @@ impl<S: Alter> Store<S> {
         ensures created { MatchResult result (λ store. CreatePost S.Store conn store (Ok tt)) (λ e. CreatePost S.Store conn e.0 (Err e.1)) }
         ensures fault { IfErr result (λ e. (e.1 ≡ fault.Store) ⊎ (e.1 ≡ fault.Damaged NotEmpty)) }
         ensures no_transaction_open { IfErr result (λ e. conn.in_transaction ≡ false → e.0.in_transaction ≡ false) }
-        ensures refused { conn.in_transaction ≡ true → result ≡ Err (conn, fault.Store) }
+        ensures fails_in_transaction { conn.in_transaction ≡ true → result ≡ Err (conn, fault.Store) }
     {
         if !conn.is_autocommit() {
             return Err((conn, Fault::Store));
@@ -69,8 +72,8 @@ impl<S: Alter> Store<S> {
     /// table are unchanged, unless a foreign key of that table changes or deletes them by CASCADE,
     /// SET NULL or SET DEFAULT.
     ///
-    /// Fails with `Store` only, also if a row to add exists or breaks another constraint of its
-    /// table. The rows and the open database are then unchanged.
+    /// Fails with `Store` only, which may also mean that a row to add exists or breaks another
+    /// constraint of its table. The rows and the open database are then unchanged.
     ///
     /// A crash exposes a state that a crash before the call could expose, or the changed rows;
     /// after `Ok` only the latter. After an error, too, a crash may expose the changed rows.

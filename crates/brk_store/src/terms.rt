@@ -1,5 +1,5 @@
 //! Reads of the rows on which the terms of an order depend: permissions, securities, charges, bands
-//! and taxes. Each read is a transaction of its own, which is rolled back.
+//! and taxes. Each read begins a transaction and ends it without a commit (no clause states this).
 
 ghost use Rattle.std.specs.Prelude.{◌≡◌, ◌==◌, ◌&&◌, Err, IfErr, OnErr, bytes_eq};
 ghost use Rattle.brk_money.specs.declared.fault.Fault.TheVariants as fault;
@@ -21,8 +21,8 @@ use std::alloc::Global;
 
 #[tactic(auto, using(crate::proofs::Ending::is_read_of))]
 impl<S: Alter> Store<S> {
-    /// Returns the permission of an account for a tax id, or `None` if there is none. Changes
-    /// nothing. Fails with `Store` only.
+    /// Returns the permission of an account for a tax id, or `None` if there is none. If the
+    /// database is still open, it is unchanged. Fails with `Store` only.
     pub fn permission(&mut self, account: Id, tax_id: &TaxId) -> Result<Option<Permission>, Fault>
         ensures read { ReadPost S.Store self.old self.new result (IsFirstMatch Permissions abstract_permission (λ r. (r.account == account)
             && bytes_eq r.tax_id tax_id.now)) }
@@ -32,8 +32,8 @@ impl<S: Alter> Store<S> {
         brk_tables_reference::permission_by_account_and_tax_id(&mut tx, account, tax_id)
     }
 
-    /// Returns the security with the symbol `symbol`, or `None` if there is none. Changes nothing.
-    /// Fails with `Store` only.
+    /// Returns the security with the symbol `symbol`, or `None` if there is none. If the database
+    /// is still open, it is unchanged. Fails with `Store` only.
     pub fn security(&mut self, symbol: &Symbol) -> Result<Option<Security>, Fault>
         ensures read { ReadPost S.Store self.old self.new result (IsFirstMatch Securities abstract_security_row (λ r. bytes_eq r.symbol symbol.now)) }
         ensures fault { OnErr result (result ≡ Err fault.Store) }
@@ -42,8 +42,8 @@ impl<S: Alter> Store<S> {
         brk_tables_reference::security_by_symbol(&mut tx, symbol)
     }
 
-    /// Returns the charge of a trade type and a customer tier, or `None` if there is none. Changes
-    /// nothing. Fails with `Store` only.
+    /// Returns the charge of a trade type and a customer tier, or `None` if there is none. If the
+    /// database is still open, it is unchanged. Fails with `Store` only.
     pub fn charge(&mut self, kind: TradeType, tier: Tier) -> Result<Option<Charge>, Fault>
         ensures read { ReadPost S.Store self.old self.new result (IsFirstMatch Charges abstract_charge (λ r. is_same_trade_type r.kind kind
             && (r.tier == tier))) }
@@ -54,7 +54,8 @@ impl<S: Alter> Store<S> {
     }
 
     /// Returns the commission bands of a customer tier, a trade type and an exchange, sorted by
-    /// lower bound, ascending. Changes nothing. Fails with `Memory` or `Store`.
+    /// lower bound, ascending. If the database is still open, it is unchanged. Fails with `Memory`
+    /// or `Store`.
     pub fn commission_bands(
         &mut self,
         alloc: Global,
@@ -70,8 +71,8 @@ impl<S: Alter> Store<S> {
         brk_tables_reference::bands_by_tier_type_and_exchange(&mut tx, alloc, tier, kind, exchange)
     }
 
-    /// Returns the tax with the id `id`, with its rate, or `None` if there is none. Changes
-    /// nothing. Fails with `Store` only.
+    /// Returns the tax with the id `id`, with its rate, or `None` if there is none. If the database
+    /// is still open, it is unchanged. Fails with `Store` only.
     pub fn tax_with_id(&mut self, id: Id) -> Result<Option<Tax>, Fault>
         ensures read { ReadPost S.Store self.old self.new result (IsFirstMatch TaxRates abstract_tax_rate (λ r. r.id == id)) }
         ensures fault { OnErr result (result ≡ Err fault.Store) }
@@ -81,7 +82,7 @@ impl<S: Alter> Store<S> {
     }
 
     /// Returns the row by which a customer pays a tax, or `None` if the customer does not pay the
-    /// tax. Changes nothing. Fails with `Store` only.
+    /// tax. If the database is still open, it is unchanged. Fails with `Store` only.
     pub fn customer_tax(&mut self, customer: Id, tax: Id) -> Result<Option<CustomerTax>, Fault>
         ensures read { ReadPost S.Store self.old self.new result (IsFirstMatch CustomerTaxes abstract_customer_tax (λ r. (r.customer == customer)
             && (r.tax == tax))) }
@@ -91,8 +92,8 @@ impl<S: Alter> Store<S> {
         brk_tables_reference::customer_tax_by_customer_and_tax(&mut tx, customer, tax)
     }
 
-    /// Returns the rows by which a customer pays taxes, sorted by the id of the tax, ascending.
-    /// Changes nothing. Fails with `Memory` or `Store`.
+    /// Returns the rows by which a customer pays taxes, sorted by the id of the tax, ascending. If
+    /// the database is still open, it is unchanged. Fails with `Memory` or `Store`.
     pub fn taxes_of_customer(
         &mut self,
         alloc: Global,

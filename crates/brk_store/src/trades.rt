@@ -1,5 +1,5 @@
-//! Reads of trades, requests, last trades, lots and summaries. Each read is a transaction of its
-//! own, which is rolled back.
+//! Reads of trades, requests, last trades, lots and summaries. Each read begins a transaction and
+//! ends it without a commit (no clause states this).
 
 ghost use Rattle.std.specs.Prelude.{◌≡◌, ◌==◌, ◌&&◌, Err, IfErr, OnErr, bytes_eq, map, nat_le, option_map, reverse, slice_get};
 ghost use Rattle.brk_money.specs.declared.fault.Fault.TheVariants as fault;
@@ -23,8 +23,8 @@ use std::alloc::Global;
 
 #[tactic(auto, using(crate::proofs::Ending::is_read_of))]
 impl<S: Alter> Store<S> {
-    /// Returns the trade with the id `id`, or `None` if there is none. Changes nothing. Fails with
-    /// `Store` only.
+    /// Returns the trade with the id `id`, or `None` if there is none. If the database is still
+    /// open, it is unchanged. Fails with `Store` only.
     pub fn trade(&mut self, id: Id) -> Result<Option<TradeRow>, Fault>
         ensures read { ReadPost S.Store self.old self.new result (IsFirstMatch Trades abstract_trade_row (λ r. r.id == id)) }
         ensures fault { OnErr result (result ≡ Err fault.Store) }
@@ -33,8 +33,8 @@ impl<S: Alter> Store<S> {
         brk_tables_trading::trade_by_id(&mut tx, id)
     }
 
-    /// Returns the greatest trade id, or `None` if there is no trade. Changes nothing. Fails with
-    /// `Store` only.
+    /// Returns the greatest trade id, or `None` if there is no trade. If the database is still
+    /// open, it is unchanged. Fails with `Store` only.
     pub fn greatest_trade_id(&mut self) -> Result<Option<Id>, Fault>
         ensures read { ReadPost S.Store self.old self.new result (λ o t. o ≡ option_map (λ r. r.id) (slice_get (reverse t.trades) 0)) }
         ensures fault { OnErr result (result ≡ Err fault.Store) }
@@ -43,8 +43,8 @@ impl<S: Alter> Store<S> {
         brk_tables_trading::greatest_trade_id(&mut tx)
     }
 
-    /// Returns the trades with the status submitted, sorted by id, ascending. Changes nothing.
-    /// Fails with `Memory` or `Store`.
+    /// Returns the trades with the status submitted, sorted by id, ascending. If the database is
+    /// still open, it is unchanged. Fails with `Memory` or `Store`.
     pub fn submitted_trades(&mut self, alloc: Global) -> Result<Vec<TradeRow>, Fault>
         ensures read { ReadPost S.Store self.old self.new result (AreMatchingRows Trades abstract_trade_row (λ r. is_same_trade_status r.status Submitted)) }
         ensures fault { IfErr result IsCallFault }
@@ -53,8 +53,9 @@ impl<S: Alter> Store<S> {
         brk_tables_trading::submitted_trades(&mut tx, alloc)
     }
 
-    /// Returns the requests of a symbol and a trade type with a bid of at least `price`, in cents,
-    /// sorted by trade, ascending. Changes nothing. Fails with `Memory` or `Store`.
+    /// Returns the requests (TRADE_REQUEST: pending trades) of a symbol and a trade type with a bid
+    /// of at least `price`, in cents, sorted by trade, ascending. If the database is still open, it
+    /// is unchanged. Fails with `Memory` or `Store`.
     pub fn requests_at_or_above(
         &mut self,
         alloc: Global,
@@ -70,8 +71,9 @@ impl<S: Alter> Store<S> {
         brk_tables_trading::requests_with_bid_at_least(&mut tx, alloc, symbol, kind, price)
     }
 
-    /// Returns the requests of a symbol and a trade type with a bid of at most `price`, in cents,
-    /// sorted by trade, ascending. Changes nothing. Fails with `Memory` or `Store`.
+    /// Returns the requests (TRADE_REQUEST: pending trades) of a symbol and a trade type with a bid
+    /// of at most `price`, in cents, sorted by trade, ascending. If the database is still open, it
+    /// is unchanged. Fails with `Memory` or `Store`.
     pub fn requests_at_or_below(
         &mut self,
         alloc: Global,
@@ -88,7 +90,7 @@ impl<S: Alter> Store<S> {
     }
 
     /// Returns the last trade of a symbol on the market (LAST_TRADE), or `None` if there is none.
-    /// Changes nothing. Fails with `Store` only.
+    /// If the database is still open, it is unchanged. Fails with `Store` only.
     pub fn last_trade(&mut self, symbol: &Symbol) -> Result<Option<LastTrade>, Fault>
         ensures read { ReadPost S.Store self.old self.new result (IsFirstMatch LastTrades abstract_last_trade_row (λ r. bytes_eq r.symbol symbol.now)) }
         ensures fault { OnErr result (result ≡ Err fault.Store) }
@@ -98,8 +100,8 @@ impl<S: Alter> Store<S> {
     }
 
     // Returns a page of the lots of an account in a security: at most 16, after the first
-    // `skipped`, sorted by opening stamp and then by trade, the oldest first. Changes nothing.
-    // Fails with `Memory` or `Store`.
+    // `skipped`, sorted by opening stamp and then by trade, the oldest first. If the database is
+    // still open, it is unchanged. Fails with `Memory` or `Store`.
     pub(crate) fn page_of_oldest_lots(
         &mut self,
         alloc: Global,
@@ -116,8 +118,8 @@ impl<S: Alter> Store<S> {
     }
 
     // Returns a page of the lots of an account in a security: at most 16, after the first
-    // `skipped`, sorted by opening stamp and then by trade, the newest first. Changes nothing.
-    // Fails with `Memory` or `Store`.
+    // `skipped`, sorted by opening stamp and then by trade, the newest first. If the database is
+    // still open, it is unchanged. Fails with `Memory` or `Store`.
     pub(crate) fn page_of_newest_lots(
         &mut self,
         alloc: Global,
@@ -134,7 +136,8 @@ impl<S: Alter> Store<S> {
     }
 
     /// Returns the holding summaries of an account, one for each security that it holds, sorted by
-    /// symbol, ascending. Changes nothing. Fails with `Memory` or `Store`.
+    /// symbol, ascending. If the database is still open, it is unchanged. Fails with `Memory` or
+    /// `Store`.
     pub fn summaries_of_account(
         &mut self,
         alloc: Global,
@@ -148,7 +151,8 @@ impl<S: Alter> Store<S> {
     }
 
     /// Returns the holding summary of an account in a security, its number of shares in total, or
-    /// `None` if there is none. Changes nothing. Fails with `Store` only.
+    /// `None` if there is none. If the database is still open, it is unchanged. Fails with `Store`
+    /// only.
     pub fn summary_of_position(
         &mut self,
         account: Id,

@@ -1,4 +1,5 @@
-//! Reads of trades for text updates. Each read is a transaction of its own, which is rolled back.
+//! Reads of trades for text updates. Each read begins a transaction and ends it without a commit
+//! (no clause states this).
 
 ghost use Rattle.std.specs.Prelude.{◌≡◌, ◌==◌, Err, IfErr, OnErr, map};
 ghost use Rattle.brk_money.specs.declared.fault.Fault.TheVariants as fault;
@@ -20,8 +21,9 @@ use std::alloc::Global;
 
 #[tactic(auto, using(crate::proofs::Ending::is_read_of))]
 impl<S: Alter> Store<S> {
-    /// Returns the first trades of an account, at most twenty, that were completed in a span, both
-    /// ends included, the oldest first. Changes nothing. Fails with `Memory` or `Store`.
+    /// Of the trades of an account that were completed in a span, both ends included, returns the
+    /// twenty oldest, or all if there are fewer, sorted by stamp and then by id, ascending. If the
+    /// database is still open, it is unchanged. Fails with `Memory` or `Store`.
     pub fn first_twenty_completed_trades_of_account(
         &mut self,
         alloc: Global,
@@ -38,8 +40,9 @@ impl<S: Alter> Store<S> {
         )
     }
 
-    /// Returns the first cash trades of a symbol, at most twenty, that were completed in a span,
-    /// both ends included, the oldest first. Changes nothing. Fails with `Memory` or `Store`.
+    /// Of the cash trades of a symbol that were completed in a span, both ends included, returns
+    /// the twenty oldest, or all if there are fewer, sorted by stamp and then by id, ascending. If
+    /// the database is still open, it is unchanged. Fails with `Memory` or `Store`.
     pub fn first_twenty_completed_cash_trades_of_symbol(
         &mut self,
         alloc: Global,
@@ -56,8 +59,8 @@ impl<S: Alter> Store<S> {
         )
     }
 
-    /// Returns the settlement of a trade, or `None` if it has none. Changes nothing. Fails with
-    /// `Store` only.
+    /// Returns the settlement of a trade, or `None` if it has none. If the database is still open,
+    /// it is unchanged. Fails with `Store` only.
     pub fn settlement(&mut self, trade: Id) -> Result<Option<SettlementRow>, Fault>
         ensures read { ReadPost S.Store self.old self.new result (IsFirstMatch Settlements abstract_settlement_row (λ r. r.trade == trade)) }
         ensures fault { OnErr result (result ≡ Err fault.Store) }

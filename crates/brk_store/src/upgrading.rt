@@ -46,16 +46,17 @@ impl<S: Alter> Store<S> {
     /// opens it as a store. A database of an older schema is upgraded to schema 3 in one
     /// transaction; one of schema 3 is not written.
     ///
-    /// Errors return the connection; a database that is still open is unchanged. The error is
-    /// `Damaged` with the first condition that fails, `Memory` or `Store`. `Store` is returned also
-    /// if a transaction is open on `conn`, and then the connection is unchanged; otherwise no
-    /// transaction is open on the returned connection.
+    /// Errors return the connection; a database that is still open is unchanged. The fault is
+    /// `Damaged` with the first condition that fails, `Memory` or `Store`. The fault `Store` is
+    /// returned also if a transaction is open on `conn`, and then the connection is unchanged;
+    /// otherwise no transaction is open on the returned connection.
     ///
     /// A crash exposes a state that a crash before the call could expose or, if rows of an older
     /// schema passed, the upgraded tables. After an error, too, a crash may expose the upgraded
     /// tables.
     ///
-    /// The result and the crash states are specified only if the database satisfies
+    /// The result, the rows of the store, the crash states, and that a database of schema 3 is not
+    /// written, are specified only if the database satisfies
     /// `StoreNamedTablesMatchDeskDefinitions`: if it has all tables of some schema, by their names
     /// and columns, then these tables have the definitions of the desk's tables, with the same
     /// types, keys and foreign keys, and no foreign key with CASCADE, SET NULL or SET DEFAULT. A
@@ -64,7 +65,7 @@ impl<S: Alter> Store<S> {
         ensures adopted { MatchResult result (λ store. AdoptPost S.Store conn store (Ok tt)) (λ e. AdoptPost S.Store conn e.0 (Err e.1)) }
         ensures never_not_empty { IfErr result (λ e. e.1 ≢ fault.Damaged NotEmpty) }
         ensures no_transaction_open { IfErr result (λ e. conn.in_transaction ≡ false → e.0.in_transaction ≡ false) }
-        ensures refused { conn.in_transaction ≡ true → result ≡ Err (conn, fault.Store) }
+        ensures fails_in_transaction { conn.in_transaction ≡ true → result ≡ Err (conn, fault.Store) }
     {
         if !conn.is_autocommit() {
             return Err((conn, Fault::Store));

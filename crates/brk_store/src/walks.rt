@@ -1,5 +1,5 @@
-//! Walks: reads that pass rows, one at a time, to a visitor or a closure. The store is borrowed for
-//! the whole walk.
+//! Walks: reads that pass rows, one at a time, to a visitor (`visit_..`) or to a closure
+//! (`walk_..`). The store is borrowed for the whole walk.
 
 ghost use Rattle.std.specs.Fn.{CalledAt};
 ghost use Rattle.brk_changes.specs.Rows.{abstract_holding_row, abstract_move_row, abstract_trade_row};
@@ -23,6 +23,9 @@ impl<S: Alter> Store<S> {
     /// Fails with `Cause` and the visitor's error, or with `Failed` and the fault `Memory` or
     /// `Store` after a prefix of the rows. If the database is still open, it is unchanged, whatever
     /// the result.
+    ///
+    /// `ready`: the visitor must be ready to take records, and is so after the walk. `leads`: the
+    /// walk changes the visitor only by calls of `visit`, so far as the visitor's own `leads` says.
     ///
     /// A crash exposes only states that a crash before the call could expose.
     pub fn visit_cash_rows<E, V: Visitor<MoveRow, E>>(
@@ -54,6 +57,9 @@ impl<S: Alter> Store<S> {
     /// `Store` after a prefix of the lots. If the database is still open, it is unchanged, whatever
     /// the result.
     ///
+    /// `ready`: the visitor must be ready to take records, and is so after the walk. `leads`: the
+    /// walk changes the visitor only by calls of `visit`, so far as the visitor's own `leads` says.
+    ///
     /// A crash exposes only states that a crash before the call could expose.
     pub fn visit_lots<E, V: Visitor<HoldingRow, E>>(
         &mut self,
@@ -76,6 +82,9 @@ impl<S: Alter> Store<S> {
     /// `Store` after a prefix of the trades. If the database is still open, it is unchanged,
     /// whatever the result.
     ///
+    /// `ready`: the visitor must be ready to take records, and is so after the walk. `leads`: the
+    /// walk changes the visitor only by calls of `visit`, so far as the visitor's own `leads` says.
+    ///
     /// A crash exposes only states that a crash before the call could expose.
     pub fn visit_completed_trades<E, V: Visitor<TradeRow, E>>(
         &mut self,
@@ -95,6 +104,9 @@ impl<S: Alter> Store<S> {
     /// Fails with the closure's first error, or with a fault (`Memory` or `Store`) as an error of
     /// type `E`, after a prefix of the rows. If the database is still open, it is unchanged,
     /// whatever the result.
+    ///
+    /// `callable`: the closure must accept every record, at its first and at each later call.
+    /// `called`: it is called with each row, in order, until its first error.
     ///
     /// A crash exposes only states that a crash before the call could expose.
     pub fn walk_cash<E: From<Fault>, F: FnMut(&MoveRow) -> Result<(), E> + Drop>(
@@ -122,6 +134,9 @@ impl<S: Alter> Store<S> {
     /// Fails with the closure's first error, or with a fault (`Memory` or `Store`) as an error of
     /// type `E`, after a prefix of the lots. If the database is still open, it is unchanged,
     /// whatever the result.
+    ///
+    /// `callable`: the closure must accept every record, at its first and at each later call.
+    /// `called`: it is called with each lot, in order, until its first error.
     ///
     /// A crash exposes only states that a crash before the call could expose.
     pub fn walk_lots<E: From<Fault>, F: FnMut(&str, &Lot) -> Result<(), E> + Drop>(

@@ -1,20 +1,20 @@
 -- What a result comes to does not hang on the moment, and what is closed tells it.
-use Rattle.std.proofs.Common.{◌≡◌, ℕ, nat_abs, List, [], ◌∷◌, ◌++◌, refl, sym, ap, ◌∙◌, Option, Some, None}
+use Rattle.std.proofs.Common.{◌≡◌, ℕ, List, [], ◌∷◌, ◌++◌, refl, sym, ap, ◌∙◌, Option, Some, None}
 use Rattle.std.proofs.lemmas.List.{append_assoc}
 use Rattle.brk_lots.specs.Values.{closing_values_of_deal}
-use Rattle.brk_lots.specs.Closing.{IsClosingOfDeal}
+use Rattle.brk_lots.specs.Closing.{AreLotsClosedByDeal}
 use Rattle.brk_lots.specs.Lots.{shares_of_lots}
-use Rattle.brk_lots.specs.declared.closing.Closing.{Closing}
+use Rattle.brk_lots.specs.declared.closing.ClosedLots.{ClosedLots}
 use Rattle.brk_lots.specs.declared.lot.Lot.{Lot}
 use Rattle.brk_lots.specs.declared.values.Values.{Values}
-use Rattle.brk_model.specs.Shares.{Deal, Share, buy_value, buy_value_for_side, sell_value, sell_value_for_side}
+use Rattle.brk_model.specs.Shares.{Share, buy_value, buy_value_for_side, sell_value, sell_value_for_side}
 use Rattle.brk_model.specs.Tests.{RefusalCheck, first_refusal}
 use Rattle.brk_money.specs.Kinds.{side_of_trade_type}
 use Rattle.brk_money.specs.declared.refusal.Refusal.{Refusal}
 use Rattle.brk_money.specs.declared.side.Side.{Side}
 use Rattle.brk_money.specs.declared.side.Side.TheVariants.{Buy, Sell}
 use Rattle.brk_plans.proofs.Refusals.{first_joined, first_of}
-use Rattle.brk_trade.specs.Outcomes.{deal_of_trade_row, checks_before_reading_lots, checks_after_reading_lots, result_checks, values_of_closing}
+use Rattle.brk_trade.specs.Outcomes.{deal_of_trade_row, checks_before_reading_lots, checks_after_reading_lots, result_checks}
 use Rattle.brk_trade.specs.declared.result_found.ResultPlanFacts.{ResultPlanFacts}
 use Rattle.brk_changes.specs.declared.trade_row.TradeRow.{TradeRow}
 
@@ -43,17 +43,13 @@ pub at_any_moment : (t : TradeRow) (price stamp other : ℕ) (us : List Share) �
 unfolding buy_value sell_value
 at_any_moment t price stamp other us = rw (same_bought (side_of_trade_type t.kind) t price stamp other us, same_sold (side_of_trade_type t.kind) t price stamp other us) refl
 
--- what is closed has these values
-pub closing_values : (d : Deal) (ls : List Lot) (closing : Closing) → IsClosingOfDeal d ls closing → values_of_closing closing ≡ closing_values_of_deal d (shares_of_lots ls)
-closing_values d ls closing k = λ i. record { buy_value = nat_abs (k.bought i); sell_value = nat_abs (k.sold i) }
-
 -- a refusal that the values tell, over the lots of a position, after the first tests found no cause
-pub refused_by_values : (found : ResultPlanFacts) (price : ℕ) (ls : List Lot) (at stamp : ℕ) (closing : Closing) (clock : _) (refusal : Refusal)
-    → IsClosingOfDeal (deal_of_trade_row found.trade price at) ls closing → first_refusal (checks_before_reading_lots found) ≡ None
-    → first_refusal (checks_after_reading_lots found price (values_of_closing closing) clock) ≡ Some refusal
+pub refused_by_values : (found : ResultPlanFacts) (price : ℕ) (ls : List Lot) (at stamp : ℕ) (closed : ClosedLots) (clock : _) (refusal : Refusal)
+    → AreLotsClosedByDeal (deal_of_trade_row found.trade price at) ls closed → first_refusal (checks_before_reading_lots found) ≡ None
+    → first_refusal (checks_after_reading_lots found price closed.values clock) ≡ Some refusal
     → first_refusal (result_checks found price (closing_values_of_deal (deal_of_trade_row found.trade price stamp) (shares_of_lots ls)) clock) ≡ Some refusal
-refused_by_values found price ls at stamp closing clock refusal k first last =
-    let same = closing_values (deal_of_trade_row found.trade price at) ls closing k ∙ at_any_moment found.trade price at stamp (shares_of_lots ls) in
+refused_by_values found price ls at stamp closed clock refusal k first last =
+    let same = k.values ∙ at_any_moment found.trade price at stamp (shares_of_lots ls) in
     first_after (checks_before_reading_lots found) (checks_after_reading_lots found price (closing_values_of_deal (deal_of_trade_row found.trade price stamp) (shares_of_lots ls)) clock) first
     ∙ ap (λ values. first_refusal (checks_after_reading_lots found price values clock)) (sym same) ∙ last
 

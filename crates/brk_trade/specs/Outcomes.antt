@@ -3,7 +3,6 @@ use Rattle.std.specs.Prelude.{ℕ, ◌+◌, ◌*◌, ◌&&◌, true, not, nat_lt
 use Rattle.std.specs.Option.{option_map_or}
 use Rattle.brk_trade.specs.Estimates.{tax_on_gain_at_status}
 use Rattle.brk_lots.specs.declared.values.Values.{Values}
-use Rattle.brk_lots.specs.declared.closing.Closing.{Closing}
 use Rattle.brk_model.specs.Base.{is_withholding_status}
 use Rattle.brk_model.specs.Derived.{due_day_of_completion_stamp, signed_proceeds}
 use Rattle.brk_model.specs.Limits.{greatest_amount, greatest_price, greatest_qty, greatest_summary}
@@ -15,6 +14,7 @@ use Rattle.brk_money.specs.Moments.{greatest_day}
 use Rattle.brk_money.specs.declared.refusal.Limit.TheVariants as limit
 use Rattle.brk_money.specs.declared.refusal.Refusal.TheVariants.{WrongStatus, NoRate, Range, ClockEnd}
 use Rattle.brk_money.specs.declared.status.Status.TheVariants.{Submitted}
+use Rattle.brk_plans.specs.declared.reply.Completed.{Completed}
 use Rattle.brk_trade.specs.declared.outcome.ResultFigures.{ResultFigures}
 use Rattle.brk_trade.specs.declared.result_found.ResultPlanFacts.{ResultPlanFacts}
 use Rattle.brk_changes.specs.declared.trade_row.TradeRow.{TradeRow}
@@ -94,22 +94,25 @@ checks_after_reading_lots found price values stamp =
 abbrev pub result_checks : ResultPlanFacts → ℕ → Values → Option ℕ → List RefusalCheck
 result_checks found price values stamp = checks_before_reading_lots found ++ checks_after_reading_lots found price values stamp
 
--- The buy value and the sell value of `closing`, in cents, as natural numbers: the absolute values.
-abbrev pub values_of_closing : Closing → Values
-values_of_closing closing = record { buy_value = nat_abs closing.buy_value; sell_value = nat_abs closing.sell_value }
-
--- The figures of the completed trade from the facts `found`, its price in cents, the values of the
--- closed shares, and its stamp.
-abbrev pub figures_of_result : ResultPlanFacts → ℕ → Values → ℕ → ResultFigures
-figures_of_result found price values stamp = record {
+-- The figures in the reply to a result, from the facts `found`, its price in cents, the values of
+-- the closed shares, and its stamp.
+abbrev pub reply_figures_of_result : ResultPlanFacts → ℕ → Values → ℕ → Completed
+reply_figures_of_result found price values stamp = record {
   stamp = stamp;
-  due_day = due_day_of_completion_stamp found.rule stamp;
   commission = commission_of_result found price;
   tax = tax_of_result found values;
   amount = settlement_amount_of_result found price values;
-  summary = shares_held_after_trade found;
-  balance = balance_after_result found price values;
-  commissions = broker_commissions_after_result found price;
+  due_day = due_day_of_completion_stamp found.rule stamp;
   buy_value = values.buy_value;
   sell_value = values.sell_value;
+  balance = balance_after_result found price values;
+}
+
+-- The figures of the completed trade from the facts `found`, its price in cents, the values of the
+-- closed shares, and its stamp: those in the reply, the shares held, and the broker's commissions.
+abbrev pub figures_of_result : ResultPlanFacts → ℕ → Values → ℕ → ResultFigures
+figures_of_result found price values stamp = record {
+  completed = reply_figures_of_result found price values stamp;
+  summary = shares_held_after_trade found;
+  commissions = broker_commissions_after_result found price;
 }

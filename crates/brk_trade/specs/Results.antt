@@ -2,13 +2,13 @@
 use Rattle.std.specs.Prelude.{◌≡◌, ℕ, ◌+◌, ◌≤◌, IfSome, Bool, false, ℤ, pos, if◌then◌else◌, List, [], ◌∷◌, ◌++◌, codes}
 use Rattle.std.specs.Prelude.{decimal, length, flat_map, Option, Some, None, option_map, option_to_list, unwrap_or}
 use Rattle.brk_lots.specs.Values.{closing_values_of_deal}
-use Rattle.brk_lots.specs.Closing.{IsClosingOfDeal}
+use Rattle.brk_lots.specs.Closing.{AreLotsClosedByDeal}
 use Rattle.brk_lots.specs.Lots.{shares_of_lots}
 use Rattle.brk_lots.specs.Against.{closes_lots}
 use Rattle.brk_lots.specs.Books.{lot_quantity_sum}
 use Rattle.brk_lots.specs.Position.{AreOpenedByOtherTrades}
 use Rattle.brk_lots.specs.Sources.{YieldsPosition}
-use Rattle.brk_lots.specs.declared.closing.Closing.{Closing}
+use Rattle.brk_lots.specs.declared.closing.ClosedLots.{ClosedLots}
 use Rattle.brk_lots.specs.declared.lot.Lot.{Lot}
 use Rattle.brk_lots.specs.declared.lot.Touch.{Touch}
 use Rattle.brk_model.specs.Lists.{is_zero}
@@ -23,7 +23,7 @@ use Rattle.brk_money.specs.declared.refusal.Refusal.{Refusal}
 use Rattle.brk_money.specs.declared.refusal.Refusal.TheVariants.{NoTrade}
 use Rattle.brk_money.specs.declared.status.Status.TheVariants as status
 use Rattle.brk_changes.specs.Rows.{abstract_move_row}
-use Rattle.brk_trade.specs.Outcomes.{deal_of_trade_row, checks_before_reading_lots, result_checks, figures_of_result, values_of_closing}
+use Rattle.brk_trade.specs.Outcomes.{deal_of_trade_row, checks_before_reading_lots, result_checks, figures_of_result, reply_figures_of_result}
 use Rattle.brk_changes.specs.declared.cash_type.CashType.{CashType}
 use Rattle.brk_changes.specs.declared.cash_type.CashType.TheVariants as cash_type
 use Rattle.brk_changes.specs.declared.change.Change.{Change}
@@ -79,15 +79,15 @@ abbrev pub cash_text_of_trade : TradeRow → Text → Text
 cash_text_of_trade t security = cash_row_name_from_parts (codes " shares of ") t.kind t.qty security
 
 -- The CASH_MOVE row of the completed trade, with the next id, or none if it is a margin trade.
-abbrev pub cash_row_of_result : ResultPlanFacts → ResultFigures → Option tables.MoveRow
-cash_row_of_result found outcome =
+abbrev pub cash_row_of_result : ResultPlanFacts → Completed → Option tables.MoveRow
+cash_row_of_result found completed =
     if found.trade.is_cash
     then Some (record {
       id = found.next;
       account = found.trade.account;
       trade = Some found.trade.id;
-      stamp = outcome.stamp;
-      amount = outcome.amount;
+      stamp = completed.stamp;
+      amount = completed.amount;
       name = cash_text_of_trade found.trade found.security;
     })
     else None
@@ -99,10 +99,10 @@ row_changes_of_cash_row account balance row = change.AddMove row ∷ change.SetB
 
 -- The row changes of the completed trade itself: the values of its completion are set, and its
 -- TRADE_HISTORY row is added.
-abbrev pub row_changes_of_completed_trade : ℕ → ℕ → ResultFigures → List Change
-row_changes_of_completed_trade trade price outcome =
-    change.CompleteTrade trade outcome.stamp price outcome.commission outcome.tax
-    ∷ change.AddHistory (record { trade = trade; status = status.Completed; stamp = outcome.stamp }) ∷ []
+abbrev pub row_changes_of_completed_trade : ℕ → ℕ → Completed → List Change
+row_changes_of_completed_trade trade price completed =
+    change.CompleteTrade trade completed.stamp price completed.commission completed.tax
+    ∷ change.AddHistory (record { trade = trade; status = status.Completed; stamp = completed.stamp }) ∷ []
 
 -- The row change that sets the totals of the account's broker: one more completed trade, and
 -- `commissions`, its new commissions in cents.
@@ -110,50 +110,36 @@ abbrev pub row_change_of_broker_totals : ResultPlanFacts → ℕ → Change
 row_change_of_broker_totals found commissions = change.SetBrokerTotals found.account.broker (pos (found.broker.trades + 1)) commissions
 
 -- The row change that adds the SETTLEMENT row of the trade `t`: its settlement text, and the due
--- day and the settlement amount of the figures `outcome`.
-abbrev pub row_change_adding_settlement : TradeRow → ResultFigures → Change
-row_change_adding_settlement t outcome =
-    change.AddSettlement (record { trade = t.id; cash_type = first_cash_type_of_trade t.is_cash; due_day = outcome.due_day; amount = outcome.amount })
+-- day and the settlement amount of the figures `completed`.
+abbrev pub row_change_adding_settlement : TradeRow → Completed → Change
+row_change_adding_settlement t completed =
+    change.AddSettlement (record { trade = t.id; cash_type = first_cash_type_of_trade t.is_cash; due_day = completed.due_day; amount = completed.amount })
 
 -- The row changes of the account's summary, of the broker's totals and of the settlement, in this
 -- sequence.
 abbrev pub summary_broker_settlement_changes : ResultPlanFacts → ResultFigures → List Change
 summary_broker_settlement_changes found outcome =
     row_change_of_summary found.summary found.trade outcome.summary ∷ row_change_of_broker_totals found outcome.commissions
-    ∷ row_change_adding_settlement found.trade outcome ∷ []
+    ∷ row_change_adding_settlement found.trade outcome.completed ∷ []
 
 -- The row changes that complete the trade of `found`: of the trade itself, of the lots that it
 -- touches and of the one that it opens, of the summary, the broker's totals and the settlement, of
 -- its cash row, if any, and of the last stamp.
-abbrev pub row_changes_of_result : ResultPlanFacts → ℕ → Closing → ResultFigures → Option MoveRow → List Change
-row_changes_of_result found price closing outcome cash =
-    row_changes_of_completed_trade found.trade.id price outcome
-    ++ flat_map (row_changes_of_touched_lot found.trade.id) closing.touched.items
-    ++ flat_map (row_changes_of_opened_lot found.trade) (option_to_list closing.opened)
+abbrev pub row_changes_of_result : ResultPlanFacts → ℕ → ClosedLots → ResultFigures → Option MoveRow → List Change
+row_changes_of_result found price closed outcome cash =
+    row_changes_of_completed_trade found.trade.id price outcome.completed
+    ++ flat_map (row_changes_of_touched_lot found.trade.id) closed.touched.items
+    ++ flat_map (row_changes_of_opened_lot found.trade) (option_to_list closed.opened)
     ++ summary_broker_settlement_changes found outcome
-    ++ flat_map (row_changes_of_cash_row found.trade.account outcome.balance) (option_to_list cash)
-    ++ change.SetLastStamp outcome.stamp ∷ []
+    ++ flat_map (row_changes_of_cash_row found.trade.account outcome.completed.balance) (option_to_list cash)
+    ++ change.SetLastStamp outcome.completed.stamp ∷ []
 
--- `changes` are the row changes that complete the trade of `found` at `price` with the closed and
--- opened lots of `closing` and the figures `outcome`. They add a cash row if it is a cash trade.
-pub record AreResultChanges (found : ResultPlanFacts) (price : ℕ) (closing : Closing) (outcome : ResultFigures) (changes : List Change) : Type 0 where
+-- `changes` are the row changes that complete the trade of `found` at `price` with the touched lots
+-- of `closed` and the figures `outcome`. They add a cash row if it is a cash trade.
+pub record AreResultChanges (found : ResultPlanFacts) (price : ℕ) (closed : ClosedLots) (outcome : ResultFigures) (changes : List Change) : Type 0 where
   pub cash : Option MoveRow
-  pub moved : option_map abstract_move_row cash ≡ cash_row_of_result found outcome
-  pub changed : changes ≡ row_changes_of_result found price closing outcome cash
-
--- The reply of a completion with the figures `outcome`, which omits the shares held and the
--- broker's commissions.
-abbrev pub completed_reply_of_figures : ResultFigures → Completed
-completed_reply_of_figures outcome = record {
-  stamp = outcome.stamp;
-  commission = outcome.commission;
-  tax = outcome.tax;
-  amount = outcome.amount;
-  due_day = outcome.due_day;
-  buy_value = outcome.buy_value;
-  sell_value = outcome.sell_value;
-  balance = outcome.balance;
-}
+  pub moved : option_map abstract_move_row cash ≡ cash_row_of_result found outcome.completed
+  pub changed : changes ≡ row_changes_of_result found price closed outcome cash
 
 -- The number of shares of the trade's security that its account holds before the trade, below 0 if
 -- sold short, and 0 if there is no summary.
@@ -173,16 +159,16 @@ ClosesNoHeldShares found = closes_lots (side_of_trade_type found.trade.kind) (sh
 -- `plan` completes the trade of `found` at `price` and the stamp of the command, where `given`
 -- holds of the lists of lots that the source may have, `last` is the last stamp, and `now` the
 -- clock reading. The result passes all its checks, and the row changes and the reply follow from
--- `closing`, the lots that the trade closes and opens. The clause `closes` is vacuous if no lots of
+-- `closed`, the lots that the trade closes and opens. The clause `closes` is vacuous if no lots of
 -- the source match the summary (`AreLotsBeforeTrade`).
 pub record IsResultPlan (found : ResultPlanFacts) (price : ℕ) (given : List Lot → Type 0) (last : Option ℕ) (now : ℕ) (plan : Plan) : Type 0 where
   pub stamp : ℕ
-  pub closing : Closing
+  pub closed : ClosedLots
   pub stamped : stamp_after last now ≡ Some stamp
-  pub closes : (ls : List Lot) → AreLotsBeforeTrade given found ls → IsClosingOfDeal (deal_of_trade_row found.trade price stamp) ls closing
-  pub accepted : first_refusal (result_checks found price (values_of_closing closing) (Some stamp)) ≡ None
-  pub replied : plan.reply ≡ reply.Completed (completed_reply_of_figures (figures_of_result found price (values_of_closing closing) stamp))
-  pub changes : AreResultChanges found price closing (figures_of_result found price (values_of_closing closing) stamp) plan.changes.items
+  pub closes : (ls : List Lot) → AreLotsBeforeTrade given found ls → AreLotsClosedByDeal (deal_of_trade_row found.trade price stamp) ls closed
+  pub accepted : first_refusal (result_checks found price closed.values (Some stamp)) ≡ None
+  pub replied : plan.reply ≡ reply.Completed (reply_figures_of_result found price closed.values stamp)
+  pub changes : AreResultChanges found price closed (figures_of_result found price closed.values stamp) plan.changes.items
 
 -- The trade exists, and `plan` completes it (`IsResultPlan`). False if there is no such trade.
 abbrev pub CompletesExistingTrade : Option ResultPlanFacts → ℕ → (List Lot → Type 0) → Option ℕ → ℕ → Plan → Type 0

@@ -12,8 +12,9 @@ use brk_changes::{
     Amount, CashType, Change, HistoryRow, HoldingRow, LotChange, MoveRow, SettlementRow,
     SummaryRow, TradeRow,
 };
-use brk_lots::{Closing, Lot, Touch};
+use brk_lots::{ClosedLots, Lot, Touch};
 use brk_money::{Fault, Id, Price, Qty, Status};
+use brk_plans::Completed;
 use brk_ref::Name;
 use std::alloc::{AllocError, Global};
 
@@ -22,23 +23,23 @@ use std::alloc::{AllocError, Global};
 fn append_completed_trade_changes(
     trade: Id,
     price: Price,
-    outcome: &ResultFigures,
+    completed: &Completed,
     changes: &mut Vec<Change>,
 ) -> Result<(), Fault>
-    ensures changes { OnOk result (changes.new.items ≡ changes.old.items ++ spec.row_changes_of_completed_trade trade price outcome.now) }
+    ensures changes { OnOk result (changes.new.items ≡ changes.old.items ++ spec.row_changes_of_completed_trade trade price completed.now) }
     ensures fault { OnErr result (result ≡ Err Memory) }
 {
     changes.push(Change::CompleteTrade {
         trade,
-        stamp: outcome.stamp,
+        stamp: completed.stamp,
         price,
-        commission: outcome.commission,
-        tax: outcome.tax,
+        commission: completed.commission,
+        tax: completed.tax,
     })?;
     changes.push(Change::AddHistory(HistoryRow {
         trade,
         status: Status::Completed,
-        stamp: outcome.stamp,
+        stamp: completed.stamp,
     }))?;
     Ok(())
 }
@@ -184,14 +185,14 @@ fn create_broker_totals_change(found: &ResultPlanFacts, commissions: Amount) -> 
 
 // Returns the row change that adds the SETTLEMENT row of the trade: its settlement text, its due
 // day and its settlement amount.
-fn create_settlement_change(trade: &TradeRow, outcome: &ResultFigures) -> Change
-    ensures { result ≡ spec.row_change_adding_settlement trade.now outcome.now }
+fn create_settlement_change(trade: &TradeRow, completed: &Completed) -> Change
+    ensures { result ≡ spec.row_change_adding_settlement trade.now completed.now }
 {
     Change::AddSettlement(SettlementRow {
         trade: trade.id,
         cash_type: first_cash_type(trade.is_cash),
-        due_day: outcome.due_day,
-        amount: outcome.amount,
+        due_day: completed.due_day,
+        amount: completed.amount,
     })
 }
 
@@ -208,7 +209,7 @@ fn append_summary_and_settlement_changes(
     let summary = create_summary_change(found, outcome)?;
     changes.push(summary)?;
     changes.push(create_broker_totals_change(found, outcome.commissions))?;
-    changes.push(create_settlement_change(&found.trade, outcome))?;
+    changes.push(create_settlement_change(&found.trade, &outcome.completed))?;
     Ok(())
 }
 
@@ -240,9 +241,9 @@ fn format_trade_cash_text(
 fn create_result_cash_row(
     alloc: Global,
     found: &ResultPlanFacts,
-    outcome: &ResultFigures,
+    completed: &Completed,
 ) -> Result<Option<MoveRow>, AllocError>
-    ensures { IfOk result (λ cash. option_map abstract_move_row cash ≡ spec.cash_row_of_result found.now outcome.now) }
+    ensures { IfOk result (λ cash. option_map abstract_move_row cash ≡ spec.cash_row_of_result found.now completed.now) }
 {
     if !found.trade.is_cash {
         return Ok(None);
@@ -251,8 +252,8 @@ fn create_result_cash_row(
         id: found.next,
         account: found.trade.account,
         trade: Some(found.trade.id),
-        stamp: outcome.stamp,
-        amount: outcome.amount,
+        stamp: completed.stamp,
+        amount: completed.amount,
         name: format_trade_cash_text(alloc, &found.trade, &found.security)?,
     }))
 }
@@ -261,12 +262,12 @@ fn create_result_cash_row(
 // is set. Appends nothing if `cash` is `None`. Fails with `Memory` only.
 fn append_cash_row_changes(
     account: Id,
-    outcome: &ResultFigures,
+    completed: &Completed,
     cash: Option<MoveRow>,
     changes: &mut Vec<Change>,
 ) -> Result<(), Fault>
     ensures changes { OnOk result (changes.new.items
-        ≡ changes.old.items ++ flat_map (spec.row_changes_of_cash_row account outcome.now.balance) (option_to_list cash)) }
+        ≡ changes.old.items ++ flat_map (spec.row_changes_of_cash_row account completed.now.balance) (option_to_list cash)) }
     ensures fault { OnErr result (result ≡ Err Memory) }
 {
     let Some(row) = cash else {
@@ -275,7 +276,7 @@ fn append_cash_row_changes(
     changes.push(Change::AddMove(row))?;
     changes.push(Change::SetBalance {
         account,
-        balance: outcome.balance,
+        balance: completed.balance,
     })?;
     Ok(())
 }
@@ -287,38 +288,38 @@ fn create_result_changes(
     alloc: Global,
     found: &ResultPlanFacts,
     price: Price,
-    closing: &Closing,
+    closed: &ClosedLots,
     outcome: &ResultFigures,
     cash: Option<MoveRow>,
 ) -> Result<Vec<Change>, Fault>
-    ensures changes { IfOk result (λ changes. changes.items ≡ spec.row_changes_of_result found.now price closing.now outcome.now cash) }
+    ensures changes { IfOk result (λ changes. changes.items ≡ spec.row_changes_of_result found.now price closed.now outcome.now cash) }
     ensures fault { OnErr result (result ≡ Err Memory) }
 {
     let trade = &found.trade;
+    let completed = &outcome.completed;
     let mut changes = Vec::new(alloc);
-    append_completed_trade_changes(trade.id, price, outcome, &mut changes)?;
-    append_changes_of_all_touched_lots(trade.id, &closing.touched, &mut changes)?;
-    append_opened_lot_changes(trade, closing.opened, &mut changes)?;
+    append_completed_trade_changes(trade.id, price, completed, &mut changes)?;
+    append_changes_of_all_touched_lots(trade.id, &closed.touched, &mut changes)?;
+    append_opened_lot_changes(trade, closed.opened, &mut changes)?;
     append_summary_and_settlement_changes(found, outcome, &mut changes)?;
-    append_cash_row_changes(trade.account, outcome, cash, &mut changes)?;
-    changes.push(Change::SetLastStamp(outcome.stamp))?;
+    append_cash_row_changes(trade.account, completed, cash, &mut changes)?;
+    changes.push(Change::SetLastStamp(completed.stamp))?;
     Ok(changes)
 }
 
 // Creates the cash row of the trade, if it is a cash trade, and returns all row changes that
-// complete the trade with the closed and opened lots of `closing` and the figures `outcome`. Fails
-// with `Memory` only.
+// complete the trade with the lots `closed` and the figures `outcome`. Fails with `Memory` only.
 pub(crate) fn create_completion_changes(
     alloc: Global,
     found: &ResultPlanFacts,
     price: Price,
-    closing: &Closing,
+    closed: &ClosedLots,
     outcome: &ResultFigures,
 ) -> Result<Vec<Change>, Fault>
-    ensures changes { IfOk result (λ changes. AreResultChanges found.now price closing.now outcome.now changes.items) }
+    ensures changes { IfOk result (λ changes. AreResultChanges found.now price closed.now outcome.now changes.items) }
     ensures fault { OnErr result (result ≡ Err Memory) }
 {
-    let cash = create_result_cash_row(alloc, found, outcome)?;
-    let changes = create_result_changes(alloc, found, price, closing, outcome, cash)?;
+    let cash = create_result_cash_row(alloc, found, &outcome.completed)?;
+    let changes = create_result_changes(alloc, found, price, closed, outcome, cash)?;
     Ok(changes)
 }

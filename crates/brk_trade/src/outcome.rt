@@ -1,44 +1,32 @@
 //! The figures of a result for the trade that it completes.
 
-ghost use Rattle.std.specs.Prelude.{◌≡◌, ◌*◌, ◌≤ℤ◌, true, false, nat_lt, nat_abs, pos, MatchOption, MatchResult, None, Some};
+ghost use Rattle.std.specs.Prelude.{◌≡◌, ◌*◌, ◌≤◌, true, false, nat_lt, nat_abs, MatchOption, MatchResult, None, Some};
 ghost use Rattle.brk_model.specs.Limits.{greatest_price, greatest_summary};
 ghost use Rattle.brk_model.specs.Shares as shares;
 ghost use Rattle.brk_model.specs.Tests.{first_refusal};
 ghost use Rattle.brk_trade.specs.Outcomes as spec;
-ghost use Rattle.brk_trade.specs.Outcomes.{checks_before_reading_lots, checks_after_reading_lots, figures_of_result, values_of_closing};
+ghost use Rattle.brk_trade.specs.Outcomes.{checks_before_reading_lots, checks_after_reading_lots, figures_of_result};
 
 use crate::result_found::ResultPlanFacts;
 use crate::settling::{
     balance_if_within_limit, commission_at_price_and_rate, commissions_if_within_limit,
     due_day_if_in_calendar, settlement_amount_of_trade, tax_on_closed_shares,
-    values_of_closed_shares,
 };
 use brk_changes::{Amount, Schema, is_submitted};
-use brk_lots::Closing;
-use brk_money::{Cents, Day, Limit, Price, Rate, Refusal, Side, Stamp};
+use brk_lots::ClosedLots;
+use brk_money::{Limit, Price, Rate, Refusal, Side, Stamp};
+use brk_plans::Completed;
 
 /// The figures of a completed trade, in cents (Trade-Result).
 #[derive(Clone, Copy, PartialEq, Eq)]
 pub struct ResultFigures {
-    pub stamp: Stamp,
-    /// The day on which the trade settles.
-    pub due_day: Day,
-    pub commission: Amount,
-    /// The tax on the realised gain of the closed shares.
-    pub tax: Amount,
-    /// The settlement amount, negative if the account pays.
-    pub amount: Cents,
+    /// The figures in the reply.
+    pub completed: Completed,
     /// The number of shares of the security that the account holds after it, negative if sold
     /// short.
     pub summary: i64,
-    /// The balance of the account after it.
-    pub balance: Cents,
     /// The commission total of the broker after it.
     pub commissions: Amount,
-    /// Buy value of the closed shares.
-    pub buy_value: Amount,
-    /// Sell value of the closed shares.
-    pub sell_value: Amount,
 }
 
 // The values of a result that are known before lots are read: the commission rate, in hundredths of
@@ -102,19 +90,18 @@ pub(crate) fn checked_result_figures(
     found: &ResultPlanFacts,
     price: Price,
     known: &RateAndSummary,
-    closing: &Closing,
+    closed: &ClosedLots,
     stamp: Option<Stamp>,
 ) -> Result<ResultFigures, Refusal>
-    requires bought { (pos 0 ≤ℤ closing.now.buy_value) × (closing.now.buy_value ≤ℤ pos (found.now.trade.qty * greatest_price)) }
-    requires sold { (pos 0 ≤ℤ closing.now.sell_value) × (closing.now.sell_value ≤ℤ pos (found.now.trade.qty * greatest_price)) }
+    requires sold { closed.now.values.sell_value ≤ found.now.trade.qty * greatest_price }
     requires rate { found.now.rate ≡ Some known.now.rate }
     requires summary { known.now.summary ≡ spec.shares_held_after_trade found.now }
     ensures { MatchResult result
-        (λ outcome. (first_refusal (checks_after_reading_lots found.now price (values_of_closing closing.now) stamp) ≡ None) × (stamp ≡ Some outcome.stamp)
-        × (outcome ≡ figures_of_result found.now price (values_of_closing closing.now) outcome.stamp))
-        (λ refusal. first_refusal (checks_after_reading_lots found.now price (values_of_closing closing.now) stamp) ≡ Some refusal) }
+        (λ outcome. (first_refusal (checks_after_reading_lots found.now price closed.now.values stamp) ≡ None) × (stamp ≡ Some outcome.completed.stamp)
+        × (outcome ≡ figures_of_result found.now price closed.now.values outcome.completed.stamp))
+        (λ refusal. first_refusal (checks_after_reading_lots found.now price closed.now.values stamp) ≡ Some refusal) }
 {
-    let values = values_of_closed_shares(found.trade.qty, closing);
+    let values = closed.values;
     let buy_value = values.buy_value;
     let sell_value = values.sell_value;
     let commission = commission_at_price_and_rate(&found.trade, price, known.rate);
@@ -132,16 +119,19 @@ pub(crate) fn checked_result_figures(
     let Some(due_day) = due_day_if_in_calendar(found.rule, stamp) else {
         return Err(Refusal::ClockEnd);
     };
-    Ok(ResultFigures {
+    let completed = Completed {
         stamp,
-        due_day,
         commission,
         tax,
         amount,
-        summary: known.summary,
-        balance,
-        commissions,
+        due_day,
         buy_value,
         sell_value,
+        balance,
+    };
+    Ok(ResultFigures {
+        completed,
+        summary: known.summary,
+        commissions,
     })
 }

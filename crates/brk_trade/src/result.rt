@@ -1,6 +1,6 @@
-ghost use Rattle.std.specs.Prelude.{◌≡◌, ◌⊎◌, ◌+◌, ◌*◌, ◌≤◌, ◌≤ℤ◌, ℕ, List, drop, length, option_map, pos, IfOk, IfErr, IfSome, MatchResult};
+ghost use Rattle.std.specs.Prelude.{◌≡◌, ◌⊎◌, ◌+◌, ◌*◌, ◌≤◌, ℕ, List, drop, length, option_map, IfOk, IfErr, IfSome, MatchResult};
 ghost use Rattle.brk_lots.specs.declared.lot.Lot.{Lot};
-ghost use Rattle.brk_lots.specs.Closing.{IsClosingOfDeal};
+ghost use Rattle.brk_lots.specs.Closing.{AreLotsClosedByDeal};
 ghost use Rattle.brk_lots.specs.Lots.{shares_of_lots};
 ghost use Rattle.brk_lots.specs.Sources.{AreLotsOfFaithfulSource};
 ghost use Rattle.brk_model.specs.Limits.{greatest_price};
@@ -9,53 +9,35 @@ ghost use Rattle.brk_money.specs.Moments as moments;
 ghost use Rattle.brk_money.specs.declared.fault.Fault.{Fault};
 ghost use Rattle.brk_trade.specs.Outcomes.{deal_of_trade_row};
 ghost use Rattle.brk_trade.specs.Results.{AreLotsBeforeTrade, ResultReadsAtMostOneLotMore, CompletesExistingTrade};
-ghost use Rattle.brk_trade.specs.Results.{IsResultRefusal, ClosesNoHeldShares, stamp_or_clock_reading, completed_reply_of_figures};
+ghost use Rattle.brk_trade.specs.Results.{IsResultRefusal, ClosesNoHeldShares, stamp_or_clock_reading};
 
 use crate::completion::create_completion_changes;
-use crate::outcome::{ResultFigures, checked_rate_and_summary, checked_result_figures};
+use crate::outcome::{checked_rate_and_summary, checked_result_figures};
 use crate::result_found::ResultPlanFacts;
-use brk_lots::{Closing, LotSource, close, closes_lots, open_lot_without_closing};
+use brk_lots::{ClosedLots, LotSource, close_with_amounts, closes_lots, open_lot_without_closing};
 use brk_money::{Fault, Planned, Price, Refusal, Stamp, stamp_after};
-use brk_plans::{Completed, Plan, Reply};
+use brk_plans::{Plan, Reply};
 use std::alloc::Global;
 
-// Returns the reply of a completion, from the figures of the completed trade: its stamp,
-// commission, tax, settlement amount, due day, buy value, sell value and the balance after it.
-fn create_completed_reply(outcome: &ResultFigures) -> Completed
-    ensures { result ≡ completed_reply_of_figures outcome.now }
-{
-    Completed {
-        stamp: outcome.stamp,
-        commission: outcome.commission,
-        tax: outcome.tax,
-        amount: outcome.amount,
-        due_day: outcome.due_day,
-        buy_value: outcome.buy_value,
-        sell_value: outcome.sell_value,
-        balance: outcome.balance,
-    }
-}
-
 // Returns the effect of the trade at `price` and `stamp` on the lots: the lots that it closes or
-// reduces, and the lot that it opens, if any. Fails with `Memory` or a fault of the source. Reads
-// no lot if the account holds no shares that the trade would close.
+// reduces, the lot that it opens, if any, and the values of the closed shares. Fails with `Memory`
+// or a fault of the source. Reads no lot if the account holds no shares that the trade would close.
 fn close_or_open_lots<L: LotSource>(
     alloc: Global,
     source: &mut L,
     found: &ResultPlanFacts,
     price: Price,
     stamp: Stamp,
-) -> Result<Closing, Fault>
+) -> Result<ClosedLots, Fault>
     ensures leads { L.leads source.old source.new }
-    ensures closing { IfOk result (λ closing. (ls : List Lot)
+    ensures closed { IfOk result (λ closed. (ls : List Lot)
         → AreLotsBeforeTrade (AreLotsOfFaithfulSource (L.reads_faithfully source.new) (L.remaining source.old)) found.now ls →
-        IsClosingOfDeal (deal_of_trade_row found.now.trade price stamp) ls closing) }
-    ensures bought { IfOk result (λ closing. (pos 0 ≤ℤ closing.buy_value) × (closing.buy_value ≤ℤ pos (found.now.trade.qty * greatest_price))) }
-    ensures sold { IfOk result (λ closing. (pos 0 ≤ℤ closing.sell_value) × (closing.sell_value ≤ℤ pos (found.now.trade.qty * greatest_price))) }
+        AreLotsClosedByDeal (deal_of_trade_row found.now.trade price stamp) ls closed) }
+    ensures sold { IfOk result (λ closed. closed.values.sell_value ≤ found.now.trade.qty * greatest_price) }
     ensures asked { (ls : List Lot) → AreLotsBeforeTrade (AreLotsOfFaithfulSource (L.reads_faithfully source.new) (L.remaining source.old)) found.now ls →
         L.asked source.new ≤ L.asked source.old + length (touches_of_existing_lots (deal_of_trade_row found.now.trade price stamp) (shares_of_lots ls)) + 1 }
     ensures reads_no_lot { ClosesNoHeldShares found.now → source.new ≡ source.old }
-    ensures faulted { IfOk result (λ closing. L.faulted source.new ≡ L.faulted source.old) }
+    ensures faulted { IfOk result (λ closed. L.faulted source.new ≡ L.faulted source.old) }
     ensures fault { IfErr result (λ fault. (fault ≡ Fault.Memory) ⊎ ((before : L) × L.fails before fault source.new)) }
     ensures rest { (ls : List Lot) → AreLotsOfFaithfulSource (L.reads_faithfully source.new) (L.remaining source.old) ls
         → (n : ℕ) × L.remaining source.new (drop n ls) }
@@ -63,7 +45,7 @@ fn close_or_open_lots<L: LotSource>(
     let trade = &found.trade;
     let side = trade.kind.side();
     if closes_lots(side, found.summary.unwrap_or(0)) {
-        close(alloc, source, side, trade.qty, trade.id, price, stamp)
+        close_with_amounts(alloc, source, side, trade.qty, trade.id, price, stamp)
     } else {
         Ok(open_lot_without_closing(alloc, side, trade.qty, trade.id, price, stamp))
     }
@@ -124,12 +106,12 @@ pub fn plan_result<L: LotSource>(
         Some(stamp) => stamp,
         None => now,
     };
-    let closing = close_or_open_lots(alloc, source, found, price, at)?;
-    let outcome = match checked_result_figures(found, price, &known, &closing, moved) {
+    let closed = close_or_open_lots(alloc, source, found, price, at)?;
+    let outcome = match checked_result_figures(found, price, &known, &closed, moved) {
         Ok(outcome) => outcome,
         Err(refusal) => return Ok(Err(refusal)),
     };
-    let changes = create_completion_changes(alloc, found, price, &closing, &outcome)?;
-    let reply = Reply::Completed(create_completed_reply(&outcome));
+    let changes = create_completion_changes(alloc, found, price, &closed, &outcome)?;
+    let reply = Reply::Completed(outcome.completed);
     Ok(Ok(Plan { changes, reply }))
 }

@@ -1,7 +1,7 @@
 //! The arithmetic of a settlement: the cost and the proceeds of a completed trade, and the totals
 //! after it.
 
-ghost use Rattle.std.specs.Prelude.{◌≡◌, ◌+◌, ◌*◌, ◌≤◌, ◌≤ℤ◌, ◌+ℤ◌, ◌-ℤ◌, ◌&&◌, true, false, nat_lt, nat_abs, pos, if◌then◌else◌, MatchOption};
+ghost use Rattle.std.specs.Prelude.{◌≡◌, ◌+◌, ◌*◌, ◌≤◌, ◌-ℤ◌, ◌&&◌, true, false, nat_lt, nat_abs, pos, if◌then◌else◌, MatchOption};
 ghost use Rattle.brk_model.specs.Base.{is_withholding_status};
 ghost use Rattle.brk_model.specs.Derived as derived;
 ghost use Rattle.brk_model.specs.Derived.{signed_proceeds};
@@ -10,39 +10,14 @@ ghost use Rattle.brk_money.specs.Amounts as amounts;
 ghost use Rattle.brk_money.specs.Kinds.{side_of_trade_type};
 ghost use Rattle.brk_money.specs.Moments.{greatest_day};
 ghost use Rattle.brk_trade.specs.Outcomes as spec;
-ghost use Rattle.brk_trade.specs.Outcomes.{greatest_trade_value, values_of_closing};
+ghost use Rattle.brk_trade.specs.Outcomes.{greatest_trade_value};
 
 use crate::estimate::tax_on_realised_gain;
 use crate::result_found::ResultPlanFacts;
 use brk_changes::{Amount, BrokerTotals, TradeRow, due_day_after_completion};
-use brk_lots::{Closing, Values};
-use brk_money::{Cents, Day, Price, Qty, Rate, Side, Stamp, TaxStatus, Wide, commission};
+use brk_lots::Values;
+use brk_money::{Cents, Day, Price, Rate, Side, Stamp, TaxStatus, commission};
 use brk_plans::add_within_balance_limit;
-
-// Returns the value of closed shares, in cents, as an amount. The value must be within 0 and the
-// greatest value of a trade.
-fn value_as_amount(value: Wide) -> Amount
-    requires low { pos 0 ≤ℤ value }
-    requires high { value ≤ℤ pos greatest_trade_value }
-    ensures { result ≡ nat_abs value }
-{
-    Amount::new(value.get() as u64).unwrap()
-}
-
-// Returns the buy value and the sell value of the closed shares, in cents, as amounts. Each is at
-// most the value of a trade of `qty` at the greatest price.
-pub(crate) fn values_of_closed_shares(qty: Qty, closing: &Closing) -> Values
-    requires bought { (pos 0 ≤ℤ closing.now.buy_value) × (closing.now.buy_value ≤ℤ pos (qty * greatest_price)) }
-    requires sold { (pos 0 ≤ℤ closing.now.sell_value) × (closing.now.sell_value ≤ℤ pos (qty * greatest_price)) }
-    ensures values { result ≡ values_of_closing closing.now }
-    ensures sold { result.sell_value ≤ greatest_trade_value }
-{
-    let _limit = qty.get();
-    Values {
-        buy_value: value_as_amount(closing.buy_value),
-        sell_value: value_as_amount(closing.sell_value),
-    }
-}
 
 // Returns the commission of a trade at `price` and at `rate` (hundredths of a percent), in cents.
 // It is at most the greatest value of a trade.
@@ -56,14 +31,15 @@ pub(crate) fn commission_at_price_and_rate(trade: &TradeRow, price: Price, rate:
 }
 
 // Returns the tax on the realised gain of the closed shares, in cents, which is at most the
-// greatest value of a trade.
+// greatest value of a trade. The sell value is at most the value of the trade's quantity at the
+// greatest price.
 #[tactic(auto, using(crate::proofs::Bounds::tax_at_high))]
 pub(crate) fn tax_on_closed_shares(found: &ResultPlanFacts, values: Values) -> Amount
-    requires { values.sell_value ≤ greatest_trade_value }
+    requires { values.sell_value ≤ found.now.trade.qty * greatest_price }
     ensures value { result ≡ spec.tax_of_result found.now values }
     ensures high { result ≤ greatest_trade_value }
 {
-    let _limit = found.rates.get();
+    let _limits = (found.rates.get(), found.trade.qty.get());
     tax_on_realised_gain(values, found.account.tax_status, found.rates)
 }
 

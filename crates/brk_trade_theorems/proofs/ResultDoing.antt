@@ -1,11 +1,12 @@
 -- The plan of a result does its command.
 use Rattle.std.proofs.Common.{◌≡◌, ◌<◌, ℕ, ◌+◌, Bool, true, false, cond, zero, suc, List, [], ◌∷◌, ◌++◌, refl, sym, subst, ◌∙◌, ap, length, map, arith, ℤ, pos, ◌+ℤ◌, Option, Some, None}
-use Rattle.std.specs.Prelude.{decimal, codes, is_none, is_some, nat_abs, option_map, option_to_list, unwrap_or, flat_map, Ok}
+use Rattle.std.specs.Prelude.{decimal, codes, is_none, is_some, option_map, option_to_list, unwrap_or, flat_map, Ok}
 use Rattle.std.specs.Option.{option_map_or}
 use Rattle.std.proofs.lemmas.Int.{ints}
-use Rattle.brk_lots.specs.Closing.{IsClosingOfDeal}
+use Rattle.brk_lots.specs.Closing.{AreLotsClosedByDeal}
+use Rattle.brk_lots.specs.Values.{closing_values_of_deal}
 use Rattle.brk_lots.specs.Lots.{list_in_closing_order, abstract_lot, abstract_touch, shares_of_lots}
-use Rattle.brk_lots.specs.declared.closing.Closing.{Closing}
+use Rattle.brk_lots.specs.declared.closing.ClosedLots.{ClosedLots}
 use Rattle.brk_lots.specs.declared.lot.Lot.{Lot}
 use Rattle.brk_lots.specs.declared.lot.Touch.{Touch}
 use Rattle.brk_model.specs.Base.{Base, broker_id_of_account, completed_trades, last_status_stamp_of_trade, trade_with_id}
@@ -17,7 +18,6 @@ use Rattle.brk_model.specs.Lists.{is_zero}
 use Rattle.brk_model.specs.Records.{Trade}
 use Rattle.brk_model.specs.Results as results
 use Rattle.brk_model.specs.Results.{completed_trade, completion_of_trade, deal_of_result, base_after_result}
-use Rattle.brk_model.specs.Shares as shares
 use Rattle.brk_model.specs.Shares.{lots_of_shares, opened_shares, signed_by_side, touches_of_existing_lots}
 use Rattle.brk_model.specs.Sheets.{sheets}
 use Rattle.brk_model.specs.Step.{reply_to_command}
@@ -30,10 +30,10 @@ use Rattle.brk_money.specs.declared.side.Side.{Side}
 use Rattle.brk_money.specs.declared.side.Side.TheVariants.{Buy, Sell}
 use Rattle.brk_money.specs.declared.status.Status.TheVariants.{Completed}
 use Rattle.brk_changes.specs.Changes.{tables_after_change, tables_after_changes, tables_with_balance, tables_with_broker_totals, tables_with_trade_completed, tables_with_history_row, tables_with_last_stamp, tables_with_lot_change, tables_with_cash_row, tables_with_settlement}
-use Rattle.brk_trade.specs.Outcomes.{deal_of_trade_row, figures_of_result, result_checks, shares_held_after_trade, values_of_closing}
+use Rattle.brk_trade.specs.Outcomes.{deal_of_trade_row, figures_of_result, result_checks, shares_held_after_trade}
 use Rattle.brk_plans.specs.Replies.{abstract_reply}
 use Rattle.brk_trade.specs.Results as planner
-use Rattle.brk_trade.specs.Results.{CompletesExistingTrade, row_changes_of_cash_row, row_changes_of_result, first_cash_type_of_trade, row_changes_of_opened_lot, summary_broker_settlement_changes, row_change_of_summary, row_changes_of_touched_lot, completed_reply_of_figures, row_changes_of_completed_trade}
+use Rattle.brk_trade.specs.Results.{CompletesExistingTrade, row_changes_of_cash_row, row_changes_of_result, first_cash_type_of_trade, row_changes_of_opened_lot, summary_broker_settlement_changes, row_change_of_summary, row_changes_of_touched_lot, row_changes_of_completed_trade}
 use Rattle.brk_changes.specs.Rows.{cash_type_text, abstract_move_row, abstract_trade_row}
 use Rattle.brk_changes.specs.declared.move_row.MoveRow.{MoveRow}
 use Rattle.brk_changes.specs.declared.change.Change.{Change}
@@ -118,46 +118,46 @@ summary_made found row before after t e none some new = by_row row refl e
 -- ---- a completion
 
 -- a result that was planned, of the trade that it completes
-record Planned (base : Base) (price : ℕ) (last : Option ℕ) (now : ℕ) (t : Trade) (found : ResultPlanFacts) (closing : Closing) (stamp : ℕ) : Type 0 where
+record Planned (base : Base) (price : ℕ) (last : Option ℕ) (now : ℕ) (t : Trade) (found : ResultPlanFacts) (closed : ClosedLots) (stamp : ℕ) : Type 0 where
   pub found_it : TradeFound base t found
   pub front : List Trade
   pub back : List Trade
   pub result : IsResult base stamp price t front back
   pub some_shares : 0 < found.trade.qty
-  pub values : values_of_closing closing ≡ result_values base stamp price t
-  pub touched : map abstract_touch closing.touched.items ≡ list_in_closing_order t.is_lifo (touches_of_existing_lots (deal_of_result stamp price t) (shares_of_position (completed_trades base) t.account t.symbol))
-  pub opened : map abstract_lot (option_to_list closing.opened) ≡ lots_of_shares (opened_shares (deal_of_result stamp price t) (shares_of_position (completed_trades base) t.account t.symbol))
+  pub values : closed.values ≡ result_values base stamp price t
+  pub touched : map abstract_touch closed.touched.items ≡ list_in_closing_order t.is_lifo (touches_of_existing_lots (deal_of_result stamp price t) (shares_of_position (completed_trades base) t.account t.symbol))
+  pub opened : map abstract_lot (option_to_list closed.opened) ≡ lots_of_shares (opened_shares (deal_of_result stamp price t) (shares_of_position (completed_trades base) t.account t.symbol))
   pub one : PassesFirstResultChecks 1 found
   pub rated : is_none found.rate ≡ false
   pub two : PassesFirstResultChecks 2 found
   pub three : PassesFirstResultChecks 3 found
 
-abbrev outcome_planned : ResultPlanFacts → ℕ → Closing → ℕ → ResultFigures
-outcome_planned found price closing stamp = figures_of_result found price (values_of_closing closing) stamp
+abbrev outcome_planned : ResultPlanFacts → ℕ → ClosedLots → ℕ → ResultFigures
+outcome_planned found price closed stamp = figures_of_result found price closed.values stamp
 
 -- what it comes to is what the definitions say
-record Agrees (base : Base) (price : ℕ) (t : Trade) (found : ResultPlanFacts) (closing : Closing) (stamp : ℕ) : Type 0 where
-  pub commission : (outcome_planned found price closing stamp).commission ≡ (completed_trade base stamp price t).commission
-  pub tax : (outcome_planned found price closing stamp).tax ≡ (completed_trade base stamp price t).tax
-  pub amount : (outcome_planned found price closing stamp).amount ≡ derived.settlement_amount base.accounts (completed_trade base stamp price t)
-  pub due : (outcome_planned found price closing stamp).due_day ≡ due_day base.rule (completed_trade base stamp price t)
-  pub summary : (outcome_planned found price closing stamp).summary ≡ holding_summary_quantity (completed_trades (base_after_result base stamp price t)) t.account t.symbol
-  pub balance : (outcome_planned found price closing stamp).balance ≡ balance_of_account base.accounts (postings_of_base (base_after_result base stamp price t)) t.account
-  pub commissions : (outcome_planned found price closing stamp).commissions ≡ commission_total_of_broker base.accounts (completed_trades (base_after_result base stamp price t)) (broker_id_of_account base t.account)
+record Agrees (base : Base) (price : ℕ) (t : Trade) (found : ResultPlanFacts) (closed : ClosedLots) (stamp : ℕ) : Type 0 where
+  pub commission : (outcome_planned found price closed stamp).completed.commission ≡ (completed_trade base stamp price t).commission
+  pub tax : (outcome_planned found price closed stamp).completed.tax ≡ (completed_trade base stamp price t).tax
+  pub amount : (outcome_planned found price closed stamp).completed.amount ≡ derived.settlement_amount base.accounts (completed_trade base stamp price t)
+  pub due : (outcome_planned found price closed stamp).completed.due_day ≡ due_day base.rule (completed_trade base stamp price t)
+  pub summary : (outcome_planned found price closed stamp).summary ≡ holding_summary_quantity (completed_trades (base_after_result base stamp price t)) t.account t.symbol
+  pub balance : (outcome_planned found price closed stamp).completed.balance ≡ balance_of_account base.accounts (postings_of_base (base_after_result base stamp price t)) t.account
+  pub commissions : (outcome_planned found price closed stamp).commissions ≡ commission_total_of_broker base.accounts (completed_trades (base_after_result base stamp price t)) (broker_id_of_account base t.account)
   pub trades : pos (found.broker.trades + 1) ≡ pos (trade_count_of_broker base.accounts (completed_trades (base_after_result base stamp price t)) (broker_id_of_account base t.account))
   pub broker : found.account.broker ≡ broker_id_of_account base t.account
 
-agrees : (base : Base) (price : ℕ) (last : Option ℕ) (now : ℕ) (t : Trade) (found : ResultPlanFacts) (closing : Closing) (stamp : ℕ) → Planned base price last now t found closing stamp
-    → Agrees base price t found closing stamp
-agrees base price last now t found closing stamp k =
+agrees : (base : Base) (price : ℕ) (last : Option ℕ) (now : ℕ) (t : Trade) (found : ResultPlanFacts) (closed : ClosedLots) (stamp : ℕ) → Planned base price last now t found closed stamp
+    → Agrees base price t found closed stamp
+agrees base price last now t found closed stamp k =
     let f = k.found_it in
     record {
       commission = commission_read base stamp price t found f k.one k.rated;
-      tax = ap (λ v. (figures_of_result found price v stamp).tax) k.values ∙ tax_read base stamp price t found f k.three;
-      amount = ap (λ v. (figures_of_result found price v stamp).amount) k.values ∙ amount_read base stamp price t found f k.three k.rated k.one;
+      tax = ap (λ v. (figures_of_result found price v stamp).completed.tax) k.values ∙ tax_read base stamp price t found f k.three;
+      amount = ap (λ v. (figures_of_result found price v stamp).completed.amount) k.values ∙ amount_read base stamp price t found f k.three k.rated k.one;
       due = λ i. due_day_of_completion_stamp (rule_found base t found f k.three i) (sym (moment_then base stamp price t) i);
       summary = summary_read base stamp price t k.front k.back found f k.result k.two;
-      balance = ap (λ v. (figures_of_result found price v stamp).balance) k.values ∙ balance_read base stamp price t k.front k.back found f k.result k.three k.rated k.one;
+      balance = ap (λ v. (figures_of_result found price v stamp).completed.balance) k.values ∙ balance_read base stamp price t k.front k.back found f k.result k.three k.rated k.one;
       commissions = commissions_read base stamp price t k.front k.back found f k.result k.three k.rated k.one;
       trades = one_more found.broker.trades (trade_count_of_broker base.accounts (completed_trades base) (broker_id_of_account base t.account)) (broker_found base t found f k.three).0
           ∙ ap pos (sym (count_grows base stamp price t k.front k.back k.result));
@@ -169,11 +169,11 @@ agrees base price last now t found closing stamp k =
 
 -- ---- the reply
 
-told_read : (base : Base) (price : ℕ) (last : Option ℕ) (now : ℕ) (t : Trade) (found : ResultPlanFacts) (closing : Closing) (stamp : ℕ) → Planned base price last now t found closing stamp
-    → CompletedTrade stamp (completion_of_trade base stamp price t) ≡ abstract_reply (reply.Completed (completed_reply_of_figures (outcome_planned found price closing stamp)))
+told_read : (base : Base) (price : ℕ) (last : Option ℕ) (now : ℕ) (t : Trade) (found : ResultPlanFacts) (closed : ClosedLots) (stamp : ℕ) → Planned base price last now t found closed stamp
+    → CompletedTrade stamp (completion_of_trade base stamp price t) ≡ abstract_reply (reply.Completed (outcome_planned found price closed stamp).completed)
 unfolding completion_of_trade completed_trade
-told_read base price last now t found closing stamp k =
-    let a = agrees base price last now t found closing stamp k in
+told_read base price last now t found closed stamp k =
+    let a = agrees base price last now t found closed stamp k in
     sym (λ i. CompletedTrade stamp (record {
       commission = a.commission i;
       tax = a.tax i;
@@ -186,21 +186,21 @@ told_read base price last now t found closing stamp k =
 
 -- ---- the changes, one after another
 
-trade_made : (base : Base) (price : ℕ) (last : Option ℕ) (now : ℕ) (t : Trade) (found : ResultPlanFacts) (closing : Closing) (stamp : ℕ) → Planned base price last now t found closing stamp
-    → (x : Tables) → tables_after_changes (row_changes_of_completed_trade found.trade.id price (outcome_planned found price closing stamp)) x ≡ tables_with_trade_completed_and_history (trade_row (completed_trade base stamp price t)) x
+trade_made : (base : Base) (price : ℕ) (last : Option ℕ) (now : ℕ) (t : Trade) (found : ResultPlanFacts) (closed : ClosedLots) (stamp : ℕ) → Planned base price last now t found closed stamp
+    → (x : Tables) → tables_after_changes (row_changes_of_completed_trade found.trade.id price (outcome_planned found price closed stamp).completed) x ≡ tables_with_trade_completed_and_history (trade_row (completed_trade base stamp price t)) x
 unfolding completed_trade
-trade_made base price last now t found closing stamp k x =
-    let a = agrees base price last now t found closing stamp k in
+trade_made base price last now t found closed stamp k x =
+    let a = agrees base price last now t found closed stamp k in
     let m : stamp ≡ last_status_stamp_of_trade (completed_trade base stamp price t) = sym (moment_then base stamp price t) in
     λ i. tables_with_history_row (history_row_of_status (k.found_it.row i).id Completed (m i)) (tables_with_trade_completed (k.found_it.row i).id (m i) price (a.commission i) (a.tax i) x)
 
-lots_made : (base : Base) (price : ℕ) (last : Option ℕ) (now : ℕ) (t : Trade) (found : ResultPlanFacts) (closing : Closing) (stamp : ℕ) → Planned base price last now t found closing stamp
-    → (x : Tables) → tables_after_changes (flat_map (row_changes_of_opened_lot found.trade) (option_to_list closing.opened)) (tables_after_changes (flat_map (row_changes_of_touched_lot found.trade.id) closing.touched.items) x)
+lots_made : (base : Base) (price : ℕ) (last : Option ℕ) (now : ℕ) (t : Trade) (found : ResultPlanFacts) (closed : ClosedLots) (stamp : ℕ) → Planned base price last now t found closed stamp
+    → (x : Tables) → tables_after_changes (flat_map (row_changes_of_opened_lot found.trade) (option_to_list closed.opened)) (tables_after_changes (flat_map (row_changes_of_touched_lot found.trade.id) closed.touched.items) x)
     ≡ tables_with_lots_opened (trade_row (completed_trade base stamp price t)) (result_rows_of_trade base stamp price t).opened (tables_with_lots_touched t.id (result_rows_of_trade base stamp price t).touched x)
 unfolding completed_trade
-lots_made base price last now t found closing stamp k x =
-    ap (tables_after_changes (flat_map (row_changes_of_opened_lot found.trade) (option_to_list closing.opened))) (touched_made found.trade.id closing.touched.items x)
-    ∙ opened_made found.trade (option_to_list closing.opened) (tables_with_lots_touched found.trade.id (map abstract_touch closing.touched.items) x)
+lots_made base price last now t found closed stamp k x =
+    ap (tables_after_changes (flat_map (row_changes_of_opened_lot found.trade) (option_to_list closed.opened))) (touched_made found.trade.id closed.touched.items x)
+    ∙ opened_made found.trade (option_to_list closed.opened) (tables_with_lots_touched found.trade.id (map abstract_touch closed.touched.items) x)
     ∙ (λ i. tables_with_lots_opened (k.found_it.row i) (k.opened i) (tables_with_lots_touched (k.found_it.row i).id (k.touched i) x))
 
 cash_type_read : (b : Bool) → cash_type_text (first_cash_type_of_trade b) ≡ cond b (codes "Cash Account") (codes "Margin")
@@ -208,12 +208,12 @@ cash_type_read true = refl
 cash_type_read false = refl
 
 -- the summary is a row where it is not 0
-summary_row_is : (base : Base) (price : ℕ) (last : Option ℕ) (now : ℕ) (t : Trade) (found : ResultPlanFacts) (closing : Closing) (stamp : ℕ) → Planned base price last now t found closing stamp
-    → (x : Tables) → tables_after_change (row_change_of_summary found.summary found.trade (outcome_planned found price closing stamp).summary) x
+summary_row_is : (base : Base) (price : ℕ) (last : Option ℕ) (now : ℕ) (t : Trade) (found : ResultPlanFacts) (closed : ClosedLots) (stamp : ℕ) → Planned base price last now t found closed stamp
+    → (x : Tables) → tables_after_change (row_change_of_summary found.summary found.trade (outcome_planned found price closed stamp).summary) x
     ≡ tables_with_summary_changed (holding_summary_quantity (completed_trades base) t.account t.symbol) (holding_summary_quantity (completed_trades (base_after_result base stamp price t)) t.account t.symbol)
     (record { account = t.account; symbol = t.symbol; qty = holding_summary_quantity (completed_trades (base_after_result base stamp price t)) t.account t.symbol }) x
-summary_row_is base price last now t found closing stamp k x =
-    let a = agrees base price last now t found closing stamp k in
+summary_row_is base price last now t found closed stamp k x =
+    let a = agrees base price last now t found closed stamp k in
     let f = k.found_it in
     let held : unwrap_or found.summary (pos 0) ≡ holding_summary_quantity (completed_trades base) t.account t.symbol = held_found base t found f k.two in
     let row : summary_row_of_position (sheets base) t.account t.symbol ≡ summary_row_if_nonzero t.account t.symbol (holding_summary_quantity (completed_trades base) t.account t.symbol) =
@@ -237,15 +237,15 @@ summary_row_is base price last now t found closing stamp k x =
         let row : SummaryRow = record { account = account; symbol = symbol; qty = q } in
         let k : None ≡ Some r = sym (ap (λ b. cond b None (Some row)) e) ∙ h in absurd (cc)
 
-sums_made : (base : Base) (price : ℕ) (last : Option ℕ) (now : ℕ) (t : Trade) (found : ResultPlanFacts) (closing : Closing) (stamp : ℕ) → Planned base price last now t found closing stamp
-    → (x : Tables) → tables_after_changes (summary_broker_settlement_changes found (outcome_planned found price closing stamp)) x
+sums_made : (base : Base) (price : ℕ) (last : Option ℕ) (now : ℕ) (t : Trade) (found : ResultPlanFacts) (closed : ClosedLots) (stamp : ℕ) → Planned base price last now t found closed stamp
+    → (x : Tables) → tables_after_changes (summary_broker_settlement_changes found (outcome_planned found price closed stamp)) x
     ≡ tables_with_settlement (result_rows_of_trade base stamp price t).settlement
     (tables_with_broker_totals (result_rows_of_trade base stamp price t).broker (result_rows_of_trade base stamp price t).trades (result_rows_of_trade base stamp price t).commissions
     (tables_with_summary_changed (holding_summary_quantity (completed_trades base) t.account t.symbol) (holding_summary_quantity (completed_trades (base_after_result base stamp price t)) t.account t.symbol)
     (record { account = t.account; symbol = t.symbol; qty = holding_summary_quantity (completed_trades (base_after_result base stamp price t)) t.account t.symbol }) x))
 unfolding completed_trade
-sums_made base price last now t found closing stamp k x =
-    let a = agrees base price last now t found closing stamp k in
+sums_made base price last now t found closed stamp k x =
+    let a = agrees base price last now t found closed stamp k in
     let f = k.found_it in
     λ i. tables_with_settlement (record {
       trade = (f.row i).id;
@@ -253,17 +253,17 @@ sums_made base price last now t found closing stamp k x =
       due_day = a.due i;
       amount = a.amount i;
     })
-    (tables_with_broker_totals (a.broker i) (a.trades i) (a.commissions i) (summary_row_is base price last now t found closing stamp k x i))
+    (tables_with_broker_totals (a.broker i) (a.trades i) (a.commissions i) (summary_row_is base price last now t found closed stamp k x i))
 
-cash_made : (base : Base) (price : ℕ) (last : Option ℕ) (now : ℕ) (t : Trade) (found : ResultPlanFacts) (closing : Closing) (stamp : ℕ) → Planned base price last now t found closing stamp
-    → (cash : Option MoveRow) → option_map abstract_move_row cash ≡ planner.cash_row_of_result found (outcome_planned found price closing stamp) → (x : Tables)
-    → tables_after_changes (flat_map (row_changes_of_cash_row found.trade.account (outcome_planned found price closing stamp).balance) (option_to_list cash)) x
+cash_made : (base : Base) (price : ℕ) (last : Option ℕ) (now : ℕ) (t : Trade) (found : ResultPlanFacts) (closed : ClosedLots) (stamp : ℕ) → Planned base price last now t found closed stamp
+    → (cash : Option MoveRow) → option_map abstract_move_row cash ≡ planner.cash_row_of_result found (outcome_planned found price closed stamp).completed → (x : Tables)
+    → tables_after_changes (flat_map (row_changes_of_cash_row found.trade.account (outcome_planned found price closed stamp).completed.balance) (option_to_list cash)) x
     ≡ tables_with_cash_row_if_cash_trade t.is_cash (result_rows_of_trade base stamp price t).cash t.account (result_rows_of_trade base stamp price t).balance x
 unfolding completed_trade
-cash_made base price last now t found closing stamp k cash moved x = by_cash t.is_cash refl cash (moved ∙ told)
+cash_made base price last now t found closed stamp k cash moved x = by_cash t.is_cash refl cash (moved ∙ told)
   where
-    a : Agrees base price t found closing stamp
-    a = agrees base price last now t found closing stamp k
+    a : Agrees base price t found closed stamp
+    a = agrees base price last now t found closed stamp k
 
     f : TradeFound base t found
     f = k.found_it
@@ -284,7 +284,7 @@ cash_made base price last now t found closing stamp k cash moved x = by_cash t.i
     name : t.is_cash ≡ true → row.name ≡ results.cash_row_name (codes " shares of ") base t
     name e = ap (λ b. cond b (results.cash_row_name (codes " shares of ") base t) []) e
 
-    told : planner.cash_row_of_result found (outcome_planned found price closing stamp)
+    told : planner.cash_row_of_result found (outcome_planned found price closed stamp).completed
         ≡ cond t.is_cash (Some moves) None
     told = λ i. cond (f.row i).is_cash (Some (record {
       id = next_found base t found f k.three i;
@@ -296,7 +296,7 @@ cash_made base price last now t found closing stamp k cash moved x = by_cash t.i
     })) None
 
     Made : Bool → Option MoveRow → Type 0
-    Made b cash = tables_after_changes (flat_map (row_changes_of_cash_row found.trade.account (outcome_planned found price closing stamp).balance) (option_to_list cash)) x
+    Made b cash = tables_after_changes (flat_map (row_changes_of_cash_row found.trade.account (outcome_planned found price closed stamp).completed.balance) (option_to_list cash)) x
         ≡ tables_with_cash_row_if_cash_trade b row t.account (result_rows_of_trade base stamp price t).balance x
 
     unsome : (c d : tables.MoveRow) → Some c ≡ Some d → c ≡ d
@@ -321,25 +321,25 @@ cash_made base price last now t found closing stamp k cash moved x = by_cash t.i
         absurd (cc)
 
 -- all of them
-changes_made : (base : Base) (price : ℕ) (last : Option ℕ) (now : ℕ) (t : Trade) (found : ResultPlanFacts) (closing : Closing) (stamp : ℕ) → Planned base price last now t found closing stamp
-    → (cash : Option MoveRow) → option_map abstract_move_row cash ≡ planner.cash_row_of_result found (outcome_planned found price closing stamp) → (x : Tables)
-    → tables_after_changes (row_changes_of_result found price closing (outcome_planned found price closing stamp) cash) x ≡ tables_with_last_stamp stamp (tables_after_result (result_rows_of_trade base stamp price t) x)
+changes_made : (base : Base) (price : ℕ) (last : Option ℕ) (now : ℕ) (t : Trade) (found : ResultPlanFacts) (closed : ClosedLots) (stamp : ℕ) → Planned base price last now t found closed stamp
+    → (cash : Option MoveRow) → option_map abstract_move_row cash ≡ planner.cash_row_of_result found (outcome_planned found price closed stamp).completed → (x : Tables)
+    → tables_after_changes (row_changes_of_result found price closed (outcome_planned found price closed stamp) cash) x ≡ tables_with_last_stamp stamp (tables_after_result (result_rows_of_trade base stamp price t) x)
 unfolding completed_trade
-changes_made base price last now t found closing stamp k cash moved x =
-    let o : ResultFigures = outcome_planned found price closing stamp in
-    let T : List Change = row_changes_of_completed_trade found.trade.id price o in
-    let L : List Change = flat_map (row_changes_of_touched_lot found.trade.id) closing.touched.items in
-    let O : List Change = flat_map (row_changes_of_opened_lot found.trade) (option_to_list closing.opened) in
+changes_made base price last now t found closed stamp k cash moved x =
+    let o : ResultFigures = outcome_planned found price closed stamp in
+    let T : List Change = row_changes_of_completed_trade found.trade.id price o.completed in
+    let L : List Change = flat_map (row_changes_of_touched_lot found.trade.id) closed.touched.items in
+    let O : List Change = flat_map (row_changes_of_opened_lot found.trade) (option_to_list closed.opened) in
     let S : List Change = summary_broker_settlement_changes found o in
-    let C : List Change = flat_map (row_changes_of_cash_row found.trade.account o.balance) (option_to_list cash) in
+    let C : List Change = flat_map (row_changes_of_cash_row found.trade.account o.completed.balance) (option_to_list cash) in
     after_more ((((T ++ L) ++ O) ++ S) ++ C) (change.SetLastStamp stamp ∷ []) x
     ∙ ap (tables_with_last_stamp stamp) (after_more (((T ++ L) ++ O) ++ S) C x
     ∙ ap (tables_after_changes C) (after_more ((T ++ L) ++ O) S x
     ∙ ap (tables_after_changes S) (after_more (T ++ L) O x ∙ ap (tables_after_changes O) (after_more T L x)
-    ∙ ap (λ y. tables_after_changes O (tables_after_changes L y)) (trade_made base price last now t found closing stamp k x)
-    ∙ lots_made base price last now t found closing stamp k (tables_with_trade_completed_and_history (trade_row (completed_trade base stamp price t)) x))
-    ∙ sums_made base price last now t found closing stamp k _)
-    ∙ cash_made base price last now t found closing stamp k cash moved _)
+    ∙ ap (λ y. tables_after_changes O (tables_after_changes L y)) (trade_made base price last now t found closed stamp k x)
+    ∙ lots_made base price last now t found closed stamp k (tables_with_trade_completed_and_history (trade_row (completed_trade base stamp price t)) x))
+    ∙ sums_made base price last now t found closed stamp k _)
+    ∙ cash_made base price last now t found closed stamp k cash moved _)
 
 -- ---- the plan
 
@@ -360,30 +360,27 @@ result_plan_does base id price (Some found) given last now plan k p =
     let t = trade_of base id (abstract_trade_row found.trade) k.trade_read in
     let f : TradeFound base t.0 found = trade_found base id t.0 found k.books t.1 t.2 k.looked_up in
     let next : p.stamp ≡ stamp_of_next_command base now = stamp_read base last now p.stamp k.last_read p.stamped in
-    let tests = none_refuse (result_checks found price (values_of_closing p.closing) (Some p.stamp)) p.accepted in
+    let tests = none_refuse (result_checks found price p.closed.values (Some p.stamp)) p.accepted in
     let held = lots_of_position (sheets base) found.trade.account found.trade.symbol in
     let met = lots_met base id found given k.books k.trade_read (at_market found tests.0) (k.lots_read (passes_status found tests.0)) (held_by_row base t.0 found f (passes_rate found tests.0 tests.1.0)) in
-    let closes : IsClosingOfDeal (deal_of_trade_row found.trade price p.stamp) held p.closing = p.closes held met in
+    let closes : AreLotsClosedByDeal (deal_of_trade_row found.trade price p.stamp) held p.closed = p.closes held met in
     let deal : deal_of_trade_row found.trade price p.stamp ≡ deal_of_result p.stamp price t.0 = deal_read t.0 found price p.stamp t.2 in
     let same : shares_of_lots held ≡ shares_of_position (completed_trades base) t.0.account t.0.symbol = lots_shares base t.0 found f in
-    let values : values_of_closing p.closing ≡ result_values base p.stamp price t.0 = λ i. record {
-      buy_value = (ap nat_abs closes.bought ∙ (λ i. shares.buy_value (deal i) (same i))) i;
-      sell_value = (ap nat_abs closes.sold ∙ (λ i. shares.sell_value (deal i) (same i))) i;
-    } in
+    let values : p.closed.values ≡ result_values base p.stamp price t.0 = closes.values ∙ (λ i. closing_values_of_deal (deal i) (same i)) in
     let accepted : refusal_of_command base now (CompleteTrade id price) ≡ None =
     sym (result_refusal base now id price t.0 found last f t.1 k.last_read k.moment)
     ∙ (λ i. first_refusal (result_checks found price (result_values base (sym next i) price t.0) (p.stamped i)))
     ∙ sym (ap (λ v. first_refusal (result_checks found price v (Some p.stamp))) values) ∙ p.accepted in
     let stands : Found base now price t.0 = found_at base now id price t.0 k.books t.1 (submitted base now id price t.0 t.1 accepted) in
-    let made : Planned base price last now t.0 found p.closing p.stamp = record {
+    let made : Planned base price last now t.0 found p.closed p.stamp = record {
       found_it = f;
       front = stands.front;
       back = stands.back;
       result = subst (λ (s : ℕ). IsResult base s price t.0 stands.front stands.back) (sym next) stands.result;
       some_shares = k.some_shares;
       values = values;
-      touched = closes.touched ∙ (λ i. list_in_closing_order (deal i).is_lifo (touches_of_existing_lots (deal i) (same i)));
-      opened = closes.opened ∙ (λ i. lots_of_shares (opened_shares (deal i) (same i)));
+      touched = closes.lots.touched ∙ (λ i. list_in_closing_order (deal i).is_lifo (touches_of_existing_lots (deal i) (same i)));
+      opened = closes.lots.opened ∙ (λ i. lots_of_shares (opened_shares (deal i) (same i)));
       one = passes_status found tests.0;
       rated = tests.1.0;
       two = passes_rate found tests.0 tests.1.0;
@@ -391,8 +388,8 @@ result_plan_does base id price (Some found) given last now plan k p =
     } in
     let done = result_done base id price now p.stamp t.0 k.books t.1 accepted next in
     record {
-      steps = done.steps ∙ ap (λ reply. Ok (reply, base_after_command base now (CompleteTrade id price))) (told_read base price last now t.0 found p.closing p.stamp made ∙ sym (ap abstract_reply p.replied));
-      rows = done.rows ∙ sym (changes_made base price last now t.0 found p.closing p.stamp made p.changes.cash p.changes.moved (sheets base))
+      steps = done.steps ∙ ap (λ reply. Ok (reply, base_after_command base now (CompleteTrade id price))) (told_read base price last now t.0 found p.closed p.stamp made ∙ sym (ap abstract_reply p.replied));
+      rows = done.rows ∙ sym (changes_made base price last now t.0 found p.closed p.stamp made p.changes.cash p.changes.moved (sheets base))
           ∙ sym (ap (λ changes. tables_after_changes changes (sheets base)) p.changes.changed);
       books_after = done.books_after;
     }

@@ -2,5 +2,5 @@ use Rattle.std.proofs.Common.{rules, sym, ◌∙◌}
 use Rattle.brk_lots.proofs.Unmet.{no_values_are}
 use Rattle.brk_lots.proofs.against.zero_closing_values.Goals as goal
 
-pub returns : goal.returns
-returns c d ls w e = search rules ∙ sym (no_values_are d ls w e)
+pub returns-clause-values : goal.returns-clause-values
+returns-clause-values c d ls w e = search rules ∙ sym (no_values_are d ls w e)

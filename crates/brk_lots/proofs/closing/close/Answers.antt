@@ -1,36 +1,12 @@
-use Rattle.std.proofs.Common.{arith, ◌≡◌, ◌*◌, ◌-◌, ℕ, pos, replicate, ap, ◌∙◌}
-use Rattle.brk_model.specs.Shares.{Deal, Share, lots_of_shares}
-use Rattle.brk_lots.specs.Lots.{list_in_closing_order}
-use Rattle.brk_lots.specs.Values.{closing_values_by_side}
-use Rattle.brk_lots.specs.Walks.{closed_share_count, cost_of_first_shares}
+use Rattle.std.proofs.Common.{ap, pos, ◌∙◌}
 use Rattle.brk_lots.specs.declared.values.Values.{Values}
-use Rattle.brk_lots.proofs.Closed.{touched_are}
-use Rattle.brk_lots.proofs.Ends.{walk_end}
-use Rattle.brk_lots.proofs.Upon.{closes}
 use Rattle.brk_lots.proofs.closing.close.Goals as goal
 
 pub returns-clause-closing : goal.returns-clause-closing
 returns-clause-closing g c ls lifo given fresh =
-    let d : Deal = record { trade = c.args.trade; side = c.args.side; qty = c.args.qty; price = c.args.price; stamp = c.args.stamp; is_lifo = lifo } in
-    let walk = list_in_closing_order lifo ls in
-    let k : ℕ = closed_share_count d.side d.qty walk in
-    let u : Share = record { side = d.side; trade = d.trade; price = d.price; stamp = d.stamp } in
-    let all = c.in_ok-taken.ensures.taken in
-    let taken = all.3 walk given.0 (walk_end lifo ls given.1) in
-    let left : c.in_ok-taken.taken.left ≡ d.qty - k = omega (arith, taken.left) in
-    let values : c.in_ok-taken.taken.values ≡ closing_values_by_side d.side (k * d.price) (cost_of_first_shares k walk) = taken.values in
-    closes d ls _ given.1 fresh
-    (all.1 ∙ taken.rows)
-    (c.opened_lot.ensures ∙ ap (λ n. lots_of_shares (replicate n u)) left)
-    (c.from.ensures ∙ ap (λ (v : Values). pos v.buy_value) values)
-    (c.from-2.ensures ∙ ap (λ (v : Values). pos v.sell_value) values)
-
-pub returns-in_err-taken-clause-requests_at_most_touched : goal.returns-in_err-taken-clause-requests_at_most_touched
-returns-in_err-taken-clause-requests_at_most_touched g c ls lifo given fresh =
-    let d : Deal = record { trade = c.args.trade; side = c.args.side; qty = c.args.qty; price = c.args.price; stamp = c.args.stamp; is_lifo = lifo } in
-    omega (arith, c.close_lots_with_values.ensures.requests_at_most_touched (list_in_closing_order lifo ls) given.0 (walk_end lifo ls given.1), touched_are d ls given.1 fresh)
-
-pub returns-clause-requests_at_most_touched : goal.returns-clause-requests_at_most_touched
-returns-clause-requests_at_most_touched g c ls lifo given fresh =
-    let d : Deal = record { trade = c.args.trade; side = c.args.side; qty = c.args.qty; price = c.args.price; stamp = c.args.stamp; is_lifo = lifo } in
-    omega (arith, c.close_lots_with_values.ensures.requests_at_most_touched (list_in_closing_order lifo ls) given.0 (walk_end lifo ls given.1), touched_are d ls given.1 fresh)
+    let closed = c.in_ok-closed.ensures.closed ls lifo given fresh in
+    record {
+      lots = closed.lots;
+      bought = c.from.ensures ∙ ap (λ (v : Values). pos v.buy_value) closed.values;
+      sold = c.from-2.ensures ∙ ap (λ (v : Values). pos v.sell_value) closed.values;
+    }

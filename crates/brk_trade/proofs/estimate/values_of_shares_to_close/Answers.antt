@@ -11,4 +11,4 @@ returns-else-closes_lots-clause-values g c ls trade stamp lifo given held =
     let fits : FitsSigned w64 terms.held = search rules in
     let same : to_z w64 (of_z w64 terms.held) ≡ terms.held = to_z-of_z w64 terms.held fits in
     let none : closes_lots terms.side terms.held ≡ false = sym (ap (λ (z : ℤ). closes_lots terms.side z) same) ∙ sym c.closes_lots.ensures ∙ c.if-closes_lots.false in
-    c.zero_closing_values.ensures (deal_from_terms terms trade stamp lifo) ls given.1 (subst (λ (z : ℤ). closes_lots terms.side z ≡ false) held none)
+    c.zero_closing_values.ensures.values (deal_from_terms terms trade stamp lifo) ls given.1 (subst (λ (z : ℤ). closes_lots terms.side z ≡ false) held none)

@@ -1,13 +1,13 @@
 use Rattle.std.proofs.Common.{rules, ◌≡◌, ℕ, List, Some, refl, sym, ap, subst, ◌∙◌}
-use Rattle.brk_lots.specs.Closing.{IsClosingOfDeal}
+use Rattle.brk_lots.specs.Closing.{AreLotsClosedByDeal}
 use Rattle.brk_lots.specs.Lots.{shares_of_lots}
 use Rattle.brk_lots.specs.Sources.{AreLotsOfFaithfulSource}
 use Rattle.brk_lots.specs.Values.{closing_values_of_deal}
 use Rattle.brk_lots.specs.declared.lot.Lot.{Lot}
 use Rattle.brk_model.specs.Tests.{first_refusal}
 use Rattle.brk_money.specs.Moments.{stamp_after}
-use Rattle.brk_trade.specs.Outcomes.{deal_of_trade_row, checks_before_reading_lots, checks_after_reading_lots, result_checks, values_of_closing}
-use Rattle.brk_trade.specs.Results.{AreResultChanges, AreLotsBeforeTrade, IsResultPlan, stamp_or_clock_reading, completed_reply_of_figures}
+use Rattle.brk_trade.specs.Outcomes.{deal_of_trade_row, checks_before_reading_lots, checks_after_reading_lots, result_checks}
+use Rattle.brk_trade.specs.Results.{AreResultChanges, AreLotsBeforeTrade, IsResultPlan, stamp_or_clock_reading}
 use Rattle.brk_trade.specs.declared.outcome.ResultFigures.{ResultFigures}
 use Rattle.brk_plans.specs.declared.plan.Plan.{Plan}
 use Rattle.brk_plans.specs.declared.reply.Reply.TheVariants.{Completed}
@@ -18,37 +18,37 @@ use Rattle.brk_trade.proofs.result.plan_result.Goals.{in-Some-moved, in-None}
 pub returns-in-Err-checked_result_figures-clause-planned : goal.returns-in-Err-checked_result_figures-clause-planned
 returns-in-Err-checked_result_figures-clause-planned g c =
     let found = c.in-Some.found.now in
-    let closing = c.in_ok-closing.closing in
+    let closed = c.in_ok-closed.closed in
     let moved : c.match-moved.moved ≡ stamp_after c.args.last c.args.now = elim c.match-moved.branch [ in-Some-moved w ↦ search rules | in-None w ↦ search rules ] in
     let told = rw moved at c.in-Err-checked_result_figures.ensures in
     let refusal = c.in-Err-checked_result_figures.refusal in
     let late : (ls : List Lot) (stamp : ℕ) → AreLotsBeforeTrade (AreLotsOfFaithfulSource (g.L.LotSource.reads_faithfully c.close_or_open_lots.new.source) (g.L.LotSource.remaining c.args.source.now)) found ls
     → first_refusal (result_checks found c.args.price (closing_values_of_deal (deal_of_trade_row found.trade c.args.price stamp) (shares_of_lots ls)) (stamp_after c.args.last c.args.now)) ≡ Some refusal = λ ls stamp met.
-    let closes : IsClosingOfDeal (deal_of_trade_row found.trade c.args.price c.match-moved.at) ls closing = c.in_ok-closing.ensures.closing ls met in
-    refused_by_values found c.args.price ls c.match-moved.at stamp closing (stamp_after c.args.last c.args.now) refusal closes c.in-Ok.ensures.0 told in
+    let closes : AreLotsClosedByDeal (deal_of_trade_row found.trade c.args.price c.match-moved.at) ls closed = c.in_ok-closed.ensures.closed ls met in
+    refused_by_values found c.args.price ls c.match-moved.at stamp closed (stamp_after c.args.last c.args.now) refusal closes c.in-Ok.ensures.0 told in
     rw c.in-Some.is (record { early = rw c.in-Ok.ensures.0 tt; late = late })
 
 pub returns-clause-planned : goal.returns-clause-planned
 returns-clause-planned g c =
     let found = c.in-Some.found.now in
     let price = c.args.price in
-    let closing = c.in_ok-closing.closing in
+    let closed = c.in_ok-closed.closed in
     let outcome = c.in-Ok-checked_result_figures.outcome in
     let done = c.in-Ok-checked_result_figures.ensures in
     let moved : c.match-moved.moved ≡ stamp_after c.args.last c.args.now = elim c.match-moved.branch [ in-Some-moved w ↦ search rules | in-None w ↦ search rules ] in
     let at : c.match-moved.at ≡ stamp_or_clock_reading (stamp_after c.args.last c.args.now) c.args.now = elim c.match-moved.branch [ in-Some-moved w ↦ search rules | in-None w ↦ search rules ] in
-    let stamped : stamp_after c.args.last c.args.now ≡ Some outcome.stamp = sym moved ∙ done.1 in
-    let stamp : c.match-moved.at ≡ outcome.stamp = at ∙ ap (λ o. stamp_or_clock_reading o c.args.now) stamped in
+    let stamped : stamp_after c.args.last c.args.now ≡ Some outcome.completed.stamp = sym moved ∙ done.1 in
+    let stamp : c.match-moved.at ≡ outcome.completed.stamp = at ∙ ap (λ o. stamp_or_clock_reading o c.args.now) stamped in
     let tested = rw done.1 at done.0 in
-    let changed : ResultFigures → Type 0 = λ o. AreResultChanges found price closing o c.in_ok-changes.changes.items in
-    let plan : Plan = record { changes = c.in_ok-changes.changes; reply = Completed c.create_completed_reply.result } in
+    let changed : ResultFigures → Type 0 = λ o. AreResultChanges found price closed o c.in_ok-changes.changes.items in
+    let plan : Plan = record { changes = c.in_ok-changes.changes; reply = Completed outcome.completed } in
     let completed : IsResultPlan found price (AreLotsOfFaithfulSource (g.L.LotSource.reads_faithfully c.close_or_open_lots.new.source) (g.L.LotSource.remaining c.args.source.now)) c.args.last c.args.now plan = record {
-      stamp = outcome.stamp;
-      closing = closing;
+      stamp = outcome.completed.stamp;
+      closed = closed;
       stamped = stamped;
-      closes = λ ls met. rw stamp at (c.in_ok-closing.ensures.closing ls met);
-      accepted = first_after (checks_before_reading_lots found) (checks_after_reading_lots found price (values_of_closing closing) (Some outcome.stamp)) c.in-Ok.ensures.0 ∙ tested;
-      replied = ap Completed (c.create_completed_reply.ensures ∙ ap completed_reply_of_figures done.2);
+      closes = λ ls met. rw stamp at (c.in_ok-closed.ensures.closed ls met);
+      accepted = first_after (checks_before_reading_lots found) (checks_after_reading_lots found price closed.values (Some outcome.completed.stamp)) c.in-Ok.ensures.0 ∙ tested;
+      replied = ap (λ (o : ResultFigures). Completed o.completed) done.2;
       changes = subst changed done.2 c.in_ok-changes.ensures.changes;
     } in
     rw c.in-Some.is completed
@@ -72,8 +72,8 @@ returns-clause-asked g c =
     let at : c.match-moved.at ≡ stamp_or_clock_reading (stamp_after c.args.last c.args.now) c.args.now = elim c.match-moved.branch [ in-Some-moved w ↦ search rules | in-None w ↦ search rules ] in
     rw (c.in-Some.is, ← at) c.close_or_open_lots.ensures.asked
 
-pub returns-in_err-closing-clause-asked : goal.returns-in_err-closing-clause-asked
-returns-in_err-closing-clause-asked g c =
+pub returns-in_err-closed-clause-asked : goal.returns-in_err-closed-clause-asked
+returns-in_err-closed-clause-asked g c =
     let at : c.match-moved.at ≡ stamp_or_clock_reading (stamp_after c.args.last c.args.now) c.args.now = elim c.match-moved.branch [ in-Some-moved w ↦ search rules | in-None w ↦ search rules ] in
     rw (c.in-Some.is, ← at) c.close_or_open_lots.ensures.asked
 

@@ -39,7 +39,7 @@ loop-deal-preserved c =
     let us = shares_of_lots c.loop-deal.position in
     let rest = map abstract_deal (drop (i + 1) deals) in
     let added : map abstract_deal_touch c.append_lot_changes.new.rows.items ≡ map abstract_deal_touch c.loop-deal.rows.items ++ lot_changes_of_deal d' us =
-    c.in_ok-append_lot_changes.ensures.added ∙ (λ j. map abstract_deal_touch c.loop-deal.rows.items ++ map (holding_history_row d.trade) (k.touched j ++ map opening_touch (k.opened j))) in
+    c.in_ok-append_lot_changes.ensures.added ∙ (λ j. map abstract_deal_touch c.loop-deal.rows.items ++ map (holding_history_row d.trade) (k.lots.touched j ++ map opening_touch (k.lots.opened j))) in
     let was = rw e at c.loop-deal.invariant.rows in
     record {
       rows = ap (λ (rs : List HoldingHistoryRow). rs ++ lot_changes_of_deals rest (shares_of_lots c.apply.new.self)) added
