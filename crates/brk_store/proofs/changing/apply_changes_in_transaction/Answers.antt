@@ -17,7 +17,7 @@ returns-in-Ok-clause-applied g c =
     let after = tables_after_changes c.args.changes.now in
     let step = after_look g.S.Store old first mid c.in_ok-_last._last (λ last t. last ≡ t.last) (rw c.transaction-tx.ensures.begun at c.in_ok-_last.ensures.step) (Ok tt) after c.in_ok-apply_each_change.ensures.step in
     subst (λ h. ApplyPost {V = Unit {0}} {E = Fault} g.S.Store old h (Ok tt) after) (search rules)
-    (applies g.S.Store old mid end (c.is_autocommit-settled.ensures.settled (search rules)) (ChangesTablesBy desk_tables after) step c.in-Ok.ensures.survives c.in-Ok.ensures.ok (λ db o may. g.met.S.Store.settled end.store db o may) after (λ a b h. h))
+    (applies g.S.Store old mid end (c.is_autocommit-is_autocommit.ensures.settled (search rules)) (ChangesTablesBy desk_tables after) step c.in-Ok.ensures.survives c.in-Ok.ensures.ok (λ db o may. g.met.S.Store.settled end.store db o may) after (λ a b h. h))
 
 pub returns-in-Err-clause-applied : goal.returns-in-Err-clause-applied
 returns-in-Err-clause-applied g c =
@@ -30,4 +30,4 @@ returns-in-Err-clause-applied g c =
     let step = after_look g.S.Store old first mid c.in_ok-_last._last (λ last t. last ≡ t.last) look (Ok tt) after c.in_ok-apply_each_change.ensures.step in
     let open_then = open_at_look g.S.Store old first mid c.in_ok-_last._last (λ last t. last ≡ t.last) look (Ok tt) after c.in_ok-apply_each_change.ensures.step in
     subst (λ h. ApplyPost {V = Unit {0}} {E = Fault} g.S.Store old h (Err Store) after) (search rules)
-    (applies_none g.S.Store old mid end (c.is_autocommit-settled.ensures.settled (search rules)) (ChangesTablesBy desk_tables after) step c.in-Err.ensures.survives c.in-Err.field-0 c.in-Err.ensures.err open_then Store after (λ a b h. h))
+    (applies_none g.S.Store old mid end (c.is_autocommit-is_autocommit.ensures.settled (search rules)) (ChangesTablesBy desk_tables after) step c.in-Err.ensures.survives c.in-Err.field-0 c.in-Err.ensures.err open_then Store after (λ a b h. h))

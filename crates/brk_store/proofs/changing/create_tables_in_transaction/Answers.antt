@@ -22,7 +22,7 @@ returns-in-Ok-clause-created g c =
     let step = step_then (state g.S.Store (with_transaction_open old)) (state g.S.Store test) (state g.S.Store mid) c.in_ok-has_some_desk_table.field-0 (Ok tt) (λ has a b. (b.now ≡ a.now) × (has ≡ has_table_of_desk a.now.schema)) (λ _ a b. CreatesDeskTables a.now b.now) (λ _ a b. Made a.now b.now)
     (λ _ p q. (sym p.1 ∙ c.if-branch.false, subst (λ d. CreatesDeskTables d (state g.S.Store mid).now) p.0 q)) (rw c.transaction-tx.ensures.begun at c.in_ok-has_some_desk_table.ensures.step) c.in_ok-create_third_schema_tables.ensures.step in
     subst (λ h. CreatePost g.S.Store old h (Ok tt)) (search rules)
-    (creates g.S.Store old mid end (c.is_autocommit-settled.ensures.settled (search rules)) Made step c.in-Ok.ensures.survives c.in-Ok.ensures.ok (λ db o may. g.met.S.Store.settled end.store db o may) (λ a b h. h))
+    (creates g.S.Store old mid end (c.is_autocommit-is_autocommit.ensures.settled (search rules)) Made step c.in-Ok.ensures.survives c.in-Ok.ensures.ok (λ db o may. g.met.S.Store.settled end.store db o may) (λ a b h. h))
 
 pub returns-in-Err-clause-created : goal.returns-in-Err-clause-created
 returns-in-Err-clause-created g c =
@@ -33,4 +33,4 @@ returns-in-Err-clause-created g c =
     let step = step_then (state g.S.Store (with_transaction_open old)) (state g.S.Store test) (state g.S.Store mid) c.in_ok-has_some_desk_table.field-0 (Ok tt) (λ has a b. (b.now ≡ a.now) × (has ≡ has_table_of_desk a.now.schema)) (λ _ a b. CreatesDeskTables a.now b.now) (λ _ a b. Made a.now b.now)
     (λ _ p q. (sym p.1 ∙ c.if-branch.false, subst (λ d. CreatesDeskTables d (state g.S.Store mid).now) p.0 q)) (rw c.transaction-tx.ensures.begun at c.in_ok-has_some_desk_table.ensures.step) c.in_ok-create_third_schema_tables.ensures.step in
     subst (λ h. CreatePost g.S.Store old h (Err Store)) (search rules)
-    (commits_none g.S.Store old mid end (c.is_autocommit-settled.ensures.settled (search rules)) Made step c.in-Err.ensures.survives c.in-Err.field-0 c.in-Err.ensures.err (λ a b h. h))
+    (commits_none g.S.Store old mid end (c.is_autocommit-is_autocommit.ensures.settled (search rules)) Made step c.in-Err.ensures.survives c.in-Err.field-0 c.in-Err.ensures.err (λ a b h. h))
