@@ -6,7 +6,6 @@ use Rattle.std.proofs.lemmas.Bool.{eqb-true}
 use Rattle.std.proofs.lemmas.List.{append_assoc}
 use Rattle.std.proofs.lemmas.Slice.Eq.{bytes_eq-Decides}
 use Rattle.brk_money.specs.Spelling.{Text}
-use Rattle.brk_money.specs.declared.fault.Fault.{Fault}
 use Rattle.brk_money.specs.declared.refusal.Refusal.{Refusal}
 use Rattle.brk_money.specs.declared.refusal.Refusal.TheVariants.{NoAccount, NoBroker, NoTrade}
 use Rattle.brk_model.specs.Joins.{account_row_with_id, last_price_in_tables, trade_row_with_id}
@@ -25,9 +24,10 @@ use Rattle.brk_explain_rows.specs.declared.account_details.AccountDetails as acc
 use Rattle.brk_explain_rows.specs.declared.broker_details.BrokerDetails as broker_details
 use Rattle.brk_explain_rows.specs.declared.holding_details.HoldingDetails as holding_details
 use Rattle.brk_explain_rows.specs.declared.details.TradeDetails as trade_details
+use Rattle.brk_report_lines.specs.Faults.{report_fault_of_lines_fault}
 use Rattle.brk_report_lines.specs.Written.{FailsWithinLines}
+use Rattle.brk_report_lines.specs.declared.fault.LinesFault.{LinesFault}
 use Rattle.brk_report_lines.specs.declared.fault.LinesFault.TheVariants.{Desk, Write}
-use Rattle.brk_report_lines.specs.declared.fault.ReportFault.TheVariants as report
 use Rattle.brk_explain_sums.specs.HoldingTexts.{lines_of_holding_details}
 use Rattle.brk_explain.specs.Sections.{all_broker_lines, all_account_lines}
 use Rattle.brk_explain.specs.Told.{WritesLinesOrRefuses}
@@ -144,8 +144,6 @@ module _ (told : Result (List Text) Refusal) (lines : List Text) (is : told ≡ 
   pub tells_all : Appends a b (text_of_lines lines) → WritesLinesOrRefuses told a b (Ok tt)
   tells_all h = (lines, is, h)
 
-  pub tells_fault : (f : Fault) → FailsWithinLines lines a b (Desk f) → WritesLinesOrRefuses told a b (Err (report.Desk f))
-  tells_fault f h = (h.0, inr (lines, is, h.1))
-
-  pub tells_write : FailsWithinLines lines a b Write → WritesLinesOrRefuses told a b (Err report.Write)
-  tells_write h = (lines, is, h)
+  pub tells_fault : (e : LinesFault) → FailsWithinLines lines a b e → WritesLinesOrRefuses told a b (Err (report_fault_of_lines_fault e))
+  tells_fault (Desk f) h = (h.0, inr (lines, is, h.1))
+  tells_fault Write h = (lines, is, h)

@@ -40,11 +40,8 @@ fn write_trade_explanation<W: Write, S: Alter>(
         Ok(None) => return Err(ReportFault::Refused(Refusal::NoTrade)),
         Err(fault) => return Err(ReportFault::Desk(fault)),
     };
-    match write_lines(writer, trade_explanation_text(alloc, &details)) {
-        Ok(()) => Ok(()),
-        Err(LinesFault::Desk(fault)) => Err(ReportFault::Desk(fault)),
-        Err(LinesFault::Write) => Err(ReportFault::Write),
-    }
+    write_lines(writer, trade_explanation_text(alloc, &details))?;
+    Ok(())
 }
 
 // Writes all lines of the explanation of an account, from its row and holdings in `details` and
@@ -89,11 +86,8 @@ fn write_account_explanation<W: Write, S: Alter>(
         Ok(None) => return Err(ReportFault::Refused(Refusal::NoAccount)),
         Err(fault) => return Err(ReportFault::Desk(fault)),
     };
-    match write_account_lines(alloc, desk, account, &details, writer) {
-        Ok(()) => Ok(()),
-        Err(LinesFault::Desk(fault)) => Err(ReportFault::Desk(fault)),
-        Err(LinesFault::Write) => Err(ReportFault::Write),
-    }
+    write_account_lines(alloc, desk, account, &details, writer)?;
+    Ok(())
 }
 
 // Writes the explanation of the holding of an account in a security. Fails with `Refused`
@@ -116,11 +110,8 @@ fn write_holding_explanation<W: Write, S: Alter>(
         Ok(Err(refusal)) => return Err(ReportFault::Refused(refusal)),
         Err(fault) => return Err(ReportFault::Desk(fault)),
     };
-    match write_lines(writer, holding_explanation_text(alloc, &details)) {
-        Ok(()) => Ok(()),
-        Err(LinesFault::Desk(fault)) => Err(ReportFault::Desk(fault)),
-        Err(LinesFault::Write) => Err(ReportFault::Write),
-    }
+    write_lines(writer, holding_explanation_text(alloc, &details))?;
+    Ok(())
 }
 
 // Writes all lines of the explanation of a broker, from its row and number of accounts in `details`
@@ -164,11 +155,8 @@ fn write_broker_explanation<W: Write, S: Alter>(
         Ok(None) => return Err(ReportFault::Refused(Refusal::NoBroker)),
         Err(fault) => return Err(ReportFault::Desk(fault)),
     };
-    match write_broker_lines(alloc, desk, broker, &details, writer) {
-        Ok(()) => Ok(()),
-        Err(LinesFault::Desk(fault)) => Err(ReportFault::Desk(fault)),
-        Err(LinesFault::Write) => Err(ReportFault::Write),
-    }
+    write_broker_lines(alloc, desk, broker, &details, writer)?;
+    Ok(())
 }
 
 /// Writes the explanation of a trade, of an account, of a holding or of a broker of the desk. The

@@ -1,5 +1,6 @@
 pub mod Days
 pub mod Handing
 pub mod Keeping
+pub mod Reported
 pub mod Section
 pub mod Whole

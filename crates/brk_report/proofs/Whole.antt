@@ -15,10 +15,10 @@ use Rattle.brk_model.specs.Tables.{AccountRow, Tables}
 use Rattle.brk_queries.specs.declared.head.StatementHead.{StatementHead}
 use Rattle.brk_report.specs.Parts.{all_statement_lines, cash_and_closing_lines, lot_and_total_lines, statement_header_lines}
 use Rattle.brk_report.specs.Stated.{AreStatementLines, WritesStatement}
+use Rattle.brk_report_lines.specs.Faults.{report_fault_of_lines_fault}
 use Rattle.brk_report_lines.specs.Written.{FailsWithinLines, WritesLines}
 use Rattle.brk_report_lines.specs.declared.fault.LinesFault.{LinesFault}
 use Rattle.brk_report_lines.specs.declared.fault.LinesFault.TheVariants.{Desk, Write}
-use Rattle.brk_report_lines.specs.declared.fault.ReportFault.TheVariants as stated
 use Rattle.brk_queries.specs.Heads.{IsStatementHeadOfAccount}
 use Rattle.brk_report.proofs.Handing.{none_written}
 
@@ -82,8 +82,6 @@ module _ (t : Tables) (account : ℕ) (head : StatementHead) (from to : ℕ) (da
   pub states_all : Appends a b (text_of_lines (all_statement_lines t account head from to)) → WritesStatement t account from to a b (Ok tt)
   states_all h = (text_of_lines (all_statement_lines t account head from to), statement_is t account from to (all_statement_lines t account head from to) are_lines, h)
 
-  pub states_fault : (f : Fault) → FailsWithinLines (all_statement_lines t account head from to) a b (Desk f) → WritesStatement t account from to a b (Err (stated.Desk f))
-  states_fault f h = (h.0, inr (all_statement_lines t account head from to, are_lines, h.1))
-
-  pub states_write : FailsWithinLines (all_statement_lines t account head from to) a b Write → WritesStatement t account from to a b (Err stated.Write)
-  states_write h = (all_statement_lines t account head from to, are_lines, h)
+  pub states_fault : (e : LinesFault) → FailsWithinLines (all_statement_lines t account head from to) a b e → WritesStatement t account from to a b (Err (report_fault_of_lines_fault e))
+  states_fault (Desk f) h = (h.0, inr (all_statement_lines t account head from to, are_lines, h.1))
+  states_fault Write h = (all_statement_lines t account head from to, are_lines, h)

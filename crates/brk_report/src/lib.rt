@@ -7,4 +7,4 @@ pub mod stating;
 pub mod visitors;
 
 pub use brk_report_lines::ReportFault;
-pub use stating::statement;
+pub use stating::{StatementFault, statement};

@@ -12,6 +12,9 @@ use sqlite::Alter;
 use std::alloc::Global;
 use std::io::Write;
 
+/// The cause of a failure to write a statement.
+pub type StatementFault = ReportFault;
+
 // Writes all lines of the statement of an account that exists, from the day `from` to the day `to`,
 // both included. `head` has its name, its opening balance and its market value. If the database is
 // still open, it is unchanged. Fails with `Desk` if a read fails, memory runs out or a sum
@@ -53,7 +56,7 @@ pub fn statement<W: Write, S: Alter>(
     from: Day,
     to: Day,
     writer: &mut W,
-) -> Result<(), ReportFault>
+) -> Result<(), StatementFault>
     ensures stated { StatementPost S.Store desk.old desk.new account from to (W.contents writer.old) (W.contents writer.new) result }
 {
     if to.get() < from.get() {
@@ -64,9 +67,6 @@ pub fn statement<W: Write, S: Alter>(
         Ok(None) => return Err(ReportFault::Refused(Refusal::NoAccount)),
         Err(fault) => return Err(ReportFault::Desk(fault)),
     };
-    match write_statement_lines(alloc, desk, account, &head, from, to, writer) {
-        Ok(()) => Ok(()),
-        Err(LinesFault::Desk(fault)) => Err(ReportFault::Desk(fault)),
-        Err(LinesFault::Write) => Err(ReportFault::Write),
-    }
+    write_statement_lines(alloc, desk, account, &head, from, to, writer)?;
+    Ok(())
 }

@@ -1,3 +1,6 @@
+ghost use Rattle.std.specs.Prelude.{◌≡◌};
+ghost use Rattle.brk_report_lines.specs.Faults.{report_fault_of_lines_fault};
+
 use brk_money::{Fault, Refusal};
 
 /// The cause of a failure to write lines.
@@ -18,4 +21,16 @@ pub enum ReportFault {
     Desk(Fault),
     /// The writer failed, or accepted no byte.
     Write,
+}
+
+impl From<LinesFault> for ReportFault {
+    ghost from_gives = { λ fault report. report ≡ report_fault_of_lines_fault fault };
+
+    /// Converts the fault of writing lines to the same fault of the report.
+    fn from(fault: LinesFault) -> ReportFault {
+        match fault {
+            LinesFault::Desk(fault) => ReportFault::Desk(fault),
+            LinesFault::Write => ReportFault::Write,
+        }
+    }
 }

@@ -2,8 +2,10 @@ use Rattle.std.proofs.Common.{◌≡◌, refl}
 use Rattle.brk_explain_model.specs.Explain.{BrokerOf, explanation}
 use Rattle.brk_explain_rows.specs.Details.{AreDetailsOfBroker}
 use Rattle.brk_report.proofs.Keeping.{clean_then, keeps_read, keeps_then}
+use Rattle.brk_report.proofs.Reported.{FailsAsLines, no_refusal, reported}
+use Rattle.brk_explain.specs.Told.{WritesLinesOrRefuses}
 use Rattle.brk_explain.specs.Sections.{all_broker_lines}
-use Rattle.brk_explain.proofs.Whole.{broker_told, no_broker, tells_all, tells_fault, tells_write}
+use Rattle.brk_explain.proofs.Whole.{broker_told, no_broker, tells_all, tells_fault}
 use Rattle.brk_explain.proofs.explaining.write_broker_explanation.Goals as goal
 
 pub returns-in-Ok-None : goal.returns-in-Ok-None
@@ -15,32 +17,18 @@ returns-in-Ok-None g c = record {
   };
 }
 
-pub returns-in-Ok : goal.returns-in-Ok
-returns-in-Ok g c =
+pub returns-in_err-write_broker_lines : goal.returns-in_err-write_broker_lines
+returns-in_err-write_broker_lines g c =
     let first = keeps_read g.S.Store _ _ c.broker_explanation_rows.result (AreDetailsOfBroker c.args.broker) c.broker_explanation_rows.ensures.read in
+    let fails : FailsAsLines c.from_residual.result c.in_err-write_broker_lines.field-0.0 = c.from_residual.ensures.1 in
     record {
       told = record {
         written = λ clean t holds.
-            let mid = clean_then g.S.Store c.broker_explanation_rows.new.self c.write_broker_lines.new.desk c.write_broker_lines.ensures.keeps clean in
+            let mid = clean_then g.S.Store c.broker_explanation_rows.new.self c.write_broker_lines.new.desk c.in_err-write_broker_lines.ensures.keeps clean in
             let are_details = (rw (c.in-Ok-Some.is, c.in-Ok-Some.field-0-is) at (c.broker_explanation_rows.ensures.read.answered mid)) t holds in
-            tells_all (explanation t (BrokerOf c.args.broker)) (all_broker_lines t c.args.broker c.in-Ok-Some.details) (broker_told t c.args.broker c.in-Ok-Some.details are_details) _ _ (rw c.in-Ok.is at (c.write_broker_lines.ensures.written clean t (first.same_rows t holds)));
-        keeps = keeps_then g.S.Store c.args.desk.now c.broker_explanation_rows.new.self c.write_broker_lines.new.desk first c.write_broker_lines.ensures.keeps;
-        unwritten = λ refusal is. absurd (let same = is in cc);
-      };
-    }
-
-pub returns-in-Err-Desk : goal.returns-in-Err-Desk
-returns-in-Err-Desk g c =
-    let first = keeps_read g.S.Store _ _ c.broker_explanation_rows.result (AreDetailsOfBroker c.args.broker) c.broker_explanation_rows.ensures.read in
-    record {
-      told = record {
-        written = λ clean t holds.
-            let mid = clean_then g.S.Store c.broker_explanation_rows.new.self c.write_broker_lines.new.desk c.write_broker_lines.ensures.keeps clean in
-            let are_details = (rw (c.in-Ok-Some.is, c.in-Ok-Some.field-0-is) at (c.broker_explanation_rows.ensures.read.answered mid)) t holds in
-            tells_fault (explanation t (BrokerOf c.args.broker)) (all_broker_lines t c.args.broker c.in-Ok-Some.details) (broker_told t c.args.broker c.in-Ok-Some.details are_details) _ _ c.in-Err-Desk.fault
-            (rw (c.in-Err-Desk.is, c.in-Err-Desk.field-0-is) at (c.write_broker_lines.ensures.written clean t (first.same_rows t holds)));
-        keeps = keeps_then g.S.Store c.args.desk.now c.broker_explanation_rows.new.self c.write_broker_lines.new.desk first c.write_broker_lines.ensures.keeps;
-        unwritten = λ refusal is. absurd (let same = is in cc);
+            reported (WritesLinesOrRefuses (explanation t (BrokerOf c.args.broker)) _ _) _ _ fails (tells_fault (explanation t (BrokerOf c.args.broker)) (all_broker_lines t c.args.broker c.in-Ok-Some.details) (broker_told t c.args.broker c.in-Ok-Some.details are_details) _ _ _ (c.in_err-write_broker_lines.ensures.written clean t (first.same_rows t holds)));
+        keeps = keeps_then g.S.Store c.args.desk.now c.broker_explanation_rows.new.self c.write_broker_lines.new.desk first c.in_err-write_broker_lines.ensures.keeps;
+        unwritten = λ refusal is. absurd (no_refusal _ _ refusal fails is);
       };
     }
 
@@ -50,11 +38,10 @@ returns g c =
     record {
       told = record {
         written = λ clean t holds.
-            let mid = clean_then g.S.Store c.broker_explanation_rows.new.self c.write_broker_lines.new.desk c.write_broker_lines.ensures.keeps clean in
+            let mid = clean_then g.S.Store c.broker_explanation_rows.new.self c.write_broker_lines.new.desk c.in_ok-write_broker_lines.ensures.keeps clean in
             let are_details = (rw (c.in-Ok-Some.is, c.in-Ok-Some.field-0-is) at (c.broker_explanation_rows.ensures.read.answered mid)) t holds in
-            tells_write (explanation t (BrokerOf c.args.broker)) (all_broker_lines t c.args.broker c.in-Ok-Some.details) (broker_told t c.args.broker c.in-Ok-Some.details are_details) _ _
-            (rw (c.in-Err-Write.is, c.in-Err-Write.field-0-is) at (c.write_broker_lines.ensures.written clean t (first.same_rows t holds)));
-        keeps = keeps_then g.S.Store c.args.desk.now c.broker_explanation_rows.new.self c.write_broker_lines.new.desk first c.write_broker_lines.ensures.keeps;
+            tells_all (explanation t (BrokerOf c.args.broker)) (all_broker_lines t c.args.broker c.in-Ok-Some.details) (broker_told t c.args.broker c.in-Ok-Some.details are_details) _ _ (c.in_ok-write_broker_lines.ensures.written clean t (first.same_rows t holds));
+        keeps = keeps_then g.S.Store c.args.desk.now c.broker_explanation_rows.new.self c.write_broker_lines.new.desk first c.in_ok-write_broker_lines.ensures.keeps;
         unwritten = λ refusal is. absurd (let same = is in cc);
       };
     }

@@ -5,7 +5,9 @@ use Rattle.std.proofs.lemmas.Bool.Decides.{nat_tests}
 use Rattle.std.proofs.lemmas.Int.{ints}
 use Rattle.brk_queries.specs.Heads.{IsStatementHeadOfAccount}
 use Rattle.brk_report.proofs.Keeping.{clean_then, keeps_read, keeps_still, keeps_then}
-use Rattle.brk_report.proofs.Whole.{refused_account, refused_days, states_all, states_fault, states_write}
+use Rattle.brk_report.specs.Stated.{WritesStatement}
+use Rattle.brk_report.proofs.Reported.{FailsAsLines, no_refusal, reported, reported_fault}
+use Rattle.brk_report.proofs.Whole.{refused_account, refused_days, states_all, states_fault}
 use Rattle.brk_report.proofs.stating.statement.Goals as goal
 
 not_before : (a b : ℕ) → b ≤ a → nat_lt a b ≡ false
@@ -35,35 +37,21 @@ returns-in-Ok-None g c =
       };
     }
 
-pub returns-in-Ok : goal.returns-in-Ok
-returns-in-Ok g c =
+pub returns-in_err-write_statement_lines : goal.returns-in_err-write_statement_lines
+returns-in_err-write_statement_lines g c =
     let days = not_before c.args.to c.args.from (omega (arith, ints, c.if-get.false, c.get.ensures.value, c.get-2.ensures.value)) in
     let first = keeps_read g.S.Store _ _ c.head.result (IsStatementHeadOfAccount c.args.account) c.head.ensures.read in
+    let fails : FailsAsLines c.from_residual.result c.in_err-write_statement_lines.field-0.0 = c.from_residual.ensures.1 in
     record {
       stated = record {
         written = λ clean t holds.
-            let mid = clean_then g.S.Store c.head.new.self c.write_statement_lines.new.desk c.write_statement_lines.ensures.keeps clean in
+            let mid = clean_then g.S.Store c.head.new.self c.write_statement_lines.new.desk c.in_err-write_statement_lines.ensures.keeps clean in
             let is_head = (rw (c.in-Ok-Some.is, c.in-Ok-Some.field-0-is) at (c.head.ensures.read.answered mid)) t holds in
-            states_all t c.args.account c.in-Ok-Some.head c.args.from c.args.to days is_head _ _ (rw c.in-Ok.is at (c.write_statement_lines.ensures.written clean t (first.same_rows t holds)));
-        fault = tt;
-        desk_unchanged = keeps_then g.S.Store c.args.desk.now c.head.new.self c.write_statement_lines.new.desk first c.write_statement_lines.ensures.keeps;
-        unwritten = λ refusal is. absurd (let same = is in cc);
-      };
-    }
-
-pub returns-in-Err-Desk : goal.returns-in-Err-Desk
-returns-in-Err-Desk g c =
-    let days = not_before c.args.to c.args.from (omega (arith, ints, c.if-get.false, c.get.ensures.value, c.get-2.ensures.value)) in
-    let first = keeps_read g.S.Store _ _ c.head.result (IsStatementHeadOfAccount c.args.account) c.head.ensures.read in
-    record {
-      stated = record {
-        written = λ clean t holds.
-            let mid = clean_then g.S.Store c.head.new.self c.write_statement_lines.new.desk c.write_statement_lines.ensures.keeps clean in
-            let is_head = (rw (c.in-Ok-Some.is, c.in-Ok-Some.field-0-is) at (c.head.ensures.read.answered mid)) t holds in
-            states_fault t c.args.account c.in-Ok-Some.head c.args.from c.args.to days is_head _ _ c.in-Err-Desk.fault (rw (c.in-Err-Desk.is, c.in-Err-Desk.field-0-is) at (c.write_statement_lines.ensures.written clean t (first.same_rows t holds)));
-        fault = rw (c.in-Err-Desk.is, c.in-Err-Desk.field-0-is) at c.write_statement_lines.ensures.fault;
-        desk_unchanged = keeps_then g.S.Store c.args.desk.now c.head.new.self c.write_statement_lines.new.desk first c.write_statement_lines.ensures.keeps;
-        unwritten = λ refusal is. absurd (let same = is in cc);
+            reported (WritesStatement t c.args.account c.args.from c.args.to _ _) _ _ fails
+            (states_fault t c.args.account c.in-Ok-Some.head c.args.from c.args.to days is_head _ _ _ (c.in_err-write_statement_lines.ensures.written clean t (first.same_rows t holds)));
+        fault = reported_fault _ _ fails c.in_err-write_statement_lines.ensures.fault;
+        desk_unchanged = keeps_then g.S.Store c.args.desk.now c.head.new.self c.write_statement_lines.new.desk first c.in_err-write_statement_lines.ensures.keeps;
+        unwritten = λ refusal is. absurd (no_refusal _ _ refusal fails is);
       };
     }
 
@@ -74,11 +62,11 @@ returns g c =
     record {
       stated = record {
         written = λ clean t holds.
-            let mid = clean_then g.S.Store c.head.new.self c.write_statement_lines.new.desk c.write_statement_lines.ensures.keeps clean in
+            let mid = clean_then g.S.Store c.head.new.self c.write_statement_lines.new.desk c.in_ok-write_statement_lines.ensures.keeps clean in
             let is_head = (rw (c.in-Ok-Some.is, c.in-Ok-Some.field-0-is) at (c.head.ensures.read.answered mid)) t holds in
-            states_write t c.args.account c.in-Ok-Some.head c.args.from c.args.to days is_head _ _ (rw (c.in-Err-Write.is, c.in-Err-Write.field-0-is) at (c.write_statement_lines.ensures.written clean t (first.same_rows t holds)));
+            states_all t c.args.account c.in-Ok-Some.head c.args.from c.args.to days is_head _ _ (c.in_ok-write_statement_lines.ensures.written clean t (first.same_rows t holds));
         fault = tt;
-        desk_unchanged = keeps_then g.S.Store c.args.desk.now c.head.new.self c.write_statement_lines.new.desk first c.write_statement_lines.ensures.keeps;
+        desk_unchanged = keeps_then g.S.Store c.args.desk.now c.head.new.self c.write_statement_lines.new.desk first c.in_ok-write_statement_lines.ensures.keeps;
         unwritten = λ refusal is. absurd (let same = is in cc);
       };
     }

@@ -1,0 +1,11 @@
+-- The fault of a report whose lines could not be written.
+use Rattle.brk_report_lines.specs.declared.fault.LinesFault.{LinesFault}
+use Rattle.brk_report_lines.specs.declared.fault.LinesFault.TheVariants as lines
+use Rattle.brk_report_lines.specs.declared.fault.ReportFault.{ReportFault}
+use Rattle.brk_report_lines.specs.declared.fault.ReportFault.TheVariants.{Desk, Write}
+
+-- The fault with which a report fails if writing its lines failed: the same fault, of the desk or
+-- of the writer. It is never a refusal.
+abbrev pub report_fault_of_lines_fault : LinesFault → ReportFault
+report_fault_of_lines_fault (lines.Desk fault) = Desk fault
+report_fault_of_lines_fault lines.Write = Write
