@@ -1154,7 +1154,8 @@ use std::alloc::Global;
 def reading(d):
     """The code that reads and decodes a whole table"""
     rows = f'{rows_name(d)}_in_schema(tx, alloc, schema)?' if d[0] in LATER else f'{rows_name(d)}(tx)?'
-    return f'decoder.{VALUES[d[0]][1]}{rows})?' if d[0] in VALUES else f'decoder.decode(alloc, {rows})?'
+    decode = 'decode_kept_keys' if d[0] == 'kept' else 'decode'
+    return f'decoder.{VALUES[d[0]][1]}{rows})?' if d[0] in VALUES else f'decoder.{decode}(alloc, {rows})?'
 
 def read_group(word, field, tables):
     """The typed rows of a group, and the function that reads and decodes them"""
@@ -1233,9 +1234,9 @@ def declared(suffix):
     """The imports of the types of a group"""
     return '\n'.join(f'use Rattle.brk_tables_scan.specs.declared.all_tables.{word}{suffix}.{{{word}{suffix}}}' for word, _, _ in GROUPS)
 
-def meanings():
+def meanings(*but):
     """The imports of what rows in code are in the model"""
-    names = lambda crate: ', '.join(record_meaning(d) for d in records_of(crate))
+    names = lambda crate: ', '.join(record_meaning(d) for d in records_of(crate) if record_meaning(d) not in but)
     return f"""use Rattle.brk_ref.specs.Records.{{{names('brk_ref')}}}
 use Rattle.brk_changes.specs.Rows.{{{names('brk_changes')}}}"""
 
@@ -1306,9 +1307,12 @@ def decoded_group(word, field, tables):
     shown = lambda d: f'{d[0]}_cells' if d[0] in VALUES else f'(λ r. {d[0]}_cells ({record_meaning(d)} r))'
     of = lambda d: f'({rows(d)})' if d[0] in VALUES else rows(d)
     form = lambda d: VALUES[d[0]][3] if d[0] in VALUES else f'list_all (passes_all_cell_checks {d[0]}_column_cell_checks) raw.{raw_field(d)}'
-    fields = '\n'.join(f'  pub {raw_field(d)} : map {shown(d)} {of(d)} ≡ raw.{raw_field(d)}' for d in tables)
+    is_kept = lambda d: d[0] == 'kept'
+    decodes = lambda d: f'HaveKeysOfRawRows {of(d)} raw.{raw_field(d)}' if is_kept(d) else f'map {shown(d)} {of(d)} ≡ raw.{raw_field(d)}'
+    fields = '\n'.join(f'  pub {raw_field(d)} : {decodes(d)}' for d in tables)
+    but_texts = ', but for the texts of KEPT' if any(map(is_kept, tables)) else ''
     return f"""
-{remark(f'The raw rows of {named(tables)} are, in order, the encodings of the typed rows `sheets`.')}
+{remark(f'The raw rows of {named(tables)} are, in order, the encodings of the typed rows `sheets`{but_texts}.')}
 pub record Decodes{word}Tables {'(schema : Schema) ' if first else ''}(sheets : {word}Sheets) (raw : {word}Rows) : Type 0 where
 {fields}
 
@@ -1321,7 +1325,8 @@ def reads_group(word, field, tables):
     """What the reads of a group show and decode"""
     desk = '(desk : Schema) ' if word in ('DeskAndCustomer', 'LaterSchema') else ''
     first, later = 'desk ' if word == 'DeskAndCustomer' else '', 'desk ' if word == 'LaterSchema' else ''
-    told = f'The reads return all rows of {named(tables)}, and change nothing. If the flag of the decoding, `old` before and `new` after it, is true after it, the typed rows `sheets` are the decoded rows. The clause on the rows of a table is vacuous if the database does not define it as a desk does.'
+    but_texts = ', but for the texts of KEPT' if word == 'DeskAndCustomer' else ''
+    told = f'The reads return all rows of {named(tables)}, and change nothing. If the flag of the decoding, `old` before and `new` after it, is true after it, the typed rows `sheets` are the decoded rows{but_texts}. The clause on the rows of a table is vacuous if the database does not define it as a desk does.'
     return f"""
 {remark(told)}
 pub record Reads{word}Tables {desk}(old new : Bool) (sheets : {word}Sheets) (a b : State) : Type 0 where
@@ -1335,16 +1340,17 @@ def decoded_spec():
     forms = ', '.join(VALUES[d[0]][3].split()[0] if d[0] in VALUES else f'{d[0]}_column_cell_checks' for d in DATA)
     out = f"""-- The decoding of the raw rows of all tables into typed rows, and the test that each raw row is
 -- well-formed.
-use Rattle.std.specs.Prelude.{{◌≡◌, ◌⊎◌, Bool, true, false, ◌&&◌, map}}
+use Rattle.std.specs.Prelude.{{◌≡◌, ◌⊎◌, Bool, true, false, ◌&&◌, List, map}}
 use Rattle.std.specs.List.{{list_all}}
 use Rattle.sqlite.specs.State.{{State}}
 use Rattle.brk_model.specs.Schemas.{{Schema}}
-{meanings()}
-use Rattle.brk_changes.specs.Sheets.{{abstract_sheets}}
+{meanings('abstract_kept_row')}
+use Rattle.brk_ref.specs.declared.key.Kept as typed
 use Rattle.brk_changes.specs.declared.sheets.Sheets.{{Sheets}}
-use Rattle.brk_tables_schema.specs.Cells.{{{CELLS}}}
+use Rattle.brk_tables_schema.specs.Cells.{{{', '.join(d[0] + '_cells' for d in DATA if d[0] != 'kept')}}}
 use Rattle.brk_tables_schema.specs.Desk.{{DeskTable, desk_rows, rule_rows, encoded_row, rows_in_schema}}
 use Rattle.brk_tables_schema.specs.Formed.{{passes_all_cell_checks, {forms}}}
+use Rattle.brk_tables_scan.specs.KeptKeys.{{HaveKeysOfRawRows, keys_of_kept_rows, tables_with_whole_kept_rows}}
 use Rattle.brk_tables_scan.specs.Whole.{{ShowsRowsIfPresent}}
 use Rattle.brk_tables_scan.specs.Raw.{{{', '.join(f'{word}Rows' for word, _, _ in GROUPS)}, RawSheets, raw_rows_of_table, IsUnchangedAndOpen, {', '.join(f'Shows{word}Tables' for word, _, _ in GROUPS)}}}
 {declared('Sheets')}
@@ -1357,10 +1363,13 @@ use Rattle.brk_tables_scan.specs.Raw.{{{', '.join(f'{word}Rows' for word, _, _ i
 abbrev pub are_raw_sheets_well_formed : Schema → RawSheets → Bool
 {folded('are_raw_sheets_well_formed desk raw =', [f'are_{words_of(word)}_rows_well_formed {desk(word)}raw.{field}' for word, field, _ in GROUPS], '&&')}
 
--- The raw rows of each table are, in order, the encodings of the typed rows `sheets`. The row of
--- DESK has the number of the schema `desk`.
-abbrev pub DecodesSheets : Schema → Sheets → RawSheets → Type 0
-DecodesSheets desk sheets raw = (w : DeskTable) → map (encoded_row w) (rows_in_schema desk w (abstract_sheets sheets)) ≡ raw_rows_of_table raw w
+-- The raw rows of each table are, in order, the encodings of the typed rows `sheets`, but for the
+-- texts of KEPT: `whole` are typed rows of KEPT with the keys of those of `sheets`. The row of DESK
+-- has the number of the schema `desk`.
+pub record DecodesSheets (desk : Schema) (sheets : Sheets) (raw : RawSheets) : Type 0 where
+  pub whole : List typed.Kept
+  pub keys : keys_of_kept_rows whole ≡ keys_of_kept_rows sheets.kept.items
+  pub encoded : (w : DeskTable) → map (encoded_row w) (rows_in_schema desk w (tables_with_whole_kept_rows whole sheets)) ≡ raw_rows_of_table raw w
 
 -- A step of a decoding of raw rows. A flag, `old` before the step and `new` after it, is true only
 -- if all raw rows so far are well-formed. `are_well_formed` is true if the raw rows of this step
@@ -1375,8 +1384,9 @@ pub record ContinuesDecoding (old new are_well_formed : Bool) (Decodes : Type 0)
 {''.join(reads_group(word, field, tables) for word, field, _, tables in groups())}
 -- The reads return all rows of each table of the schema `desk`, and none of other tables. The
 -- database was open, and the reads changed nothing. If the flag of the decoding, `old` before and
--- `new` after it, is true after it, the typed rows `sheets` are the decoded rows. The clause on the
--- rows of a table is vacuous if the database does not define it as a desk does.
+-- `new` after it, is true after it, the typed rows `sheets` are the decoded rows, but for the texts of
+-- KEPT. The clause on the rows of a table is vacuous if the database does not define it as a desk
+-- does.
 pub record ReadsDeskTables (desk : Schema) (old new : Bool) (sheets : Sheets) (a b : State) : Type 0 where
   pub raw : RawSheets
   pub stays : IsUnchangedAndOpen a b
@@ -1392,16 +1402,18 @@ def sheeted():
     sheets = ' '.join(f'({v} : {word}Sheets)' for word, _, v in GROUPS)
     are = ' '.join(f'(is_{v} : Decodes{word}Tables {desk(word)}{v} raw.{field})' for word, field, v in GROUPS)
     twice = lambda d, v: '' if d[0] in VALUES else f'map_twice {d[0]}_cells {record_meaning(d)} {v}.{sheet_field(d)}.items ∙ '
+    encodes = lambda d, v: f'map_twice kept_cells {record_meaning(d)} is_{v}.kept.0 ∙ is_{v}.kept.1' if d[0] == 'kept' else f'{twice(d, v)}is_{v}.{raw_field(d)}'
     out = f"""-- The typed rows of all tables are the sheets.
-use Rattle.std.proofs.Common.{{◌∙◌}}
+use Rattle.std.proofs.Common.{{◌≡◌, ◌∙◌, map}}
 use Rattle.brk_sql.proofs.Order.{{map_twice}}
 use Rattle.brk_model.specs.Schemas.{{Schema}}
 {meanings()}
 use Rattle.brk_changes.specs.declared.sheets.Sheets.{{Sheets}}
 use Rattle.brk_tables_schema.specs.Cells.{{{cells}}}
-use Rattle.brk_tables_schema.specs.Desk.{{{WHICHES}}}
+use Rattle.brk_tables_schema.specs.Desk.{{DeskTable, encoded_row, rows_in_schema, {WHICHES}}}
+use Rattle.brk_tables_scan.specs.KeptKeys.{{tables_with_whole_kept_rows}}
 use Rattle.brk_tables_scan.specs.Decoded.{{DecodesSheets, {', '.join(f'Decodes{group[0]}Tables' for group in GROUPS)}}}
-use Rattle.brk_tables_scan.specs.Raw.{{RawSheets}}
+use Rattle.brk_tables_scan.specs.Raw.{{RawSheets, raw_rows_of_table}}
 {declared('Sheets')}
 
 module _ {sheets} where
@@ -1409,8 +1421,11 @@ module _ {sheets} where
   sheets = record {{ {'; '.join(f'{sheet_field(d)} = {v}.{sheet_field(d)}' for _, _, v, tables in groups() for d in tables)} }}
 
 module _ {sheets} (desk : Schema) (raw : RawSheets) {are} where
+  each : (w : DeskTable) → map (encoded_row w) (rows_in_schema desk w (tables_with_whole_kept_rows is_f.kept.0 (sheets {' '.join(v for _, _, v in GROUPS)}))) ≡ raw_rows_of_table raw w
+{chr(10).join(f'  each {d[2]} = {encodes(d, v)}' for _, _, v, tables in groups() for d in tables)}
+
   pub are_sheets : DecodesSheets desk (sheets {' '.join(v for _, _, v in GROUPS)}) raw
-{chr(10).join(f'  are_sheets {d[2]} = {twice(d, v)}is_{v}.{raw_field(d)}' for _, _, v, tables in groups() for d in tables)}
+  are_sheets = record {{ whole = is_f.kept.0; keys = is_f.kept.2; encoded = each }}
 """
     save('crates/brk_tables_scan/proofs/Sheeted.antt', out)
 

@@ -1,5 +1,5 @@
 -- What an audit by one schema tells, from what was read.
-use Rattle.std.proofs.Common.{◌≡◌, ◌∙◌, ◌&&◌, IfOk, true, false, Bool, List, [], ◌∷◌, Option, Some, None, Result, Ok, IsTrue, refl, sym, subst, inl, inr}
+use Rattle.std.proofs.Common.{◌≡◌, ◌∙◌, ◌&&◌, IfOk, true, false, Bool, List, [], ◌∷◌, map, Option, Some, None, Result, Ok, IsTrue, refl, sym, subst, inl, inr}
 use Rattle.std.specs.Prelude.{◌↔◌, ⊤}
 use Rattle.std.specs.List.{AllByRecursion}
 use Rattle.sqlite.specs.Effect.{Database}
@@ -16,13 +16,18 @@ use Rattle.brk_changes.specs.declared.schema.Schema.TheVariants.{Third}
 use Rattle.brk_changes.specs.Schemas.{abstract_schema}
 use Rattle.brk_changes.specs.Sheets.{abstract_sheets}
 use Rattle.brk_changes.specs.declared.sheets.Sheets.{Sheets}
+use Rattle.brk_ref.specs.declared.key.Kept as typed
+use Rattle.brk_ref.specs.Records.{abstract_kept_row}
 use Rattle.brk_sql.specs.Model.{IsTransactionStep}
 use Rattle.brk_sql.proofs.Inside.{step_read, step_then}
+use Rattle.brk_sql.proofs.Order.{map_twice}
 use Rattle.brk_tables_unique.proofs.OneTables.{one_schema}
 use Rattle.brk_tables_schema.specs.Made.{HasDeskTablesInSchema}
 use Rattle.brk_tables_scan.specs.Schemas.{DatabaseHasSchema, NamedTablesMatchSchemaDefinitions}
+use Rattle.brk_tables_scan.specs.KeptKeys.{keys_of_kept_rows, tables_with_whole_kept_rows}
 use Rattle.brk_tables_scan.specs.Whole.{AreSheetsOfDatabase}
 use Rattle.brk_store.specs.Audited.{IsDatabaseAuditResultBySchema}
+use Rattle.brk_store.proofs.KeptTexts.{answer_alike}
 use Rattle.brk_store.proofs.Texts.{typed_texts}
 
 -- ---- conditions of rows
@@ -101,6 +106,14 @@ module _ (schema : known.Schema) (a b : State) where
       let e : Some condition.Form ≡ answer = cc in
       subst (λ told. AuditsDeskOfSchema schema told a b) e (p.0, p.1, λ defined there. (there, λ t rows texts. form_fails (abstract_schema schema) t (p.2 defined there t rows) texts))) step
 
+  -- the answer for rows of KEPT without their texts is that for the whole rows
+  whole_answer : (sheets : Sheets) (whole : List typed.Kept) → keys_of_kept_rows whole ≡ keys_of_kept_rows sheets.kept.items → (answer : Option Condition) → IsAuditResult (abstract_schema schema) (abstract_sheets sheets) answer
+      → IsAuditResult (abstract_schema schema) (tables_with_whole_kept_rows whole sheets) answer
+  whole_answer sheets whole keys answer h =
+      let here = map_twice (λ k. k.key) abstract_kept_row sheets.kept.items in
+      let there = map_twice (λ k. k.key) abstract_kept_row whole in
+      answer_alike (abstract_schema schema) (abstract_sheets sheets) (map abstract_kept_row sheets.kept.items) (map abstract_kept_row whole) (here ∙ sym keys ∙ sym there) row_conditions answer h
+
   pub rows_told : (sheets : Sheets) (r : Result (Option Condition) Fault) → IsTransactionStep {V = Option Sheets} {E = Fault} a b (Ok (Some sheets)) (ReadsSheetsOfSchema schema) → IfOk r (λ answer. IsAuditResult (abstract_schema schema) (abstract_sheets sheets) answer)
       → IsTransactionStep {V = Option Condition} {E = Fault} a b r (AuditsDeskOfSchema schema)
   rows_told sheets r step audit =
@@ -109,7 +122,9 @@ module _ (schema : known.Schema) (a b : State) where
         p.0,
         p.1,
         λ defined there.
-            rows_are_audited schema a.now (abstract_sheets sheets) answer there (p.2 defined there) (typed_texts sheets) (subst (λ o. IfOk o (λ answer. IsAuditResult (abstract_schema schema) (abstract_sheets sheets) answer)) is audit),
+            let read = p.2 defined there in
+            rows_are_audited schema a.now (tables_with_whole_kept_rows read.whole sheets) answer there read.stored (typed_texts sheets read.whole)
+            (whole_answer sheets read.whole read.keys answer (subst (λ o. IfOk o (λ answer. IsAuditResult (abstract_schema schema) (abstract_sheets sheets) answer)) is audit)),
       )) step
 
 -- the desk of the third schema was asked for, and is there

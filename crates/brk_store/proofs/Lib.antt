@@ -4,6 +4,7 @@ pub mod Closing
 pub mod Counting
 pub mod Ending
 pub mod Found
+pub mod KeptTexts
 pub mod Making
 pub mod Retelling
 pub mod Schemas

@@ -13,11 +13,11 @@ use Rattle.brk_model.specs.Tables.{CashRow, MoveRow, Tables, numbered_move_rows}
 use Rattle.brk_ref.specs.declared.key.Kept as kept
 use Rattle.brk_ref.specs.Records.{abstract_kept_row}
 use Rattle.brk_changes.specs.Rows.{abstract_cash_row, abstract_move_row, abstract_trade_row}
-use Rattle.brk_changes.specs.Sheets.{abstract_sheets}
 use Rattle.brk_changes.specs.declared.cash_row.CashRow as cash
 use Rattle.brk_changes.specs.declared.move_row.MoveRow as posted
 use Rattle.brk_changes.specs.declared.sheets.Sheets.{Sheets}
 use Rattle.brk_changes.specs.declared.trade_row.TradeRow as trade
+use Rattle.brk_tables_scan.specs.KeptKeys.{tables_with_whole_kept_rows}
 
 and_both : (a b : Bool) → a ≡ true → b ≡ true → a && b ≡ true
 and_both a b p q = rw (p, q) refl
@@ -45,8 +45,8 @@ move_texts : (rs : List posted.MoveRow) → list_all (λ r. is_utf8 r.name) (map
 move_texts [] = refl
 move_texts (r ∷ rs) = and_both _ _ (text_is_utf8 r.name) (move_texts rs)
 
-pub typed_texts : (s : Sheets) → IsTrue (has_utf8_texts (abstract_sheets s))
-typed_texts s = and_both _ _ (and_both _ _ (and_both _ _ (kept_texts s.kept.items) (trade_texts s.trades.items)) (cash_texts s.cash.items)) (move_texts s.moves.items)
+pub typed_texts : (s : Sheets) (whole : List kept.Kept) → IsTrue (has_utf8_texts (tables_with_whole_kept_rows whole s))
+typed_texts s whole = and_both _ _ (and_both _ _ (and_both _ _ (kept_texts whole) (trade_texts s.trades.items)) (cash_texts s.cash.items)) (move_texts s.moves.items)
 
 -- ---- the move keeps them
 

@@ -14,8 +14,6 @@ use Rattle.brk_sql.specs.Desk.{IsTableAt}
 use Rattle.brk_changes.specs.declared.schema.Schema as known
 use Rattle.brk_changes.specs.declared.schema.Schema.TheVariants.{First, Second, Third}
 use Rattle.brk_changes.specs.Schemas.{abstract_schema}
-use Rattle.brk_changes.specs.declared.sheets.Sheets.{Sheets}
-use Rattle.brk_changes.specs.Sheets.{abstract_sheets}
 use Rattle.brk_tables_schema.specs.Desk.{DeskTable, all_tables, encoded_row, schema_has_table, rows_in_schema, table_definition_at, tables_in_schema, table_name}
 use Rattle.brk_tables_schema.specs.Made.{HasDeskTablesInSchema, IsTableOfSchema}
 use Rattle.brk_tables_schema.proofs.Which.{all_listed}
@@ -23,7 +21,7 @@ use Rattle.brk_tables_create.specs.Made.{tables_of_later_schemas}
 use Rattle.brk_tables_scan.specs.Schemas.{DatabaseHasSchema, HasTableWithNames, NamedTablesMatchSchemaDefinitions, HasDeskDefinitions, table_and_column_names}
 use Rattle.brk_tables_scan.specs.Whole.{ShowsRowsIfPresent}
 use Rattle.brk_tables_scan.specs.Raw.{RawSheets, raw_rows_of_table}
-use Rattle.brk_tables_scan.specs.Decoded.{DecodesSheets, are_raw_sheets_well_formed}
+use Rattle.brk_tables_scan.specs.Decoded.{are_raw_sheets_well_formed}
 use Rattle.brk_tables_scan.proofs.FormedTables.{tables_formed}
 use Rattle.brk_tables_scan.proofs.Listed.{same_name_at}
 
@@ -67,8 +65,8 @@ module _ (desk : Schema) (db : Database) (has : DatabaseHasSchema desk db) (defi
   stands w of = stood w (schema_has_table desk w) refl of
 
   -- what was read is what the tables hold
-  pub rows_read : (raw : RawSheets) → ((w : DeskTable) → ShowsRowsIfPresent desk w (raw_rows_of_table raw w) db) → (sheets : Sheets) → DecodesSheets desk sheets raw → HasDeskTablesInSchema desk (abstract_sheets sheets) db
-  rows_read raw shown sheets are = (
+  pub rows_read : (raw : RawSheets) → ((w : DeskTable) → ShowsRowsIfPresent desk w (raw_rows_of_table raw w) db) → (t : Tables) → ((w : DeskTable) → map (encoded_row w) (rows_in_schema desk w t) ≡ raw_rows_of_table raw w) → HasDeskTablesInSchema desk t db
+  rows_read raw shown t are = (
     tree,
     record {
       place = place;
@@ -76,11 +74,11 @@ module _ (desk : Schema) (db : Database) (has : DatabaseHasSchema desk db) (defi
       apart = λ v w a b same. alike.apart v w a b (place v) (place w) (tree v) (stands v a) (subst (λ n. IsTableAt db.schema (table_definition_at w n) (place w)) (sym same) (stands w b));
       calm = λ w of. alike.calm w of (place w) (tree w) (stands w of);
       sound = alike.sound;
-      rows = λ w of. ((shown w).0 of (place w) (tree w) (stands w of)).table_holds_records (rows_in_schema desk w (abstract_sheets sheets)) alike.sound (alike.keyed w of (place w) (tree w) (stands w of)) (are w);
+      rows = λ w of. ((shown w).0 of (place w) (tree w) (stands w of)).table_holds_records (rows_in_schema desk w t) alike.sound (alike.keyed w of (place w) (tree w) (stands w of)) (are w);
     },
     λ w lacks. (
       all_has (λ w. table_named db.schema (table_name w) ≡ None) (tables_of_later_schemas desk) w has.later (has_kept (λ w. not (schema_has_table desk w)) all_tables w (all_listed w) (ap not lacks)),
-      unshown (encoded_row w) (rows_in_schema desk w (abstract_sheets sheets)) (are w ∙ (shown w).1 lacks),
+      unshown (encoded_row w) (rows_in_schema desk w t) (are w ∙ (shown w).1 lacks),
     ),
   )
 

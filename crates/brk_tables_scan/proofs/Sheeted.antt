@@ -1,14 +1,15 @@
 -- The typed rows of all tables are the sheets.
-use Rattle.std.proofs.Common.{◌∙◌}
+use Rattle.std.proofs.Common.{◌≡◌, ◌∙◌, map}
 use Rattle.brk_sql.proofs.Order.{map_twice}
 use Rattle.brk_model.specs.Schemas.{Schema}
 use Rattle.brk_ref.specs.Records.{abstract_kept_row, abstract_broker_row, abstract_customer, abstract_account_row, abstract_permission, abstract_security_row, abstract_last_trade_row, abstract_charge, abstract_band, abstract_tax_rate, abstract_customer_tax}
 use Rattle.brk_changes.specs.Rows.{abstract_trade_row, abstract_history_row, abstract_request_row, abstract_holding_row, abstract_summary_row, abstract_lot_change_row, abstract_settlement_row, abstract_cash_row, abstract_move_row}
 use Rattle.brk_changes.specs.declared.sheets.Sheets.{Sheets}
 use Rattle.brk_tables_schema.specs.Cells.{kept_cells, broker_cells, customer_cells, account_cells, permission_cells, security_cells, last_trade_cells, charge_cells, band_cells, tax_rate_cells, customer_tax_cells, trade_cells, history_cells, request_cells, holding_cells, summary_cells, holding_history_cells, settlement_cells, cash_cells, move_cells}
-use Rattle.brk_tables_schema.specs.Desk.{TheDesk, KeptRows, Brokers, Customers, Accounts, Permissions, Securities, LastTrades, Charges, Bands, TaxRates, CustomerTaxes, Trades, TradeHistory, Requests, Holdings, Summaries, HoldingHistory, Settlements, CashRows, CashMoves, SettleRules}
+use Rattle.brk_tables_schema.specs.Desk.{DeskTable, encoded_row, rows_in_schema, TheDesk, KeptRows, Brokers, Customers, Accounts, Permissions, Securities, LastTrades, Charges, Bands, TaxRates, CustomerTaxes, Trades, TradeHistory, Requests, Holdings, Summaries, HoldingHistory, Settlements, CashRows, CashMoves, SettleRules}
+use Rattle.brk_tables_scan.specs.KeptKeys.{tables_with_whole_kept_rows}
 use Rattle.brk_tables_scan.specs.Decoded.{DecodesSheets, DecodesDeskAndCustomerTables, DecodesAccountAndSecurityTables, DecodesChargeAndRateTables, DecodesTradeAndHoldingTables, DecodesSummaryAndSettlementTables, DecodesLaterSchemaTables}
-use Rattle.brk_tables_scan.specs.Raw.{RawSheets}
+use Rattle.brk_tables_scan.specs.Raw.{RawSheets, raw_rows_of_table}
 use Rattle.brk_tables_scan.specs.declared.all_tables.DeskAndCustomerSheets.{DeskAndCustomerSheets}
 use Rattle.brk_tables_scan.specs.declared.all_tables.AccountAndSecuritySheets.{AccountAndSecuritySheets}
 use Rattle.brk_tables_scan.specs.declared.all_tables.ChargeAndRateSheets.{ChargeAndRateSheets}
@@ -21,26 +22,29 @@ module _ (f : DeskAndCustomerSheets) (a : AccountAndSecuritySheets) (r : ChargeA
   sheets = record { last = f.last; kept = f.kept; brokers = f.brokers; customers = f.customers; accounts = a.accounts; permissions = a.permissions; securities = a.securities; last_trades = a.last_trades; charges = r.charges; bands = r.bands; tax_rates = r.tax_rates; customer_taxes = r.customer_taxes; trades = t.trades; history = t.history; requests = t.requests; holdings = t.holdings; summaries = l.summaries; holding_history = l.holding_history; settlements = l.settlements; cash = l.cash; moves = n.moves; rule = n.rule }
 
 module _ (f : DeskAndCustomerSheets) (a : AccountAndSecuritySheets) (r : ChargeAndRateSheets) (t : TradeAndHoldingSheets) (l : SummaryAndSettlementSheets) (n : LaterSchemaSheets) (desk : Schema) (raw : RawSheets) (is_f : DecodesDeskAndCustomerTables desk f raw.first) (is_a : DecodesAccountAndSecurityTables a raw.accounts) (is_r : DecodesChargeAndRateTables r raw.rates) (is_t : DecodesTradeAndHoldingTables t raw.trades) (is_l : DecodesSummaryAndSettlementTables l raw.last) (is_n : DecodesLaterSchemaTables n raw.later) where
+  each : (w : DeskTable) → map (encoded_row w) (rows_in_schema desk w (tables_with_whole_kept_rows is_f.kept.0 (sheets f a r t l n))) ≡ raw_rows_of_table raw w
+  each TheDesk = is_f.desk
+  each KeptRows = map_twice kept_cells abstract_kept_row is_f.kept.0 ∙ is_f.kept.1
+  each Brokers = map_twice broker_cells abstract_broker_row f.brokers.items ∙ is_f.brokers
+  each Customers = map_twice customer_cells abstract_customer f.customers.items ∙ is_f.customers
+  each Accounts = map_twice account_cells abstract_account_row a.accounts.items ∙ is_a.accounts
+  each Permissions = map_twice permission_cells abstract_permission a.permissions.items ∙ is_a.permissions
+  each Securities = map_twice security_cells abstract_security_row a.securities.items ∙ is_a.securities
+  each LastTrades = map_twice last_trade_cells abstract_last_trade_row a.last_trades.items ∙ is_a.last_trades
+  each Charges = map_twice charge_cells abstract_charge r.charges.items ∙ is_r.charges
+  each Bands = map_twice band_cells abstract_band r.bands.items ∙ is_r.bands
+  each TaxRates = map_twice tax_rate_cells abstract_tax_rate r.tax_rates.items ∙ is_r.tax_rates
+  each CustomerTaxes = map_twice customer_tax_cells abstract_customer_tax r.customer_taxes.items ∙ is_r.customer_taxes
+  each Trades = map_twice trade_cells abstract_trade_row t.trades.items ∙ is_t.trades
+  each TradeHistory = map_twice history_cells abstract_history_row t.history.items ∙ is_t.history
+  each Requests = map_twice request_cells abstract_request_row t.requests.items ∙ is_t.requests
+  each Holdings = map_twice holding_cells abstract_holding_row t.holdings.items ∙ is_t.holdings
+  each Summaries = map_twice summary_cells abstract_summary_row l.summaries.items ∙ is_l.summaries
+  each HoldingHistory = map_twice holding_history_cells abstract_lot_change_row l.holding_history.items ∙ is_l.holding_history
+  each Settlements = map_twice settlement_cells abstract_settlement_row l.settlements.items ∙ is_l.settlements
+  each CashRows = map_twice cash_cells abstract_cash_row l.cash.items ∙ is_l.cash
+  each CashMoves = map_twice move_cells abstract_move_row n.moves.items ∙ is_n.moves
+  each SettleRules = is_n.rule
+
   pub are_sheets : DecodesSheets desk (sheets f a r t l n) raw
-  are_sheets TheDesk = is_f.desk
-  are_sheets KeptRows = map_twice kept_cells abstract_kept_row f.kept.items ∙ is_f.kept
-  are_sheets Brokers = map_twice broker_cells abstract_broker_row f.brokers.items ∙ is_f.brokers
-  are_sheets Customers = map_twice customer_cells abstract_customer f.customers.items ∙ is_f.customers
-  are_sheets Accounts = map_twice account_cells abstract_account_row a.accounts.items ∙ is_a.accounts
-  are_sheets Permissions = map_twice permission_cells abstract_permission a.permissions.items ∙ is_a.permissions
-  are_sheets Securities = map_twice security_cells abstract_security_row a.securities.items ∙ is_a.securities
-  are_sheets LastTrades = map_twice last_trade_cells abstract_last_trade_row a.last_trades.items ∙ is_a.last_trades
-  are_sheets Charges = map_twice charge_cells abstract_charge r.charges.items ∙ is_r.charges
-  are_sheets Bands = map_twice band_cells abstract_band r.bands.items ∙ is_r.bands
-  are_sheets TaxRates = map_twice tax_rate_cells abstract_tax_rate r.tax_rates.items ∙ is_r.tax_rates
-  are_sheets CustomerTaxes = map_twice customer_tax_cells abstract_customer_tax r.customer_taxes.items ∙ is_r.customer_taxes
-  are_sheets Trades = map_twice trade_cells abstract_trade_row t.trades.items ∙ is_t.trades
-  are_sheets TradeHistory = map_twice history_cells abstract_history_row t.history.items ∙ is_t.history
-  are_sheets Requests = map_twice request_cells abstract_request_row t.requests.items ∙ is_t.requests
-  are_sheets Holdings = map_twice holding_cells abstract_holding_row t.holdings.items ∙ is_t.holdings
-  are_sheets Summaries = map_twice summary_cells abstract_summary_row l.summaries.items ∙ is_l.summaries
-  are_sheets HoldingHistory = map_twice holding_history_cells abstract_lot_change_row l.holding_history.items ∙ is_l.holding_history
-  are_sheets Settlements = map_twice settlement_cells abstract_settlement_row l.settlements.items ∙ is_l.settlements
-  are_sheets CashRows = map_twice cash_cells abstract_cash_row l.cash.items ∙ is_l.cash
-  are_sheets CashMoves = map_twice move_cells abstract_move_row n.moves.items ∙ is_n.moves
-  are_sheets SettleRules = is_n.rule
+  are_sheets = record { whole = is_f.kept.0; keys = is_f.kept.2; encoded = each }

@@ -1,17 +1,16 @@
 -- The decoding of the raw rows of all tables into typed rows, and the test that each raw row is
 -- well-formed.
-use Rattle.std.specs.Prelude.{◌≡◌, ◌⊎◌, Bool, true, false, ◌&&◌, map}
+use Rattle.std.specs.Prelude.{◌≡◌, ◌⊎◌, Bool, true, false, ◌&&◌, List, map}
 use Rattle.std.specs.List.{list_all}
 use Rattle.sqlite.specs.State.{State}
 use Rattle.brk_model.specs.Schemas.{Schema}
-use Rattle.brk_ref.specs.Records.{abstract_kept_row, abstract_broker_row, abstract_customer, abstract_account_row, abstract_permission}
-use Rattle.brk_ref.specs.Records.{abstract_security_row, abstract_last_trade_row, abstract_charge, abstract_band, abstract_tax_rate}
-use Rattle.brk_ref.specs.Records.{abstract_customer_tax}
+use Rattle.brk_ref.specs.Records.{abstract_broker_row, abstract_customer, abstract_account_row, abstract_permission, abstract_security_row}
+use Rattle.brk_ref.specs.Records.{abstract_last_trade_row, abstract_charge, abstract_band, abstract_tax_rate, abstract_customer_tax}
 use Rattle.brk_changes.specs.Rows.{abstract_trade_row, abstract_history_row, abstract_request_row, abstract_holding_row, abstract_summary_row}
 use Rattle.brk_changes.specs.Rows.{abstract_lot_change_row, abstract_settlement_row, abstract_cash_row, abstract_move_row}
-use Rattle.brk_changes.specs.Sheets.{abstract_sheets}
+use Rattle.brk_ref.specs.declared.key.Kept as typed
 use Rattle.brk_changes.specs.declared.sheets.Sheets.{Sheets}
-use Rattle.brk_tables_schema.specs.Cells.{desk_row_cells, kept_cells, broker_cells, customer_cells, account_cells, permission_cells, security_cells}
+use Rattle.brk_tables_schema.specs.Cells.{desk_row_cells, broker_cells, customer_cells, account_cells, permission_cells, security_cells}
 use Rattle.brk_tables_schema.specs.Cells.{last_trade_cells, charge_cells, band_cells, tax_rate_cells, customer_tax_cells, trade_cells, history_cells}
 use Rattle.brk_tables_schema.specs.Cells.{request_cells, holding_cells, summary_cells, holding_history_cells, settlement_cells, cash_cells}
 use Rattle.brk_tables_schema.specs.Cells.{move_cells, rule_cells}
@@ -24,6 +23,7 @@ use Rattle.brk_tables_schema.specs.Formed.{trade_column_cell_checks, history_col
 use Rattle.brk_tables_schema.specs.Formed.{holding_column_cell_checks, summary_column_cell_checks, holding_history_column_cell_checks}
 use Rattle.brk_tables_schema.specs.Formed.{settlement_column_cell_checks, cash_column_cell_checks, move_column_cell_checks}
 use Rattle.brk_tables_schema.specs.Formed.{has_at_most_one_valid_rule_row}
+use Rattle.brk_tables_scan.specs.KeptKeys.{HaveKeysOfRawRows, keys_of_kept_rows, tables_with_whole_kept_rows}
 use Rattle.brk_tables_scan.specs.Whole.{ShowsRowsIfPresent}
 use Rattle.brk_tables_scan.specs.Raw.{DeskAndCustomerRows, AccountAndSecurityRows, ChargeAndRateRows, TradeAndHoldingRows, SummaryAndSettlementRows}
 use Rattle.brk_tables_scan.specs.Raw.{LaterSchemaRows, RawSheets, raw_rows_of_table, IsUnchangedAndOpen, ShowsDeskAndCustomerTables}
@@ -37,10 +37,10 @@ use Rattle.brk_tables_scan.specs.declared.all_tables.SummaryAndSettlementSheets.
 use Rattle.brk_tables_scan.specs.declared.all_tables.LaterSchemaSheets.{LaterSchemaSheets}
 
 -- The raw rows of DESK, KEPT, BROKER and CUSTOMER are, in order, the encodings of the typed rows
--- `sheets`.
+-- `sheets`, but for the texts of KEPT.
 pub record DecodesDeskAndCustomerTables (schema : Schema) (sheets : DeskAndCustomerSheets) (raw : DeskAndCustomerRows) : Type 0 where
   pub desk : map desk_row_cells (desk_rows schema sheets.last) ≡ raw.desk
-  pub kept : map (λ r. kept_cells (abstract_kept_row r)) sheets.kept.items ≡ raw.kept
+  pub kept : HaveKeysOfRawRows sheets.kept.items raw.kept
   pub brokers : map (λ r. broker_cells (abstract_broker_row r)) sheets.brokers.items ≡ raw.brokers
   pub customers : map (λ r. customer_cells (abstract_customer r)) sheets.customers.items ≡ raw.customers
 
@@ -137,10 +137,13 @@ are_raw_sheets_well_formed desk raw =
     && are_charge_and_rate_rows_well_formed raw.rates && are_trade_and_holding_rows_well_formed raw.trades
     && are_summary_and_settlement_rows_well_formed raw.last && are_later_schema_rows_well_formed raw.later
 
--- The raw rows of each table are, in order, the encodings of the typed rows `sheets`. The row of
--- DESK has the number of the schema `desk`.
-abbrev pub DecodesSheets : Schema → Sheets → RawSheets → Type 0
-DecodesSheets desk sheets raw = (w : DeskTable) → map (encoded_row w) (rows_in_schema desk w (abstract_sheets sheets)) ≡ raw_rows_of_table raw w
+-- The raw rows of each table are, in order, the encodings of the typed rows `sheets`, but for the
+-- texts of KEPT: `whole` are typed rows of KEPT with the keys of those of `sheets`. The row of DESK
+-- has the number of the schema `desk`.
+pub record DecodesSheets (desk : Schema) (sheets : Sheets) (raw : RawSheets) : Type 0 where
+  pub whole : List typed.Kept
+  pub keys : keys_of_kept_rows whole ≡ keys_of_kept_rows sheets.kept.items
+  pub encoded : (w : DeskTable) → map (encoded_row w) (rows_in_schema desk w (tables_with_whole_kept_rows whole sheets)) ≡ raw_rows_of_table raw w
 
 -- A step of a decoding of raw rows. A flag, `old` before the step and `new` after it, is true only
 -- if all raw rows so far are well-formed. `are_well_formed` is true if the raw rows of this step
@@ -155,8 +158,8 @@ pub record ContinuesDecoding (old new are_well_formed : Bool) (Decodes : Type 0)
 
 -- The reads return all rows of DESK, KEPT, BROKER and CUSTOMER, and change nothing. If the flag of
 -- the decoding, `old` before and `new` after it, is true after it, the typed rows `sheets` are the
--- decoded rows. The clause on the rows of a table is vacuous if the database does not define it as
--- a desk does.
+-- decoded rows, but for the texts of KEPT. The clause on the rows of a table is vacuous if the
+-- database does not define it as a desk does.
 pub record ReadsDeskAndCustomerTables (desk : Schema) (old new : Bool) (sheets : DeskAndCustomerSheets) (a b : State) : Type 0 where
   pub raw : DeskAndCustomerRows
   pub shown : ShowsDeskAndCustomerTables raw a b
@@ -209,8 +212,9 @@ pub record ReadsLaterSchemaTables (desk : Schema) (old new : Bool) (sheets : Lat
 
 -- The reads return all rows of each table of the schema `desk`, and none of other tables. The
 -- database was open, and the reads changed nothing. If the flag of the decoding, `old` before and
--- `new` after it, is true after it, the typed rows `sheets` are the decoded rows. The clause on the
--- rows of a table is vacuous if the database does not define it as a desk does.
+-- `new` after it, is true after it, the typed rows `sheets` are the decoded rows, but for the texts of
+-- KEPT. The clause on the rows of a table is vacuous if the database does not define it as a desk
+-- does.
 pub record ReadsDeskTables (desk : Schema) (old new : Bool) (sheets : Sheets) (a b : State) : Type 0 where
   pub raw : RawSheets
   pub stays : IsUnchangedAndOpen a b

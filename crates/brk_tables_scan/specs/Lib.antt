@@ -1,5 +1,6 @@
 pub mod Schemas
 pub mod Headings
+pub mod KeptKeys
 pub mod Whole
 pub mod Raw
 pub mod Decoded

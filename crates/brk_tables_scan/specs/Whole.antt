@@ -10,12 +10,13 @@ use Rattle.brk_model.specs.Schemas.{Schema}
 use Rattle.brk_model.specs.Tables.{Tables}
 use Rattle.brk_model.specs.Form.{satisfies_form_condition, has_utf8_texts}
 use Rattle.brk_changes.specs.declared.sheets.Sheets.{Sheets}
-use Rattle.brk_changes.specs.Sheets.{abstract_sheets}
+use Rattle.brk_ref.specs.declared.key.Kept as typed
 use Rattle.brk_sql.specs.Rows.{cells_in_column_order, TreeHoldsRecords}
 use Rattle.brk_sql.specs.Desk.{IsTableAt}
 use Rattle.brk_sql.specs.Model.{IsConnectionStep}
 use Rattle.brk_tables_schema.specs.Desk.{DeskTable, RecordOfTable, table_definition_at, encoded_row, ordering_by_primary_key, schema_has_table}
 use Rattle.brk_tables_schema.specs.Made.{HasDeskTablesInSchema, IsTableOfSchema}
+use Rattle.brk_tables_scan.specs.KeptKeys.{keys_of_kept_rows, tables_with_whole_kept_rows}
 use Rattle.brk_tables_scan.specs.Schemas.{HasDistinctRowids}
 
 -- The list `rows` has the rows at the tree `tree` of the table `w`, each as often as it occurs
@@ -56,10 +57,17 @@ ShowsRowsIfPresent desk w rows db = (IsTableOfSchema desk w → ShowsAllRows w r
 abbrev pub ReadsRowsIfPresent : {S E : Type 0} → Ghosts S → Transaction S → Transaction S → Result (Vec Row) E → Schema → DeskTable → Type 0
 ReadsRowsIfPresent g old new result desk w = IsConnectionStep g old new result (λ rows a b. (b.now ≡ a.now) × ShowsRowsIfPresent desk w rows.items a.now)
 
--- `Some sheets`: the database contains the tables of the schema `desk` with the typed rows
--- `sheets`. `None`: if the database contains the tables of the schema with some rows, a row of them
--- is malformed or a text is not UTF-8. The case `None` is vacuous if the database does not contain
--- these tables.
+-- The database contains the tables of the schema with the typed rows `sheets`, but for the texts of
+-- KEPT: its rows of KEPT are the typed rows `whole`, which have the keys of those of `sheets`.
+pub record AreSheetsButTexts (desk : Schema) (db : Database) (sheets : Sheets) : Type 0 where
+  pub whole : List typed.Kept
+  pub keys : keys_of_kept_rows whole ≡ keys_of_kept_rows sheets.kept.items
+  pub stored : HasDeskTablesInSchema desk (tables_with_whole_kept_rows whole sheets) db
+
+-- The database contains the tables of the schema with the typed rows `sheets`, but for the texts of
+-- KEPT (`AreSheetsButTexts`). For `None`: if the database contains the tables of the schema with
+-- some rows, a row of them is malformed or a text is not UTF-8. The case `None` is vacuous if it
+-- does not contain them.
 abbrev pub AreSheetsOfDatabase : Schema → Database → Option Sheets → Type 0
-AreSheetsOfDatabase desk db (Some sheets) = HasDeskTablesInSchema desk (abstract_sheets sheets) db
+AreSheetsOfDatabase desk db (Some sheets) = AreSheetsButTexts desk db sheets
 AreSheetsOfDatabase desk db None = (t : Tables) → HasDeskTablesInSchema desk t db → satisfies_form_condition desk t && has_utf8_texts t ≡ false

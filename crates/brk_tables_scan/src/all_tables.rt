@@ -51,7 +51,7 @@ fn read_desk_and_customer_tables<S: Alter>(
     ensures fault { IfErr result IsCallFault }
 {
     let last = decoder.decode_last_stamp(schema, desk_rows(tx)?)?;
-    let kept = decoder.decode(alloc, kept_rows(tx)?)?;
+    let kept = decoder.decode_kept_keys(alloc, kept_rows(tx)?)?;
     let brokers = decoder.decode(alloc, broker_rows(tx)?)?;
     let customers = decoder.decode(alloc, customer_rows(tx)?)?;
     Ok(DeskAndCustomerSheets {

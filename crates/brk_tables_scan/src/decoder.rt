@@ -1,25 +1,68 @@
 //! The decoding of the rows of one table after the other, which continues after a malformed row.
 
-ghost use Rattle.std.specs.Prelude.{◌≡◌, Err, IfOk, OnErr, map, true};
+ghost use Rattle.std.specs.Prelude.{◌≡◌, Err, IfOk, OnErr, false, map, true};
 ghost use Rattle.std.specs.List.{list_all};
 ghost use Rattle.brk_money.specs.declared.fault.Fault.TheVariants.{Memory};
 ghost use Rattle.brk_changes.specs.Schemas.{abstract_schema};
 ghost use Rattle.brk_tables_schema.specs.Cells.{desk_row_cells, rule_cells};
 ghost use Rattle.brk_tables_schema.specs.Desk.{desk_rows, rule_rows};
-ghost use Rattle.brk_tables_schema.specs.Formed.{has_at_most_one_valid_rule_row, has_one_valid_desk_row, passes_all_cell_checks};
+ghost use Rattle.brk_tables_schema.specs.declared.decode_error.DecodeError.TheVariants.{Form as Formless};
+ghost use Rattle.brk_tables_schema.specs.Formed.{has_at_most_one_valid_rule_row, has_one_valid_desk_row, kept_column_cell_checks, passes_all_cell_checks};
 ghost use Rattle.brk_tables_scan.specs.Decoded.{ContinuesDecoding};
+ghost use Rattle.brk_tables_scan.specs.KeptKeys.{HasKeyOfRawRow, HaveKeysOfRawRows};
 
 use brk_changes::Schema;
 use brk_money::{Day, Fault, Stamp};
+use brk_ref::Kept;
 use brk_tables_schema::DecodeError;
 use brk_tables_schema::desk_row::last_stamp_in_desk_rows;
-use brk_tables_schema::record::{Record, decode_records};
+use brk_tables_schema::record::Record;
 use brk_tables_schema::rule_row::settlement_day_in_rule_rows;
 use sqlite::Row;
 use std::alloc::Global;
 
-/// A decoder of the rows of one table after the other. It continues after a malformed row, so that
-/// all tables are read before the decoding fails.
+// Decodes all rows, in order, and drops each row once it is decoded. Fails with `Form` only if one
+// of them is malformed, or with `Memory`.
+fn decode_and_drop_rows<R: Record>(alloc: Global, rows: Vec<Row>) -> Result<Vec<R>, DecodeError>
+    ensures value { IfOk result (λ all. map R.cells all.items ≡ rows.items) }
+    ensures form { result ≡ Err Formless → list_all (passes_all_cell_checks R.forms) rows.items ≡ false }
+{
+    let mut all = Vec::with_capacity(alloc, rows.len())?;
+    for row in rows {
+        all.push(R::from_row(&row)?)?;
+    }
+    Ok(all)
+}
+
+// Decodes a row of KEPT and drops its texts: the record has empty texts. Fails with `Form` only if
+// the row is malformed, or with `Memory`.
+fn decode_kept_key(alloc: Global, row: &Row) -> Result<Kept, DecodeError>
+    ensures value { IfOk result (λ kept. HasKeyOfRawRow kept row.now) }
+    ensures form { result ≡ Err Formless → passes_all_cell_checks kept_column_cell_checks row.now ≡ false }
+{
+    let whole = Kept::from_row(row)?;
+    Ok(Kept {
+        key: whole.key,
+        row_text: String::new(alloc),
+        line: String::new(alloc),
+    })
+}
+
+// Decodes all rows of KEPT, in order, and drops each row, with its texts, once it is decoded: the
+// records have empty texts. Fails with `Form` only if one of them is malformed, or with `Memory`.
+fn decode_kept_keys(alloc: Global, rows: Vec<Row>) -> Result<Vec<Kept>, DecodeError>
+    ensures value { IfOk result (λ all. HaveKeysOfRawRows all.items rows.items) }
+    ensures form { result ≡ Err Formless → list_all (passes_all_cell_checks kept_column_cell_checks) rows.items ≡ false }
+{
+    let mut all = Vec::with_capacity(alloc, rows.len())?;
+    for row in rows {
+        all.push(decode_kept_key(alloc, &row)?)?;
+    }
+    Ok(all)
+}
+
+/// Decodes the rows of one table after the other. It goes on after a malformed row, so that all
+/// tables are read before it is known that one has such a row.
 #[derive(Clone, Copy)]
 pub(crate) struct Decoder {
     /// True if all rows so far are well-formed.
@@ -36,8 +79,8 @@ impl Decoder {
         }
     }
 
-    /// Decodes the rows of one table, in order, and drops them. If one of them is malformed, sets
-    /// `are_well_formed` to false and returns an empty list. Fails with `Memory` only.
+    /// Decodes the rows of a table and drops each once it is decoded. If one of them is malformed,
+    /// sets `are_well_formed` to false and returns no records. Fails with `Memory` only.
     pub(crate) fn decode<R: Record>(
         &mut self,
         alloc: Global,
@@ -48,7 +91,28 @@ impl Decoder {
             (map R.cells all.items ≡ rows.items)) }
         ensures fault { OnErr result (result ≡ Err Memory) }
     {
-        match decode_records(alloc, &rows) {
+        match decode_and_drop_rows(alloc, rows) {
+            Ok(all) => Ok(all),
+            Err(DecodeError::Form) => {
+                self.are_well_formed = false;
+                Ok(Vec::new(alloc))
+            }
+            Err(DecodeError::Memory) => Err(Fault::Memory),
+        }
+    }
+
+    /// Decodes the keys of the rows of KEPT and drops each row once it is decoded. The records have
+    /// empty texts, because no condition of an audit reads the texts of KEPT. If a row is
+    /// malformed, sets `are_well_formed` to false and returns no records. Fails with `Memory` only.
+    pub(crate) fn decode_kept_keys(
+        &mut self,
+        alloc: Global,
+        rows: Vec<Row>,
+    ) -> Result<Vec<Kept>, Fault>
+        ensures decoding { IfOk result (λ all. ContinuesDecoding self.old.are_well_formed self.new.are_well_formed (list_all (passes_all_cell_checks kept_column_cell_checks) rows.items) (HaveKeysOfRawRows all.items rows.items)) }
+        ensures fault { OnErr result (result ≡ Err Memory) }
+    {
+        match decode_kept_keys(alloc, rows) {
             Ok(all) => Ok(all),
             Err(DecodeError::Form) => {
                 self.are_well_formed = false;

@@ -3,6 +3,7 @@ use Rattle.sqlite.specs.Held.{state}
 use Rattle.brk_changes.specs.Schemas.{abstract_schema}
 use Rattle.brk_sql.proofs.Inside.{step_read}
 use Rattle.brk_tables_scan.specs.Decoded.{ReadsDeskTables}
+use Rattle.brk_tables_scan.specs.KeptKeys.{tables_with_whole_kept_rows}
 use Rattle.brk_tables_scan.specs.Whole.{AreSheetsOfDatabase}
 use Rattle.brk_tables_scan.proofs.Reading.{rows_read, none_in_form, narrower}
 use Rattle.brk_tables_scan.proofs.sheets.read_sheets.Goals as goal
@@ -14,8 +15,16 @@ returns-clause-step g c =
     let new = state g.S.Store c.read_all_tables.new.tx.conn.now in
     let flag = c.read_all_tables.new.decoder.are_well_formed in
     step_read old new c.in_ok-sheets.sheets (Ok (Some c.in_ok-sheets.sheets)) (λ sheets. ReadsDeskTables desk _ flag sheets) _
-    (λ read is shown.
-    (shown.stays.0, shown.stays.1, λ defined has. let same : Some c.in_ok-sheets.sheets ≡ read = cc in subst (AreSheetsOfDatabase desk old.now) same (rows_read desk old.now has defined shown.raw shown.shown c.in_ok-sheets.sheets (shown.decoded.value cc))))
+    (λ read is shown. (
+      shown.stays.0,
+      shown.stays.1,
+      λ defined has. let same : Some c.in_ok-sheets.sheets ≡ read = cc in let rows = shown.decoded.value cc in
+          subst (AreSheetsOfDatabase desk old.now) same (record {
+            whole = rows.whole;
+            keys = rows.keys;
+            stored = rows_read desk old.now has defined shown.raw shown.shown (tables_with_whole_kept_rows rows.whole c.in_ok-sheets.sheets) rows.encoded;
+          }),
+    ))
     c.in_ok-sheets.ensures.step
 
 pub returns-then-not-decoder-clause-step : goal.returns-then-not-decoder-clause-step
