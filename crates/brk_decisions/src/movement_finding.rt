@@ -23,8 +23,7 @@ pub(crate) fn read_movement_facts<S: Alter>(
     ensures fault { IfErr result IsCallFault }
 {
     let balance = store.account_balance(movement.account)?;
-    let has_all_movements = store.has_maximum_movements()?;
-    let next = store.next_cash_row_number()?;
+    let (next, has_all_movements) = store.next_movement_number()?;
     Ok(MovementPlanFacts {
         balance,
         has_all_movements,

@@ -4,7 +4,7 @@ ghost use Rattle.std.specs.Prelude.{◌≡◌, IfErr, MatchOption, is_none, true
 ghost use Rattle.std.specs.List.{list_any};
 ghost use Rattle.brk_model.specs.Joins.{trade_row_with_id};
 ghost use Rattle.brk_model.specs.Run.{IsCallFault};
-ghost use Rattle.brk_store.specs.Holds.{ReadPost};
+ghost use Rattle.brk_store.specs.ReadSequences.{ReadSequencePost};
 ghost use Rattle.brk_update_theorems.specs.Corrections.{AreTradesWithIds};
 
 use brk_money::{Fault, Id};
@@ -20,12 +20,10 @@ pub fn read_trades_by_ids<S: Alter>(
     store: &mut Store<S>,
     ids: &[Id],
 ) -> Result<Option<Vec<TradeRow>>, Fault>
-    ensures read { ReadPost S.Store store.old store.new result (λ found t.
+    ensures read { ReadSequencePost S.Store store.old store.new result (λ found t.
         MatchOption found (list_any (λ id. is_none (trade_row_with_id t id)) ids.now ≡ true) (λ trades. AreTradesWithIds t ids.now trades.items)) }
     ensures fault { IfErr result IsCallFault }
 {
-    // The value is not needed: the read shows that the store is open, also if `ids` is empty.
-    let _last = store.last_stamp()?;
     let mut trades = Vec::new(alloc);
     for id in ids {
         match store.trade(*id)? {

@@ -1,6 +1,6 @@
 -- What brokers have to trade in a sector, as it was read, is the view of the definitions.
-use Rattle.std.proofs.Common.{◌≡◌, ◌==◌, ◌+◌, ◌<◌, ℕ, Bool, true, false, cond, List, [], ◌∷◌, ◌++◌, Ok, refl, sym, ap, ◌∙◌, arith, filter, get_or, length, map, pos, reverse, take}
-use Rattle.std.proofs.lemmas.List.{map-append, reverse-append}
+use Rattle.std.proofs.Common.{◌≡◌, ◌==◌, ◌+◌, ◌<◌, ℕ, Bool, true, false, cond, List, [], ◌∷◌, ◌++◌, Ok, refl, sym, ap, ◌∙◌, arith, filter, get_or, length, map, pos, take}
+use Rattle.std.proofs.lemmas.List.{map-append}
 use Rattle.std.proofs.lemmas.Bool.Decides.{nat_tests}
 use Rattle.std.specs.Global.{Vec}
 use Rattle.std.specs.Prelude.{bytes_eq, flat_map, nat_lt, sum_by}
@@ -14,7 +14,6 @@ use Rattle.brk_model.specs.Sheets.{sheets}
 use Rattle.brk_model.specs.Tables.{BrokerRow, RequestRow, Tables}
 use Rattle.brk_model.specs.Views.{view_of_tables}
 use Rattle.brk_model.specs.VolumeView.{is_before_by_volume, sector_requests_of_broker, broker_volume_view}
-use Rattle.brk_book_theorems.proofs.LotReading.{filter-both}
 use Rattle.brk_book_theorems.proofs.Places.{filter-append}
 use Rattle.brk_view.specs.Views.{records_of_view}
 use Rattle.brk_view.specs.Volume.{has_name_and_pending_request, request_value_at_bid}
@@ -24,7 +23,7 @@ use Rattle.brk_view.specs.declared.view.View.TheVariants as views
 use Rattle.brk_view.specs.declared.volumes.BrokerVolume.{BrokerVolume}
 use Rattle.brk_view_theorems.proofs.VolumeRows.{brokers_by_name, same_volumes}
 use Rattle.brk_queries.specs.QueryResults.{AnswersQueryAsModel}
-use Rattle.brk_queries.specs.Volumes.{has_requests_in_sector, is_symbol_in_sector, brokers_of_name_in_sector, volumes_of_brokers_in_sector, requests_with_row_if_in_sector}
+use Rattle.brk_queries.specs.Volumes.{has_requests_in_sector, is_sector_request_of_broker, brokers_of_name_in_sector, requests_with_row_of_broker_in_sector, volumes_of_brokers_in_sector}
 use Rattle.brk_queries.proofs.Each.{first_more}
 use Rattle.brk_queries.proofs.Tested.{carried_as}
 
@@ -36,49 +35,31 @@ append_assoc : {X : Type 0} (xs ys zs : List X) → (xs ++ ys) ++ zs ≡ xs ++ (
 append_assoc [] ys zs = refl
 append_assoc (x ∷ xs) ys zs = ap (λ ws. x ∷ ws) (append_assoc xs ys zs)
 
--- ---- the requests of a broker in a sector, from the last one on
+-- ---- the requests of a broker in a sector
 
--- `whole` is the list of the requests in `rest` that are in the sector, followed by the requests in
--- `kept` in reverse order.
-abbrev pub AreRequestsReadSoFar : Tables → Text → List read.RequestRow → List read.RequestRow → List RequestRow → Type 0
-AreRequestsReadSoFar t sector rest kept whole = filter (λ r. is_symbol_in_sector t sector r.symbol) (map abstract_request_row rest) ++ map abstract_request_row (reverse kept) ≡ whole
-
-pub none_kept : (t : Tables) (sector : Text) (broker : ℕ) (rest kept : List read.RequestRow) → kept ≡ [] → map abstract_request_row rest ≡ filter (λ (r : RequestRow). r.broker == broker) t.requests
-    → AreRequestsReadSoFar t sector rest kept (sector_requests_of_broker t sector broker)
-none_kept t sector broker rest kept e f =
-    ap (λ ks. filter (λ (r : RequestRow). is_symbol_in_sector t sector r.symbol) (map abstract_request_row rest) ++ map abstract_request_row (reverse ks)) e
-    ∙ append_nil (filter (λ (r : RequestRow). is_symbol_in_sector t sector r.symbol) (map abstract_request_row rest))
-    ∙ ap (filter (λ (r : RequestRow). is_symbol_in_sector t sector r.symbol)) f
-    ∙ sym (filter-both (λ (r : RequestRow). r.broker == broker) (λ r. is_symbol_in_sector t sector r.symbol) t.requests)
-
-pub kept_more : (t : Tables) (sector : Text) (before rest : List read.RequestRow) (row : read.RequestRow) (old new : List read.RequestRow) (whole : List RequestRow) → before ≡ rest ++ row ∷ []
-    → new ≡ requests_with_row_if_in_sector t sector row old → AreRequestsReadSoFar t sector before old whole → AreRequestsReadSoFar t sector rest new whole
-kept_more t sector before rest row old new whole is e h = by_test (is_symbol_in_sector t sector row.symbol) refl e
+-- those among the first requests, and among one more
+pub request_more : (t : Tables) (sector : Text) (broker : ℕ) (rows : List read.RequestRow) (i : ℕ) (row : read.RequestRow) (old new : List read.RequestRow) → i < length rows → row ≡ get_or rows i row
+    → map abstract_request_row old ≡ filter (is_sector_request_of_broker t sector broker) (map abstract_request_row (take i rows)) → new ≡ requests_with_row_of_broker_in_sector t sector broker row old
+    → map abstract_request_row new ≡ filter (is_sector_request_of_broker t sector broker) (map abstract_request_row (take (i + 1) rows))
+request_more t sector broker rows i row old new inside is e g = ap (map abstract_request_row) g ∙ by_test (is_sector_request_of_broker t sector broker (abstract_request_row row)) refl
   where
-    last : filter (λ (r : RequestRow). is_symbol_in_sector t sector r.symbol) (map abstract_request_row before)
-        ≡ filter (λ (r : RequestRow). is_symbol_in_sector t sector r.symbol) (map abstract_request_row rest) ++ cond (is_symbol_in_sector t sector row.symbol) (abstract_request_row row ∷ []) []
-    last =
-        ap (λ rows. filter (λ (r : RequestRow). is_symbol_in_sector t sector r.symbol) (map abstract_request_row rows)) is
-        ∙ ap (filter (λ (r : RequestRow). is_symbol_in_sector t sector r.symbol)) (map-append abstract_request_row rest (row ∷ []))
-        ∙ filter-append (λ (r : RequestRow). is_symbol_in_sector t sector r.symbol) (map abstract_request_row rest) (abstract_request_row row ∷ [])
+    more : filter (is_sector_request_of_broker t sector broker) (map abstract_request_row (take (i + 1) rows))
+        ≡ filter (is_sector_request_of_broker t sector broker) (map abstract_request_row (take i rows)) ++ cond (is_sector_request_of_broker t sector broker (abstract_request_row row)) (abstract_request_row row ∷ []) []
+    more =
+        ap (λ rs. filter (is_sector_request_of_broker t sector broker) (map abstract_request_row rs)) (sym (first_more rows i row inside is))
+        ∙ ap (filter (is_sector_request_of_broker t sector broker)) (map-append abstract_request_row (take i rows) (row ∷ []))
+        ∙ filter-append (is_sector_request_of_broker t sector broker) (map abstract_request_row (take i rows)) (abstract_request_row row ∷ [])
 
-    by_test : (b : Bool) → is_symbol_in_sector t sector row.symbol ≡ b → new ≡ cond b (old ++ row ∷ []) old → AreRequestsReadSoFar t sector rest new whole
-    by_test true f g =
-        ap (λ ks. filter (λ (r : RequestRow). is_symbol_in_sector t sector r.symbol) (map abstract_request_row rest) ++ map abstract_request_row ks) (ap reverse g ∙ reverse-append old (row ∷ []))
-        ∙ sym (append_assoc (filter (λ (r : RequestRow). is_symbol_in_sector t sector r.symbol) (map abstract_request_row rest)) (abstract_request_row row ∷ []) (map abstract_request_row (reverse old)))
-        ∙ ap (λ b. (filter (λ (r : RequestRow). is_symbol_in_sector t sector r.symbol) (map abstract_request_row rest) ++ cond b (abstract_request_row row ∷ []) []) ++ map abstract_request_row (reverse old)) (sym f)
-        ∙ ap (λ rows. rows ++ map abstract_request_row (reverse old)) (sym last)
-        ∙ h
-    by_test false f g =
-        ap (λ ks. filter (λ (r : RequestRow). is_symbol_in_sector t sector r.symbol) (map abstract_request_row rest) ++ map abstract_request_row (reverse ks)) g
-        ∙ ap (λ rows. rows ++ map abstract_request_row (reverse old)) (sym (append_nil (filter (λ (r : RequestRow). is_symbol_in_sector t sector r.symbol) (map abstract_request_row rest))))
-        ∙ ap (λ b. (filter (λ (r : RequestRow). is_symbol_in_sector t sector r.symbol) (map abstract_request_row rest) ++ cond b (abstract_request_row row ∷ []) []) ++ map abstract_request_row (reverse old)) (sym f)
-        ∙ ap (λ rows. rows ++ map abstract_request_row (reverse old)) (sym last)
-        ∙ h
-
-pub all_kept : (t : Tables) (sector : Text) (rest kept : List read.RequestRow) (whole : List RequestRow) → length rest ≡ 0 → AreRequestsReadSoFar t sector rest kept whole → map abstract_request_row (reverse kept) ≡ whole
-all_kept t sector [] kept whole none h = h
-all_kept t sector (r ∷ rest) kept whole none h = absurd (omega (arith, none))
+    by_test : (b : Bool) → is_sector_request_of_broker t sector broker (abstract_request_row row) ≡ b → map abstract_request_row (cond b (old ++ row ∷ []) old) ≡ filter (is_sector_request_of_broker t sector broker) (map abstract_request_row (take (i + 1) rows))
+    by_test true h =
+        map-append abstract_request_row old (row ∷ [])
+        ∙ ap (λ xs. xs ++ abstract_request_row row ∷ []) e
+        ∙ ap (λ b. filter (is_sector_request_of_broker t sector broker) (map abstract_request_row (take i rows)) ++ cond b (abstract_request_row row ∷ []) []) (sym h)
+        ∙ sym more
+    by_test false h =
+        e ∙ sym (append_nil (filter (is_sector_request_of_broker t sector broker) (map abstract_request_row (take i rows))))
+        ∙ ap (λ b. filter (is_sector_request_of_broker t sector broker) (map abstract_request_row (take i rows)) ++ cond b (abstract_request_row row ∷ []) []) (sym h)
+        ∙ sym more
 
 -- ---- a broker
 

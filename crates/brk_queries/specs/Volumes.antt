@@ -1,6 +1,7 @@
 -- The volumes of brokers in a sector, as they were read.
-use Rattle.std.specs.Prelude.{Bool, false, if◌then◌else◌, List, [], ◌∷◌, ◌++◌, bytes_eq, filter, length, map, nat_lt}
+use Rattle.std.specs.Prelude.{ℕ, ◌==◌, ◌&&◌, Bool, false, if◌then◌else◌, List, [], ◌∷◌, ◌++◌, bytes_eq, filter, length, map, nat_lt}
 use Rattle.std.specs.Option.{option_map_or}
+use Rattle.brk_changes.specs.Rows.{abstract_request_row}
 use Rattle.brk_changes.specs.declared.request_row.RequestRow as read
 use Rattle.brk_model.specs.Joins.{security_row_with_symbol}
 use Rattle.brk_model.specs.Tables.{BrokerRow, RequestRow, Tables}
@@ -13,10 +14,15 @@ use Rattle.brk_view.specs.declared.volumes.BrokerVolume.{BrokerVolume}
 abbrev pub is_symbol_in_sector : Tables → Text → Text → Bool
 is_symbol_in_sector t sector symbol = option_map_or (λ s. bytes_eq s.sector sector) (security_row_with_symbol t symbol) false
 
--- The list `found`, with the pending request `row` appended if the security of the request is in
--- the sector, otherwise `found` unchanged.
-abbrev pub requests_with_row_if_in_sector : Tables → Text → read.RequestRow → List read.RequestRow → List read.RequestRow
-requests_with_row_if_in_sector t sector row found = if is_symbol_in_sector t sector row.symbol then found ++ row ∷ [] else found
+-- True if the request is one of the broker `broker`, and its security is in the sector.
+abbrev pub is_sector_request_of_broker : Tables → Text → ℕ → RequestRow → Bool
+is_sector_request_of_broker t sector broker r = (r.broker == broker) && is_symbol_in_sector t sector r.symbol
+
+-- The list `found` with the request `row` appended if it is one of the broker and its security is
+-- in the sector, otherwise `found`.
+abbrev pub requests_with_row_of_broker_in_sector : Tables → Text → ℕ → read.RequestRow → List read.RequestRow → List read.RequestRow
+requests_with_row_of_broker_in_sector t sector broker row found =
+    if is_sector_request_of_broker t sector broker (abstract_request_row row) then found ++ row ∷ [] else found
 
 -- True if the broker `b` has at least one pending request for a security in the sector.
 abbrev pub has_requests_in_sector : Tables → Text → BrokerRow → Bool

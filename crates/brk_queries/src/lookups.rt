@@ -7,6 +7,7 @@ ghost use Rattle.brk_queries.specs.QueryResults.{AnswersQueryAsModel};
 ghost use Rattle.brk_model.specs.Queries.{TradesOfAccount, TradesOfSymbol, TradesWith};
 ghost use Rattle.brk_model.specs.Run.{IsCallFault};
 ghost use Rattle.brk_store.specs.Holds.{ReadPost};
+ghost use Rattle.brk_store.specs.ReadSequences.{ReadSequencePost};
 
 use brk_decisions::read_trades_by_ids;
 use brk_money::{Fault, Id, Planned, Refusal};
@@ -44,10 +45,9 @@ fn read_all_rows_of_trades<S: Alter>(
     store: &mut Store<S>,
     trades: Vec<TradeRow>,
 ) -> Result<Vec<LookedUp>, Fault>
-    ensures read { ReadPost S.Store store.old store.new result (λ found. HaveAllRowsOfTrades (map abstract_trade_row trades.items) found.items) }
+    ensures read { ReadSequencePost S.Store store.old store.new result (λ found. HaveAllRowsOfTrades (map abstract_trade_row trades.items) found.items) }
     ensures fault { IfErr result IsCallFault }
 {
-    let _last = store.last_stamp()?;
     let mut rest = trades;
     let mut found = Vec::new(alloc);
     while let Some(trade) = rest.pop() {
@@ -69,6 +69,8 @@ pub(crate) fn view_of_trades_by_ids<S: Alter>(
     ensures read { ReadPost S.Store store.old store.new result (AnswersQueryAsModel (TradesWith trades.now.trades)) }
     ensures fault { IfErr result IsCallFault }
 {
+    // The value is not needed: the read succeeds only if the store is open.
+    let _last = store.last_stamp()?;
     let Some(named) = read_trades_by_ids(alloc, store, trades.trades.ids())? else {
         return Ok(Err(Refusal::NoTrade));
     };

@@ -3,12 +3,12 @@
 ghost use Rattle.std.specs.Prelude.{◌≡◌, ◌++◌, ◌∷◌, [], IfErr, bytes_eq, filter, flat_map, map};
 ghost use Rattle.brk_changes.specs.Rows.{abstract_request_row};
 ghost use Rattle.brk_queries.specs.QueryResults.{AnswersQueryAsModel};
-ghost use Rattle.brk_queries.specs.Volumes.{is_symbol_in_sector, brokers_of_name_in_sector, volumes_of_brokers_in_sector, requests_with_row_if_in_sector};
+ghost use Rattle.brk_queries.specs.Volumes.{is_sector_request_of_broker, is_symbol_in_sector, brokers_of_name_in_sector, requests_with_row_of_broker_in_sector, volumes_of_brokers_in_sector};
 ghost use Rattle.brk_model.specs.Queries.{VolumeOf};
 ghost use Rattle.brk_model.specs.Run.{IsCallFault};
-ghost use Rattle.brk_model.specs.VolumeView.{sector_requests_of_broker};
 ghost use Rattle.brk_ref.specs.Records.{abstract_broker_row};
 ghost use Rattle.brk_store.specs.Holds.{ReadPost};
+ghost use Rattle.brk_store.specs.ReadSequences.{ReadSequencePost};
 ghost use Rattle.brk_view.specs.Volume as volume;
 
 use brk_changes::RequestRow;
@@ -35,64 +35,78 @@ fn is_security_in_sector<S: Alter>(
     }
 }
 
-// Appends the pending request `row` to `found` if its security is in the sector. Changes no table.
-// Fails with `Memory` or `Store` only.
-fn append_request_if_in_sector<S: Alter>(
-    store: &mut Store<S>,
-    sector: &Name,
-    row: RequestRow,
-    found: &mut Vec<RequestRow>,
-) -> Result<(), Fault>
-    ensures read { ReadPost S.Store store.old store.new result (λ _ t. found.new.items ≡ requests_with_row_if_in_sector t sector.now row found.old.items) }
-    ensures fault { IfErr result IsCallFault }
-{
-    if !is_security_in_sector(store, &row.symbol, sector)? {
-        return Ok(());
-    }
-    found.push(row)?;
-    Ok(())
-}
-
-// Returns the pending requests of a broker for securities in the sector, sorted by trade,
-// ascending. Changes nothing. Fails with `Memory` or `Store` only.
-fn read_requests_in_sector<S: Alter>(
-    alloc: Global,
+// Appends the pending request `row` to `found` if it is one of the broker `broker` and its security
+// is in the sector. Changes no table. Fails with `Memory` or `Store` only.
+fn append_request_if_of_broker_in_sector<S: Alter>(
     store: &mut Store<S>,
     sector: &Name,
     broker: Id,
-) -> Result<Vec<RequestRow>, Fault>
-    ensures read { ReadPost S.Store store.old store.new result (λ found t. map abstract_request_row found.items
-        ≡ sector_requests_of_broker t sector.now broker) }
+    row: &RequestRow,
+    found: &mut Vec<RequestRow>,
+) -> Result<(), Fault>
+    ensures read { ReadSequencePost S.Store store.old store.new result (λ _ t. found.new.items
+        ≡ requests_with_row_of_broker_in_sector t sector.now broker row.now found.old.items) }
     ensures fault { IfErr result IsCallFault }
 {
-    let mut rest = store.requests_of_broker(alloc, broker)?;
-    let mut found = Vec::new(alloc);
-    while let Some(row) = rest.pop() {
-        append_request_if_in_sector(store, sector, row, &mut found)?;
+    if row.broker != broker {
+        return Ok(());
     }
-    found.reverse();
+    if !is_security_in_sector(store, &row.symbol, sector)? {
+        return Ok(());
+    }
+    let symbol = row.symbol.clone()?;
+    found.push(RequestRow {
+        trade: row.trade,
+        kind: row.kind,
+        symbol,
+        qty: row.qty,
+        bid: row.bid,
+        broker: row.broker,
+    })?;
+    Ok(())
+}
+
+// Returns those of the requests `requests` that are of a broker and in a sector, in order. Changes
+// nothing. Fails with `Memory` or `Store` only.
+fn read_sector_requests_of_broker<S: Alter>(
+    alloc: Global,
+    store: &mut Store<S>,
+    sector: &Name,
+    requests: &[RequestRow],
+    broker: Id,
+) -> Result<Vec<RequestRow>, Fault>
+    ensures read { ReadSequencePost S.Store store.old store.new result (λ found t. map abstract_request_row found.items
+        ≡ filter (is_sector_request_of_broker t sector.now broker) (map abstract_request_row requests.now)) }
+    ensures fault { IfErr result IsCallFault }
+{
+    let mut found = Vec::new(alloc);
+    for row in requests {
+        append_request_if_of_broker_in_sector(store, sector, broker, row, &mut found)?;
+    }
     Ok(found)
 }
 
-// Appends the volume of a broker in the sector, in cents, to `found`, if the broker has at least
-// one pending request for a security in it. Changes no table. Fails with `Memory` or `Store` only.
+// Appends the volume of a broker in the sector, in cents, to `found`, if one of `requests`, which
+// are all pending requests, is the broker's and for a security in it. Changes no table. Fails with
+// `Memory` or `Store` only.
 fn append_broker_volume<S: Alter>(
     alloc: Global,
     store: &mut Store<S>,
     sector: &Name,
+    requests: &[RequestRow],
     row: &BrokerRow,
     found: &mut Vec<BrokerVolume>,
 ) -> Result<(), Fault>
-    ensures read { ReadPost S.Store store.old store.new result (λ _ t. found.new.items
+    ensures read { ReadSequencePost S.Store store.old store.new result (λ _ t. map abstract_request_row requests.now ≡ t.requests → found.new.items
         ≡ found.old.items ++ volumes_of_brokers_in_sector t sector.now (abstract_broker_row row.now ∷ [])) }
     ensures fault { IfErr result IsCallFault }
 {
-    let requests = read_requests_in_sector(alloc, store, sector, row.broker.id)?;
-    if requests.is_empty() {
+    let mine = read_sector_requests_of_broker(alloc, store, sector, requests, row.broker.id)?;
+    if mine.is_empty() {
         return Ok(());
     }
     let name = row.broker.name.clone()?;
-    let volume = total_bid_value_of_requests(&requests);
+    let volume = total_bid_value_of_requests(&mine);
     found.push(BrokerVolume {
         broker: row.broker.id,
         name,
@@ -102,28 +116,30 @@ fn append_broker_volume<S: Alter>(
 }
 
 // Appends to `found` the volumes in the sector, in cents, of the brokers with this name that have a
-// pending request for a security in it. Changes no table. Fails with `Memory` or `Store` only.
+// pending request for a security in it. `requests` are all pending requests. Changes no table.
+// Fails with `Memory` or `Store` only.
 fn append_volumes_of_brokers_named<S: Alter>(
     alloc: Global,
     store: &mut Store<S>,
     sector: &Name,
+    requests: &[RequestRow],
     name: &Name,
     found: &mut Vec<BrokerVolume>,
 ) -> Result<(), Fault>
-    ensures read { ReadPost S.Store store.old store.new result (λ _ t. found.new.items
+    ensures read { ReadPost S.Store store.old store.new result (λ _ t. map abstract_request_row requests.now ≡ t.requests → found.new.items
         ≡ found.old.items ++ volumes_of_brokers_in_sector t sector.now (filter (λ b. bytes_eq b.name name.now) t.brokers)) }
     ensures fault { IfErr result IsCallFault }
 {
     let rows = store.brokers_named(alloc, name)?;
     for row in &rows {
-        append_broker_volume(alloc, store, sector, row, found)?;
+        append_broker_volume(alloc, store, sector, requests, row, found)?;
     }
     Ok(())
 }
 
 // Returns the volumes in the sector, in cents, of the brokers with these names that have a pending
-// request for a security in it, in the order of the names. Changes nothing. Fails with `Memory` or
-// `Store` only.
+// request for a security in it, in the order of the names. Reads all requests once. Changes
+// nothing. Fails with `Memory` or `Store` only.
 fn read_volumes_of_brokers_named<S: Alter>(
     alloc: Global,
     store: &mut Store<S>,
@@ -134,10 +150,10 @@ fn read_volumes_of_brokers_named<S: Alter>(
         ≡ map (volume.volume_of_broker_in_sector t sector.now) (flat_map (brokers_of_name_in_sector t sector.now) names.now)) }
     ensures fault { IfErr result IsCallFault }
 {
-    let _last = store.last_stamp()?;
+    let requests = store.requests(alloc)?;
     let mut found = Vec::new(alloc);
     for name in names {
-        append_volumes_of_brokers_named(alloc, store, sector, name, &mut found)?;
+        append_volumes_of_brokers_named(alloc, store, sector, &requests, name, &mut found)?;
     }
     Ok(found)
 }

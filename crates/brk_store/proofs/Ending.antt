@@ -77,11 +77,11 @@ is_read_of g old conn first mid end out P same first_is settled step late back =
 
 -- ---- a look before the changes, which shows that the store is open
 
-module _ {S L E F : Type 0} (g : Ghosts S) (old first mid : Held S) (last : L) (P : L → Tables → Type 0) (look : IsTransactionStep {E = E} (state g (with_transaction_open old)) (state g first) (Ok last) (λ l. IsUnchangedAndSatisfies desk_tables (P l)))
+module _ {S L E F : Type 0} (g : Ghosts S) (old first mid : Held S) (seen : L) (P : L → State → State → Type 0) (look : IsTransactionStep {E = E} (state g (with_transaction_open old)) (state g first) (Ok seen) (λ l a b. IsTrue a.is_open × (b.now ≡ a.now) × P l a b))
     (r : Result (Unit {0}) F) (after : Tables → Tables) (changes : IsTransactionStep (state g first) (state g mid) r (λ _ a b. ChangesTablesBy desk_tables after a.now b.now)) where
   pub after_look : IsTransactionStep (state g (with_transaction_open old)) (state g mid) r (λ _ a b. ChangesTablesBy desk_tables after a.now b.now)
   after_look =
-      step_then (state g (with_transaction_open old)) (state g first) (state g mid) last r (λ l. IsUnchangedAndSatisfies desk_tables (P l)) (λ _ a b. ChangesTablesBy desk_tables after a.now b.now) (λ _ a b. ChangesTablesBy desk_tables after a.now b.now)
+      step_then (state g (with_transaction_open old)) (state g first) (state g mid) seen r (λ l a b. IsTrue a.is_open × (b.now ≡ a.now) × P l a b) (λ _ a b. ChangesTablesBy desk_tables after a.now b.now) (λ _ a b. ChangesTablesBy desk_tables after a.now b.now)
       (λ _ p q. subst (λ d. ChangesTablesBy desk_tables after d (state g mid).now) p.1 q) look changes
 
   pub open_at_look : HasCleanDisk (state g mid) → IsTrue (state g old).is_open

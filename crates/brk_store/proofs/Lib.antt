@@ -14,3 +14,4 @@ pub mod Texts
 pub mod Turning
 pub mod WalkedLists
 pub mod Walking
+pub mod Sequences

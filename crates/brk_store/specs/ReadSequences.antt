@@ -1,5 +1,5 @@
 -- Sequences of reads, which change nothing.
-use Rattle.std.proofs.Common.{IsTrue, ◌∙◌, refl, inl}
+use Rattle.std.proofs.Common.{IsTrue, IfOk, Result, ◌∙◌, refl, inl}
 use Rattle.std.proofs.Math.Nat.{le_refl}
 use Rattle.sqlite_trees.specs.declared.store.Store.{Ghosts}
 use Rattle.sqlite.specs.Held.{Held, state}
@@ -17,6 +17,14 @@ pub record IsUnchangedByReads {S : Type 0} (g : Ghosts S) (old new : Held S) : T
   pub same_rows : (t : Tables) → HoldsRows g old t → HoldsRows g new t
   pub same : HasCleanDisk (state g new) → IsTrue (state g new).is_open → WasOpenAndIsUnchanged (state g old) (state g new)
   pub survives : Survives (state g old) (state g new) (λ _. ⊥)
+
+-- The postcondition of a call that makes any number of reads, or none, and writes nothing. `Told`
+-- relates the returned value to the rows that the store holds.
+pub record ReadSequencePost {S V E : Type 0} (g : Ghosts S) (old new : Held S) (result : Result V E) (Told : V → Tables → Type 0) : Type 0 where
+  -- A returned value satisfies `Told` with the rows that the store held before the call. Vacuous if
+  -- the disk assumption fails after the call.
+  pub answered : HasCleanDisk (state g new) → IfOk result (λ answer. (t : Tables) → HoldsRows g old t → Told answer t)
+  pub unchanged : IsUnchangedByReads g old new
 
 module _ {S : Type 0} {g : Ghosts S} where
   -- If the disk assumption holds after reads that satisfy `IsUnchangedByReads`, it held before

@@ -1,4 +1,4 @@
-//! Reads of brokers by name, and of a broker's requests and accounts. Each read begins a
+//! Reads of brokers by name, of all requests, and of a broker's accounts. Each read begins a
 //! transaction and ends it without a commit (no clause states this).
 
 ghost use Rattle.std.specs.Prelude.{◌≡◌, ◌==◌, IfErr, bytes_eq, filter, map};
@@ -6,7 +6,7 @@ ghost use Rattle.brk_changes.specs.Rows.{abstract_request_row};
 ghost use Rattle.brk_model.specs.Run.{IsCallFault};
 ghost use Rattle.brk_ref.specs.Records.{abstract_broker_row};
 ghost use Rattle.brk_store.specs.Holds.{ReadPost};
-ghost use Rattle.brk_tables_schema.specs.Desk.{Brokers, Requests};
+ghost use Rattle.brk_tables_schema.specs.Desk.{Brokers};
 ghost use Rattle.brk_tables_schema.specs.Statements.{AreMatchingRows};
 
 use crate::Store;
@@ -29,18 +29,14 @@ impl<S: Alter> Store<S> {
         brk_tables_views::brokers_with_name(&mut tx, alloc, name)
     }
 
-    /// Returns the requests (TRADE_REQUEST: pending trades) of a broker, sorted by trade,
-    /// ascending. If the database is still open, it is unchanged. Fails with `Memory` or `Store`.
-    pub fn requests_of_broker(
-        &mut self,
-        alloc: Global,
-        broker: Id,
-    ) -> Result<Vec<RequestRow>, Fault>
-        ensures read { ReadPost S.Store self.old self.new result (AreMatchingRows Requests abstract_request_row (λ r. r.broker == broker)) }
+    /// Returns all requests (TRADE_REQUEST: pending trades), sorted by trade, ascending. If the
+    /// database is still open, it is unchanged. Fails with `Memory` or `Store`.
+    pub fn requests(&mut self, alloc: Global) -> Result<Vec<RequestRow>, Fault>
+        ensures read { ReadPost S.Store self.old self.new result (λ all t. map abstract_request_row all.items ≡ t.requests) }
         ensures fault { IfErr result IsCallFault }
     {
         let mut tx = begin_transaction(&mut self.conn);
-        brk_tables_views::requests_of_broker(&mut tx, alloc, broker)
+        brk_tables_views::requests_by_trade(&mut tx, alloc)
     }
 
     /// Returns the ids of the accounts of a broker, ascending. If the database is still open, it is

@@ -81,19 +81,22 @@ impl<S: Alter> Store<S> {
         }
     }
 
-    /// Returns true if there are at least `Id::GREATEST` (1,000,000,000,000) deposits and
-    /// withdrawals together. If the database is still open, it is unchanged. Fails with `Store`
-    /// only.
-    pub fn has_maximum_movements(&mut self) -> Result<bool, Fault>
-        ensures read { ReadPost S.Store self.old self.new result (λ all t. all ≡ nat_le greatest_id (length (filter (λ r. is_none r.trade) t.moves))) }
+    /// Returns the number of the next cash row, as `next_cash_row_number` does, and true if there are
+    /// at least `Id::GREATEST` (1,000,000,000,000) deposits and withdrawals together. If the database
+    /// is still open, it is unchanged. Fails with `Store` only, also if the greatest `MoveId` is in
+    /// use.
+    pub fn next_movement_number(&mut self) -> Result<(MoveId, bool), Fault>
+        ensures read { ReadPost S.Store self.old self.new result (λ number t. (number.0 ≡ last_cash_row_number_or_zero t + 1)
+            × (number.1 ≡ nat_le greatest_id (length (filter (λ r. is_none r.trade) t.moves)))) }
         ensures fault { OnErr result (result ≡ Err fault.Store) }
     {
         let next = self.next_cash_row_number()?;
         // If the next number is below `GREATEST_MOVEMENT_COUNT`, there are fewer movements than
         // that, so they are not counted.
         if next.get() < GREATEST_MOVEMENT_COUNT {
-            return Ok(false);
+            return Ok((next, false));
         }
-        self.has_maximum_movements_by_count()
+        let has_all_movements = self.has_maximum_movements_by_count()?;
+        Ok((next, has_all_movements))
     }
 }

@@ -12,6 +12,8 @@ ghost use Rattle.brk_store.specs.Holds.{ApplyPost, CreatePost};
 
 use brk_changes::Change;
 use brk_money::{Condition, Fault};
+use brk_tables_create::Table;
+use brk_tables_schema::calls::statement_compiles;
 use sqlite::{Alter, Connection, Transaction};
 
 // Applies one change to its row within the transaction, by one SQL statement. Fails with `Store`
@@ -120,8 +122,8 @@ pub(crate) fn apply_changes_in_transaction<S: Alter>(
     // is in its committed state.
     let _is_autocommit = conn.is_autocommit();
     let mut tx = conn.transaction();
-    // The value is not needed: the read succeeds only if the store is open.
-    let _last = brk_tables_schema::last_stamp(&mut tx)?;
+    // The value is not needed: a statement compiles only if the store is open. No row is read.
+    let _exists = statement_compiles(&mut tx, Table::TheDesk.existence_probe_text())?;
     apply_each_change(&mut tx, changes)?;
     match tx.commit() {
         Ok(()) => Ok(()),

@@ -4,7 +4,7 @@ pub mod FirstSince
 pub mod ChangesBy
 pub mod ChangesOf
 pub mod BrokersNamed
-pub mod RequestsOfBroker
+pub mod RequestsByTrade
 pub mod AccountsOfBroker
 pub mod CompletedOfHolding
 pub mod MomentReads

@@ -1,14 +1,15 @@
 -- What the statements that read changes of lots, brokers and requests tell of the tables.
-use Rattle.std.proofs.Common.{◌≡◌, ℕ, List, [], ◌∷◌, map, filter, ◌==◌, refl, ap}
+use Rattle.std.proofs.Common.{◌≡◌, ◌∙◌, ℕ, List, [], ◌∷◌, true, map, filter, ◌==◌, refl, ap}
 use Rattle.std.specs.Prelude.{bytes_eq}
 use Rattle.sqlite_value.specs.declared.value.Value.TheVariants.{Text as Words}
 use Rattle.sqlite_value.specs.Order.{Row, column}
 use Rattle.sqlite_tied.proofs.RuleLemmas.{and_true}
 use Rattle.sqlite.specs.State.{State, Shown}
 use Rattle.brk_model.specs.Keys.{broker_key, holding_history_key, request_key}
-use Rattle.brk_model.specs.Tables.{BrokerRow, HoldingHistoryRow, RequestRow}
+use Rattle.brk_model.specs.Tables.{BrokerRow, HoldingHistoryRow}
 use Rattle.brk_sql.specs.Desk.{TablesSatisfy}
 use Rattle.brk_sql.specs.Rows.{cells_in_column_order}
+use Rattle.brk_sql.proofs.Decode.{filter_true}
 use Rattle.brk_sql.proofs.Looks.{tells_rising}
 use Rattle.brk_sql.proofs.Pick.{sorted_by}
 use Rattle.brk_sql.proofs.Texts.{read}
@@ -20,7 +21,7 @@ use Rattle.brk_tables_schema.proofs.Tests.{same_number, same_text}
 use Rattle.brk_tables_views.proofs.BrokersNamed
 use Rattle.brk_tables_views.proofs.ChangesBy
 use Rattle.brk_tables_views.proofs.ChangesOf
-use Rattle.brk_tables_views.proofs.RequestsOfBroker
+use Rattle.brk_tables_views.proofs.RequestsByTrade
 
 -- ---- what trades made of lots
 
@@ -48,7 +49,7 @@ tells_changes_of old new lot rows shown =
     (λ (r : HoldingHistoryRow). r.lot == lot) (λ tree r x e. let a : column r 1 ≡ natural_as_value x.lot = ap (λ row. column row 0) e in rw (a, same_number x.lot lot) (and_true _)) holding_history_cells (λ tree r x e. e)
     (ordering_by_primary_key HoldingHistory) (key_total holding_history_key) (by_lot (natural_as_value lot ∷ [])) old new rows shown (λ x y. refl)
 
--- ---- brokers, and their requests
+-- ---- brokers, and all requests
 
 pub tells_brokers_named : (old new : State) (name : List ℕ) (rows : List Row) → Shown BrokersNamed.statement (Words name ∷ []) old new rows
     → TablesSatisfy desk_tables (λ t. rows ≡ map broker_cells (filter (λ r. bytes_eq r.name name) t.brokers)) old.now
@@ -57,9 +58,9 @@ tells_brokers_named old new name rows shown =
     (λ (r : BrokerRow). bytes_eq r.name name) (λ tree r x e. let a : column r 2 ≡ Words x.name = ap (λ row. column row 1) e in rw (a, same_text x.name name) (and_true _)) broker_cells (λ tree r x e. e) (ordering_by_primary_key Brokers) (key_total broker_key)
     (λ tree a b x y e f. let p : column a 0 ≡ natural_as_value x.id = cc in let q : column b 0 ≡ natural_as_value y.id = cc in rw (p, q) refl) old new rows shown (λ x y. refl)
 
-pub tells_requests_of_broker : (old new : State) (broker : ℕ) (rows : List Row) → Shown RequestsOfBroker.statement (natural_as_value broker ∷ []) old new rows
-    → TablesSatisfy desk_tables (λ t. rows ≡ map request_cells (filter (λ r. r.broker == broker) t.requests)) old.now
-tells_requests_of_broker old new broker rows shown =
-    tells_rising desk_tables Requests RequestsOfBroker.statement (natural_as_value broker ∷ []) (read RequestsOfBroker.statement) RequestsOfBroker.terms RequestsOfBroker.project RequestsOfBroker.order RequestsOfBroker.paging RequestsOfBroker.names RequestsOfBroker.understood_as
-    (λ (r : RequestRow). r.broker == broker) (λ tree r x e. let a : column r 6 ≡ natural_as_value x.broker = ap (λ row. column row 5) e in rw (a, same_number x.broker broker) (and_true _)) request_cells (λ tree r x e. e) (ordering_by_primary_key Requests) (key_total request_key)
-    (λ tree a b x y e f. let p : column a 0 ≡ natural_as_value x.trade = cc in let q : column b 0 ≡ natural_as_value y.trade = cc in rw (p, q) refl) old new rows shown (λ x y. refl)
+pub tells_requests : (old new : State) (rows : List Row) → Shown RequestsByTrade.statement [] old new rows → TablesSatisfy desk_tables (λ t. rows ≡ map request_cells t.requests) old.now
+tells_requests old new rows shown = λ t tree h.
+    tells_rising desk_tables Requests RequestsByTrade.statement [] (read RequestsByTrade.statement) RequestsByTrade.terms RequestsByTrade.project RequestsByTrade.order RequestsByTrade.paging RequestsByTrade.names RequestsByTrade.understood_as
+    (λ _. true) (λ tree r x e. refl) request_cells (λ tree r x e. e) (ordering_by_primary_key Requests) (key_total request_key)
+    (λ tree a b x y e f. let p : column a 0 ≡ natural_as_value x.trade = cc in let q : column b 0 ≡ natural_as_value y.trade = cc in rw (p, q) refl) old new rows shown (λ x y. refl) t tree h
+    ∙ ap (map request_cells) (filter_true t.requests)

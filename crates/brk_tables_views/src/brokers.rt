@@ -1,10 +1,10 @@
-//! Brokers by name, which several brokers may share, and the requests and accounts of a broker.
+//! Brokers by name, which several brokers may share, all requests, and the accounts of a broker.
 
 ghost use Rattle.std.specs.Prelude.{◌≡◌, ◌==◌, IfErr, bytes_eq, filter, map};
 ghost use Rattle.brk_model.specs.Run.{IsCallFault};
 ghost use Rattle.brk_ref.specs.Records.{abstract_broker_row};
 ghost use Rattle.brk_changes.specs.Rows.{abstract_request_row};
-ghost use Rattle.brk_tables_schema.specs.Desk.{Brokers, Requests};
+ghost use Rattle.brk_tables_schema.specs.Desk.{Brokers};
 ghost use Rattle.brk_tables_schema.specs.Statements.{ReadsMatchingRows, ReadsDeskTables};
 
 use brk_changes::RequestRow;
@@ -35,21 +35,20 @@ pub fn brokers_with_name<S: Alter>(
     decode_rows(alloc, &rows)
 }
 
-/// Returns the requests of pending trades with this broker (TRADE_REQUEST), sorted by trade,
-/// ascending. Changes nothing. Fails with `Memory` or `Store`.
-pub fn requests_of_broker<S: Alter>(
+/// Returns all requests of pending trades (TRADE_REQUEST), sorted by trade, ascending. Changes
+/// nothing. Fails with `Memory` or `Store`.
+pub fn requests_by_trade<S: Alter>(
     tx: &mut Transaction<'_, S>,
     alloc: Global,
-    broker: Id,
 ) -> Result<Vec<RequestRow>, Fault>
     ensures same_reference { tx.new.conn.ghost_name ≡ tx.old.conn.ghost_name }
-    ensures step { ReadsMatchingRows S.Store tx.old tx.new result Requests abstract_request_row (λ r. r.broker == broker) }
+    ensures step { ReadsDeskTables S.Store tx.old tx.new result (λ all t. map abstract_request_row all.items ≡ t.requests) }
     ensures fault { IfErr result IsCallFault }
 {
     let rows = select_rows(
         tx,
-        "SELECT TR_T_ID, TR_TT_ID, TR_S_SYMB, TR_QTY, TR_BID_PRICE, TR_B_ID FROM TRADE_REQUEST WHERE TR_B_ID = ?1 ORDER BY TR_T_ID",
-        &[id_as_parameter(broker)],
+        "SELECT TR_T_ID, TR_TT_ID, TR_S_SYMB, TR_QTY, TR_BID_PRICE, TR_B_ID FROM TRADE_REQUEST ORDER BY TR_T_ID",
+        &[],
     )?;
     decode_rows(alloc, &rows)
 }

@@ -5,6 +5,7 @@ ghost use Rattle.brk_decisions.specs.Decisions.{DecidesCommand};
 ghost use Rattle.brk_model.specs.Run.{IsCallFault};
 ghost use Rattle.brk_orders.specs.Records.{text_update_command};
 ghost use Rattle.brk_store.specs.Holds.{ReadPost};
+ghost use Rattle.brk_store.specs.ReadSequences.{ReadSequencePost};
 ghost use Rattle.brk_update_theorems.specs.Corrections.{UpdateFactsMatchTables};
 
 use crate::finding::{
@@ -26,7 +27,7 @@ fn read_trades_of_update<S: Alter>(
     store: &mut Store<S>,
     update: &Update,
 ) -> Result<Option<TextUpdate>, Fault>
-    ensures read { ReadPost S.Store store.old store.new result (λ found t. UpdateFactsMatchTables t update.now found) }
+    ensures read { ReadSequencePost S.Store store.old store.new result (λ found t. UpdateFactsMatchTables t update.now found) }
     ensures fault { IfErr result IsCallFault }
 {
     match update {

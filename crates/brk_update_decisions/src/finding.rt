@@ -5,6 +5,7 @@ ghost use Rattle.brk_changes.specs.Chosen as chosen;
 ghost use Rattle.brk_model.specs.Joins.{account_row_with_id, security_row_with_symbol};
 ghost use Rattle.brk_model.specs.Run.{IsCallFault};
 ghost use Rattle.brk_store.specs.Holds.{ReadPost};
+ghost use Rattle.brk_store.specs.ReadSequences.{ReadSequencePost};
 ghost use Rattle.brk_update_theorems.specs.Corrections.{CashTextsMatchTables, SettlementTextsMatchTables, UpdateFactsMatchTables, SecurityHasName};
 ghost use Rattle.brk_orders.specs.declared.update.Update.TheVariants as update;
 
@@ -78,7 +79,7 @@ pub(crate) fn read_trades_of_executor_update<S: Alter>(
     store: &mut Store<S>,
     trades: &TradeIds,
 ) -> Result<Option<TextUpdate>, Fault>
-    ensures read { ReadPost S.Store store.old store.new result (λ found t. UpdateFactsMatchTables t (update.Executors trades.now) found) }
+    ensures read { ReadSequencePost S.Store store.old store.new result (λ found t. UpdateFactsMatchTables t (update.Executors trades.now) found) }
     ensures fault { IfErr result IsCallFault }
 {
     match read_trades_by_ids(alloc, store, trades.ids())? {

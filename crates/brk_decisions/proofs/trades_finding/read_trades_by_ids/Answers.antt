@@ -1,4 +1,4 @@
-use Rattle.std.proofs.Common.{◌≡◌, ◌∙◌, ◌+◌, ◌==◌, ℕ, List, Option, Some, None, ap, find, map, option_map, take, true}
+use Rattle.std.proofs.Common.{◌≡◌, ◌∙◌, ◌+◌, ◌==◌, ℕ, List, Ok, Option, Some, None, ap, find, map, option_map, take, true}
 use Rattle.std.proofs.lemmas.List.{take_all}
 use Rattle.std.specs.Global.{Vec}
 use Rattle.std.specs.List.{list_any}
@@ -8,8 +8,7 @@ use Rattle.brk_model.specs.Joins.{trade_row_with_id}
 use Rattle.brk_model.specs.Tables.{Tables, TradeRow}
 use Rattle.brk_changes.specs.Rows.{abstract_trade_row}
 use Rattle.brk_changes.specs.declared.trade_row.TradeRow as row
-use Rattle.brk_decisions.proofs.Looking.{read_both}
-use Rattle.brk_store.proofs.Retelling.{retold}
+use Rattle.brk_store.proofs.Sequences.{no_reads, one_read, reads_both, reads_retold}
 use Rattle.brk_update_theorems.specs.Corrections.{AreTradesWithIds}
 use Rattle.brk_decisions.proofs.TradesFound.{one_more, some_missing}
 use Rattle.brk_decisions.proofs.trades_finding.read_trades_by_ids.Goals as goal
@@ -27,34 +26,33 @@ IsTradeOf id o t = option_map abstract_trade_row o ≡ find (λ (r : TradeRow). 
 
 pub loop-id-init : goal.loop-id-init
 loop-id-init g c =
-    retold g.S.Store c.args.store.now c.last_stamp.new.self c.in_ok-_last._last tt (λ last (t : Tables). last ≡ t.last) (λ _. FirstTrades c.args.ids.now c.new-trades.result.items 0)
-    (λ t e. ap (map (λ r. Some (abstract_trade_row r))) c.new-trades.ensures.items)
-    c.in_ok-_last.ensures.read
+    no_reads g.S.Store c.args.store.now tt (λ _. FirstTrades c.args.ids.now c.new-trades.result.items 0)
+    (λ t. ap (map (λ r. Some (abstract_trade_row r))) c.new-trades.ensures.items)
 
 pub loop-id-preserved : goal.loop-id-preserved
 loop-id-preserved g c =
     let ids = c.args.ids.now in
     let i = c.loop-id.id-index in
     let trade = c.in-Some.trade in
-    read_both g.S.Store c.args.store.now c.loop-id.store c.trade.new.self {H = Fault} tt (Some trade) tt
+    reads_both g.S.Store c.args.store.now c.loop-id.store c.trade.new.self {H = Fault} tt (Some trade) tt
     (λ _. FirstTrades ids c.loop-id.trades.items i) (IsTradeOf c.id-item.result) (λ _. FirstTrades ids c.push.new.self.items (i + 1))
     (λ t p e. ap (map (λ r. Some (abstract_trade_row r))) c.in_ok-push-in-Some.ensures.items
     ∙ one_more (λ r. Some (abstract_trade_row r)) (trade_row_with_id t) c.loop-id.trades.items ids i trade c.id-item.result c.loop-id-test.true c.id-item.is e p)
-    c.loop-id.invariant (rw c.in-Some.is at c.in_ok-trade.ensures.read)
+    c.loop-id.invariant (one_read g.S.Store c.loop-id.store c.trade.new.self (Ok (Some trade)) (IsTradeOf c.id-item.result) (rw c.in-Some.is at c.in_ok-trade.ensures.read))
 
 pub returns-in-None-clause-read : goal.returns-in-None-clause-read
 returns-in-None-clause-read g c =
     let ids = c.args.ids.now in
     let i = c.loop-id.id-index in
-    read_both g.S.Store c.args.store.now c.loop-id.store c.trade.new.self {W = Option row.TradeRow} {X = Option (Vec row.TradeRow)} {H = Fault} tt None None
+    reads_both g.S.Store c.args.store.now c.loop-id.store c.trade.new.self {W = Option row.TradeRow} {X = Option (Vec row.TradeRow)} {H = Fault} tt None None
     (λ _. FirstTrades ids c.loop-id.trades.items i) (IsTradeOf c.id-item.result) (AreFound ids)
     (λ t p e. some_missing (trade_row_with_id t) ids i c.id-item.result c.loop-id-test.true c.id-item.is e)
-    c.loop-id.invariant (rw c.in-None.is at c.in_ok-trade.ensures.read)
+    c.loop-id.invariant (one_read g.S.Store c.loop-id.store c.trade.new.self {V = Option row.TradeRow} (Ok None) (IsTradeOf c.id-item.result) (rw c.in-None.is at c.in_ok-trade.ensures.read))
 
 pub returns-clause-read : goal.returns-clause-read
 returns-clause-read g c =
     let ids = c.args.ids.now in
     let i = c.loop-id.id-index in
-    retold g.S.Store c.args.store.now c.loop-id.store tt (Some c.loop-id.trades) (λ _. FirstTrades ids c.loop-id.trades.items i) (AreFound ids)
+    reads_retold g.S.Store c.args.store.now c.loop-id.store tt (Some c.loop-id.trades) (λ _. FirstTrades ids c.loop-id.trades.items i) (AreFound ids)
     (λ t p. p ∙ ap (map (trade_row_with_id t)) (take_all i ids c.loop-id-test.false))
     c.loop-id.invariant

@@ -1,14 +1,13 @@
-use Rattle.std.proofs.Common.{◌≡◌, ◌∙◌, ◌++◌, ◌∷◌, [], List, ap, map, reverse, sym}
+use Rattle.std.proofs.Common.{◌≡◌, ◌∙◌, ◌++◌, ◌∷◌, [], List, Ok, ap, map, reverse, sym}
 use Rattle.brk_money.specs.declared.fault.Fault.{Fault}
 use Rattle.brk_changes.specs.Rows.{abstract_trade_row}
 use Rattle.brk_changes.specs.declared.trade_row.TradeRow.{TradeRow}
 use Rattle.brk_model.specs.Base.{Base}
 use Rattle.brk_model.specs.Sheets.{sheets}
 use Rattle.brk_model.specs.Tables.{Tables}
-use Rattle.brk_store.proofs.Retelling.{retold}
+use Rattle.brk_store.proofs.Sequences.{no_reads, one_read, reads_both, reads_retold}
 use Rattle.brk_invariant_theorems.specs.Sound.{AuditInvariant}
 use Rattle.brk_book_theorems.specs.Books.{BooksInvariant}
-use Rattle.brk_decisions.proofs.Looking.{read_both}
 use Rattle.brk_view.specs.Lookup.{rows_of_looked_up_trade, table_rows_of_trade}
 use Rattle.brk_view.specs.declared.lookups.LookedUp.{LookedUp}
 use Rattle.brk_queries.specs.LookedUp.{HaveAllRowsOfTrades, HasAllRowsOfTrade}
@@ -23,9 +22,8 @@ AreAll trades rest found t =
 pub loop-trade-init : goal.loop-trade-init
 loop-trade-init g c =
     let trades = c.args.trades.items in
-    retold g.S.Store c.args.store.now c.last_stamp.new.self c.in_ok-_last._last tt (λ last (t : Tables). last ≡ t.last) (λ _. AreAll trades trades c.new-found.result.items)
-    (λ t e base books sound s. none_made (λ r. table_rows_of_trade t (abstract_trade_row r)) rows_of_looked_up_trade trades c.new-found.result.items c.new-found.ensures.items)
-    c.in_ok-_last.ensures.read
+    no_reads g.S.Store c.args.store.now tt (λ _. AreAll trades trades c.new-found.result.items)
+    (λ t base books sound s. none_made (λ r. table_rows_of_trade t (abstract_trade_row r)) rows_of_looked_up_trade trades c.new-found.result.items c.new-found.ensures.items)
 
 pub loop-trade-preserved : goal.loop-trade-preserved
 loop-trade-preserved g c =
@@ -36,19 +34,19 @@ loop-trade-preserved g c =
     let all = c.loop-trade.found.items in
     let one = c.in_ok-one.one in
     rw c.in_ok-push.ensures.items
-    (read_both g.S.Store c.args.store.now c.loop-trade.store c.read_all_rows_of_trade.new.store {H = Fault} tt one tt
+    (reads_both g.S.Store c.args.store.now c.loop-trade.store c.read_all_rows_of_trade.new.store {H = Fault} tt one tt
     (λ _. AreAll trades before all)
     (HasAllRowsOfTrade (abstract_trade_row trade))
     (λ _. AreAll trades rest (all ++ one ∷ []))
     (λ t p e base books sound s. popped (λ r. table_rows_of_trade t (abstract_trade_row r)) rows_of_looked_up_trade before rest trade all one _ c.in-Some.ensures.items (p base books sound s) (e base books sound s))
-    c.loop-trade.invariant c.in_ok-one.ensures.read)
+    c.loop-trade.invariant (one_read g.S.Store c.loop-trade.store c.read_all_rows_of_trade.new.store (Ok one) (HasAllRowsOfTrade (abstract_trade_row trade)) c.in_ok-one.ensures.read))
 
 pub returns-clause-read : goal.returns-clause-read
 returns-clause-read g c =
     let trades = c.args.trades.items in
     let rest = c.loop-trade.rest in
     let found = c.loop-trade.found.items in
-    retold g.S.Store c.args.store.now c.loop-trade.store tt c.reverse.new.self
+    reads_retold g.S.Store c.args.store.now c.loop-trade.store tt c.reverse.new.self
     (λ _. AreAll trades rest.items found)
     (λ found. HaveAllRowsOfTrades (map abstract_trade_row trades) found.items)
     (λ t p base books sound s. ap (map rows_of_looked_up_trade) c.reverse.ensures.items

@@ -10,6 +10,7 @@ use Rattle.brk_model.specs.Tables.{Tables}
 use Rattle.brk_ref.specs.Records.{abstract_account_row}
 use Rattle.brk_ref.specs.declared.account.AccountRow.{AccountRow}
 use Rattle.brk_store.proofs.Retelling.{retold}
+use Rattle.brk_store.proofs.Sequences.{read_with_reads}
 use Rattle.brk_decisions.proofs.Looking.{read_both}
 use Rattle.brk_view.specs.declared.view.View.{View}
 use Rattle.brk_queries.specs.LookedUp.{HaveAllRowsOfTrades}
@@ -39,7 +40,7 @@ returns-clause-read g c =
     let found = c.in_ok-found.found in
     let view = c.lookup_account.result in
     let rows = map abstract_trade_row trades.items in
-    read_both g.S.Store old c.first_twenty_trades_of_account.new.self c.read_all_rows_of_trades.new.store {X = Result View Refusal} {H = Fault} (Some row) found (Ok view)
+    read_with_reads g.S.Store old c.first_twenty_trades_of_account.new.self c.read_all_rows_of_trades.new.store {X = Result View Refusal} {H = Fault} (Some row) found (Ok view)
     (λ o (t : Tables). IsRowOf id o t × (rows ≡ take 20 (trade_rows_oldest_first (filter (is_trade_of_account_in_span id span.first span.last) t.trades))))
     (λ found. HaveAllRowsOfTrades rows found.items)
     (AnswersQueryAsModel (TradesOfAccount id span.first span.last))

@@ -11,6 +11,7 @@ use Rattle.brk_model.specs.Tables.{Tables}
 use Rattle.brk_ref.specs.Records.{abstract_security_row}
 use Rattle.brk_ref.specs.declared.security.Security.{Security}
 use Rattle.brk_store.proofs.Retelling.{retold}
+use Rattle.brk_store.proofs.Sequences.{read_with_reads}
 use Rattle.brk_decisions.proofs.Looking.{read_both}
 use Rattle.brk_view.specs.declared.view.View.{View}
 use Rattle.brk_queries.specs.LookedUp.{HaveAllRowsOfTrades}
@@ -40,7 +41,7 @@ returns-clause-read g c =
     let found = c.in_ok-found.found in
     let view = c.lookup_symbol.result in
     let rows = map abstract_trade_row trades.items in
-    read_both g.S.Store old c.first_twenty_trades_of_symbol.new.self c.read_all_rows_of_trades.new.store {X = Result View Refusal} {H = Fault} (Some row) found (Ok view)
+    read_with_reads g.S.Store old c.first_twenty_trades_of_symbol.new.self c.read_all_rows_of_trades.new.store {X = Result View Refusal} {H = Fault} (Some row) found (Ok view)
     (λ o (t : Tables). IsRowOf symbol o t × (rows ≡ take 20 (trade_rows_oldest_first (filter (is_trade_of_symbol_in_span symbol span.first span.last) t.trades))))
     (λ found. HaveAllRowsOfTrades rows found.items)
     (AnswersQueryAsModel (TradesOfSymbol symbol span.first span.last))

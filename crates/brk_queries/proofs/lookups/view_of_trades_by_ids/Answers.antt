@@ -10,9 +10,8 @@ use Rattle.brk_changes.specs.declared.trade_row.TradeRow.{TradeRow}
 use Rattle.brk_model.specs.Joins.{trade_row_with_id}
 use Rattle.brk_model.specs.Queries.{TradesWith}
 use Rattle.brk_model.specs.Tables.{Tables}
-use Rattle.brk_store.proofs.Retelling.{retold}
+use Rattle.brk_store.proofs.Sequences.{read_with_reads}
 use Rattle.brk_update_theorems.specs.Corrections.{AreTradesWithIds}
-use Rattle.brk_decisions.proofs.Looking.{read_both}
 use Rattle.brk_view.specs.declared.view.View.{View}
 use Rattle.brk_queries.specs.LookedUp.{HaveAllRowsOfTrades}
 use Rattle.brk_queries.specs.QueryResults.{AnswersQueryAsModel}
@@ -26,21 +25,24 @@ AreFound ids found t = MatchOption found (list_any (λ id. is_none (trade_row_wi
 pub returns-in_default-clause-read : goal.returns-in_default-clause-read
 returns-in_default-clause-read g c =
     let ids = c.args.trades.now.trades in
-    retold g.S.Store c.args.store.now c.read_trades_by_ids.new.store {V = Option (Vec TradeRow)} {X = Result View Refusal} None (Err NoTrade)
-    (AreFound ids) (AnswersQueryAsModel (TradesWith ids)) (no_trades ids)
-    (rw (c.in_default.is, c.ids.ensures) at c.in_ok-named.ensures.read)
+    read_with_reads g.S.Store c.args.store.now c.last_stamp.new.self c.read_trades_by_ids.new.store {W = Option (Vec TradeRow)} {X = Result View Refusal} c.in_ok-_last._last None (Err NoTrade)
+    (λ last (t : Tables). last ≡ t.last) (AreFound ids) (AnswersQueryAsModel (TradesWith ids)) (λ t _ e. no_trades ids t e)
+    c.in_ok-_last.ensures.read (rw (c.in_default.is, c.ids.ensures) at c.in_ok-named.ensures.read)
 
 pub returns-clause-read : goal.returns-clause-read
 returns-clause-read g c =
     let old = c.args.store.now in
+    let mid = c.read_trades_by_ids.new.store in
     let ids = c.args.trades.now.trades in
-    let named = c.in-Some.named in
+    let named : Option (Vec TradeRow) = Some c.in-Some.named in
     let ordered = c.in_ok-ordered.ordered in
     let found = c.in_ok-found.found in
     let view = c.lookup_ids.result in
-    read_both g.S.Store old c.read_trades_by_ids.new.store c.read_all_rows_of_trades.new.store {X = Result View Refusal} {H = Fault} (Some named) found (Ok view)
+    read_with_reads g.S.Store old mid c.read_all_rows_of_trades.new.store {X = Result View Refusal} {H = Fault} named found (Ok view)
     (AreFound ids)
     (λ found. HaveAllRowsOfTrades (map abstract_trade_row ordered.items) found.items)
     (AnswersQueryAsModel (TradesWith ids))
-    (λ t e p. trades_seen ids named.items ordered.items found view c.args.trades.now.distinct c.args.trades.now.few c.in_ok-ordered.ensures.order c.lookup_ids.ensures.value c.lookup_ids.ensures.view t e p)
-    (rw (c.in-Some.is, c.ids.ensures) at c.in_ok-named.ensures.read) c.in_ok-found.ensures.read
+    (λ t e p. trades_seen ids c.in-Some.named.items ordered.items found view c.args.trades.now.distinct c.args.trades.now.few c.in_ok-ordered.ensures.order c.lookup_ids.ensures.value c.lookup_ids.ensures.view t e p)
+    (read_with_reads g.S.Store old c.last_stamp.new.self mid {H = Fault} c.in_ok-_last._last named named (λ last (t : Tables). last ≡ t.last) (AreFound ids) (AreFound ids) (λ t _ e. e)
+    c.in_ok-_last.ensures.read (rw (c.in-Some.is, c.ids.ensures) at c.in_ok-named.ensures.read))
+    c.in_ok-found.ensures.read

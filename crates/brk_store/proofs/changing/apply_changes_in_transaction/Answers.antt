@@ -1,7 +1,7 @@
 use Rattle.std.proofs.Common.{◌≡◌, Ok, Err, subst, rules}
 use Rattle.brk_money.specs.declared.fault.Fault.{Fault}
 use Rattle.brk_money.specs.declared.fault.Fault.TheVariants.{Store}
-use Rattle.brk_sql.specs.Desk.{ChangesTablesBy}
+use Rattle.brk_sql.specs.Desk.{ChangesTablesBy, IsCompilationOutcome}
 use Rattle.brk_tables_schema.specs.Desk.{desk_tables}
 use Rattle.brk_changes.specs.Changes.{tables_after_changes}
 use Rattle.brk_store.specs.Holds.{ApplyPost}
@@ -11,23 +11,25 @@ use Rattle.brk_store.proofs.changing.apply_changes_in_transaction.Goals as goal
 pub returns-in-Ok-clause-applied : goal.returns-in-Ok-clause-applied
 returns-in-Ok-clause-applied g c =
     let old = c.args.conn.now in
-    let first = c.last_stamp.new.tx.conn.now in
+    let first = c.statement_compiles.new.tx.conn.now in
     let mid = c.apply_each_change.new.tx.conn.now in
     let end = c.commit.new.self.0 in
     let after = tables_after_changes c.args.changes.now in
-    let step = after_look g.S.Store old first mid c.in_ok-_last._last (λ last t. last ≡ t.last) (rw c.transaction-tx.ensures.begun at c.in_ok-_last.ensures.step) (Ok tt) after c.in_ok-apply_each_change.ensures.step in
+    let text = c.existence_probe_text.result.now in
+    let step = after_look g.S.Store old first mid c.in_ok-_exists._exists (λ exists a _. IsCompilationOutcome text exists a.now.schema) (rw c.transaction-tx.ensures.begun at c.in_ok-_exists.ensures.step) (Ok tt) after c.in_ok-apply_each_change.ensures.step in
     subst (λ h. ApplyPost {V = Unit {0}} {E = Fault} g.S.Store old h (Ok tt) after) (search rules)
     (applies g.S.Store old mid end (c.is_autocommit-is_autocommit.ensures.settled (search rules)) (ChangesTablesBy desk_tables after) step c.in-Ok.ensures.survives c.in-Ok.ensures.ok (λ db o may. g.met.S.Store.settled end.store db o may) after (λ a b h. h))
 
 pub returns-in-Err-clause-applied : goal.returns-in-Err-clause-applied
 returns-in-Err-clause-applied g c =
     let old = c.args.conn.now in
-    let first = c.last_stamp.new.tx.conn.now in
+    let first = c.statement_compiles.new.tx.conn.now in
     let mid = c.apply_each_change.new.tx.conn.now in
     let end = c.commit.new.self.0 in
     let after = tables_after_changes c.args.changes.now in
-    let look = rw c.transaction-tx.ensures.begun at c.in_ok-_last.ensures.step in
-    let step = after_look g.S.Store old first mid c.in_ok-_last._last (λ last t. last ≡ t.last) look (Ok tt) after c.in_ok-apply_each_change.ensures.step in
-    let open_then = open_at_look g.S.Store old first mid c.in_ok-_last._last (λ last t. last ≡ t.last) look (Ok tt) after c.in_ok-apply_each_change.ensures.step in
+    let text = c.existence_probe_text.result.now in
+    let look = rw c.transaction-tx.ensures.begun at c.in_ok-_exists.ensures.step in
+    let step = after_look g.S.Store old first mid c.in_ok-_exists._exists (λ exists a _. IsCompilationOutcome text exists a.now.schema) look (Ok tt) after c.in_ok-apply_each_change.ensures.step in
+    let open_then = open_at_look g.S.Store old first mid c.in_ok-_exists._exists (λ exists a _. IsCompilationOutcome text exists a.now.schema) look (Ok tt) after c.in_ok-apply_each_change.ensures.step in
     subst (λ h. ApplyPost {V = Unit {0}} {E = Fault} g.S.Store old h (Err Store) after) (search rules)
     (applies_none g.S.Store old mid end (c.is_autocommit-is_autocommit.ensures.settled (search rules)) (ChangesTablesBy desk_tables after) step c.in-Err.ensures.survives c.in-Err.field-0 c.in-Err.ensures.err open_then Store after (λ a b h. h))

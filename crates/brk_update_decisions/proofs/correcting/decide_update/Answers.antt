@@ -4,7 +4,7 @@ use Rattle.brk_model.specs.Tables.{Tables}
 use Rattle.brk_orders.specs.Records.{text_update_command}
 use Rattle.brk_decisions.specs.Decisions.{DecidesCommand}
 use Rattle.brk_decisions.proofs.Deciding.{decided}
-use Rattle.brk_decisions.proofs.Looking.{read_both}
+use Rattle.brk_store.proofs.Sequences.{read_with_reads}
 use Rattle.brk_update_theorems.specs.Corrections.{UpdateFactsMatchTables}
 use Rattle.brk_update_decisions.proofs.Deciding.{UpdateFactsAndLastStampMatch, update_decided}
 use Rattle.brk_update_decisions.proofs.correcting.decide_update.Goals as goal
@@ -16,6 +16,6 @@ returns-clause-read g c =
     let last = c.in_ok-last.last in
     let found = c.in_ok-found.found in
     decided g.S.Store old c.read_trades_of_update.new.store found (λ f. UpdateFactsAndLastStampMatch u f last) (DecidesCommand c.args.now (text_update_command u)) c.plan_update.result
-    (read_both g.S.Store old c.last_stamp.new.self c.read_trades_of_update.new.store {H = Fault} last found found (λ last (t : Tables). last ≡ t.last) (λ f (t : Tables). UpdateFactsMatchTables t u f) (λ f. UpdateFactsAndLastStampMatch u f last)
+    (read_with_reads g.S.Store old c.last_stamp.new.self c.read_trades_of_update.new.store {H = Fault} last found found (λ last (t : Tables). last ≡ t.last) (λ f (t : Tables). UpdateFactsMatchTables t u f) (λ f. UpdateFactsAndLastStampMatch u f last)
     (λ t e f. (e, f)) c.in_ok-last.ensures.read c.in_ok-found.ensures.read)
     (update_decided u found last c.args.now c.get-moment.ensures.high c.plan_update.result c.plan_update.ensures.planned)

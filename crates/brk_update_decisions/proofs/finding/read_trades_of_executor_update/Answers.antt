@@ -6,7 +6,7 @@ use Rattle.brk_model.specs.Joins.{trade_row_with_id}
 use Rattle.brk_model.specs.Tables.{Tables}
 use Rattle.brk_changes.specs.declared.trade_row.TradeRow.{TradeRow}
 use Rattle.brk_orders.specs.declared.update.Update.TheVariants as update
-use Rattle.brk_store.proofs.Retelling.{retold}
+use Rattle.brk_store.proofs.Sequences.{reads_retold}
 use Rattle.brk_update_theorems.specs.Corrections.{AreTradesWithIds, UpdateFactsMatchTables}
 use Rattle.brk_plans.specs.declared.corrected.TextUpdate.{TextUpdate}
 use Rattle.brk_plans.specs.declared.corrected.TextUpdate.TheVariants.{Executors}
@@ -15,7 +15,7 @@ use Rattle.brk_update_decisions.proofs.finding.read_trades_of_executor_update.Go
 pub returns-in-Some-clause-read : goal.returns-in-Some-clause-read
 returns-in-Some-clause-read g c =
     let ids = c.args.trades.now in
-    retold g.S.Store c.args.store.now c.read_trades_by_ids.new.store {V = Option (Vec TradeRow)} {X = Option TextUpdate} (Some c.in-Some.trades) (Some (Executors c.in-Some.trades))
+    reads_retold g.S.Store c.args.store.now c.read_trades_by_ids.new.store {V = Option (Vec TradeRow)} {X = Option TextUpdate} (Some c.in-Some.trades) (Some (Executors c.in-Some.trades))
     (λ found (t : Tables). MatchOption found (list_any (λ id. is_none (trade_row_with_id t id)) ids ≡ true) (λ trades. AreTradesWithIds t ids trades.items))
     (λ found (t : Tables). UpdateFactsMatchTables t (update.Executors c.args.trades.now) found)
     (λ t e. e)
@@ -24,7 +24,7 @@ returns-in-Some-clause-read g c =
 pub returns-in-None-clause-read : goal.returns-in-None-clause-read
 returns-in-None-clause-read g c =
     let ids = c.args.trades.now in
-    retold g.S.Store c.args.store.now c.read_trades_by_ids.new.store {V = Option (Vec TradeRow)} {X = Option TextUpdate} None None
+    reads_retold g.S.Store c.args.store.now c.read_trades_by_ids.new.store {V = Option (Vec TradeRow)} {X = Option TextUpdate} None None
     (λ found (t : Tables). MatchOption found (list_any (λ id. is_none (trade_row_with_id t id)) ids ≡ true) (λ trades. AreTradesWithIds t ids trades.items))
     (λ found (t : Tables). UpdateFactsMatchTables t (update.Executors c.args.trades.now) found)
     (λ t e. e)

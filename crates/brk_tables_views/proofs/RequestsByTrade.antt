@@ -2,14 +2,11 @@
 use Rattle.std.proofs.Common.{◌≡◌, ◌⊎◌, ℕ, ◌-◌, pos, negsuc, List, [], ◌∷◌, codes, true, false, None, Some, Ok, Err, refl, slice_get}
 use Rattle.sqlite_value.specs.declared.keys.Collation.TheVariants.{Binary}
 use Rattle.sqlite.specs.declared.types.Value.TheVariants.{Int}
-use Rattle.sqlite_sql.specs.declared.ops.BinaryOp.TheVariants.{Compare}
-use Rattle.sqlite_sql.specs.declared.ops.CompareOp.TheVariants.{Eq}
 use Rattle.sqlite_value.specs.declared.keys.Key.{Key}
-use Rattle.sqlite.specs.Term.{Term, lit, col, op2}
+use Rattle.sqlite.specs.Term.{Term, lit, col}
 use Rattle.sqlite.specs.Schema.{Schema}
 use Rattle.sqlite.specs.Command.TheVariants.{Select}
 use Rattle.sqlite_ast.specs.declared.Expr.TheVariants as e
-use Rattle.sqlite_ast.specs.declared.Binary.TheVariants as operator
 use Rattle.sqlite_resolve.specs.Compile.{compiled}
 use Rattle.sqlite_resolve.specs.declared.error.CompileError.TheVariants.{Mismatch}
 use Rattle.sqlite_draft.specs.declared.join.Step.TheVariants.{Inner}
@@ -44,7 +41,7 @@ use Rattle.sqlite_resolve.specs.declared.compiled.Compiled.{Compiled}
 use Rattle.sqlite.specs.Listing.{understood}
 
 abbrev pub statement : List ℕ
-statement = codes "SELECT TR_T_ID, TR_TT_ID, TR_S_SYMB, TR_QTY, TR_BID_PRICE, TR_B_ID FROM TRADE_REQUEST WHERE TR_B_ID = ?1 ORDER BY TR_T_ID"
+statement = codes "SELECT TR_T_ID, TR_TT_ID, TR_S_SYMB, TR_QTY, TR_BID_PRICE, TR_B_ID FROM TRADE_REQUEST ORDER BY TR_T_ID"
 
 abbrev pub source : Source
 source = roll-Source (record { is_left = false; origin = Table (codes "TRADE_REQUEST"); alias = None; on = None; using = [] })
@@ -54,7 +51,7 @@ core = roll-Core (record {
   distinct = false;
   shown = One (e.Column None (codes "TR_T_ID")) None (codes "TR_T_ID") ∷ One (e.Column None (codes "TR_TT_ID")) None (codes "TR_TT_ID") ∷ One (e.Column None (codes "TR_S_SYMB")) None (codes "TR_S_SYMB") ∷ One (e.Column None (codes "TR_QTY")) None (codes "TR_QTY") ∷ One (e.Column None (codes "TR_BID_PRICE")) None (codes "TR_BID_PRICE") ∷ One (e.Column None (codes "TR_B_ID")) None (codes "TR_B_ID") ∷ [];
   from = source ∷ [];
-  filter = Some (e.Binary operator.Eq (e.Column None (codes "TR_B_ID")) (e.Parameter 1));
+  filter = None;
   group = [];
   having = None;
 })
@@ -66,7 +63,7 @@ abbrev pub select : ast.Select
 select = ast.roll-Select (record { with = []; first = core; others = []; order = by; limit = None; offset = None })
 
 abbrev pub terms : List Term
-terms = op2 (Compare Eq Binary) (col 1 6) (col 0 0) ∷ []
+terms = []
 
 abbrev pub project : List Term
 project = col 1 0 ∷ col 1 2 ∷ col 1 3 ∷ col 1 4 ∷ col 1 5 ∷ col 1 6 ∷ []
@@ -118,11 +115,11 @@ module _ (schema : Schema) (at tree : ℕ) (h : IsTableAt schema (request_table 
       )
 
   matches : matching lower (outermost schema) (level_one (codes "TRADE_REQUEST") at columns) core (after 6 binary)
-      ≡ Ok (record { steps = Inner tree ∷ []; filter = terms }, after 9 nothing)
+      ≡ Ok (record { steps = Inner tree ∷ []; filter = terms }, after 6 binary)
   unfolding lowering
-  matches = rw (found, column_is schema at (request_table tree) found (codes "TRADE_REQUEST") columns [] false true (codes "TR_B_ID") 5 (integer_column (codes "TR_B_ID")) refl refl, found)
+  matches = rw found
 
-  sorted : sorts lower (inside schema (level_one (codes "TRADE_REQUEST") at columns) false) columns by (after 9 nothing) ≡ Ok ((draft tree).order, after 10 nothing)
+  sorted : sorts lower (inside schema (level_one (codes "TRADE_REQUEST") at columns) false) columns by (after 6 binary) ≡ Ok ((draft tree).order, after 7 nothing)
   unfolding lowering
   sorted =
       rw (column_is schema at (request_table tree) found (codes "TRADE_REQUEST") columns [] false true (codes "TR_T_ID") 0 (integer_column (codes "TR_T_ID")) refl refl)
@@ -131,7 +128,7 @@ module _ (schema : Schema) (at tree : ℕ) (h : IsTableAt schema (request_table 
   unfolding everything
   meaning_is = query_is schema select core source (codes "TRADE_REQUEST") paging _ refl refl refl refl refl refl
       (named_is schema core source (codes "TRADE_REQUEST") at h.named refl refl refl refl columns (after 6 binary)
-      (record { steps = Inner tree ∷ []; filter = terms }) (after 9 nothing) shows matches by _ (after 10 nothing) _ refl refl sorted)
+      (record { steps = Inner tree ∷ []; filter = terms }) (after 6 binary) shows matches by _ (after 7 nothing) _ refl refl sorted)
 
   pub understood_as : (compiled schema statement ≡ Ok (meant (read statement) [] (Select (record { lets = []; body = selection tree terms project order paging }) names))) ⊎ (compiled schema statement ≡ Err Mismatch)
   unfolding everything

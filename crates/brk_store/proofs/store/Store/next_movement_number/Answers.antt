@@ -4,8 +4,9 @@ use Rattle.brk_model.specs.Limits.{greatest_id}
 use Rattle.brk_model.specs.Tables.{MoveRow, Tables}
 use Rattle.brk_book_theorems.specs.TradeReads.{last_cash_row_number_or_zero}
 use Rattle.brk_store.proofs.Counting.{too_few}
-use Rattle.brk_store.proofs.Retelling.{read_after, retold_of}
-use Rattle.brk_store.proofs.store.Store.has_maximum_movements.Goals as goal
+use Rattle.brk_store.proofs.Retelling.{retold_of}
+use Rattle.brk_store.proofs.Sequences.{read_with}
+use Rattle.brk_store.proofs.store.Store.next_movement_number.Goals as goal
 
 abbrev IsNext : ℕ → Tables → Type 0
 IsNext next t = next ≡ last_cash_row_number_or_zero t + 1
@@ -13,12 +14,17 @@ IsNext next t = next ≡ last_cash_row_number_or_zero t + 1
 abbrev AreAll : Bool → Tables → Type 0
 AreAll all t = all ≡ nat_le greatest_id (length (filter (λ (r : MoveRow). is_none r.trade) t.moves))
 
+abbrev AreNextAndAll : ℕ × Bool → Tables → Type 0
+AreNextAndAll number t = IsNext number.0 t × AreAll number.1 t
+
 pub returns-then-get-lt-GREATEST_MOVEMENT_COUNT-clause-read : goal.returns-then-get-lt-GREATEST_MOVEMENT_COUNT-clause-read
 returns-then-get-lt-GREATEST_MOVEMENT_COUNT-clause-read g c =
     let next = c.in_ok-next.next in
     let low : next < greatest_id = rw c.get.ensures.value at c.if-get-lt-GREATEST_MOVEMENT_COUNT.true in
-    retold_of g.S.Store c.args.self.now c.next_cash_row_number.new.self next false IsNext AreAll (λ t has is. too_few t (state g.S.Store c.args.self.now).now next has is low) c.in_ok-next.ensures.read
+    retold_of g.S.Store c.args.self.now c.next_cash_row_number.new.self next (next, false) IsNext AreNextAndAll (λ t has is. (is, too_few t (state g.S.Store c.args.self.now).now next has is low)) c.in_ok-next.ensures.read
 
 pub returns-clause-read : goal.returns-clause-read
 returns-clause-read g c =
-    read_after g.S.Store c.args.self.now c.next_cash_row_number.new.self c.has_maximum_movements_by_count.new.self c.in_ok-next.next c.has_maximum_movements_by_count.result IsNext AreAll c.in_ok-next.ensures.read c.has_maximum_movements_by_count.ensures.read
+    let next = c.in_ok-next.next in
+    let all = c.in_ok-has_all_movements.has_all_movements in
+    read_with g.S.Store c.args.self.now c.next_cash_row_number.new.self c.has_maximum_movements_by_count.new.self next all (next, all) IsNext AreAll AreNextAndAll (λ t is are. (is, are)) c.in_ok-next.ensures.read c.in_ok-has_all_movements.ensures.read
