@@ -19,13 +19,13 @@ use Rattle.brk_changes.specs.declared.sheets.Sheets.{Sheets}
 use Rattle.brk_changes.specs.declared.trade_row.TradeRow as trade
 use Rattle.brk_changes.specs.declared.move_row.MoveRow as move
 use Rattle.brk_changes.specs.declared.cash_row.CashRow as cash
-use Rattle.brk_audit.specs.AccountTerms.{account_tax_status_in_terms}
-use Rattle.brk_audit.specs.Conditions.{HasValidStatuses}
+use Rattle.brk_audit_sums.specs.AccountTerms.{account_tax_status_in_terms}
+use Rattle.brk_audit_sums.specs.Conditions.{HasValidStatuses}
 use Rattle.brk_audit.specs.Posted.{abstract_posted_figures}
-use Rattle.brk_audit.specs.Settling.{MoveRowFigures, settlement_amount_at_tax_status, is_completed_cash_trade, is_numbered_by_stamp, posted_figures_of_trade, posted_figures_of_row, account_tax_status_or_untaxed}
-use Rattle.brk_audit.specs.declared.account_terms.AccountTerms.{AccountTerms}
+use Rattle.brk_audit_sums.specs.Settling.{MoveRowFigures, settlement_amount_at_tax_status, is_completed_cash_trade, is_numbered_by_stamp, posted_figures_of_trade, posted_figures_of_row, account_tax_status_or_untaxed}
+use Rattle.brk_audit_sums.specs.declared.account_terms.AccountTerms.{AccountTerms}
 use Rattle.brk_audit.specs.declared.cash.Posted as code
-use Rattle.brk_audit.proofs.AccountTerms.{HasTerms, same_tax_statuses}
+use Rattle.brk_audit_sums.proofs.AccountTerms.{HasTerms, same_tax_statuses}
 use Rattle.brk_audit.proofs.CashMoves.{cash_by_moves}
 
 posted_rows : (rows : List move.MoveRow) → filter_map (λ r. posted_figures_of_row (abstract_move_row r)) rows ≡ filter_map posted_figures_of_row (map abstract_move_row rows)

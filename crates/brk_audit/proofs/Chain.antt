@@ -6,7 +6,7 @@ use Rattle.brk_model.specs.Audit.{ConditionHolds}
 use Rattle.brk_model.specs.Schemas.{Schema}
 use Rattle.brk_changes.specs.Sheets.{abstract_sheets}
 use Rattle.brk_changes.specs.declared.sheets.Sheets.{Sheets}
-use Rattle.brk_audit.specs.Conditions.{HasWellFormedRows, HasValidStatuses}
+use Rattle.brk_audit_sums.specs.Conditions.{HasWellFormedRows, HasValidStatuses}
 
 pub form_held : (schema : Schema) (s : Sheets) → ConditionHolds schema Form (abstract_sheets s) → HasWellFormedRows s
 unfolding ConditionHolds

@@ -30,15 +30,15 @@ use Rattle.brk_audit_theorems.proofs.AdoptedBooks.{adopted_books}
 use Rattle.brk_audit_theorems.proofs.Climbs.{Climbs}
 use Rattle.brk_audit_theorems.proofs.Parts.{key_parts}
 use Rattle.brk_model_theorems.proofs.FormParts.{form_parts}
-use Rattle.brk_audit.specs.Completed.{completed_trade_rows}
+use Rattle.brk_audit_sums.specs.Completed.{completed_trade_rows}
 use Rattle.brk_audit.specs.Positions.{AreLotChangesOfTrades, moves, is_before_by_position, deal_of_completed_row, is_same_position, untouched}
-use Rattle.brk_audit.proofs.Completed.{completed_rows}
+use Rattle.brk_audit_sums.proofs.Completed.{completed_rows}
 use Rattle.brk_audit.proofs.Leaving.{AreDealt, deals_among, own_run}
 use Rattle.brk_audit.proofs.LotRows.{dealt}
 use Rattle.brk_audit.proofs.Moves.{run_sums}
 use Rattle.brk_book_theorems.proofs.Orders.{SameSums, permuted, sum_append, sum_map, sum_none, sum_same, sum_sort}
 use Rattle.brk_audit.proofs.Places.{all_back, at_one, same_self}
-use Rattle.brk_audit.specs.Conditions.{IsWellFormedBySomeSchema}
+use Rattle.brk_audit_sums.specs.Conditions.{IsWellFormedBySomeSchema}
 use Rattle.brk_audit.proofs.Expected.{same_history}
 use Rattle.brk_model.specs.Schemas.{Schema}
 

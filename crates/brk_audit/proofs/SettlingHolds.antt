@@ -19,13 +19,13 @@ use Rattle.brk_changes.specs.declared.trade_row.TradeRow as trade
 use Rattle.brk_changes.specs.declared.request_row.RequestRow as request
 use Rattle.brk_changes.specs.declared.settlement_row.SettlementRow as settlement
 use Rattle.brk_changes.specs.declared.cash_row.CashRow as cash
-use Rattle.brk_audit.specs.AccountTerms.{account_broker_in_terms, account_tax_status_in_terms}
-use Rattle.brk_audit.specs.Completed.{is_completed_row, is_pending_row}
-use Rattle.brk_audit.specs.Conditions.{HasWellFormedRows, HasValidStatuses}
-use Rattle.brk_audit.specs.Settling.{settlement_amount_at_tax_status, settlement_figures_of_row, settlement_figures_of_trade, is_completed_cash_trade, cash_figures_of_trade, cash_figures_of_row, request_row_of_trade, account_tax_status_or_untaxed, account_broker_or_zero}
-use Rattle.brk_audit.specs.declared.account_terms.AccountTerms.{AccountTerms}
-use Rattle.brk_audit.proofs.AccountTerms.{HasTerms, same_brokers, same_tax_statuses}
-use Rattle.brk_audit.proofs.Settling.{cash_by_rows, requests_by_rows, settlements_by_rows}
+use Rattle.brk_audit_sums.specs.AccountTerms.{account_broker_in_terms, account_tax_status_in_terms}
+use Rattle.brk_audit_sums.specs.Completed.{is_completed_row, is_pending_row}
+use Rattle.brk_audit_sums.specs.Conditions.{HasWellFormedRows, HasValidStatuses}
+use Rattle.brk_audit_sums.specs.Settling.{settlement_amount_at_tax_status, settlement_figures_of_row, settlement_figures_of_trade, is_completed_cash_trade, cash_figures_of_trade, cash_figures_of_row, request_row_of_trade, account_tax_status_or_untaxed, account_broker_or_zero}
+use Rattle.brk_audit_sums.specs.declared.account_terms.AccountTerms.{AccountTerms}
+use Rattle.brk_audit_sums.proofs.AccountTerms.{HasTerms, same_brokers, same_tax_statuses}
+use Rattle.brk_audit_sums.proofs.Settling.{cash_by_rows, requests_by_rows, settlements_by_rows}
 use Rattle.brk_model.specs.Schemas.{Schema}
 
 keys_of : (s : Sheets) → HasWellFormedRows s → KeyParts (abstract_sheets s)

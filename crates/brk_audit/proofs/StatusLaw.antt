@@ -23,7 +23,7 @@ use Rattle.brk_model_theorems.proofs.FormParts.{form_parts}
 use Rattle.brk_audit_theorems.proofs.AdoptedHistory.{joined}
 use Rattle.brk_audit.specs.Statuses.{all_histories_are_valid, is_valid_history, completion_stamps_of_history}
 use Rattle.brk_audit.proofs.Statuses.{status_by_rows}
-use Rattle.brk_audit.specs.Conditions.{IsWellFormedBySomeSchema}
+use Rattle.brk_audit_sums.specs.Conditions.{IsWellFormedBySomeSchema}
 use Rattle.brk_model.specs.Schemas.{Schema}
 
 -- ---- a trade's rows are the first of those that are left

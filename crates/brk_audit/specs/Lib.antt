@@ -1,10 +1,3 @@
-pub mod AccountTerms
-pub mod Completed
-pub mod Conditions
-pub mod PositionSums
 pub mod Positions
 pub mod Posted
-pub mod Settling
 pub mod Statuses
-pub mod Sums
-pub mod Tally

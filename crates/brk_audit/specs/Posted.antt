@@ -1,5 +1,5 @@
 -- The figures of a trade's cash row, as the program holds them.
-use Rattle.brk_audit.specs.Settling.{MoveRowFigures}
+use Rattle.brk_audit_sums.specs.Settling.{MoveRowFigures}
 use Rattle.brk_audit.specs.declared.cash.Posted as declared
 
 -- The figures of a row of CASH_MOVE with the values of the program's figures `p`.

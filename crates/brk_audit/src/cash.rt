@@ -4,18 +4,19 @@ ghost use Rattle.std.specs.Prelude.{◌≡◌, ◌↔◌, ◌==◌, ◌&&◌, ma
 ghost use Rattle.brk_money.specs.declared.fault.Condition.TheVariants.{Cash, Form};
 ghost use Rattle.brk_money.specs.declared.fault.Fault.TheVariants.{Memory};
 ghost use Rattle.brk_model.specs.Audit.{ConditionHolds};
-ghost use Rattle.brk_audit.specs.AccountTerms.{account_tax_status_in_terms};
-ghost use Rattle.brk_audit.specs.Conditions.{HasValidStatuses};
-ghost use Rattle.brk_audit.specs.Settling.{RowsCannotMatchTrades, RowsMatchTradesIffOthersDo, settlement_amount_at_tax_status, is_completed_cash_trade};
-ghost use Rattle.brk_audit.specs.Settling.{is_numbered_by_stamp, cash_figures_of_trade, cash_figures_of_row, posted_figures_of_trade, posted_figures_of_row};
+ghost use Rattle.brk_audit_sums.specs.AccountTerms.{account_tax_status_in_terms};
+ghost use Rattle.brk_audit_sums.specs.Conditions.{HasValidStatuses};
+ghost use Rattle.brk_audit_sums.specs.Settling.{RowsCannotMatchTrades, RowsMatchTradesIffOthersDo, settlement_amount_at_tax_status, is_completed_cash_trade};
+ghost use Rattle.brk_audit_sums.specs.Settling.{is_numbered_by_stamp, cash_figures_of_trade, cash_figures_of_row, posted_figures_of_trade, posted_figures_of_row};
 ghost use Rattle.brk_changes.specs.Rows.{abstract_cash_row, abstract_move_row, abstract_trade_row};
 ghost use Rattle.brk_changes.specs.Schemas.{abstract_schema};
 ghost use Rattle.brk_changes.specs.Sheets.{abstract_sheets};
 
-use crate::account_terms::{AccountTerms, account_tax_status, account_terms_by_id};
-use crate::amounts::settlement_amount_of_row;
-use crate::status::{is_completed, stamp_in_millis};
-use crate::summaries::all_three_true;
+use crate::status::stamp_in_millis;
+use brk_audit_sums::account_terms::{AccountTerms, account_tax_status, account_terms_by_id};
+use brk_audit_sums::amounts::settlement_amount_of_row;
+use brk_audit_sums::completion::is_completed;
+use brk_audit_sums::summaries::all_three_true;
 use brk_changes::{CashRow, MoveRow, Schema, Sheets, TradeRow};
 use brk_money::{Cents, Fault, Id, Stamp, TaxStatus};
 use std::alloc::Global;

@@ -2,7 +2,7 @@ ghost use Rattle.std.specs.Prelude.{◌≡◌, ◌++◌, ◌↔◌, IfErr, IfOk,
 ghost use Rattle.std.specs.List.{AllByRecursion, IsDistinct};
 ghost use Rattle.std.specs.List.Sorted.{IsSortedBy};
 ghost use Rattle.std.specs.Ordering.{is_lt};
-ghost use Rattle.brk_audit.specs.Conditions.{HasWellFormedRows, HasValidStatuses};
+ghost use Rattle.brk_audit_sums.specs.Conditions.{HasWellFormedRows, HasValidStatuses};
 ghost use Rattle.brk_audit.specs.Positions.{AreLotChangesOfTrades, has_same_id_or_stamp, is_before_by_position, deal_of_completed_row};
 ghost use Rattle.brk_changes.specs.Rows.{abstract_lot_change_row, abstract_trade_row};
 ghost use Rattle.brk_changes.specs.Sheets.{abstract_sheets};

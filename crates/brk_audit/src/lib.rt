@@ -2,21 +2,14 @@
 //! that are computed from the base tables.
 #![tactic(auto)]
 
-pub mod account_terms;
-pub mod amounts;
 pub mod audit;
-pub mod balances;
 pub mod cash;
-pub mod commissions;
-pub mod counts;
 pub mod history;
 pub mod lots;
 mod positions;
 pub mod requests;
 pub mod settlements;
 pub mod status;
-pub mod summaries;
-pub mod tally;
 
 pub use audit::audit_rows;
 pub use brk_changes::Sheets;

@@ -1,7 +1,7 @@
 ghost use Rattle.std.specs.Prelude.{◌≡◌, ◌++◌, ◌↔◌, IfErr, IfOk, IsSome, IsTrue, OnOk, map};
 ghost use Rattle.std.specs.List.{AllByRecursion, IsDistinct};
 ghost use Rattle.std.specs.List.Sorted.{IsSortedBy};
-ghost use Rattle.brk_audit.specs.Conditions.{HasWellFormedRows, HasValidStatuses};
+ghost use Rattle.brk_audit_sums.specs.Conditions.{HasWellFormedRows, HasValidStatuses};
 ghost use Rattle.brk_audit.specs.Positions.{AreLotsLeftByTrades, has_same_id_or_stamp, holding_row_in_position_of_trade, is_before_by_position};
 ghost use Rattle.brk_changes.specs.Rows.{abstract_holding_row, abstract_trade_row};
 ghost use Rattle.brk_changes.specs.Sheets.{abstract_sheets};

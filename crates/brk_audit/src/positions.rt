@@ -2,7 +2,7 @@ ghost use Rattle.std.specs.Prelude.{◌≡◌, ◌≤◌, IfErr, IfOk, IsPermuta
 ghost use Rattle.std.specs.List.{AllByRecursion};
 ghost use Rattle.std.specs.List.Sorted.{IsSortedBy};
 ghost use Rattle.std.specs.Ordering.{is_lt};
-ghost use Rattle.brk_audit.specs.Completed.{is_completed_row};
+ghost use Rattle.brk_audit_sums.specs.Completed.{is_completed_row};
 ghost use Rattle.brk_audit.specs.Positions.{FirstElementSatisfies, is_before_by_position, deal_of_completed_row, is_same_position};
 ghost use Rattle.brk_changes.specs.Rows.{abstract_trade_row};
 ghost use Rattle.brk_lots.specs.Deals.{AreAscendingDeals};

@@ -9,22 +9,16 @@ ghost use Rattle.brk_money.specs.declared.status.Status.TheVariants.{Completed};
 ghost use Rattle.brk_model.specs.Audit.{ConditionHolds};
 ghost use Rattle.brk_model.specs.Schemas.{Schema};
 ghost use Rattle.brk_model.specs.Lists.{all_distinct};
-ghost use Rattle.brk_audit.specs.Conditions.{HasWellFormedRows};
+ghost use Rattle.brk_audit_sums.specs.Conditions.{HasWellFormedRows};
 ghost use Rattle.brk_audit.specs.Statuses as spec;
 ghost use Rattle.brk_changes.specs.Rows.{abstract_history_row, abstract_move_row, abstract_trade_row};
 ghost use Rattle.brk_changes.specs.Sheets.{abstract_sheets};
 
+use brk_audit_sums::completion::is_completed;
 use brk_changes::{HistoryRow, MoveRow, Sheets, TradeRow};
 use brk_money::{Fault, Id, Stamp, Status};
 use std::alloc::Global;
 use std::collections::BTreeSet;
-
-/// Returns true if the status is `Completed`.
-pub(crate) fn is_completed(status: Status) -> bool
-    ensures { result ≡ is_same_trade_status status Completed }
-{
-    status == Status::Completed
-}
 
 /// Returns the stamp in milliseconds since 1970-01-01 UTC.
 pub(crate) fn stamp_in_millis(stamp: Stamp) -> u64

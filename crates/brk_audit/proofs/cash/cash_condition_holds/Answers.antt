@@ -1,13 +1,13 @@
 use Rattle.std.proofs.Common.{rules, ◌==◌, ◌≡◌, List, ap, ◌∙◌, length, map, sym}
 use Rattle.std.proofs.lemmas.Bool.{eq-eqb, eqb-true}
 use Rattle.std.specs.Prelude.{find, option_map}
-use Rattle.brk_audit.specs.AccountTerms.{terms_of_account_row}
+use Rattle.brk_audit_sums.specs.AccountTerms.{terms_of_account_row}
 use Rattle.std.specs.List.Sorted.{IsNonDecreasingBy}
 use Rattle.std.proofs.lemmas.List.Sorted.{IsNonDecreasingBy-from_sort_by_key}
 use Rattle.brk_changes.specs.declared.sheets.Sheets.{Sheets}
 use Rattle.brk_audit.specs.Posted.{abstract_posted_figures}
 use Rattle.brk_audit.specs.declared.cash.Posted as code
-use Rattle.brk_audit.proofs.AccountTerms.{HasTerms}
+use Rattle.brk_audit_sums.proofs.AccountTerms.{HasTerms}
 use Rattle.brk_audit.proofs.SettlingHolds.{cash_holds}
 use Rattle.brk_changes.specs.Schemas.{abstract_schema}
 use Rattle.brk_audit.proofs.CashHolds.{moves_hold, none_left, sorted_own}

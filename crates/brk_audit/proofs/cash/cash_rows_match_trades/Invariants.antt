@@ -1,7 +1,7 @@
 use Rattle.std.proofs.Common.{drop, map}
 use Rattle.brk_changes.specs.Rows.{abstract_cash_row}
-use Rattle.brk_audit.specs.AccountTerms.{account_tax_status_in_terms}
-use Rattle.brk_audit.specs.Settling.{is_completed_cash_trade, cash_figures_of_trade, cash_figures_of_row}
+use Rattle.brk_audit_sums.specs.AccountTerms.{account_tax_status_in_terms}
+use Rattle.brk_audit_sums.specs.Settling.{is_completed_cash_trade, cash_figures_of_trade, cash_figures_of_row}
 use Rattle.brk_audit.proofs.Beside.{Walked}
 use Rattle.brk_audit.proofs.cash.cash_rows_match_trades.Given as goal
 

@@ -1,5 +1,5 @@
 use Rattle.std.proofs.Common.{◌≡◌, filter, map, take}
-use Rattle.brk_audit.specs.Completed.{is_completed_row}
+use Rattle.brk_audit_sums.specs.Completed.{is_completed_row}
 use Rattle.brk_changes.specs.Rows.{abstract_trade_row}
 use Rattle.brk_audit.proofs.positions.collect_completed_trades.Given as goal
 

@@ -1,8 +1,8 @@
 use Rattle.std.proofs.Common.{drop, map}
 use Rattle.brk_changes.specs.Rows.{abstract_request_row}
-use Rattle.brk_audit.specs.AccountTerms.{account_broker_in_terms}
-use Rattle.brk_audit.specs.Completed.{is_pending_row}
-use Rattle.brk_audit.specs.Settling.{request_row_of_trade}
+use Rattle.brk_audit_sums.specs.AccountTerms.{account_broker_in_terms}
+use Rattle.brk_audit_sums.specs.Completed.{is_pending_row}
+use Rattle.brk_audit_sums.specs.Settling.{request_row_of_trade}
 use Rattle.brk_audit.proofs.Beside.{Walked}
 use Rattle.brk_audit.proofs.requests.requests_match_trades.Given as goal
 

@@ -1,7 +1,7 @@
 use Rattle.std.proofs.Common.{◌==◌, ap, ◌∙◌}
 use Rattle.std.specs.Prelude.{find, option_map}
-use Rattle.brk_audit.specs.AccountTerms.{terms_of_account_row}
-use Rattle.brk_audit.proofs.AccountTerms.{HasTerms}
+use Rattle.brk_audit_sums.specs.AccountTerms.{terms_of_account_row}
+use Rattle.brk_audit_sums.proofs.AccountTerms.{HasTerms}
 use Rattle.brk_audit.proofs.SettlingHolds.{settlements_hold}
 use Rattle.brk_audit.proofs.settlements.settlement_condition_holds.Goals as goal
 

@@ -1,8 +1,8 @@
 use Rattle.std.proofs.Common.{drop, map}
 use Rattle.brk_changes.specs.Rows.{abstract_settlement_row}
-use Rattle.brk_audit.specs.AccountTerms.{account_tax_status_in_terms}
-use Rattle.brk_audit.specs.Completed.{is_completed_row}
-use Rattle.brk_audit.specs.Settling.{settlement_figures_of_row, settlement_figures_of_trade}
+use Rattle.brk_audit_sums.specs.AccountTerms.{account_tax_status_in_terms}
+use Rattle.brk_audit_sums.specs.Completed.{is_completed_row}
+use Rattle.brk_audit_sums.specs.Settling.{settlement_figures_of_row, settlement_figures_of_trade}
 use Rattle.brk_audit.proofs.Beside.{Walked}
 use Rattle.brk_audit.proofs.settlements.settlements_match_trades.Given as goal
 

@@ -1,0 +1,11 @@
+pub mod AccountTerms
+pub mod Checked
+pub mod Completed
+pub mod Finding
+pub mod Maps
+pub mod Postings
+pub mod Settling
+pub mod SumRows
+pub mod SummaryChecked
+pub mod SummaryRows
+pub mod Tallies

@@ -1,0 +1,42 @@
+-- Sums over the completed trades and the movements of the tables.
+use Rattle.std.specs.Prelude.{ℕ, ◌==◌, ◌&&◌, Option, Some, None, if◌then◌else◌, is_none, filter, ℤ, pos}
+use Rattle.brk_money.specs.declared.tax_status.TaxStatus.{TaxStatus}
+use Rattle.brk_model.specs.Lists.{total_by}
+use Rattle.brk_model.specs.Tables.{MoveRow, Tables, TradeRow}
+use Rattle.brk_audit_sums.specs.Completed.{is_completed_row}
+use Rattle.brk_audit_sums.specs.Settling.{settlement_amount_at_tax_status, account_broker_or_zero, is_completed_cash_trade}
+use Rattle.brk_audit_sums.specs.declared.tally.Posting.{Posting}
+
+-- The sum of `amount` over the completed trades of the accounts of the broker with the id `broker`.
+abbrev pub sum_over_broker_trades : Tables → (TradeRow → ℤ) → ℕ → ℤ
+sum_over_broker_trades t amount broker = total_by amount (filter (λ r. is_completed_row r && (account_broker_or_zero t r.account == broker)) t.trades)
+
+-- The sum of `amount` over the completed cash trades of the account.
+abbrev pub sum_over_account_cash_trades : Tables → (TradeRow → ℤ) → ℕ → ℤ
+sum_over_account_cash_trades t amount account = total_by amount (filter (λ r. is_completed_cash_trade r && (r.account == account)) t.trades)
+
+-- The amount 1 as a posting at the broker of the trade's account, where `brokers` gives the broker
+-- of an account, or `None` if the trade is not completed.
+abbrev pub count_posting_of_row : (ℕ → ℕ) → TradeRow → Option (Posting ℕ)
+count_posting_of_row brokers r = if is_completed_row r then Some (record { key = brokers r.account; amount = pos 1 }) else None
+
+-- The trade's commission, in cents, as a posting at the broker of its account, where `brokers`
+-- gives the broker of an account, or `None` if the trade is not completed.
+abbrev pub commission_posting_of_row : (ℕ → ℕ) → TradeRow → Option (Posting ℕ)
+commission_posting_of_row brokers r = if is_completed_row r then Some (record { key = brokers r.account; amount = pos r.commission }) else None
+
+-- The trade's settlement amount, in cents, as a posting at its account, where `statuses` gives the
+-- tax status of an account, or `None` if it is not a completed cash trade.
+abbrev pub cash_posting_of_row : (ℕ → TaxStatus) → TradeRow → Option (Posting ℕ)
+cash_posting_of_row statuses r =
+    if is_completed_cash_trade r then Some (record { key = r.account; amount = settlement_amount_at_tax_status (statuses r.account) r }) else None
+
+-- The sum of the amounts of the account's deposits and withdrawals, in cents; the amount of a
+-- withdrawal is below 0.
+abbrev pub movement_sum_of_account : Tables → ℕ → ℤ
+movement_sum_of_account t account = total_by (λ r. r.amount) (filter (λ r. is_none r.trade && (r.account == account)) t.moves)
+
+-- The amount of the row of CASH_MOVE, in cents, as a posting at its account, or `None` if the row
+-- belongs to a trade.
+abbrev pub movement_posting_of_row : MoveRow → Option (Posting ℕ)
+movement_posting_of_row r = if is_none r.trade then Some (record { key = r.account; amount = r.amount }) else None

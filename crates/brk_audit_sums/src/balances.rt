@@ -1,0 +1,144 @@
+ghost use Rattle.std.specs.Prelude.{◌≡◌, ◌↔◌, ◌++◌, Err, IfErr, IfOk, IsTrue, OnErr, OnOk, ◌+ℤ◌};
+ghost use Rattle.std.specs.BTreeMap.{BTreeMap};
+ghost use Rattle.std.specs.List.{AllByRecursion, filter_map};
+ghost use Rattle.std.specs.Ordering.{nat_cmp};
+ghost use Rattle.brk_money.specs.declared.fault.Condition.TheVariants.{Balance};
+ghost use Rattle.brk_money.specs.declared.fault.Fault.TheVariants.{Memory};
+ghost use Rattle.brk_model.specs.Audit.{ConditionHolds};
+ghost use Rattle.brk_model.specs.Schemas.{Schema};
+ghost use Rattle.brk_changes.specs.Rows.{abstract_move_row, abstract_trade_row};
+ghost use Rattle.brk_changes.specs.Sheets.{abstract_sheets};
+ghost use Rattle.brk_audit_sums.specs.AccountTerms.{account_tax_status_in_terms};
+ghost use Rattle.brk_audit_sums.specs.Conditions.{HasWellFormedRows, HasValidStatuses};
+ghost use Rattle.brk_audit_sums.specs.Sums.{cash_posting_of_row, movement_posting_of_row};
+ghost use Rattle.brk_audit_sums.specs.Tally.{sum_at_key};
+
+use crate::account_terms::{AccountTerms, account_tax_status, account_terms_by_id};
+use crate::amounts::settlement_amount_of_row;
+use crate::completion::is_completed;
+use crate::tally::{Posting, sum_or_zero_at_key, tally};
+use brk_changes::{MoveRow, Sheets, TradeRow};
+use brk_money::Fault;
+use brk_ref::AccountRow;
+use std::alloc::Global;
+use std::collections::BTreeMap;
+
+// Returns the trade's settlement amount, in cents, as a posting at its account, or `None` if it is
+// not a completed cash trade. The map `terms` has the tax status of its account.
+fn cash_posting_of_trade(
+    terms: &BTreeMap<u64, AccountTerms>,
+    trade: &TradeRow,
+) -> Option<Posting<u64>>
+    ensures { result ≡ cash_posting_of_row (account_tax_status_in_terms terms.now) (abstract_trade_row trade.now) }
+{
+    if !is_completed(trade.status) || !trade.is_cash {
+        return None;
+    }
+    let key = trade.account.get();
+    let amount = settlement_amount_of_row(trade, account_tax_status(terms, trade.account));
+    Some(Posting { key, amount })
+}
+
+// Returns the settlement amounts of all completed cash trades as postings at their accounts. Fails
+// with `Memory` only.
+fn cash_postings_of_trades(
+    alloc: Global,
+    terms: &BTreeMap<u64, AccountTerms>,
+    trades: &[TradeRow],
+) -> Result<Vec<Posting<u64>>, Fault>
+    ensures all { IfOk result (λ all. all.items ≡ filter_map (λ r. cash_posting_of_row (account_tax_status_in_terms terms.now) (abstract_trade_row r)) trades.now) }
+    ensures fault { IfErr result (λ fault. fault ≡ Memory) }
+{
+    let all = trades
+        .iter()
+        .filter_map(|trade| cash_posting_of_trade(terms, trade))
+        .collect(alloc)?;
+    Ok(all)
+}
+
+// Returns the amount of a deposit or a withdrawal as a posting at its account, or `None` if the row
+// of CASH_MOVE belongs to a trade.
+fn posting_of_movement_row(row: &MoveRow) -> Option<Posting<u64>>
+    ensures { result ≡ movement_posting_of_row (abstract_move_row row.now) }
+{
+    if row.trade.is_some() {
+        return None;
+    }
+    let key = row.account.get();
+    let amount = row.amount.get();
+    Some(Posting { key, amount })
+}
+
+// Appends to `all` the amounts of the deposits and withdrawals of `moves` as postings at their
+// accounts. Fails with `Memory` only.
+fn append_movement_postings(all: &mut Vec<Posting<u64>>, moves: &[MoveRow]) -> Result<(), Fault>
+    ensures all { OnOk result (all.new.items ≡ all.old.items ++ filter_map (λ r. movement_posting_of_row (abstract_move_row r)) moves.now) }
+    ensures fault { OnErr result (result ≡ Err Memory) }
+{
+    for row in moves {
+        if let Some(posting) = posting_of_movement_row(row) {
+            all.push(posting)?;
+        }
+    }
+    Ok(())
+}
+
+// Returns the balance minus the opening balance, both in cents.
+fn balance_change(balance: i64, opening: i64) -> i128
+    ensures { opening +ℤ result ≡ balance }
+{
+    i128::from(balance) - i128::from(opening)
+}
+
+// Returns true if the two numbers are equal.
+fn are_numbers_equal(one: i128, other: i128) -> bool
+    ensures { IsTrue result ↔ (one ≡ other) }
+{
+    one == other
+}
+
+// Returns true if the balance is the opening balance plus the amount `moved`, all in cents.
+fn balance_equals_opening_plus_moved(balance: i64, opening: i64, moved: i128) -> bool
+    ensures { IsTrue result ↔ (balance ≡ opening +ℤ moved) }
+{
+    let left = balance_change(balance, opening);
+    are_numbers_equal(left, moved)
+}
+
+// Returns true if the account's balance is its opening balance plus the sum at the account's id in
+// `sums`, all in cents.
+fn is_account_balanced(sums: &BTreeMap<u64, i128>, row: &AccountRow) -> bool
+    ensures { IsTrue result ↔ (row.now.balance ≡ row.now.account.opening +ℤ sum_at_key nat_cmp sums.now row.now.account.id) }
+{
+    let moved = sum_or_zero_at_key(sums, row.account.id.get());
+    balance_equals_opening_plus_moved(row.balance.get(), row.account.opening.get(), moved)
+}
+
+// Returns true if the balance of each account is its opening balance plus the sum at its id in
+// `sums`, all in cents.
+fn all_accounts_are_balanced(sums: &BTreeMap<u64, i128>, rows: &[AccountRow]) -> bool
+    ensures { IsTrue result ↔ AllByRecursion (λ row. row.balance ≡ row.account.opening +ℤ sum_at_key nat_cmp sums.now row.account.id) rows.now }
+{
+    for row in rows {
+        if !is_account_balanced(sums, row) {
+            return false;
+        }
+    }
+    true
+}
+
+/// Returns true if the rows satisfy the condition `Balance`: the balance of each account is its
+/// opening balance plus the settlement amounts of its completed cash trades and the amounts of its
+/// deposits and withdrawals. Fails with `Memory` only.
+pub fn balance_condition_holds(alloc: Global, sheets: &Sheets) -> Result<bool, Fault>
+    requires form { HasWellFormedRows sheets.now }
+    requires status { HasValidStatuses sheets.now }
+    ensures value { IfOk result (λ holds. (schema : Schema) → IsTrue holds ↔ ConditionHolds schema Balance (abstract_sheets sheets.now)) }
+    ensures fault { IfErr result (λ fault. fault ≡ Memory) }
+{
+    let terms = account_terms_by_id(alloc, &sheets.accounts)?;
+    let mut postings = cash_postings_of_trades(alloc, &terms, &sheets.trades)?;
+    append_movement_postings(&mut postings, &sheets.moves)?;
+    let sums = tally(alloc, &postings)?;
+    Ok(all_accounts_are_balanced(&sums, &sheets.accounts))
+}

@@ -1,0 +1,13 @@
+//! The part of the audit that sums by key: trade counts, commissions, balances and holding
+//! summaries. Also the terms of accounts and the settlement amounts of trades, by which the other
+//! checks go too.
+#![tactic(auto)]
+
+pub mod account_terms;
+pub mod amounts;
+pub mod balances;
+pub mod commissions;
+pub mod completion;
+pub mod counts;
+pub mod summaries;
+pub mod tally;

@@ -1,0 +1,68 @@
+//! Sums of amounts by key.
+
+ghost use Rattle.std.specs.Prelude.{◌≡◌, ◌+◌, ◌<◌, ◌≤◌, ◌^◌, ℤ, pos, ◌+ℤ◌, nat_abs, cond, IfErr, IfOk, OnErr, OnOk, Err};
+ghost use Rattle.std.specs.Ordering.{is_eq};
+ghost use Rattle.brk_money.specs.declared.fault.Fault.TheVariants.{Memory};
+ghost use Rattle.brk_audit_sums.specs.Tally.{sum_at_key, total_amount_at_key};
+
+use brk_money::Fault;
+use std::alloc::Global;
+use std::collections::BTreeMap;
+
+/// An amount, and the key at which a tally adds it to a sum.
+#[derive(Drop)]
+pub struct Posting<K> {
+    pub key: K,
+    pub amount: i64,
+}
+
+// Returns the sum of `sum` and `amount`.
+fn sum_plus_amount(sum: i128, amount: i64) -> i128
+    requires room { nat_abs sum + 2 ^ 63 < 2 ^ 127 }
+    ensures sum { result ≡ sum +ℤ amount }
+    ensures small { nat_abs result ≤ nat_abs sum + 2 ^ 63 }
+{
+    sum + i128::from(amount)
+}
+
+// Adds the amount of the posting to the sum at its key in the map; a key that the map does not
+// contain has the sum 0. Fails with `Memory` only.
+fn add_posting<K: Ord + Copy>(
+    tally: &mut BTreeMap<K, i128>,
+    posting: &Posting<K>,
+) -> Result<(), Fault>
+    requires room { nat_abs (sum_at_key K.cmp tally.old posting.now.key) + 2 ^ 63 < 2 ^ 127 }
+    ensures more { OnOk result ((q : K)
+        → sum_at_key K.cmp tally.new q ≡ sum_at_key K.cmp tally.old q +ℤ cond (is_eq (K.cmp posting.now.key q)) posting.now.amount (pos 0)) }
+    ensures small { OnOk result ((q : K) → nat_abs (sum_at_key K.cmp tally.new q) ≤ nat_abs (sum_at_key K.cmp tally.old q) + 2 ^ 63) }
+    ensures fault { OnErr result (result ≡ Err Memory) }
+{
+    let key = posting.key;
+    let sum = tally.get(&key).copied().unwrap_or(0);
+    let more = sum_plus_amount(sum, posting.amount);
+    tally.insert(key, more)?;
+    Ok(())
+}
+
+/// Returns a map from each key of the postings to the sum of the amounts of the postings with this
+/// key. Fails with `Memory` only.
+pub fn tally<K: Ord + Copy>(
+    alloc: Global,
+    postings: &[Posting<K>],
+) -> Result<BTreeMap<K, i128>, Fault>
+    ensures sums { IfOk result (λ tally. (q : K) → sum_at_key K.cmp tally q ≡ total_amount_at_key K.cmp postings.now q) }
+    ensures fault { IfErr result (λ fault. fault ≡ Memory) }
+{
+    let mut tally = BTreeMap::new(alloc);
+    for posting in postings {
+        add_posting(&mut tally, posting)?;
+    }
+    Ok(tally)
+}
+
+/// Returns the sum at the key in the map, or 0 if the map does not contain the key.
+pub fn sum_or_zero_at_key<K: Ord + Copy>(tally: &BTreeMap<K, i128>, key: K) -> i128
+    ensures { result ≡ sum_at_key K.cmp tally.now key }
+{
+    tally.get(&key).copied().unwrap_or(0)
+}
