@@ -244,7 +244,9 @@ fn execute_sql_statement(
 }
 
 // Executes each input line as an SQL statement, as another program would, on the database without
-// its desk. Returns the database, or `Nothing` if nothing is open. Fails only if memory runs out.
+// its desk, and appends the output line `! sql` for each statement that fails or is not UTF-8.
+// Returns the database. If nothing is open, appends nothing and returns `Nothing`. Fails only if
+// memory runs out.
 fn execute_sql_command(out: &mut String, place: Place, pieces: &[Piece]) -> Result<Place, Failed> {
     match place.into_conn() {
         Some(mut conn) => {

@@ -18,7 +18,8 @@ fn split_command_line(alloc: Global, text: &str) -> Result<Vec<String>, AllocErr
 }
 
 // Appends the lines that were written to a stream, each after the mark of the stream, `mark`, and a
-// space. A last line without a line feed ends in a backslash. Fails only if memory runs out.
+// space. A last line without a line feed ends in a backslash. If the bytes are not UTF-8, appends
+// the one line `not UTF-8\` after the mark in their place. Fails only if memory runs out.
 fn append_marked_lines(out: &mut String, mark: char, bytes: &[u8]) -> Result<(), Failed> {
     let text = str::from_utf8(bytes).unwrap_or("not UTF-8");
     for line in text.split_inclusive('\n') {

@@ -220,7 +220,9 @@ fn expect_retry_completes(
     expect_lines_and_tables(stop, twice, whole.as_str(), rest.as_str(), last)
 }
 
-// Executes the batch until a crash, retries it, and checks both. Returns true if there was a crash.
+// Executes the batch until the crash `stop`, retries it, and checks that the tables after the crash
+// contain the rows with a written line, or one row more, and that the retry completes the batch.
+// `tables` are the tables after each number of rows. Returns true if there was a crash.
 fn expect_batch_crash_recovered(
     alloc: Global,
     stop: Stop,
