@@ -3,15 +3,15 @@ ghost use Rattle.brk_http.specs.CallOutcomes.{DeskCallHasOutcome};
 ghost use Rattle.brk_http_model.specs.Asked.{model_parsers};
 ghost use Rattle.brk_plans.specs.Replies.{abstract_reply};
 ghost use Rattle.brk_view.specs.Queries.{abstract_query};
+ghost use Rattle.brk_view.specs.ViewNames.{text_of_view_name};
 ghost use Rattle.brk_view.specs.Views.{records_of_view};
 
-use brk_desk::{
-    Command, CommandAnswer, Desk, Query, View, line_text, parse_query, parse_row, view_fields,
-};
+use brk_desk::{Command, CommandAnswer, Desk, Query, View, line_text, parse_row, view_fields};
 use brk_http_engine::{Service, fields_between_commas};
 use brk_money::{Fault, Planned, Stamp};
 use brk_ref::Key;
 use brk_trade::Reply;
+use brk_view::{ViewName, parse_query_of_view};
 use sqlite::Alter;
 use std::alloc::{AllocError, Global};
 use std::marker::PhantomData;
@@ -30,9 +30,13 @@ impl<S: Alter> Service for DeskService<S> {
 
     type Query = Query;
 
+    type ViewName = ViewName;
+
     type View = View;
 
     ghost forms = { model_parsers };
+
+    ghost view_text = { text_of_view_name };
 
     ghost acts = { λ old now call outcome new. DeskCallHasOutcome S.Store old now call outcome new };
 
@@ -50,29 +54,15 @@ impl<S: Alter> Service for DeskService<S> {
         parse_row(alloc, row)
     }
 
-    /// Returns the name of the view with this name, with a static lifetime, or `None` if there is
-    /// no such view.
-    fn view_named(name: &str) -> Option<&'static str> {
-        match name {
-            "submitted" => Some("submitted"),
-            "estimate" => Some("estimate"),
-            "customer" => Some("customer"),
-            "taxid" => Some("taxid"),
-            "recent" => Some("recent"),
-            "status" => Some("status"),
-            "trades" => Some("trades"),
-            "accounttrades" => Some("accounttrades"),
-            "symboltrades" => Some("symboltrades"),
-            "lots" => Some("lots"),
-            "volume" => Some("volume"),
-            _ => None,
-        }
+    /// Returns the name of a view that has the text `name`, or `None` if no view has this name.
+    fn view_named(name: &str) -> Option<ViewName> {
+        ViewName::from_text(name)
     }
 
-    /// Parses the arguments of the view with the name `view`: returns a query, or the refusal of a
-    /// malformed query. Its faults are not specified here.
-    fn parse_query(alloc: Global, view: &str, arguments: &[&[u8]]) -> Planned<Query> {
-        parse_query(alloc, view, arguments)
+    /// Parses the arguments of a view: returns a query, or the refusal of a malformed query. Fails
+    /// if memory runs out.
+    fn parse_query(alloc: Global, view: ViewName, arguments: &[&[u8]]) -> Planned<Query> {
+        parse_query_of_view(alloc, view, arguments)
     }
 
     /// Executes a command by `Desk::call`, under its key or without one, and returns its answer.

@@ -40,10 +40,10 @@ abbrev pub bytes_of_records : Vec (Vec (String Global)) → queries.View
 bytes_of_records records = map bytes_of_texts records.items
 
 -- The model's route that a route represents: to a row, with its key if it has one, or to the view
--- with a name.
-abbrev pub route_in_model : Route → routes.Route
-route_in_model (route.ToRow key) = routes.ToRow (key_in_model key)
-route_in_model (route.ToView view) = routes.ToView view.now
+-- with a name; `text` maps the name of a view to its text.
+abbrev pub route_in_model : {V : Type 0} → (V → Text) → Route V → routes.Route
+route_in_model text (route.ToRow key) = routes.ToRow (key_in_model key)
+route_in_model text (route.ToView view) = routes.ToView (text view)
 
 -- The call that a request makes in the model, or its response if the request makes no call;
 -- `command` and `query` map commands and queries to those of the model.

@@ -34,11 +34,11 @@ pub enum RequestedCall<X, Q> {
 // or the refusal if the row or the query is malformed. Fails if memory runs out.
 fn parse_call_of_route<D: Service>(
     alloc: Global,
-    route: Route,
+    route: Route<D::ViewName>,
     texts: &[String],
 ) -> Result<RequestedCall<D::Command, D::Query>, Fault>
     ensures { IfOk result (λ asking. call_in_model D.command_of D.query_of asking
-        ≡ demand_of_texts D.forms (route_in_model route) (map string_bytes texts.now)) }
+        ≡ demand_of_texts D.forms (route_in_model D.view_text route) (map string_bytes texts.now)) }
 {
     let fields = borrow_bytes_of_texts(alloc, texts)?;
     match route {

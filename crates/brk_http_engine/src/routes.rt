@@ -15,13 +15,13 @@ use brk_ref::{BatchName, Key, RowNumber, parse_id};
 use matchit::Router;
 use std::alloc::Global;
 
-/// The route of a request target.
+/// The route of a request target. `V` is the type of the names of views.
 #[derive(Drop)]
-pub enum Route {
+pub enum Route<V> {
     /// To a row, with its key or without one.
     ToRow(Option<Key>),
     /// To the view with this name.
-    ToView(&'static str),
+    ToView(V),
 }
 
 // Returns the key with the batch name and the row number that these bytes spell, or `None` if one
@@ -52,8 +52,8 @@ fn has_first_segment(first: &str, word: &str, name: &str) -> bool
 
 // Returns the route of a view if the parts are those of a target `/ask/VIEW` and this view exists,
 // otherwise `None`.
-fn parse_view_route<D: Service>(first: &str, word: &str, view: &str) -> Option<Route>
-    ensures { option_map route_in_model result ≡ route_of_segments D.forms.views (first.now ∷ word.now ∷ view.now ∷ []) }
+fn parse_view_route<D: Service>(first: &str, word: &str, view: &str) -> Option<Route<D::ViewName>>
+    ensures { option_map (route_in_model D.view_text) result ≡ route_of_segments D.forms.views (first.now ∷ word.now ∷ view.now ∷ []) }
 {
     if !has_first_segment(first, word, "ask") {
         return None;
@@ -72,8 +72,8 @@ fn parse_keyed_row_route<D: Service>(
     word: &str,
     batch: &str,
     n: &str,
-) -> Result<Option<Route>, Fault>
-    ensures { IfOk result (λ route. option_map route_in_model route ≡ route_of_segments D.forms.views (first.now ∷ word.now ∷ batch.now ∷ n.now ∷ [])) }
+) -> Result<Option<Route<D::ViewName>>, Fault>
+    ensures { IfOk result (λ route. option_map (route_in_model D.view_text) route ≡ route_of_segments D.forms.views (first.now ∷ word.now ∷ batch.now ∷ n.now ∷ [])) }
 {
     if !has_first_segment(first, word, "rows") {
         return Ok(None);
@@ -86,8 +86,8 @@ fn parse_keyed_row_route<D: Service>(
 
 // Returns the route of a row without a key if the parts are those of the target `/rows`, otherwise
 // `None`.
-fn parse_unkeyed_row_route<D: Service>(first: &str, word: &str) -> Option<Route>
-    ensures { option_map route_in_model result ≡ route_of_segments D.forms.views (first.now ∷ word.now ∷ []) }
+fn parse_unkeyed_row_route<D: Service>(first: &str, word: &str) -> Option<Route<D::ViewName>>
+    ensures { option_map (route_in_model D.view_text) result ≡ route_of_segments D.forms.views (first.now ∷ word.now ∷ []) }
 {
     if has_first_segment(first, word, "rows") {
         Some(Route::ToRow(None))
@@ -98,8 +98,11 @@ fn parse_unkeyed_row_route<D: Service>(first: &str, word: &str) -> Option<Route>
 
 // Returns the route of a target that was split at `/` into these parts, or `None` if it has no
 // route. Fails if memory runs out.
-fn route_of_segments<D: Service>(alloc: Global, parts: &[&str]) -> Result<Option<Route>, Fault>
-    ensures { IfOk result (λ route. option_map route_in_model route ≡ route_of_segments D.forms.views (texts_of_fields parts.now)) }
+fn route_of_segments<D: Service>(
+    alloc: Global,
+    parts: &[&str],
+) -> Result<Option<Route<D::ViewName>>, Fault>
+    ensures { IfOk result (λ route. option_map (route_in_model D.view_text) route ≡ route_of_segments D.forms.views (texts_of_fields parts.now)) }
 {
     match parts {
         [first, word] => Ok(parse_unkeyed_row_route::<D>(first, word)),
@@ -115,10 +118,10 @@ pub fn route_of_target<D: Service>(
     alloc: Global,
     router: &Router<RouteKind>,
     target: &[u8],
-) -> Result<Option<Route>, Fault>
+) -> Result<Option<Route<D::ViewName>>, Fault>
     requires routes { router.now ≡ all_router_rows }
     requires named { list_all is_nonempty D.forms.views ≡ Bool.true }
-    ensures { IfOk result (λ route. option_map route_in_model route ≡ route_of_target D.forms.views target.now) }
+    ensures { IfOk result (λ route. option_map (route_in_model D.view_text) route ≡ route_of_target D.forms.views target.now) }
 {
     let Ok(text) = str::from_utf8(target) else {
         return Ok(None);

@@ -1,6 +1,7 @@
 ghost use Rattle.std.specs.Prelude.{◌≡◌, ℕ, Bool, IfOk, MatchOption, IsTrue, bytes_eq};
 ghost use Rattle.std.specs.List.{list_any};
 ghost use Rattle.std.specs.Option.{option_copied};
+ghost use Rattle.brk_money.specs.Spelling.{Text};
 ghost use Rattle.brk_model.specs.Commands as model;
 ghost use Rattle.brk_model.specs.Queries as queries;
 ghost use Rattle.brk_model.specs.Rows.{reply_fields};
@@ -28,6 +29,9 @@ pub trait Service {
     /// A well-formed query.
     type Query: Drop;
 
+    /// The name of a view.
+    type ViewName: Drop;
+
     /// The view that a query returns.
     type View: Drop;
 
@@ -37,6 +41,9 @@ pub trait Service {
     /// Holds if a call at this timestamp may turn the first desk into the second, with this
     /// outcome. The timestamp of a query is 0.
     ghost acts: { Self.Desk → ℕ → Call → Outcome → Self.Desk → Type 0 };
+
+    /// The text of the name of a view.
+    ghost view_text: { Self.ViewName → Text };
 
     /// The model's command that a command represents.
     ghost command_of: { Self.Command → model.Command };
@@ -55,17 +62,16 @@ pub trait Service {
     fn parse_row(alloc: Global, row: &[&[u8]]) -> Planned<Self::Command>
         ensures { IfOk result (λ read. ParsesAs command_of read (forms.row (texts_of_fields row.now))) };
 
-    /// Returns the name of the view with this name, with a static lifetime, or `None` if there is
-    /// no such view.
-    fn view_named(name: &str) -> Option<&'static str>
+    /// Returns the name of a view that has the text `name`, or `None` if no view has this name.
+    fn view_named(name: &str) -> Option<Self::ViewName>
         ensures { MatchOption result
             (list_any (λ v. bytes_eq v name.now) forms.views ≡ Bool.false)
-            (λ view. (view.now ≡ name.now) × (list_any (λ v. bytes_eq v name.now) forms.views ≡ Bool.true)) };
+            (λ view. (view_text view ≡ name.now) × (list_any (λ v. bytes_eq v name.now) forms.views ≡ Bool.true)) };
 
     /// Parses the arguments of the view with the name `view`: returns a query, or the refusal of a
     /// malformed query. Its faults are not specified here.
-    fn parse_query(alloc: Global, view: &str, arguments: &[&[u8]]) -> Planned<Self::Query>
-        ensures { IfOk result (λ read. ParsesAs query_of read (forms.query view.now (texts_of_fields arguments.now))) };
+    fn parse_query(alloc: Global, view: Self::ViewName, arguments: &[&[u8]]) -> Planned<Self::Query>
+        ensures { IfOk result (λ read. ParsesAs query_of read (forms.query (view_text view) (texts_of_fields arguments.now))) };
 
     /// Executes a command at the clock reading `now`, under its key or without one, and returns its
     /// answer. Fails with a fault of the desk.

@@ -1,8 +1,8 @@
 pub mod ById
 pub mod Distinct
 pub mod Kept
+pub mod Named
 pub mod Names
-pub mod Passed
 pub mod Putting
 pub mod Shown
 pub mod Distinctly

@@ -5,6 +5,7 @@ pub mod Lots
 pub mod Queries
 pub mod Recent
 pub mod Status
+pub mod ViewNames
 pub mod Views
 pub mod Volume
 pub mod Worths

@@ -15,6 +15,7 @@ pub mod recents;
 pub mod statuses;
 pub mod submitted_rows;
 pub mod view;
+pub mod view_name;
 pub mod volumes;
 pub mod worths;
 
@@ -27,11 +28,12 @@ pub use lots::{
     LotTouch, MOST_CHANGES, TouchedLots, lookup_lots, merge_lot_changes_into_first_twenty,
 };
 pub use named_trades::{NamedTrades, parse_named_trades};
-pub use parse::parse_query;
+pub use parse::{parse_query, parse_query_of_view};
 pub use query::Query;
 pub use recents::{Activity, recent};
 pub use statuses::{AccountStatus, TradeStatus, status, trade_with_security};
 pub use submitted_rows::submitted;
 pub use view::{SubmittedTrade, View};
+pub use view_name::ViewName;
 pub use volumes::{BrokerVolume, broker_volume, total_bid_value_of_requests};
 pub use worths::{AccountWorth, position};

@@ -1,11 +1,12 @@
-ghost use Rattle.std.specs.Prelude.{◌≡◌, ◌∷◌, ◌++◌, IfOk, OnErr, Err};
+ghost use Rattle.std.specs.Prelude.{◌≡◌, IfOk, OnErr, Err};
 ghost use Rattle.brk_model.specs.Ask as model;
-ghost use Rattle.brk_model.specs.Ask.{account_view_parsers, lookup_view_parsers, read_no_arguments, volume_view_parsers};
-ghost use Rattle.brk_model.specs.Parse.{parse_by_first_field, read_and_wrap, read_order};
+ghost use Rattle.brk_model.specs.Ask.{read_no_arguments};
+ghost use Rattle.brk_model.specs.Parse.{read_and_wrap, read_order};
 ghost use Rattle.brk_model.specs.Queries.{EstimateOf, SubmittedTrades};
 ghost use Rattle.brk_money.specs.declared.fault.Fault.TheVariants.{Memory};
 ghost use Rattle.brk_ref.specs.Fields.{ParsesAs, texts_of_fields};
 ghost use Rattle.brk_view.specs.Queries.{abstract_query};
+ghost use Rattle.brk_view.specs.ViewNames.{text_of_view_name};
 
 use crate::parse_accounts::{
     parse_account_status_query, parse_position_of_tax_id_query, parse_position_query,
@@ -16,6 +17,7 @@ use crate::parse_lookups::{
     parse_volume_query,
 };
 use crate::query::Query;
+use crate::view_name::ViewName;
 use brk_money::{Planned, Refusal};
 use brk_orders::parse_trade_order;
 use std::alloc::Global;
@@ -44,65 +46,46 @@ fn parse_estimate_query(alloc: Global, arguments: &[&[u8]]) -> Planned<Query>
     }
 }
 
-// Parses a query of the view `trades`, `accounttrades`, `symboltrades`, `lots` or `volume`. Refuses
-// any other view, and malformed arguments, with `BadText`, and more than 20 ids or names with
-// `TooMany`. Fails with `Memory` only.
-fn parse_lookup_or_volume_query(alloc: Global, view: &str, arguments: &[&[u8]]) -> Planned<Query>
-    ensures read { IfOk result (λ read. ParsesAs abstract_query read (parse_by_first_field (lookup_view_parsers ++ volume_view_parsers) (view.now
-        ∷ texts_of_fields arguments.now))) }
-    ensures fault { OnErr result (result ≡ Err Memory) }
-{
-    match view {
-        "trades" => parse_trades_query(alloc, arguments),
-        "accounttrades" => Ok(parse_account_trades_query(arguments)),
-        "symboltrades" => parse_symbol_trades_query(alloc, arguments),
-        "lots" => Ok(parse_lots_query(arguments)),
-        "volume" => parse_volume_query(alloc, arguments),
-        _ => Ok(Err(Refusal::BadText)),
-    }
-}
-
-// Parses a query of any view but `submitted` and `estimate`. Refuses an unknown view, these two,
-// and malformed arguments with `BadText`, and more than 20 ids or names with `TooMany`. Fails with
-// `Memory` only.
-fn parse_account_lookup_or_volume_query(
-    alloc: Global,
-    view: &str,
-    arguments: &[&[u8]],
-) -> Planned<Query>
-    ensures read { IfOk result (λ read. ParsesAs abstract_query read (parse_by_first_field (account_view_parsers ++ lookup_view_parsers
-        ++ volume_view_parsers) (view.now
-        ∷ texts_of_fields arguments.now))) }
-    ensures fault { OnErr result (result ≡ Err Memory) }
-{
-    match view {
-        "customer" => Ok(parse_position_query(arguments)),
-        "taxid" => parse_position_of_tax_id_query(alloc, arguments),
-        "recent" => Ok(parse_recent_trades_query(arguments)),
-        "status" => Ok(parse_account_status_query(arguments)),
-        _ => parse_lookup_or_volume_query(alloc, view, arguments),
-    }
-}
-
 /// Parses a query from the name of its view and its arguments. Fails with `Memory` only.
 ///
-/// `submitted` has no argument, and `estimate` the ten fields of an order, with their refusals.
-/// `customer` has the id of a customer, `taxid` a tax id, `recent` and `status` the id of an
-/// account. `trades` has 1 to 20 different trade ids, `accounttrades` an account and two stamps,
-/// `symboltrades` a symbol and two stamps, `lots` an account and a stamp. `volume` has a sector and
+/// `Submitted` has no argument, and `Estimate` the ten fields of an order, with their refusals.
+/// `Customer` has the id of a customer, `TaxId` a tax id, `Recent` and `Status` the id of an
+/// account. `Trades` has 1 to 20 different trade ids, `AccountTrades` an account and two stamps,
+/// `SymbolTrades` a symbol and two stamps, `Lots` an account and a stamp. `Volume` has a sector and
 /// 1 to 20 broker names, each counted once.
 ///
-/// Refuses an unknown name, a wrong number of arguments, or a malformed argument with `BadText`
-/// (18), and more than 20 ids or names with `TooMany` (20) if the arguments are otherwise
-/// well-formed.
+/// Refuses a wrong number of arguments or a malformed argument with `BadText` (18), and more than
+/// 20 ids or names with `TooMany` (20) if the arguments are otherwise well-formed.
 #[tactic(auto, unfolding(brk_model::specs::Ask::parse_query))]
+pub fn parse_query_of_view(alloc: Global, view: ViewName, arguments: &[&[u8]]) -> Planned<Query>
+    ensures read { IfOk result (λ read. ParsesAs abstract_query read (model.parse_query (text_of_view_name view) (texts_of_fields arguments.now))) }
+    ensures fault { OnErr result (result ≡ Err Memory) }
+{
+    match view {
+        ViewName::Submitted => Ok(parse_submitted_trades_query(arguments)),
+        ViewName::Estimate => parse_estimate_query(alloc, arguments),
+        ViewName::Customer => Ok(parse_position_query(arguments)),
+        ViewName::TaxId => parse_position_of_tax_id_query(alloc, arguments),
+        ViewName::Recent => Ok(parse_recent_trades_query(arguments)),
+        ViewName::Status => Ok(parse_account_status_query(arguments)),
+        ViewName::Trades => parse_trades_query(alloc, arguments),
+        ViewName::AccountTrades => Ok(parse_account_trades_query(arguments)),
+        ViewName::SymbolTrades => parse_symbol_trades_query(alloc, arguments),
+        ViewName::Lots => Ok(parse_lots_query(arguments)),
+        ViewName::Volume => parse_volume_query(alloc, arguments),
+    }
+}
+
+/// Parses a query from the text of its view's name and its arguments, as `parse_query_of_view`
+/// does. Refuses an unknown name with `BadText` (18), whatever the arguments are. Fails with
+/// `Memory` only.
+#[tactic(auto, using(crate::proofs::Named::no_query))]
 pub fn parse_query(alloc: Global, view: &str, arguments: &[&[u8]]) -> Planned<Query>
     ensures read { IfOk result (λ read. ParsesAs abstract_query read (model.parse_query view.now (texts_of_fields arguments.now))) }
     ensures fault { OnErr result (result ≡ Err Memory) }
 {
-    match view {
-        "submitted" => Ok(parse_submitted_trades_query(arguments)),
-        "estimate" => parse_estimate_query(alloc, arguments),
-        _ => parse_account_lookup_or_volume_query(alloc, view, arguments),
+    match ViewName::from_text(view) {
+        Some(view) => parse_query_of_view(alloc, view, arguments),
+        None => Ok(Err(Refusal::BadText)),
     }
 }

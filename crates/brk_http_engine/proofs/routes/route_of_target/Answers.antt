@@ -7,7 +7,7 @@ returns-in_default g c = sym (no_text g.D.Service.forms.views c.args.target.now 
 
 pub returns-in_ok-parts : goal.returns-in_ok-parts
 returns-in_ok-parts g c =
-    text_routed g.D.Service.forms.views c.args.target.now _ _ _ _ c.in-Ok.ensures.cases.0 c.in-Ok.ensures.cases.1 c.in_ok-parts.ensures c.deref.ensures.value c.route_of_segments.ensures
+    text_routed g.D.Service.view_text g.D.Service.forms.views c.args.target.now _ _ _ _ c.in-Ok.ensures.cases.0 c.in-Ok.ensures.cases.1 c.in_ok-parts.ensures c.deref.ensures.value c.route_of_segments.ensures
 
 pub returns-else-matches_any_route : goal.returns-else-matches_any_route
 returns-else-matches_any_route g c =
