@@ -26,7 +26,8 @@ fn required_file_argument<'a>(alloc: Global) -> Arg<'a> {
         .required(true)
 }
 
-// Returns the optional argument `--at` for a timestamp, in milliseconds since 1970-01-01 UTC.
+// Returns the optional argument `--at` for a timestamp, in milliseconds since 1970-01-01 UTC, from
+// 0 to the greatest stamp.
 fn timestamp_argument<'a>(alloc: Global) -> Arg<'a> {
     Arg::new(alloc, "at")
         .long("at")
@@ -56,7 +57,7 @@ fn batch_command<'a>(alloc: Global) -> Result<Command<'a>, AllocError> {
         .arg(timestamp_argument(alloc))
 }
 
-// Returns the required argument `--account` for the id of an account.
+// Returns the required argument `--account` for the id of an account, from 1 to the greatest id.
 fn account_argument<'a>(alloc: Global) -> Arg<'a> {
     Arg::new(alloc, "account")
         .long("account")
@@ -87,7 +88,7 @@ fn audit_command<'a>(alloc: Global) -> Result<Command<'a>, AllocError> {
         .arg(required_file_argument(alloc))
 }
 
-// Returns an argument without a value, with this name and this help text.
+// Returns an optional argument without a value, with this name and this help text.
 fn flag_argument<'a>(alloc: Global, name: &'static str, help: &'static str) -> Arg<'a> {
     Arg::new(alloc, name)
         .long(name)
@@ -186,7 +187,8 @@ fn add_subcommand<'a>(
     command?.subcommand(added?)
 }
 
-// Returns the command `brk` without its subcommands. Fails only if memory runs out.
+// Returns the command `brk` with its version and without its subcommands, one of which its
+// arguments must name. Fails only if memory runs out.
 fn program_command<'a>(alloc: Global) -> Result<Command<'a>, AllocError> {
     Command::new(alloc, "brk")
         .version(VERSION)
@@ -233,7 +235,8 @@ fn timestamp_of_matches(matches: &ArgMatches<'_>) -> Option<Stamp> {
     matches.get_one::<i64>("at").and_then(Stamp::new)
 }
 
-// Parses the day that the argument `name` gives. Fails with `Day` if its text is no day.
+// Returns the day that the argument `name` gives, such as 2024-03-01. Fails with `Day` if its text
+// is no day or the argument is missing.
 fn parse_day_argument(matches: &ArgMatches<'_>, name: &str) -> Result<Day, UsageFault> {
     let text = matches.get_str(name).unwrap_or("");
     parse_day(text.as_bytes()).ok_or(UsageFault::Day)
@@ -327,8 +330,8 @@ fn job_of_subcommand(
     })
 }
 
-// Converts an error of the argument parser into a usage fault: `Help` for help and the version,
-// `Memory` if memory ran out, otherwise `Words` with the error's text.
+// Converts an error of the argument parser into a usage fault: `Help` with the text for help and
+// the version, `Memory` if memory ran out, otherwise `Words` with the error's text.
 fn usage_fault_of_error(alloc: Global, error: &Error) -> UsageFault {
     let kind = error.kind();
     if kind == ErrorKind::OutOfMemory {

@@ -20,7 +20,7 @@ fn bytes_of_record(alloc: Global, texts: &[String]) -> Result<Vec<&[u8]>, AllocE
     Ok(all)
 }
 
-// Returns a record as a row of CSV, with its line end. Fails only if memory runs out.
+// Returns a record as a row of CSV, with its line feed. Fails only if memory runs out.
 fn format_csv_row(alloc: Global, texts: &[String]) -> Result<Vec<u8>, AllocError>
     ensures { IfOk result (λ row. row.items ≡ row_text default_writer (map string_bytes texts.now)) }
 {
@@ -36,7 +36,8 @@ fn format_csv_row(alloc: Global, texts: &[String]) -> Result<Vec<u8>, AllocError
     }
 }
 
-/// Returns records as rows of CSV, in order, each with its line end. Fails only if memory runs out.
+/// Returns records as rows of CSV, in order, each with its line feed. Fails only if memory runs
+/// out.
 pub fn format_csv_rows(alloc: Global, records: &[Vec<String>]) -> Result<Vec<u8>, AllocError>
     ensures { IfOk result (λ text. text.items ≡ csv_text (map texts_of_record records.now)) }
 {

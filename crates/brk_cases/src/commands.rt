@@ -37,8 +37,8 @@ fn fixed_clock_from_word(moment: &str) -> Still {
     }
 }
 
-// Returns the bytes of all input lines of a command in one list, with their line feeds. Fails only
-// if memory runs out.
+// Returns the bytes of all input lines of a command in one list, each followed by a line feed if it
+// has one. Fails only if memory runs out.
 fn join_input_lines(alloc: Global, pieces: &[Piece]) -> Result<Vec<u8>, AllocError> {
     let mut bytes = Vec::new(alloc);
     for piece in pieces {
@@ -50,7 +50,8 @@ fn join_input_lines(alloc: Global, pieces: &[Piece]) -> Result<Vec<u8>, AllocErr
     Ok(bytes)
 }
 
-// Returns the word for a fault of a batch in an output line.
+// Returns the word for a fault of a batch in an output line, such as `bad header`; for any fault of
+// the desk `desk`.
 fn word_of_batch_fault(kind: FaultKind) -> &'static str {
     match kind {
         FaultKind::BadHeader => "bad header",
@@ -62,8 +63,9 @@ fn word_of_batch_fault(kind: FaultKind) -> &'static str {
     }
 }
 
-// Executes the input as a batch at the timestamp `moment`, and appends its lines and, if it failed,
-// the word for its fault with the number of decided rows. Fails only if memory runs out.
+// Executes the input as a batch on the desk at the timestamp `moment`. Appends the lines that it
+// wrote and, if it failed, an output line with `!`, the word for its fault, and the number of
+// decided rows. Fails only if memory runs out.
 fn execute_batch_command(
     alloc: Global,
     out: &mut String,
@@ -91,8 +93,9 @@ fn execute_batch_command(
     Ok(())
 }
 
-// Serves the input as a stream of HTTP requests at the timestamp `moment`. Appends the replies, and
-// then their number or, if the stream failed, the word `fault`. Fails only if memory runs out.
+// Serves the input as a stream of HTTP requests on the desk at the timestamp `moment`. Appends the
+// replies, and then `! done` and their number or, if the stream failed, `! fault`. Fails only if
+// memory runs out.
 fn execute_http_command(
     alloc: Global,
     out: &mut String,
@@ -116,9 +119,9 @@ fn execute_http_command(
     Ok(())
 }
 
-// Writes the statement of the account and the days, the first and the last, that `words` name, and
-// appends its lines and, if it failed, its refusal or the word `fault`. If `words` are malformed,
-// appends only the refusal 18. Fails only if memory runs out.
+// Writes the statement of the account and the days, the first and the last, that `words` name.
+// Appends its lines and, if it failed, `no` and the number of its refusal, or `! fault`. If `words`
+// are malformed, appends only the refusal 18. Fails only if memory runs out.
 fn execute_statement_command(
     alloc: Global,
     out: &mut String,
@@ -144,9 +147,9 @@ fn execute_statement_command(
     }
 }
 
-// Writes the explanation that `words` request, and appends its lines and, if it failed, its refusal
-// or the word `fault`. If `words` request none, appends only the refusal 18. Fails only if memory
-// runs out.
+// Writes the explanation that `words` request. Appends its lines and, if it failed, `no` and the
+// number of its refusal, or `! fault`. If `words` request none, appends only the refusal 18. Fails
+// only if memory runs out.
 fn execute_explain_command(
     alloc: Global,
     out: &mut String,
@@ -173,7 +176,7 @@ fn execute_explain_command(
 }
 
 // Appends the result of an audit or of an adoption as an output line: `ok`, `damaged` and the first
-// condition that fails, or the word `fault`. Fails only if memory runs out.
+// condition that fails, or `! fault` for any other fault. Fails only if memory runs out.
 fn append_audit_result(out: &mut String, audited: Result<(), Fault>) -> Result<(), Failed> {
     match audited {
         Ok(()) => append_output_line(out, "ok"),
@@ -185,9 +188,10 @@ fn append_audit_result(out: &mut String, audited: Result<(), Fault>) -> Result<(
     }
 }
 
-// Audits the open desk, or the open database by adopting it, appends the result, and returns what
-// was open. A database remains without a desk. If nothing is open, appends nothing. Fails only if
-// memory runs out.
+// Audits the open desk, or the open database by adopting it, appends the result (`ok`, `damaged`
+// and the condition that fails, or `! fault`), and returns what was open. A database remains
+// without a desk. If nothing is open, appends nothing and returns `Nothing`. Fails only if memory
+// runs out.
 fn execute_audit_command(alloc: Global, out: &mut String, place: Place) -> Result<Place, Failed> {
     match place {
         Place::Open(mut desk) => {
@@ -211,9 +215,9 @@ fn database_without_desk(place: Place) -> Place {
     }
 }
 
-// Adopts the open database, or that of the open desk, appends the result, and returns its desk, or
-// the database if the adoption failed. If nothing is open, appends nothing and returns `Nothing`.
-// Fails only if memory runs out.
+// Adopts the open database, or that of the open desk, appends the result (`ok`, `damaged` and the
+// condition that fails, or `! fault`), and returns its desk, or the database if the adoption
+// failed. If nothing is open, appends nothing and returns `Nothing`. Fails only if memory runs out.
 fn execute_adopt_command(alloc: Global, out: &mut String, place: Place) -> Result<Place, Failed> {
     match place.into_conn() {
         Some(conn) => {
@@ -259,9 +263,9 @@ fn execute_sql_command(out: &mut String, place: Place, pieces: &[Piece]) -> Resu
     }
 }
 
-// Appends the rows of all tables, adopts the database again, and returns its desk, or the database
-// if the adoption failed. If nothing is open, appends nothing and returns `Nothing`. Fails only if
-// memory runs out.
+// Appends the rows of all tables, adopts the database again without appending the result, and
+// returns its desk, or the database if the adoption failed. If nothing is open, appends nothing and
+// returns `Nothing`. Fails only if memory runs out.
 fn execute_tables_command(alloc: Global, out: &mut String, place: Place) -> Result<Place, Failed> {
     match place.into_conn() {
         Some(mut conn) => {
@@ -273,9 +277,9 @@ fn execute_tables_command(alloc: Global, out: &mut String, place: Place) -> Resu
     }
 }
 
-// Executes a command that needs an open desk, given by its first word `verb`, the other words and
-// its input lines, and appends its output lines, or one that there is no such command. Fails only
-// if memory runs out.
+// Executes a command that needs an open desk, given by its first word `verb`, the other words
+// `words` and its input lines `pieces`. Appends its output lines, or `! no such command` if no
+// command begins with `verb`. Fails only if memory runs out.
 fn execute_desk_command(
     alloc: Global,
     out: &mut String,
@@ -301,9 +305,10 @@ fn execute_desk_command(
     }
 }
 
-/// Executes a command on the open desk or database, appends its output lines, and returns the desk
-/// or database that is open after it. If the command needs a desk and none is open, appends only `!
-/// no desk`. Fails only if memory runs out.
+/// Executes the command `command` with its input lines `pieces` on the open desk or database,
+/// appends its output lines, and returns the desk or database that is open after it. If no desk is
+/// open and the command needs one or is unknown, appends only `! no desk`. Fails only if memory
+/// runs out.
 pub fn execute_command(
     alloc: Global,
     out: &mut String,

@@ -32,8 +32,8 @@ fn value_of_hex_digit(byte: u8) -> u8 {
 }
 
 // Reads one byte of an input line after the part of an escape that `read` names. Appends the byte
-// that it completes, if any, and returns the part of an escape that was read after it. Fails only
-// if memory runs out.
+// that it completes, if any, and returns the part of an escape that was read after it. After `\x`,
+// a byte that is no hexadecimal digit has the value 0. Fails only if memory runs out.
 fn unescape_byte(bytes: &mut Vec<u8>, read: Escape, byte: u8) -> Result<Escape, AllocError> {
     match (read, byte) {
         (Escape::Nothing, b'\\') => return Ok(Escape::Backslash),
@@ -46,8 +46,10 @@ fn unescape_byte(bytes: &mut Vec<u8>, read: Escape, byte: u8) -> Result<Escape, 
     Ok(Escape::Nothing)
 }
 
-/// Returns the bytes of an input line without its escapes, and whether a line feed follows: a
-/// single backslash at the end of the line means that none does. Fails only if memory runs out.
+/// Returns the bytes of an input line without its escapes: `\r`, `\x` with two hexadecimal digits,
+/// and a backslash before any other byte, of which only this byte remains. Returns also whether a
+/// line feed follows: a single backslash at the end of the line means that none does. An escape
+/// `\x` without both digits at the end of the line is dropped. Fails only if memory runs out.
 pub fn unescape_input_line(alloc: Global, text: &str) -> Result<Piece, AllocError> {
     let mut bytes = Vec::new(alloc);
     let mut read = Escape::Nothing;
@@ -60,8 +62,9 @@ pub fn unescape_input_line(alloc: Global, text: &str) -> Result<Piece, AllocErro
     })
 }
 
-// Appends a text with the escapes of an output line; if `in_record` is true, a bar is escaped too.
-// Fails only if memory runs out.
+// Appends a text with the escapes of an output line: a backslash as `\\`, a carriage return as
+// `\r`, and any other control character as `\x` with two hexadecimal digits, and so a bar if
+// `in_record` is true. Fails only if memory runs out.
 fn append_escaped_text(out: &mut String, text: &str, in_record: bool) -> Result<(), Failed> {
     for c in text.chars() {
         match c {
@@ -75,8 +78,9 @@ fn append_escaped_text(out: &mut String, text: &str, in_record: bool) -> Result<
     Ok(())
 }
 
-/// Appends bytes with the escapes of an output line; a byte that is no part of a UTF-8 character is
-/// escaped too, and if `in_record` is true, a bar. Fails only if memory runs out.
+/// Appends bytes with the escapes of an output line: a backslash as `\\`, a carriage return as
+/// `\r`, and any other control character, or byte that is no part of a UTF-8 character, as `\x`
+/// with two hexadecimal digits, and so a bar if `in_record` is true. Fails only if memory runs out.
 pub fn append_escaped_bytes(out: &mut String, bytes: &[u8], in_record: bool) -> Result<(), Failed> {
     let mut rest = bytes;
     for _ in 0..bytes.len() {
@@ -113,7 +117,8 @@ pub fn append_written_bytes(out: &mut String, bytes: &[u8]) -> Result<(), Failed
     Ok(())
 }
 
-/// Appends the text `line` as an output line. Fails only if memory runs out.
+/// Appends the text `line`, without escapes, as an output line: after `>` and a space, and before a
+/// line feed. Fails only if memory runs out.
 pub fn append_output_line(out: &mut String, line: &str) -> Result<(), Failed> {
     writeln!(out, "> {line}")?;
     Ok(())

@@ -16,8 +16,9 @@ use failed::Failed;
 use std::io;
 use std::process::ExitCode;
 
-// Reads a transcript from standard input and writes its replay to standard output. Fails with the
-// reason why the replay ended early.
+// Reads a transcript from standard input and writes its replay to standard output. Fails with
+// `Input` if the input cannot be read or is not UTF-8, with `Output` if the replay cannot be
+// written, and with `Memory` if memory runs out.
 fn replay_standard_input(rt: &HostRuntime) -> Result<(), Failed> {
     let Ok(text) = io::read_to_string(rt.alloc(), rt.reader()) else {
         return Err(Failed::Input);
@@ -30,7 +31,7 @@ fn replay_standard_input(rt: &HostRuntime) -> Result<(), Failed> {
 }
 
 // Runs the program: replays the transcript, writes the reason of a failure to standard error, and
-// returns the exit status, 0 without a failure.
+// returns the exit status, 0 without a failure and otherwise 1.
 fn main(rt: HostRuntime) -> ExitCode {
     match replay_standard_input(&rt) {
         Ok(()) => ExitCode::SUCCESS,

@@ -28,7 +28,7 @@ fn execute_pending_command(
     }
 }
 
-// Returns true if a line is a comment or empty.
+// Returns true if a line is a comment, which begins with `#`, or empty.
 fn is_comment_or_empty(line: &str) -> bool {
     line.is_empty() || line.starts_with('#')
 }
@@ -41,8 +41,8 @@ struct Replay<'a> {
 }
 
 impl<'a> Replay<'a> {
-    // Returns the replay with an input line added to its pending command; unchanged if there is
-    // none. Fails only if memory runs out.
+    // Returns the replay with an input line, without its escapes, added to its pending command;
+    // unchanged if there is none. Fails only if memory runs out.
     fn with_input_line(self, alloc: Global, text: &str) -> Result<Replay<'a>, Failed> {
         let Replay { place, due } = self;
         let Some(mut due) = due else {

@@ -33,8 +33,9 @@ fn append_table_row(out: &mut String, table: &str, row: &Row) -> Result<(), Fail
     Ok(())
 }
 
-// Appends the rows of a table, sorted by the columns `key`, each as an output line, or a line that
-// there is no such table, also if the rows cannot be read. Fails only if memory runs out.
+// Appends the rows of a table, sorted by the columns `key` (their places, counted from 1), each as
+// an output line, or the line `! no table` with its name if the rows cannot be read. Fails only if
+// memory runs out.
 fn append_rows_of_table(
     alloc: Global,
     out: &mut String,
@@ -54,8 +55,9 @@ fn append_rows_of_table(
     Ok(())
 }
 
-/// Appends the rows of all tables of a desk, each table sorted by its key, as output lines. Fails
-/// only if memory runs out.
+/// Appends the rows of all tables of a desk, each table sorted by its key, as output lines. For a
+/// table that cannot be read, appends the line `! no table` with its name in place of its rows.
+/// Fails only if memory runs out.
 pub fn append_rows_of_all_tables(
     alloc: Global,
     out: &mut String,

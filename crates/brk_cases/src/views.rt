@@ -16,8 +16,8 @@ pub fn append_refusal_line(out: &mut String, refusal: Refusal) -> Result<(), Fai
     Ok(())
 }
 
-// Appends the fields of a record as an output line, separated by bars. Fails only if memory runs
-// out.
+// Appends the fields of a record as an output line, with escapes and separated by bars. A record
+// without fields appends an empty line. Fails only if memory runs out.
 fn append_record_line(out: &mut String, record: &[String]) -> Result<(), Failed> {
     let mut sign = "> ";
     for field in record {
@@ -66,8 +66,9 @@ fn parse_and_execute_query(
     }
 }
 
-/// Executes the query for the view `view` on a desk, with the input lines as its arguments, and
-/// appends the records, the refusal, or the word `fault`. Fails only if memory runs out.
+/// Executes the query for the view `view` on a desk, with the input lines as its arguments. Appends
+/// the records of the view as output lines, or `no` and the number of the refusal, or `! fault` if
+/// the query failed. Fails only if memory runs out.
 pub fn execute_ask_command(
     alloc: Global,
     out: &mut String,
@@ -92,9 +93,9 @@ fn form_of_printed_view(word: &str) -> Form {
     }
 }
 
-/// Prints a view of a desk, and appends the text and, if it failed, the refusal or the word
-/// `fault`. `words` are the form and the name of the view, the input lines its arguments. Fails
-/// only if memory runs out.
+/// Prints a view of a desk. Appends the printed text and, if it failed, `no` and the number of the
+/// refusal, or `! fault`. `words` are the form and the name of the view, the input lines its
+/// arguments. Fails only if memory runs out.
 pub fn execute_print_command(
     alloc: Global,
     out: &mut String,

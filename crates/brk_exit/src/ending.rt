@@ -34,7 +34,9 @@ pub enum Ending {
     Usage(UsageFault),
 }
 
-// Returns the error line of a batch that ended early, in its two parts.
+// Returns the error line of a batch that ended early, in two parts: `brk: batch: ` and the cause
+// for a missing or wrong header or end, `brk: fault: ` and the cause if reading or writing failed,
+// and otherwise the error line of the desk's fault.
 fn batch_error_line(kind: FaultKind) -> Line<'static>
     ensures { line.bytes_of_error_line result ≡ spec.error_line_of_batch kind }
 {
@@ -48,7 +50,8 @@ fn batch_error_line(kind: FaultKind) -> Line<'static>
     }
 }
 
-// Returns the error line of a stream that ended early, in its two parts.
+// Returns the error line of a stream that ended early, in two parts: `brk: fault: `, and `read`,
+// `write` or `memory` by the kind of the fault.
 fn stream_error_line(kind: StreamFault) -> Line<'static>
     ensures { line.bytes_of_error_line result ≡ spec.error_line_of_stream kind }
 {
@@ -123,8 +126,9 @@ pub fn ending_after_close(ending: Ending, closed: Result<(), Fault>) -> Ending
     }
 }
 
-// Sends the error line of a report that is refused or ended early to `errors`. If the sink fails,
-// it has received a prefix of the line.
+// Sends the error line of a report that is refused or ended early to `errors`: with the number of
+// the refusal, or the fault of the desk or of the writer. If the sink fails, it has received a
+// prefix of the line.
 fn send_report_error_line<S: Sink>(fault: &ReportFault, errors: &mut S) -> Result<(), NotWritten>
     ensures ok { OnOk result (Appends (S.contents errors.old) (S.contents errors.new) (spec.error_line_of_report fault.now)) }
     ensures err { OnErr result (SinkFailsWithinText S.contents S.fails errors.old errors.new (spec.error_line_of_report fault.now)) }

@@ -29,9 +29,9 @@ fn fault_from_walk_error(stop: WalkError<LinesFault>) -> LinesFault
 }
 
 /// Writes a line for each cash row of an account, sorted by stamp, with the balance after it, which
-/// starts from the balance `opening`. Returns the number of cash rows. Fails with `Desk` if a read
-/// fails, memory runs out, or a balance or the number overflows, and with `Write` if the writer
-/// fails.
+/// starts from the balance `opening`, in cents. Returns the number of cash rows. Fails with `Desk`
+/// if a read fails, memory runs out, or a balance or the number overflows, and with `Write` if the
+/// writer fails. The open database is unchanged.
 pub(crate) fn write_cash_posting_lines<W: Write, S: Alter>(
     alloc: Global,
     desk: &mut Desk<S>,
@@ -57,8 +57,9 @@ pub(crate) fn write_cash_posting_lines<W: Write, S: Alter>(
     }
 }
 
-/// Writes a line for each lot of an account, and returns the number of lots. Fails with `Desk` if a
-/// read fails, memory runs out or the number overflows, and with `Write` if the writer fails.
+/// Writes a line for each lot of an account, sorted by symbol, then by opening stamp, and returns
+/// the number of lots. Fails with `Desk` if a read fails, memory runs out or the number overflows,
+/// and with `Write` if the writer fails. The open database is unchanged.
 pub(crate) fn write_open_lot_lines<W: Write, S: Alter>(
     alloc: Global,
     desk: &mut Desk<S>,
@@ -84,7 +85,7 @@ pub(crate) fn write_open_lot_lines<W: Write, S: Alter>(
 /// Writes a line for each completed trade of a broker's accounts, sorted by the stamp of
 /// completion, with the running total of the commissions. Returns the number of trades. Fails with
 /// `Desk` if a read fails, memory runs out, or the total or the number overflows, and with `Write`
-/// if the writer fails.
+/// if the writer fails. The open database is unchanged.
 pub(crate) fn write_trade_commission_lines<W: Write, S: Alter>(
     alloc: Global,
     desk: &mut Desk<S>,

@@ -35,7 +35,9 @@ fn place_of_optional_file(db: &Option<String>) -> Place<'_> {
     }
 }
 
-// Returns the place of the desk of a job.
+// Returns the place of the desk of a job: for a batch and for serving, the file of the job, created
+// if it is missing or empty, or memory without a file; for any other job, its file, which must
+// exist.
 fn place_of_job(job: &Job) -> Place<'_> {
     match job {
         Job::Batch { db, .. } => place_of_optional_file(db),
@@ -47,9 +49,9 @@ fn place_of_job(job: &Job) -> Place<'_> {
     }
 }
 
-// Opens the desk of a job, executes the job, and returns its outcome, or `Open` with the fault if
-// the desk cannot be opened or closed. After an audit that passed, writes `ok`, and returns
-// `Output` if that fails.
+// Opens or creates the desk of a job, executes the job, closes the desk, and returns the outcome of
+// the job, or `Open` with the fault if the desk cannot be opened, created or closed. After an audit
+// that passed, writes `ok` and a line feed, and returns `Output` if that fails.
 fn execute_job<R: Read + Drop, W: Write>(
     rt: &HostRuntime,
     job: &Job,
@@ -80,9 +82,9 @@ fn execute_job<R: Read + Drop, W: Write>(
 }
 
 /// Executes the job that the command-line arguments request, the program's own name first, and
-/// returns the outcome of the job; `Usage` if they request help or no job, and `Output` if the help
-/// cannot be written. A batch is read from `input`. The output of the job, also help, is written to
-/// `output`.
+/// returns the outcome of the job; `Usage` if they request help, the version or no job, and
+/// `Output` if the help or the version cannot be written. A batch is read from `input`. The output
+/// of the job, also help, is written to `output`.
 pub fn execute_arguments<R: Read + Drop, W: Write>(
     rt: &HostRuntime,
     words: Vec<String>,

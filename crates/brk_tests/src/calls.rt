@@ -14,7 +14,8 @@ use std::test::Fail;
 
 // Returns the text of an outcome: `ok` and the stamp of a command that books only a stamp, `again`
 // and the stored reply, `no` and the refusal of a command or a query, the number of submitted
-// trades of their view, and otherwise `something else`. Fails only if memory runs out.
+// trades in their view and the word `trades`, and `something else` for any other outcome. Fails
+// only if memory runs out.
 fn format_outcome(alloc: Global, outcome: &Outcome) -> Result<String, AllocError> {
     match outcome {
         Outcome::Did(Answer::Done(Reply::Booked(stamp))) => {
@@ -28,7 +29,8 @@ fn format_outcome(alloc: Global, outcome: &Outcome) -> Result<String, AllocError
     }
 }
 
-// Executes calls on a desk as one run, and checks the number and the texts of their outcomes.
+// Executes calls on a desk as one run, and checks that the texts of their outcomes, as
+// `format_outcome` returns them, are exactly `wanted`, in order. Fails also if the run fails.
 fn expect_run_outcomes(
     rt: &impl Abort,
     alloc: Global,
@@ -46,7 +48,8 @@ fn expect_run_outcomes(
     Ok(())
 }
 
-// Checks that a run executes the calls after a refused one.
+// Checks that a run executes the calls after a refused one: of three brokers, the second has the id
+// of the first and is refused with 15, and the third is accepted.
 #[test]
 fn a_run_continues_after_a_refusal(rt: HostRuntime) -> Result<(), Fail> {
     let alloc = rt.alloc();
@@ -77,7 +80,8 @@ fn a_run_repeats_the_stored_reply(rt: HostRuntime) -> Result<(), Fail> {
     expect_run_outcomes(&rt, alloc, &mut new_desk_in_memory(alloc)?, &calls, &wanted)
 }
 
-// Checks that a run executes queries, and returns the view of one and the refusal of another.
+// Checks that a run executes queries: it returns the view of submitted trades, which is empty, and
+// refuses the estimate of an order of an account that does not exist with 1.
 #[test]
 fn a_run_answers_queries(rt: HostRuntime) -> Result<(), Fail> {
     let alloc = rt.alloc();

@@ -47,8 +47,8 @@ pub fn new_desk_in_memory(alloc: Global) -> Result<Desk<MemStore>, Fail> {
 }
 
 /// Returns a desk in memory after the batch `SET`, which adds a broker, a customer, an account, a
-/// security, charges, commission bands and a tax. Fails if the batch writes other lines than
-/// `SET_LINES`.
+/// security, charges, commission bands and a tax. Fails if the desk cannot be created or the batch
+/// writes other lines than `SET_LINES`.
 pub fn desk_with_reference_data(alloc: Global) -> Result<Desk<MemStore>, Fail> {
     let mut desk = new_desk_in_memory(alloc)?;
     let set = Step {
@@ -60,7 +60,7 @@ pub fn desk_with_reference_data(alloc: Global) -> Result<Desk<MemStore>, Fail> {
 }
 
 /// Executes a batch on a desk at 2024-03-01 00:00 UTC. Returns the bytes that it wrote and its
-/// result.
+/// result, the counts of its rows or the fault.
 pub fn run_batch_at_desk(
     alloc: Global,
     desk: &mut Desk<MemStore>,
@@ -77,8 +77,9 @@ pub fn run_batch_at_desk(
     (lines, ended)
 }
 
-// Checks that a batch wrote exactly the wanted lines. Fails with `name` and the number of the first
-// other line.
+// Checks that a batch wrote exactly the lines `wanted`. Fails with `name` and the number of the
+// first other line, with `name` if lines are missing or there are more, and if the bytes `told` are
+// not UTF-8.
 fn expect_batch_lines(name: &str, told: &[u8], wanted: &str) -> Result<(), Fail> {
     let told = str::from_utf8(told).map_err(|_| "no text")?;
     let mut row = 0u64;
@@ -94,8 +95,8 @@ fn expect_batch_lines(name: &str, told: &[u8], wanted: &str) -> Result<(), Fail>
     Ok(())
 }
 
-// Checks that a batch completed, and that the wanted lines end with the end line of its counts.
-// Fails with `name` if not.
+// Checks that a batch completed, and that the wanted lines `lines` end with the end line of its
+// counts. Fails with `name` if not, or if memory runs out.
 fn expect_batch_counts(
     alloc: Global,
     name: &str,
@@ -113,8 +114,9 @@ fn expect_batch_counts(
     }
 }
 
-/// Executes the batch of `step` on a desk, and checks its lines and its counts. Fails with `name`
-/// if they differ.
+/// Executes the batch of `step` on a desk at 2024-03-01 00:00 UTC, and checks that it completes,
+/// that it writes exactly the lines of `step`, and that these end with the end line of its counts.
+/// Fails with `name` if not.
 pub fn expect_batch_result(
     alloc: Global,
     desk: &mut Desk<MemStore>,

@@ -26,8 +26,9 @@ impl<'a> Failing<'a> {
 }
 
 impl Read for Failing<'_> {
-    /// Fills the buffer with the next bytes and returns their number, or fails once after the first
-    /// ones.
+    /// Copies the next bytes, as many as the buffer can hold, to the buffer and returns their
+    /// number, 0 at the end. Fails once, with an error of the kind `fault`, in place of the first
+    /// byte after `before`.
     fn read(&mut self, buf: &mut [u8]) -> io::Result<usize> {
         if self.before.is_empty() {
             if let Some(kind) = self.fault.take() {
@@ -66,8 +67,8 @@ impl Narrow {
 }
 
 impl Write for Narrow {
-    /// Appends at most seven bytes and returns their number, or fails or accepts none once if there
-    /// is no room.
+    /// Appends at most seven bytes and returns their number. At the first call without room, fails
+    /// with `error`, or accepts no byte without `error`; after it there is room for all bytes.
     fn write(&mut self, buf: &[u8]) -> io::Result<usize> {
         let left = self.room.saturating_sub(self.taken.len());
         if left == 0 {

@@ -14,8 +14,8 @@ use std::test::Fail;
 // The number of trades of the batch.
 const TRADES: u64 = 500;
 
-// Returns the row of order `n`, of `n` shares: every third order is a sale, and every second one
-// closes the last lots first. Fails only if memory runs out.
+// Returns the row of order `n`, a market order of account 100 for `n` shares of ABC: every third
+// order is a sale, and every second one closes the last lots first. Fails only if memory runs out.
 fn order_row(alloc: Global, n: u64) -> Result<String, Fail> {
     let kind = if n % 3 == 0 { "TMS" } else { "TMB" };
     let end = if n % 2 == 0 { "lifo" } else { "fifo" };
@@ -49,8 +49,9 @@ fn format_batch_of_rows(alloc: Global, rows: &[String]) -> Result<String, Fail> 
     Ok(batch)
 }
 
-// Checks the shares held and the broker totals after all trades, by which 83,667 shares were bought
-// and 41,583 sold, and that the audit passes.
+// Checks that account 100 holds 42,084 shares after all trades, by which 83,667 shares were bought
+// and 41,583 sold, that broker 1 has 500 trades and commissions of 12525.00, and that the audit
+// passes.
 fn expect_totals_after_trades(
     rt: &impl Abort,
     alloc: Global,
@@ -72,8 +73,8 @@ fn expect_totals_after_trades(
     Ok(())
 }
 
-// Executes the rows as one batch on a new desk. Checks that every row is accepted, the last lines
-// and the totals. Returns the lines.
+// Executes the rows as one batch on a new desk. Checks that all 1,000 rows are accepted, the line
+// of the last row, the end line, and the totals of `expect_totals_after_trades`. Returns the lines.
 fn run_and_check_batch(rt: &impl Abort, alloc: Global, rows: &[String]) -> Result<Vec<u8>, Fail> {
     let batch = format_batch_of_rows(alloc, rows)?;
     let mut desk = desk_with_reference_data(alloc)?;
@@ -104,7 +105,7 @@ fn keyed_calls_of_rows(alloc: Global, rows: &[String]) -> Result<Vec<(Stamp, Cal
 }
 
 // Executes the calls of all rows as one run of the desk, and returns their outcomes. Fails if a row
-// is malformed.
+// is malformed or the run fails.
 fn run_calls_of_rows(
     alloc: Global,
     desk: &mut Desk<MemStore>,
@@ -142,8 +143,9 @@ fn lines_of_outcomes(alloc: Global, outcomes: &[Outcome]) -> Result<String, Fail
     Ok(lines)
 }
 
-// Executes the calls of all rows as one run on a new desk, checks the totals, and returns the lines
-// of the rows. Fails if a row is not accepted.
+// Executes the calls of all rows as one run on a new desk, checks the totals of
+// `expect_totals_after_trades`, and returns the lines that a batch would write for the rows. Fails
+// if a row is not accepted.
 fn run_rows_and_check_totals(
     rt: &impl Abort,
     alloc: Global,
@@ -155,8 +157,8 @@ fn run_rows_and_check_totals(
     Ok(lines)
 }
 
-// Checks that a batch of 500 orders and their results and one run of the same calls have equal
-// lines.
+// Checks that a batch of 500 orders and their results writes the lines that result from one run of
+// the same calls.
 #[test]
 fn a_batch_equals_one_run_of_its_calls(rt: HostRuntime) -> Result<(), Fail> {
     let alloc = rt.alloc();

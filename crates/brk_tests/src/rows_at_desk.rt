@@ -29,7 +29,7 @@ fn batch_of_two_share_purchases(alloc: Global) -> Result<String, Fail> {
 }
 
 // Returns the files of a desk on which account 100 has `LOTS` lots of two shares and account 101
-// has one. Fails if a row of the purchases is not accepted.
+// has one. Fails if a row of the purchases is not accepted or memory runs out.
 fn files_with_hundred_lots(alloc: Global) -> Result<Held, Fail> {
     let set = files_with_reference_data(alloc)?;
     let batch = batch_of_two_share_purchases(alloc)?;
@@ -54,8 +54,9 @@ fn batch_of_one_sale(alloc: Global, account: u64, shares: u64) -> Result<String,
     )?)
 }
 
-// Returns true if a desk completes a sale when its database file accepts `calls` calls and fails at
-// each later one. The desk caches one page of the file, so it reads each other page anew.
+// Returns true if a desk in the files `held` completes the sale of `shares` shares of an account
+// when its database file accepts `calls` calls and fails at each later one. The desk caches one
+// page of the file, so it reads each other page anew. Fails if memory runs out.
 fn sale_completes_within_calls(
     alloc: Global,
     held: &Held,

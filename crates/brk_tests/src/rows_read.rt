@@ -13,8 +13,8 @@ use std::test::Fail;
 // The number of lots of account 100.
 const LOTS: u64 = 40;
 
-// Returns the text of a batch with the orders and the results of `LOTS` purchases of one share
-// each. Fails only if memory runs out.
+// Returns the text of a batch with the orders and the results of `LOTS` purchases of one share of
+// ABC each for account 100. Fails only if memory runs out.
 fn batch_of_one_share_purchases(alloc: Global) -> Result<String, Fail> {
     let mut batch = String::from_str(alloc, "batch,P\n")?;
     for n in 1..=LOTS {
@@ -36,9 +36,9 @@ fn store_with_forty_lots(alloc: Global) -> Result<Store<MemStore>, Fail> {
     }
 }
 
-// Computes the closing of lots of account 100 by a sale of `count` shares, the last lots first if
-// `lifo` is true. Returns the number of touched lots and the number of rows that were read. Fails
-// if the closing fails.
+// Computes the closing of lots of ABC of account 100 by a sale of `count` shares at 10.00, the last
+// lots first if `lifo` is true. Returns the number of touched lots and the number of rows that were
+// read. Changes no lot. Fails if the closing fails.
 fn lots_touched_and_rows_read(
     alloc: Global,
     store: &mut Store<MemStore>,

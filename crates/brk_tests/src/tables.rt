@@ -130,8 +130,9 @@ pub fn read_all_tables<S: Alter>(
     Ok(lines)
 }
 
-// Checks that the names and the rows of these tables are the wanted lines. Fails with `name` and
-// the number of the first other line.
+// Checks that the names and the rows of these tables are exactly the lines `wanted`. Fails with
+// `name` and the number of the first other line, with `name` if lines are missing or there are
+// more, and if the tables cannot be read.
 fn expect_rows_of_tables(
     alloc: Global,
     conn: &mut Connection<MemStore>,
@@ -155,8 +156,8 @@ fn expect_rows_of_tables(
 }
 
 /// Checks all tables of a store: the reference tables equal those after the batch `SET`, and the
-/// names and rows of the other tables are the wanted lines. Fails with `name` and the number of the
-/// first other line.
+/// names and rows of the other tables are exactly the lines `wanted`. Fails with `name` and the
+/// number of the first other line, or with `name` if lines are missing or there are more.
 pub fn expect_all_tables(
     alloc: Global,
     store: Store<MemStore>,

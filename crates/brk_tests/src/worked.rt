@@ -115,8 +115,8 @@ pub fn append_reply_lines(
     Ok(())
 }
 
-/// Returns the lines that a batch prints if all of its rows are accepted with these replies. Fails
-/// if memory runs out.
+/// Returns the lines that a batch prints if all of its rows are accepted with these replies, the
+/// end line included. Fails if memory runs out.
 pub fn lines_if_all_accepted(alloc: Global, lines: &[&str]) -> Result<String, Fail> {
     let mut told = String::new(alloc);
     append_reply_lines(&mut told, 1, "ok", lines)?;
@@ -125,7 +125,7 @@ pub fn lines_if_all_accepted(alloc: Global, lines: &[&str]) -> Result<String, Fa
 }
 
 /// Returns the lines that a batch prints if all of its rows were accepted before with these
-/// replies. Fails if memory runs out.
+/// replies, the end line included. Fails if memory runs out.
 pub fn lines_if_all_repeated(alloc: Global, lines: &[&str]) -> Result<String, Fail> {
     let mut told = String::new(alloc);
     append_reply_lines(&mut told, 1, "again", lines)?;

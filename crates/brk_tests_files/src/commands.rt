@@ -6,8 +6,8 @@ use brk_exit::end_with;
 use brk_jobs::execute_arguments;
 use std::alloc::{AllocError, Global};
 
-// Returns the command-line arguments in a text, split at its spaces, with the name of the program
-// first. Fails only if memory runs out.
+// Returns the command-line arguments in a text, split at each of its spaces, after `brk`, the name
+// of the program. Fails only if memory runs out.
 fn split_command_line(alloc: Global, text: &str) -> Result<Vec<String>, AllocError> {
     let mut words = Vec::new(alloc);
     words.push(String::from_str(alloc, "brk")?)?;
@@ -31,8 +31,9 @@ fn append_marked_lines(out: &mut String, mark: char, bytes: &[u8]) -> Result<(),
     Ok(())
 }
 
-// Executes the program with these command-line arguments and this input, and appends its output,
-// its error text and its exit status. Fails only if memory runs out.
+// Executes the program `brk` in this process with the command-line arguments `words` and this
+// input. Appends the lines of its output after `>`, the lines of its error text after `!`, and its
+// exit status after `=`. Fails only if memory runs out.
 fn run_program_and_append_output(
     rt: &HostRuntime,
     out: &mut String,
@@ -50,9 +51,10 @@ fn run_program_and_append_output(
     Ok(())
 }
 
-// Writes, copies or cuts a file, or executes SQL in it, as another program would, by the word
-// `verb`: `write`, `copy`, `cut` or `sql`. Appends `done`, or `failed` if it fails or for any other
-// word. Fails only if memory runs out.
+// Changes a file, as another program would, by the word `verb`: `write` (the input), `copy`, `cut`
+// (to its first half) or `sql` (executes the input in it). `words` is the path of the file, for
+// `copy` two paths. Appends `= done`, or `= failed` if it fails or for any other word. Fails only
+// if memory runs out.
 fn change_file_and_append_result(
     rt: &HostRuntime,
     out: &mut String,

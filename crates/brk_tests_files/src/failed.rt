@@ -32,7 +32,8 @@ impl From<AllocError> for Failed {
 
 // Text is formatted only into memory, so a failure to format is a refused allocation.
 impl From<fmt::Error> for Failed {
-    /// Returns `Memory`: text is formatted only into memory.
+    /// Returns `Memory`: text is formatted only into memory, so a failure to format is a refused
+    /// allocation.
     fn from(_: fmt::Error) -> Failed {
         Failed::Memory
     }

@@ -8,7 +8,8 @@ pub fn write_file(rt: &HostRuntime, path: &str, bytes: &[u8]) -> bool {
     fs::write(rt, path, bytes).is_ok()
 }
 
-/// Copies a file: `paths` has the two paths, separated by a space. Returns true if that succeeds.
+/// Copies a file: `paths` has the paths of the file and of its copy, separated by a space. Returns
+/// true if that succeeds, and false also if `paths` has no space.
 pub fn copy_file(rt: &HostRuntime, paths: &str) -> bool {
     match paths.split_once(' ') {
         Some((from, to)) => fs::copy(rt, from, to).is_ok(),
@@ -16,7 +17,8 @@ pub fn copy_file(rt: &HostRuntime, paths: &str) -> bool {
     }
 }
 
-/// Removes the second half of a file. Returns true if that succeeds.
+/// Removes the second half of a file; of an odd number of bytes, the byte in the middle too.
+/// Returns true if that succeeds.
 pub fn remove_second_half_of_file(rt: &HostRuntime, path: &str) -> bool {
     match fs::read(rt, path) {
         Ok(whole) => write_file(rt, path, &whole[..whole.len() / 2]),
@@ -25,7 +27,8 @@ pub fn remove_second_half_of_file(rt: &HostRuntime, path: &str) -> bool {
 }
 
 /// Executes an SQL statement on the database in a file, and closes the database. Returns true if
-/// both succeed.
+/// the statement and the closing succeed, and false also if the statement is not UTF-8 or the file
+/// cannot be opened as a database.
 pub fn execute_sql_in_file(rt: &HostRuntime, path: &str, sql: &[u8]) -> bool {
     let Ok(sql) = str::from_utf8(sql) else {
         return false;

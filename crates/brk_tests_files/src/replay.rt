@@ -43,8 +43,8 @@ fn command_begun_by_line(alloc: Global, line: &str) -> Option<Due<'_>> {
     })
 }
 
-// Adds an input line to the pending command, and returns this command, or `None` if there is none.
-// Fails only if memory runs out.
+// Adds an input line and a line feed to the input of the pending command, and returns this command,
+// or `None` if there is none. Fails only if memory runs out.
 fn add_input_to_pending_command<'a>(
     due: Option<Due<'a>>,
     text: &str,
@@ -58,8 +58,9 @@ fn add_input_to_pending_command<'a>(
 }
 
 // Processes a line that is no output line: copies an input line and adds it to the pending command,
-// or executes the pending command and copies any other line. Returns the command that is pending
-// after the line, or `None` if none is. Fails only if memory runs out.
+// or executes the pending command and copies any other line, which begins the next command unless
+// it is a comment or empty. Returns the command that is pending after the line, or `None` if none
+// is. Fails only if memory runs out.
 fn process_transcript_line<'a>(
     rt: &HostRuntime,
     out: &mut String,

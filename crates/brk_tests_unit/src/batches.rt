@@ -102,8 +102,9 @@ impl Rows for Last {
         }
     }
 
-    // Returns the answer that the command names, and stores the timestamp of an accepted one. Fails
-    // with `Store` if the command names no answer.
+    // Executes the command: stores the timestamp `now` and returns it as the reply (`Put`), returns
+    // the stored reply `5,CNCL` (`Repeat`), or refuses with 14, `accounts` (`Refuse`). Fails with
+    // `Store` for `Break`, and with `Memory` if memory runs out.
     fn call(
         desk: &mut Last,
         alloc: Global,
@@ -190,7 +191,8 @@ impl Long {
 }
 
 impl Read for Long {
-    // Fills the buffer with the next bytes and returns their number, or fails beyond the limit.
+    // Copies the next bytes to the buffer, at most up to the limit of an input, and returns their
+    // number. Fails if all bytes up to the limit were read before.
     fn read(&mut self, buf: &mut [u8]) -> io::Result<usize> {
         if self.at >= MAXIMUM_INPUT_BYTES {
             return Err(io::Error::from(io::ErrorKind::Other));
@@ -218,8 +220,8 @@ struct Choppy {
 }
 
 impl Write for Choppy {
-    // Appends at most three bytes and returns their number, or fails or accepts none if there is no
-    // room.
+    // Appends at most three bytes and returns their number. Without room, fails with `error`, or
+    // accepts no byte without `error`.
     fn write(&mut self, buf: &[u8]) -> io::Result<usize> {
         let room = self.most.saturating_sub(self.got.len());
         if room == 0 {
@@ -239,8 +241,8 @@ impl Write for Choppy {
     }
 }
 
-// Executes a batch on a new test desk, at the timestamp 7. Returns its result and the bytes that it
-// wrote. Fails if memory runs out.
+// Executes a batch that `reader` returns on a new test desk, at the timestamp 7. Returns its
+// result, the counts or the fault, and the bytes that it wrote. Fails if memory runs out.
 fn run_batch_on_new_desk<R: Read + Drop>(
     alloc: Global,
     reader: R,
@@ -269,7 +271,8 @@ const WHOLE: &[u8] =
 // The lines of the batch `WHOLE`.
 const LINES: &[u8] = b"1,ok,7\n2,again,5,CNCL\n3,no,14,accounts\n4,no,18\n5,no,8\nend,1,1,3\n";
 
-// Checks the result and the lines of a batch with every kind of answer, read whole and byte by
+// Checks that each row of the batch `WHOLE`, which has an accepted, a repeated and three refused
+// rows, has its line, followed by the end line of its counts, if the batch is read whole or byte by
 // byte.
 #[test]
 fn each_row_of_a_batch_gets_a_line(rt: HostRuntime) -> Result<(), Fail> {
@@ -309,8 +312,8 @@ fn an_empty_batch_gets_an_end_line(rt: HostRuntime) -> Result<(), Fail> {
     Ok(())
 }
 
-// Checks that a row without a record after it is refused with 18, and that the batch fails with
-// `NoEnd`.
+// Checks that a row without a record after it is refused with 18, and that a batch without an end
+// record fails with `NoEnd` after the lines of its rows.
 #[test]
 fn the_last_row_of_a_cut_input_is_refused(rt: HostRuntime) -> Result<(), Fail> {
     let cut = b"batch,C\nbroker,2,Cy\nbroker,3\nbroker,4,D".as_slice();
@@ -376,8 +379,8 @@ fn a_wrong_end_record_is_a_fault(rt: HostRuntime) -> Result<(), Fail> {
     Ok(())
 }
 
-// Checks the number of decided rows and the lines of a batch whose reader fails at several
-// positions.
+// Checks that a batch whose reader fails at several positions fails with `Read`, with the number of
+// decided rows, after exactly their lines.
 #[test]
 fn a_failed_read_ends_the_batch(rt: HostRuntime) -> Result<(), Fail> {
     let text = b"batch,A\nput,1,2\nput,3,4\nend,2\n".as_slice();
@@ -402,8 +405,8 @@ fn a_failed_read_ends_the_batch(rt: HostRuntime) -> Result<(), Fail> {
     Ok(())
 }
 
-// Checks the number of decided rows and the written bytes of a batch whose writer fails at several
-// positions.
+// Checks that a batch whose writer fails at several positions fails with `Write`, with the number
+// of decided rows, and that exactly the bytes before are written.
 #[test]
 fn a_failed_write_ends_the_batch(rt: HostRuntime) -> Result<(), Fail> {
     let cuts: [(usize, u64, Option<io::ErrorKind>); 6] = [
@@ -452,7 +455,8 @@ fn a_fault_of_the_desk_ends_the_batch(rt: HostRuntime) -> Result<(), Fail> {
     Ok(())
 }
 
-// Checks that no byte beyond the limit of an input is read.
+// Checks that a batch whose end record ends at the limit of an input completes, and that no byte
+// beyond the limit is read.
 #[test]
 fn input_beyond_the_limit_is_not_read(rt: HostRuntime) -> Result<(), Fail> {
     let whole = Long {

@@ -18,7 +18,7 @@ impl rt::Clock for Stopped {
         Ok(Duration::from_secs(7))
     }
 
-    // Returns the fixed time, or fails if there is none.
+    // Returns the fixed time since 1970-01-01 UTC, or fails with `Unsupported` if there is none.
     fn since_1970(&self) -> io::Result<Duration> {
         self.0.ok_or(io::Error::from(ErrorKind::Unsupported))
     }
@@ -44,8 +44,8 @@ fn clock_readings_are_whole_milliseconds(rt: HostRuntime) {
     assert_eq!(rt; clock.now().get(), PAST + 123);
 }
 
-// Checks that the reading is the greatest stamp if the machine's time is later. 10000-01-01 00:00
-// UTC is second 253,402,300,800.
+// Checks that the reading is the greatest stamp if the machine's time is this stamp, or later.
+// 10000-01-01 00:00 UTC is second 253,402,300,800.
 #[test]
 fn clock_readings_end_at_the_greatest_stamp(rt: HostRuntime) {
     let last = Stopped(Some(Duration::new(253_402_300_799, 999_000_000)));

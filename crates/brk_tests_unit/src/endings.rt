@@ -15,7 +15,8 @@ fn ending_of_batch_fault(kind: FaultKind) -> Ending {
     Ending::Batch(BatchFault { rows: 3, kind })
 }
 
-// Checks the exit status of an ending and the text that it writes to standard error.
+// Checks that `end_with` returns the exit status `status` for an ending, and that it writes exactly
+// the text `text` to standard error.
 fn expect_status_and_line(rt: &impl Abort, alloc: Global, ending: &Ending, status: u8, text: &str) {
     let mut errors = Vec::new(alloc);
     assert!(rt; end_with(ending, &mut errors) == status, "{text}");
@@ -33,8 +34,8 @@ const BATCHES: [(FaultKind, u8, &str); 7] = [
     (FaultKind::Desk(Fault::Memory), 3, "brk: fault: memory\n"),
 ];
 
-// Checks that a failed batch has the exit status 1 for a wrong header or end record, 3 for any
-// other fault, and the error line of the fault.
+// Checks that a failed batch has the exit status 1 for a missing or wrong header or end record, 3
+// for any other fault, and the error line of the fault.
 #[test]
 fn exit_status_and_line_of_batch_faults(rt: HostRuntime) {
     for (kind, status, text) in BATCHES {
@@ -129,7 +130,8 @@ impl Write for Closed {
     }
 }
 
-// Checks that the exit status does not change if the error line cannot be written.
+// Checks that the exit status does not change if the error line cannot be written: 1 for a batch
+// without an end record, and 0 for a job that is done.
 #[test]
 fn exit_status_with_a_closed_error_stream(rt: HostRuntime) {
     assert_eq!(rt;

@@ -33,8 +33,8 @@ fn movement_facts(case: Case) -> Result<MovementPlanFacts, Fail> {
     })
 }
 
-// Checks the reply to the movement of a case, or its refusal, if the last stamp is 1709251200021
-// ms.
+// Checks that the reply to the movement of a case, or `no,` and its refusal, is the text `wanted`,
+// if the last stamp is 1709251200021 ms.
 fn expect_movement_reply(
     rt: &impl Abort,
     alloc: Global,
@@ -55,8 +55,10 @@ fn expect_movement_reply(
     Ok(())
 }
 
-// Checks the replies to a deposit and a withdrawal, with their number and the new balance, and the
-// refusals of movements.
+// Checks the replies to a deposit and a withdrawal, with their number and the new balance, which
+// may be below 0. Checks that a deposit beyond the limit of the balance is refused with 14,
+// `balance`, one without its account with 1, and one beyond the limit of movements with 14,
+// `moves`.
 #[test]
 fn movement_replies_and_refusals(rt: HostRuntime) -> Result<(), Fail> {
     let alloc = rt.alloc();
@@ -98,8 +100,9 @@ fn movement_replies_and_refusals(rt: HostRuntime) -> Result<(), Fail> {
     Ok(())
 }
 
-// Checks the reply to setting the settlement day `days` (days since 1970-01-01), or its refusal, at
-// 2024-03-01 00:00 UTC, on a desk whose settlement day is `rule`, or that has none.
+// Checks that the reply to setting the settlement day `days`, or `no,` and its refusal, is the text
+// `wanted`, at 2024-03-01 00:00 UTC, on a desk whose settlement day is `rule`, or that has none.
+// Both days are numbers of days since 1970-01-01.
 fn expect_settlement_day_reply(
     rt: &impl Abort,
     alloc: Global,
@@ -120,7 +123,8 @@ fn expect_settlement_day_reply(
     Ok(())
 }
 
-// Checks that a settlement day is accepted only if it is after the day of its stamp, and only once.
+// Checks that the settlement day is refused with 22 if it is not after the day of its stamp,
+// accepted if it is the next day, and refused with 15 if the desk has one already.
 #[test]
 fn a_settlement_day_must_be_in_the_future(rt: HostRuntime) -> Result<(), Fail> {
     let alloc = rt.alloc();

@@ -11,8 +11,8 @@ use std::alloc::Global;
 use std::process::Abort;
 use std::test::Fail;
 
-// Returns the quote of ABC, at 10.00, of which 100 more shares may be traded up to the limit of the
-// volume. Fails if memory runs out.
+// Returns a list with one quote, of ABC at 10.00, without pending orders, of which 100 more shares
+// may be traded up to the limit of the volume. Fails if memory runs out.
 fn quote_with_100_shares_left(alloc: Global) -> Result<Vec<Quote>, Fail> {
     let price = Price::new(1_000).ok_or("price")?;
     let volume = Volume::new(99_999_999_999_999_900).ok_or("volume")?;
@@ -27,7 +27,7 @@ fn quote_with_100_shares_left(alloc: Global) -> Result<Vec<Quote>, Fail> {
 }
 
 // Returns the text of the reply to a feed of these ticks over `quote_with_100_shares_left`, or
-// `no,` and its refusal.
+// `no,` and its refusal. Fails if the ticks are malformed or memory runs out.
 fn reply_to_feed(alloc: Global, ticks: &[&[u8]]) -> Result<String, Fail> {
     let now = Stamp::nearest(1_709_251_200_019);
     let quotes = quote_with_100_shares_left(alloc)?;
@@ -60,9 +60,9 @@ fn a_feed_beyond_volume_limit_is_refused(rt: HostRuntime) -> Result<(), Fail> {
     Ok(())
 }
 
-// Returns the facts of the tables on which the plan for a purchase of ABC at 10.00 depends, after
-// `trades` trades: a commission rate of one percent and a charge of 5.00. Fails if a value is out
-// of range.
+// Returns the facts of the tables on which the plan for a purchase of ABC depends, after `trades`
+// trades: a last price of 10.00, a commission rate of one percent, a charge of 5.00, and assets of
+// 10000.00. Fails if a value is out of range.
 fn purchase_facts(trades: u64) -> Result<OrderPlanFacts, Fail> {
     let broker = Id::new(1).ok_or("broker")?;
     let rates = TaxRate::new(20_000).ok_or("rates")?;
@@ -88,7 +88,8 @@ const PURCHASE: [&[u8]; 10] = [
     b"100", b"TMB", b"ABC", b"100", b"", b"cash", b"fifo", b"Ann", b"Lee", b"T10",
 ];
 
-// Returns the text of the reply to the order `PURCHASE` with these facts, or `no,` and its refusal.
+// Returns the text of the reply to the order `PURCHASE` with these facts, on a position without
+// lots, or `no,` and its refusal. Fails if memory runs out.
 fn reply_to_purchase(alloc: Global, found: &OrderPlanFacts) -> Result<String, Fail> {
     let order = match parse_trade_order(alloc, &PURCHASE)? {
         Ok(order) => order,
@@ -101,7 +102,8 @@ fn reply_to_purchase(alloc: Global, found: &OrderPlanFacts) -> Result<String, Fa
     Ok(format_planned_reply(alloc, planned)?)
 }
 
-// Checks the reply to the order `PURCHASE` after `trades` trades, or its refusal.
+// Checks that the reply to the order `PURCHASE` after `trades` trades, or `no,` and its refusal, is
+// the text `wanted`.
 fn expect_purchase_reply(
     rt: &impl Abort,
     alloc: Global,
@@ -124,7 +126,8 @@ fn an_order_beyond_last_trade_is_refused(rt: HostRuntime) -> Result<(), Fail> {
     expect_purchase_reply(&rt, alloc, 1_000_000_000_000, "no,14,trades")
 }
 
-// Checks, for each type of order, whether a last price below, at and above its bid triggers it.
+// Checks that a last price at or below its bid triggers a stop-loss and a limit buy, that one at or
+// above its bid triggers a limit sell, and that no price triggers a market order.
 #[test]
 fn prices_trigger_pending_trades(rt: HostRuntime) -> Result<(), Fail> {
     let below = Price::new(999).ok_or("price")?;

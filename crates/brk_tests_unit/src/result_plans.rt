@@ -43,8 +43,8 @@ fn submitted_cash_purchase() -> Case {
     }
 }
 
-// Returns the TRADE row of the trade of a case. Fails if a value of the case is out of range or
-// memory runs out.
+// Returns the TRADE row of the trade of a case, with the id 1, the account 100, a bid of 10.00 and
+// a charge of 5.00. Fails if a value of the case is out of range or memory runs out.
 fn trade_row_of_case(alloc: Global, case: Case) -> Result<TradeRow, Fail> {
     let id = Id::new(1).ok_or("trade")?;
     let qty = Qty::new(case.qty).ok_or("quantity")?;
@@ -74,8 +74,8 @@ fn trade_row_of_case(alloc: Global, case: Case) -> Result<TradeRow, Fail> {
     })
 }
 
-// Returns the account of the trade of a case, with its broker, tax status and balance. Fails if a
-// value of the case is out of range.
+// Returns the account of the trade of a case: broker 1, the tax status `Withheld`, and the balance
+// of the case. Fails if a value of the case is out of range.
 fn account_of_case(case: Case) -> Result<ResultAccount, Fail> {
     Ok(ResultAccount {
         broker: Id::new(1).ok_or("broker")?,
@@ -84,8 +84,8 @@ fn account_of_case(case: Case) -> Result<ResultAccount, Fail> {
     })
 }
 
-// Returns the broker totals before the result of a case. Fails if a value of the case is out of
-// range.
+// Returns the broker totals before the result of a case: no trades, and the commissions of the
+// case. Fails if a value of the case is out of range.
 fn broker_totals_of_case(case: Case) -> Result<BrokerTotals, Fail> {
     Ok(BrokerTotals {
         trades: TradeCount::new(0).ok_or("trades")?,
@@ -115,8 +115,9 @@ fn result_facts(alloc: Global, case: Case) -> Result<ResultPlanFacts, Fail> {
     })
 }
 
-// Returns the text of the reply to a result at 10.10 with these facts, on a position without lots,
-// or `no,` and its refusal. Without `found` the trade does not exist.
+// Returns the text of the reply to a result at 10.10 with these facts, on a position without lots
+// and after the last stamp `last`, or `no,` and its refusal. Without `found` the trade does not
+// exist. Fails if memory runs out.
 fn reply_to_result(
     alloc: Global,
     found: Option<&ResultPlanFacts>,
@@ -135,7 +136,8 @@ fn reply_to_result(
     Ok(format_planned_reply(alloc, planned)?)
 }
 
-// Checks the reply to the result of the trade of a case, or its refusal.
+// Checks that the reply to the result of the trade of a case, or `no,` and its refusal, is the text
+// `wanted`.
 fn expect_result_reply(
     rt: &impl Abort,
     alloc: Global,
@@ -176,7 +178,7 @@ fn case_beyond_broker_limit() -> Case {
 }
 
 // Returns `case_beyond_broker_limit` with the balance at its lower limit, so that the amount of the
-// purchase exceeds it.
+// purchase exceeds it, and with the shares held 100 below their limit, which 100 more reach.
 fn case_beyond_balance_limit() -> Case {
     Case {
         held: Some(9_999_999_899),
@@ -213,7 +215,9 @@ fn case_of_wrong_status(status: Status) -> Case {
 // The text of the reply to the result of `submitted_cash_purchase`.
 const TOLD: &str = "1709251200017,10.10,0.00,-1025.10,2024-03-03,0.00,0.00,8974.90";
 
-// Checks that a result with several causes to be refused is refused by the first one that applies.
+// Checks that the submitted purchase is accepted, and that a result with several causes to be
+// refused is refused by the first one that applies: the status of the trade, then its commission
+// band, the limits of the shares held, the balance and the broker, and the last stamp.
 #[test]
 fn results_are_refused_by_the_first_cause(rt: HostRuntime) -> Result<(), Fail> {
     for (case, wanted) in [

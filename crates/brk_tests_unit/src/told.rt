@@ -3,7 +3,8 @@ use brk_money::{Fault, Refusal};
 use brk_trade::Plan;
 use std::alloc::Global;
 
-/// Returns the text of the reply of a plan, or `no,` and the refusal. Fails with a fault.
+/// Returns the text of the reply of a plan, its fields joined by commas, or `no,` and the refusal
+/// in its place. Fails with `Memory` only.
 pub fn format_planned_reply(
     alloc: Global,
     planned: Result<Plan, Refusal>,

@@ -76,7 +76,8 @@ fn format_job(alloc: Global, job: &Job) -> Result<String, AllocError> {
 }
 
 // Parses these arguments, after the name of the program. Returns the text of the job that they
-// request, or of their usage fault. Fails if memory runs out.
+// request, or `wrong:` with the error text, `help:` with the help or version text, or `day` for a
+// malformed day. Fails if memory runs out.
 fn format_parsed_arguments(alloc: Global, words: &[&str]) -> Result<String, Fail> {
     let mut all = Vec::new(alloc);
     all.push(String::from_str(alloc, "brk")?)?;
@@ -206,8 +207,8 @@ const JOBS: [(&[&str], &str); 17] = [
     ),
 ];
 
-// Checks the jobs that correct arguments of each subcommand request, and that a malformed day is
-// reported.
+// Checks that the arguments of `JOBS`, correct ones of each subcommand, request the wanted jobs,
+// and that a malformed day is reported.
 #[test]
 fn parses_the_arguments_of_each_job(rt: HostRuntime) -> Result<(), Fail> {
     for (words, job) in JOBS {
@@ -415,8 +416,8 @@ const WRONG_SERVES: [(&[&str], &str, &str); 6] = [
     ),
 ];
 
-// Checks the whole error text of each of these wrong arguments: the cause, the usage, and a line
-// about help.
+// Checks that each of these arguments is reported as wrong, with the whole error text: the cause,
+// the usage, and a line about help.
 fn expect_usage_faults(
     rt: &impl Abort,
     alloc: Global,
@@ -432,7 +433,8 @@ fn expect_usage_faults(
     Ok(())
 }
 
-// Checks the error texts of wrong arguments of a batch, a statement, an audit and serving.
+// Checks that wrong arguments of a batch, a statement, an audit and serving are reported with the
+// wanted error texts.
 #[test]
 fn refuses_wrong_arguments(rt: HostRuntime) -> Result<(), Fail> {
     expect_usage_faults(&rt, rt.alloc(), &WRONG_BATCHES)?;
@@ -475,8 +477,8 @@ const TEXTS: [(&[&str], &str); 3] = [
     ),
 ];
 
-// Checks the texts that are printed for the version, for an unknown subcommand, and for the help of
-// `audit`.
+// Checks that the texts for the version, for an unknown subcommand, and for the help of `audit` are
+// the wanted ones.
 #[test]
 fn prints_version_help_and_errors(rt: HostRuntime) -> Result<(), Fail> {
     for (words, text) in TEXTS {
@@ -494,8 +496,8 @@ const HELPS: [(&[&str], &str); 4] = [
     (&["--help"], HELP),
 ];
 
-// Checks the help of the program and of `batch`, and that arguments without a subcommand print the
-// help of the program as an error.
+// Checks that the help of the program and of `batch` are the wanted texts, and that arguments
+// without a subcommand have the help of the program as an error text.
 #[test]
 fn prints_help_of_commands(rt: HostRuntime) -> Result<(), Fail> {
     for (words, text) in HELPS {

@@ -59,8 +59,8 @@ const TABLES: &str = "DESK\n1,3,1709251200021\n\
     T,5,result\x1f2\x1f12.10,1709251200020,6.05,20.00,573.95,2024-03-03,505.00,605.00,9548.85\n\
     T,6,upname\x1f1,1709251200021,1\n";
 
-/// Returns the lines of the first `rows` rows of the batch, at most six, on a desk after the batch
-/// `SET`. Fails only if memory runs out.
+/// Returns the lines of the first `rows` rows of the batch, at most six, all accepted, on a desk
+/// after the batch `SET`, without an end line. Fails only if memory runs out.
 pub fn first_lines_of_batch(alloc: Global, rows: usize) -> Result<String, Fail> {
     let (first, _) = LINES.split_at(rows.min(6));
     let mut told = String::new(alloc);
@@ -69,7 +69,8 @@ pub fn first_lines_of_batch(alloc: Global, rows: usize) -> Result<String, Fail> 
 }
 
 /// Returns all lines of the batch on a desk that has accepted its first `booked` rows, at most six,
-/// before. Fails only if memory runs out.
+/// before: the stored replies to these rows, the other rows accepted, and the end line. Fails only
+/// if memory runs out.
 pub fn all_lines_of_retry(alloc: Global, booked: usize) -> Result<String, Fail> {
     let booked = booked.min(6);
     let (again, rest) = LINES.split_at(booked);
@@ -80,7 +81,8 @@ pub fn all_lines_of_retry(alloc: Global, booked: usize) -> Result<String, Fail> 
     Ok(told)
 }
 
-/// Checks that a batch ended with the fault `wanted`, and that it wrote exactly the lines `lines`.
+/// Checks that a batch ended with the fault `wanted`, and that the bytes `told`, which it wrote,
+/// are exactly the lines `lines`. Fails with `name` if not.
 pub fn expect_batch_fault(
     name: &str,
     ended: Result<Counts, BatchFault>,
@@ -95,8 +97,9 @@ pub fn expect_batch_fault(
     }
 }
 
-/// Executes the whole batch on a desk that has accepted its first `booked` rows before. Checks its
-/// lines and all tables after it.
+/// Executes the whole batch on a desk that has accepted its first `booked` rows before. Checks that
+/// these rows have their stored replies and the others are accepted with the replies `LINES`, and
+/// that all tables after it are those after one execution. Fails with `name` if not.
 pub fn expect_completed_batch(
     alloc: Global,
     mut desk: Desk<MemStore>,

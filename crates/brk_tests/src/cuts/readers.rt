@@ -9,9 +9,9 @@ use std::alloc::Global;
 use std::io::ErrorKind;
 use std::test::Fail;
 
-// Executes a batch on a new desk with a reader that fails after `len` bytes, and then retries it.
-// Checks the fault and the lines, and that the retry completes: a row is decided if the record
-// after it was read.
+// Executes a batch on a new desk with a reader that fails once with the error `kind` after `len`
+// bytes, and then retries it. Checks that it fails with `Read` after the lines of the decided rows,
+// and that the retry completes: a row is decided if the record after it was read.
 fn expect_batch_read_fault(
     alloc: Global,
     batch: &str,
@@ -40,8 +40,8 @@ fn expect_batch_read_fault(
     expect_batch_fault(name.as_str(), ended, wanted, &told, lines.as_str())
 }
 
-// Checks, for each byte of a batch, the fault, the lines and the retry of a batch whose reader
-// fails or is interrupted before this byte.
+// Checks, for each byte of a batch whose reader fails or is interrupted before this byte, that the
+// batch fails with `Read` after the lines of the decided rows, and that its retry completes.
 #[test]
 fn batch_readers_failing_at_each_byte(rt: HostRuntime) -> Result<(), Fail> {
     let batch = format_batch(rt.alloc(), &ROWS)?;

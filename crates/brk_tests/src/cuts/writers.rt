@@ -9,9 +9,10 @@ use std::alloc::Global;
 use std::io::ErrorKind;
 use std::test::Fail;
 
-// Executes a batch on a new desk with a writer that fails after `room` bytes, and then retries it.
-// Checks the fault and the written bytes, and that the retry completes: a row whose line was not
-// written remains committed.
+// Executes a batch on a new desk with a writer that has room for `room` bytes, and then fails once
+// with the error `fault`, or accepts no byte without one, and then retries it. Checks that it fails
+// with `Write` after the first `room` bytes of `lines`, and that the retry completes: a row whose
+// line was not written remains committed.
 fn expect_batch_write_fault(
     alloc: Global,
     batch: &str,
@@ -39,8 +40,9 @@ fn expect_batch_write_fault(
     expect_batch_fault(name.as_str(), ended, fault, &writer.taken, wanted)
 }
 
-// Checks, for each byte of the lines of a batch, the fault, the written bytes and the retry of a
-// batch whose writer fails, is interrupted or accepts no byte there.
+// Checks, for each byte of the lines of a batch whose writer fails, is interrupted or accepts no
+// byte there, that the batch fails with `Write`, that exactly the bytes before are written, and
+// that its retry completes.
 #[test]
 fn batch_writers_failing_at_each_byte(rt: HostRuntime) -> Result<(), Fail> {
     let batch = format_batch(rt.alloc(), &ROWS)?;

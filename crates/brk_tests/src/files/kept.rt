@@ -8,8 +8,8 @@ use crate::worked::{
 use std::alloc::Global;
 use std::test::Fail;
 
-// Executes a batch on the desk in these files. Checks its lines and that the audit passes, and
-// returns the files after it.
+// Executes a batch on the desk in these files, and returns the files after it. Fails with `name` if
+// the batch does not write exactly the lines `lines`, or if the audit after it fails.
 fn expect_batch_in_files(
     alloc: Global,
     held: &Held,
@@ -31,7 +31,8 @@ fn expect_batch_in_files(
 }
 
 // Executes the rows as a batch on a desk in files, opens the files again and retries the batch.
-// Checks that the first run accepts all rows with these replies, and that the retry repeats them.
+// Checks that the first run accepts all rows with these replies, that the retry repeats them, and
+// that an audit passes after each run. Fails with `name` if not.
 fn expect_trades_stored_and_repeated(
     alloc: Global,
     name: &str,

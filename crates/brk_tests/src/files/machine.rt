@@ -81,8 +81,8 @@ impl Seen {
     }
 }
 
-// Creates a desk in the database of a connection, or adopts the desk that the database has. Returns
-// the connection if both fail.
+// Creates a desk in the database of a connection, or, if the database has tables of a desk already,
+// adopts this desk. Returns the connection if the desk is neither created nor adopted.
 fn create_or_adopt_desk<S: Alter + Drop>(
     alloc: Global,
     conn: Connection<S>,
@@ -113,8 +113,10 @@ pub fn open_desk_in_files(
     create_or_adopt_desk(alloc, conn).ok()
 }
 
-/// Executes a batch on the desk of a connection, as far as possible, records the observation in
-/// `seen`, and returns the connection.
+/// Creates or adopts a desk in the database of a connection, executes a batch on it, as far as
+/// possible, and audits it. Records the tables before and after it, the lines and the result of the
+/// audit in `seen`, and returns the connection. Executes nothing if the desk is neither created nor
+/// adopted.
 pub fn run_batch_on_connection<S: Alter + Drop>(
     alloc: Global,
     mut conn: Connection<S>,
@@ -145,7 +147,8 @@ pub fn run_batch_on_connection<S: Alter + Drop>(
 }
 
 // Opens these files, executes a batch on the desk in them, and closes them, as far as possible.
-// Records the observation in `seen`, and returns the files.
+// Records the observation in `seen`, and returns the files. Executes nothing if a file has failed
+// or the database cannot be opened.
 fn run_batch_in_files(
     alloc: Global,
     files: Files<Fuse<Memory>>,
@@ -262,8 +265,8 @@ pub fn files_with_reference_data(alloc: Global) -> Result<Held, Fail> {
     Ok(held)
 }
 
-// Executes SQL statements on a database, stores in `is_done` whether they succeed, and returns the
-// connection.
+// Executes SQL statements on a database, stores true in `is_done` if all of them succeed and
+// otherwise false, and returns the connection.
 fn execute_sql<S: Alter + Drop>(
     mut conn: Connection<S>,
     text: &str,
@@ -273,8 +276,9 @@ fn execute_sql<S: Alter + Drop>(
     conn
 }
 
-// Opens these files, executes SQL statements on the database in them, and closes them. Stores in
-// `is_done` whether the statements succeed, and returns the files.
+// Opens these files, executes SQL statements on the database in them, closes them, and returns
+// them. Stores in `is_done` whether the statements succeed; does not change it if the files cannot
+// be opened.
 fn execute_sql_in_files(
     alloc: Global,
     files: Files<Fuse<Memory>>,

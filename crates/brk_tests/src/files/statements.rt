@@ -41,8 +41,9 @@ const WANTED: &[u8] = b"Statement of account 100\n\
     Holdings                  1500.00\n\
     Cash rows 3, lots 1\n";
 
-// Writes the statement of March 2024 to `text`, over a database file that accepts `calls` calls and
-// fails at each later call. Returns the result, or `None` if the desk cannot be opened.
+// Writes the statement of account 100 for March 2024 to `text`, on the desk in the files `held`,
+// whose database file accepts `calls` calls and fails at each later call. Returns the result, or
+// `None` if the desk cannot be opened. Fails if memory runs out.
 fn write_statement_over_failing_disk(
     alloc: Global,
     held: &Held,
@@ -69,8 +70,9 @@ fn is_proper_prefix_of_statement(text: &[u8]) -> bool {
     is_whole && text.len() < WANTED.len() && WANTED.starts_with(text)
 }
 
-// Checks, for a database file that fails at each of its calls, that the statement fails with
-// `Store` after whole first lines, or is complete.
+// Checks, for a database file that fails after 0, 1, 2 and more calls, that the desk cannot be
+// opened or the statement fails with `Store` after whole first lines, perhaps none, until the
+// statement is complete. Checks also that some failed statements have lines and some have none.
 #[test]
 fn statements_over_a_failing_disk(rt: HostRuntime) -> Result<(), Fail> {
     let alloc = rt.alloc();

@@ -66,8 +66,8 @@ fn fail_unless(is_so: bool, stop: Stop, what: &str) -> Result<(), Fail> {
     }
 }
 
-// Returns all tables of a desk in memory, as text, after the batch `SET` and the first `rows` rows
-// of the batch, at most six. Fails if the tables cannot be read.
+// Returns all tables of a desk in memory, as text, after the batch `SET` and the first `rows` of
+// the rows `ROWS`, at most six. Fails if the tables cannot be read.
 fn tables_after_rows(alloc: Global, rows: usize) -> Result<String, Fail> {
     let batch = format_batch(alloc, &ROWS[..rows.min(6)])?;
     let conn = desk_with_reference_data(alloc)?.into_store().into_conn();
@@ -86,9 +86,9 @@ fn has_lines_audit_and_tables(seen: &Seen, lines: &str, tables: &str) -> bool {
     seen.is_sound && seen.lines.as_slice() == lines.as_bytes() && seen.after.as_str() == tables
 }
 
-// Creates a desk until a crash, and then executes the batch `SET` on the desk that is opened or
-// created from the files. Returns two flags: the lines, the audit and the tables are as wanted; and
-// there was a crash. Fails if memory runs out.
+// Creates a desk until the crash `stop`, and then executes the batch `SET` on the desk that is
+// opened or created from the files. Returns two flags: the batch has the lines `SET_LINES` and the
+// tables `tables` after it, and the audit passes; and there was a crash. Fails if memory runs out.
 fn set_up_desk_after_creation_crash(
     alloc: Global,
     stop: Stop,
@@ -102,8 +102,9 @@ fn set_up_desk_after_creation_crash(
     ))
 }
 
-// Creates a desk until a crash, and checks that the batch `SET` then completes on the desk in the
-// files. Returns true if there was a crash.
+// Creates a desk until the crash `stop`, and checks that the batch `SET` then completes on the desk
+// in the files, with its lines, the tables `tables` after it, and an audit that passes. Returns
+// true if there was a crash.
 fn expect_creation_crash_recovered(alloc: Global, stop: Stop, tables: &str) -> Result<bool, Fail> {
     let (is_set, was_stopped) = set_up_desk_after_creation_crash(alloc, stop, tables)?;
     fail_unless(is_set, stop, "it is not set up")?;
@@ -111,7 +112,7 @@ fn expect_creation_crash_recovered(alloc: Global, stop: Stop, tables: &str) -> R
 }
 
 // Checks that a desk can be created and set up after a crash at each call of the log or the
-// database file during its creation.
+// database file during its creation, with the bytes that were not synced lost or stored.
 #[test]
 fn crashes_while_a_store_is_created(rt: HostRuntime) -> Result<(), Fail> {
     let tables = tables_after_rows(rt.alloc(), 0)?;
@@ -158,8 +159,9 @@ struct Twice {
     again: Seen,
 }
 
-// Executes the batch until a crash, retries it on the desk that is opened after the crash, and
-// returns both observations. Fails if memory runs out.
+// Executes the batch on the desk in the files `start` until the crash `stop`, retries it on the
+// desk that is opened after the crash, and returns the observations of both runs and whether there
+// was a crash. Fails if memory runs out.
 fn crash_and_retry_batch(
     alloc: Global,
     stop: Stop,
@@ -181,7 +183,8 @@ fn crash_and_retry_batch(
 }
 
 // Checks that the lines until the crash are a prefix of the lines `whole` of the batch, that a run
-// without a crash is complete, and that the retry has the lines `rest` and the tables `last`.
+// without a crash has all of these lines and the tables `last`, and that the retry has the lines
+// `rest` and the tables `last`. The audits after both complete runs must pass.
 fn expect_lines_and_tables(
     stop: Stop,
     twice: &Twice,
@@ -236,7 +239,7 @@ fn expect_batch_crash_recovered(
 }
 
 // Checks that a batch can be retried and completed after a crash at each call of the log or the
-// database file during the batch.
+// database file during the batch, with the bytes that were not synced lost or stored.
 #[test]
 fn crashes_while_a_batch_is_executed(rt: HostRuntime) -> Result<(), Fail> {
     let batch = format_batch(rt.alloc(), &ROWS)?;
@@ -266,8 +269,8 @@ fn crashes_while_a_batch_is_executed(rt: HostRuntime) -> Result<(), Fail> {
     Ok(())
 }
 
-// Executes three trades on a desk in files. Returns the observation and the files after them. Fails
-// if memory runs out.
+// Executes the first three trades of the worked rows on a desk in files after the batch `SET`.
+// Returns the observation of the batch and the files after it. Fails if memory runs out.
 fn files_after_trades(alloc: Global) -> Result<Sent, Fail> {
     let batch = format_batch(alloc, &worked::ROWS[..6])?;
     let set = files_with_reference_data(alloc)?;
@@ -297,8 +300,10 @@ struct MoveSeen {
     was_stopped: bool,
 }
 
-// Upgrades an older desk until a crash, and then again, and returns the result of both. `tables`
-// are its tables in schema 3. Fails if memory runs out.
+// Upgrades the desk of an older schema in the files `start` until the crash `stop`, and then again.
+// Returns whether the upgrade was not begun or was complete after the crash, whether it is complete
+// after the retry, and whether there was a crash. `tables` are its tables in schema 3. Fails if
+// memory runs out.
 fn crash_and_retry_upgrade(
     alloc: Global,
     stop: Stop,
@@ -315,8 +320,9 @@ fn crash_and_retry_upgrade(
     })
 }
 
-// Upgrades an older desk until a crash, and then again. Checks that the upgrade is atomic, that no
-// batch is answered before its commit, and that the retry completes it. Returns true if there was a
+// Upgrades the desk of an older schema in the files `start` until the crash `stop`, and then again.
+// Checks that the upgrade is atomic, that no batch is answered before its commit, and that the
+// retry completes it with the tables `tables`, those of schema 3. Returns true if there was a
 // crash.
 fn expect_upgrade_crash_recovered(
     alloc: Global,
@@ -330,8 +336,9 @@ fn expect_upgrade_crash_recovered(
     Ok(moved.was_stopped)
 }
 
-// Upgrades an older desk with a crash at each call of each file, and checks each recovery. Returns
-// true if a run without a crash was reached for each file.
+// Upgrades a desk that the SQL statements `change` convert to an older schema, with each crash of
+// `STOPS` at each call of its file, and checks each recovery. Returns true if, for each crash of
+// `STOPS`, a run without a crash was reached.
 fn upgrade_with_crash_at_each_call(alloc: Global, change: &str) -> Result<bool, Fail> {
     let (start, tables) = files_of_older_schema(alloc, change)?;
     let mut is_always = false;

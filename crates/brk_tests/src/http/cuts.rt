@@ -32,8 +32,8 @@ struct Three {
     replies: [String; 3],
 }
 
-// Returns the text of three requests, a row, the same row again and a query, and the positions at
-// which they end. Fails only if memory runs out.
+// Returns the text of three requests, a row that adds broker 2, the same row again and a query for
+// the submitted trades, and the positions at which they end. Fails only if memory runs out.
 fn three_requests_with_ends(alloc: Global) -> Result<(String, [usize; 3]), AllocError> {
     let mut input = format_post_request(alloc, "/rows/C/1", "[\"broker\",\"2\",\"Cy\"]")?;
     let one = input.len();
@@ -44,8 +44,9 @@ fn three_requests_with_ends(alloc: Global) -> Result<(String, [usize; 3]), Alloc
     Ok((input, ends))
 }
 
-// Returns the replies to the three requests on a desk that has executed none of them. Fails only if
-// memory runs out.
+// Returns the replies to the three requests on a desk that has executed none of them: the row is
+// accepted, its stored reply is repeated, and the view has no trades. Fails only if memory runs
+// out.
 fn replies_to_three_requests(alloc: Global) -> Result<[String; 3], AllocError> {
     let first = format_wanted_reply(alloc, Told::Open("200 OK", "{\"ok\":[\"1709251200016\"]}"))?;
     let second = format_wanted_reply(
@@ -114,8 +115,8 @@ fn streams_cut_at_each_byte(rt: HostRuntime) -> Result<(), Fail> {
     Ok(())
 }
 
-// Returns the replies to all requests on a desk that has executed the first one before, if
-// `executed` is true, or none. Fails only if memory runs out.
+// Returns the replies to all three requests on a desk that has executed the first one before, if
+// `executed` is true, so that its stored reply is repeated, or none. Fails only if memory runs out.
 fn all_replies_of_retry(alloc: Global, all: &Three, executed: bool) -> Result<String, AllocError> {
     let first = if executed { 1 } else { 0 };
     let mut wanted = String::from_str(alloc, all.replies[first].as_str())?;
@@ -125,7 +126,8 @@ fn all_replies_of_retry(alloc: Global, all: &Three, executed: bool) -> Result<St
 }
 
 // Serves the whole stream on a desk that has executed the first request before, if `executed` is
-// true, or none. Checks the replies and all tables.
+// true, or none. Checks that all three requests have their replies, and that the tables are those
+// after one execution of the row. Fails with `name` if not.
 fn expect_completed_stream(
     alloc: Global,
     mut desk: Desk<MemStore>,
@@ -141,8 +143,9 @@ fn expect_completed_stream(
     expect_all_tables(alloc, desk.into_store(), name, TABLES)
 }
 
-// Serves the stream with a reader that fails after `len` bytes. Checks the fault and the replies,
-// and that a retry completes: only requests that were read whole were executed.
+// Serves the stream with a reader that fails once with the error `kind` after `len` bytes. Checks
+// that it fails with `Read` after the replies to the requests that were read whole, that only these
+// were executed, and that a retry completes.
 fn expect_stream_read_fault(
     alloc: Global,
     all: &Three,
@@ -168,8 +171,9 @@ fn expect_stream_read_fault(
     expect_completed_stream(alloc, desk, name.as_str(), all, done > 0)
 }
 
-// Checks, for each byte of a stream, the fault, the replies and the retry of a stream whose reader
-// fails or is interrupted there.
+// Checks, for each byte of a stream whose reader fails or is interrupted there, that the stream
+// fails with `Read` after the replies to the requests that were read whole, and that a retry
+// completes.
 #[test]
 fn stream_readers_failing_at_each_byte(rt: HostRuntime) -> Result<(), Fail> {
     let all = three_requests_and_replies(rt.alloc())?;
@@ -180,8 +184,10 @@ fn stream_readers_failing_at_each_byte(rt: HostRuntime) -> Result<(), Fail> {
     Ok(())
 }
 
-// Serves the stream with a writer that fails after `room` bytes. Checks the fault and the written
-// bytes, and that a retry completes: a request is executed before its reply is written.
+// Serves the stream with a writer that has room for `room` bytes, and then fails once with the
+// error `fault`, or accepts no byte without one. Checks that it fails with `Write` after the first
+// `room` bytes of the replies, and that a retry completes: a request is executed before its reply
+// is written.
 fn expect_stream_write_fault(
     alloc: Global,
     all: &Three,
@@ -210,8 +216,9 @@ fn expect_stream_write_fault(
     expect_completed_stream(alloc, desk, name.as_str(), all, true)
 }
 
-// Checks, for each byte of the replies of a stream, the fault, the written bytes and the retry of a
-// stream whose writer fails, is interrupted or accepts no byte there.
+// Checks, for each byte of the replies of a stream whose writer fails, is interrupted or accepts no
+// byte there, that the stream fails with `Write`, that exactly the bytes before are written, and
+// that a retry completes.
 #[test]
 fn stream_writers_failing_at_each_byte(rt: HostRuntime) -> Result<(), Fail> {
     let all = three_requests_and_replies(rt.alloc())?;

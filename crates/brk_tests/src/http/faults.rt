@@ -20,8 +20,9 @@ fn open_desk_with_failing_log(alloc: Global, calls: u64) -> Option<Desk<FileStor
     open_desk_in_files(alloc, files, Options::new(1))
 }
 
-// Checks, for a log that fails at each of its calls, that the reply to a row is 503 and the last of
-// its stream.
+// Checks, for a log that fails after 0, 1, 2 and more calls, that the reply to a row is 503 and the
+// last of its stream, until the row and the query after it both have their replies. Checks nothing
+// where the desk cannot be created.
 #[test]
 fn a_store_fault_is_the_last_reply(rt: HostRuntime) -> Result<(), Fail> {
     let alloc = rt.alloc();

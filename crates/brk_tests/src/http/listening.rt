@@ -80,7 +80,7 @@ fn connect_all_peers(
     Ok(waiting)
 }
 
-// Checks that each peer receives exactly the wanted replies.
+// Checks that each peer that waits for replies receives exactly the wanted ones.
 fn expect_peer_replies(
     rt: &impl Abort,
     alloc: Global,
@@ -93,8 +93,8 @@ fn expect_peer_replies(
     Ok(())
 }
 
-// Checks the replies of six streams over sockets, served in sequence on one desk, and that a failed
-// accept ends the serving with `Net`.
+// Checks that six streams over sockets, served in sequence on one desk, have the replies of
+// `PEERS`, and that the serving ends with `Net` if no stream can be accepted.
 #[test]
 fn socket_streams_share_one_desk(rt: HostRuntime) -> Result<(), Fail> {
     let mut listener = TcpListener::bind(&rt, ("127.0.0.1", 0))?;

@@ -52,8 +52,8 @@ const STREAMS: [(&str, &[Told]); 7] = [
     ),
 ];
 
-// Checks that the replies to a stream do not depend on the size of the pieces in which its bytes
-// arrive.
+// Checks that each stream of `STREAMS` has its replies, whether its bytes arrive in pieces of
+// 4,096, of seven or of one.
 #[test]
 fn streams_in_pieces_get_the_same_replies(rt: HostRuntime) -> Result<(), Fail> {
     for (input, wanted) in STREAMS {
@@ -65,8 +65,8 @@ fn streams_in_pieces_get_the_same_replies(rt: HostRuntime) -> Result<(), Fail> {
     Ok(())
 }
 
-// Returns a request whose head has `len` bytes, because one field is long. Fails only if memory
-// runs out.
+// Returns a query for the submitted trades whose head has `len` bytes, because one field is long;
+// `len` must be at least the length of the other fields. Fails only if memory runs out.
 fn request_with_head_of_length(alloc: Global, len: usize) -> Result<String, AllocError> {
     let front = "POST /ask/submitted HTTP/1.1\r\nContent-Length: 2\r\nX: ";
     let mut head = String::from_str(alloc, front)?;
@@ -77,8 +77,8 @@ fn request_with_head_of_length(alloc: Global, len: usize) -> Result<String, Allo
     Ok(head)
 }
 
-// Checks that a head of 16,384 bytes is accepted and a longer one is refused with 413, for each
-// size of pieces.
+// Checks that a request with a head of 16,384 bytes has its reply, and that one with a longer head
+// is refused with 413, which ends its stream, for each size of pieces.
 #[test]
 fn a_head_has_at_most_16_384_bytes(rt: HostRuntime) -> Result<(), Fail> {
     for (len, wanted) in [(16_384, EMPTY), (16_385, LARGE)] {

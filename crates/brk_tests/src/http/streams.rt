@@ -17,7 +17,8 @@ pub struct Pieces<'a> {
 }
 
 impl Read for Pieces<'_> {
-    /// Fills the buffer with the next bytes, at most `size`, and returns their number.
+    /// Copies the next bytes, at most `size` and as many as the buffer can hold, to the buffer, and
+    /// returns their number, 0 at the end.
     fn read(&mut self, buf: &mut [u8]) -> io::Result<usize> {
         let count = self.size.min(buf.len()).min(self.bytes.len());
         let (front, rest) = self.bytes.split_at(count);
@@ -37,7 +38,7 @@ pub enum Told {
 }
 
 /// Serves a stream, whose bytes arrive in pieces of at most `size` bytes, on a desk at 2024-03-01
-/// 00:00 UTC. Returns the bytes that it wrote and its result.
+/// 00:00 UTC. Returns the bytes that it wrote and its result: the number of replies, or the fault.
 pub fn serve_stream_in_pieces<S: Alter>(
     alloc: Global,
     desk: &mut Desk<S>,

@@ -67,8 +67,9 @@ fn count_row(seen: &mut Seen, trade: u64) -> Result<(), Ended> {
     Ok(())
 }
 
-// Counts a cash row and appends its number, trade, stamp, amount and text to the rows. Fails with
-// `At` if no more rows may be passed.
+// Counts a cash row and appends its number, trade (0 for a movement), stamp, amount in cents and
+// text to the rows. Fails with `At` if no more rows may be passed, and with `Memory` if memory runs
+// out.
 fn record_cash_row(seen: &mut Seen, row: &MoveRow) -> Result<(), Ended> {
     let trade = row.trade.map_or(0, Id::get);
     count_row(seen, trade)?;
@@ -79,8 +80,8 @@ fn record_cash_row(seen: &mut Seen, row: &MoveRow) -> Result<(), Ended> {
     }
 }
 
-// Counts a lot and appends its trade, stamp, quantity, symbol and price to the rows. Fails with
-// `At` if no more rows may be passed.
+// Counts a lot and appends its trade, stamp, quantity, symbol and price in cents to the rows. Fails
+// with `At` if no more rows may be passed, and with `Memory` if memory runs out.
 fn record_lot(seen: &mut Seen, symbol: &str, lot: &Lot) -> Result<(), Ended> {
     count_row(seen, lot.trade.get())?;
     let (trade, stamp, price) = (lot.trade.get(), lot.stamp.get(), lot.price.get());
@@ -153,8 +154,8 @@ const CASH: [(i64, i64, u64, &str, Result<(), Ended>); 10] = [
     ),
 ];
 
-// Checks the cash rows that walks over spans of stamps pass, sorted by stamp, and the results of
-// the walks.
+// Checks, for each walk of `CASH` over the cash rows of account 100, that it passes exactly the
+// wanted rows, sorted by stamp, and that it has the wanted result.
 #[test]
 fn walks_cash_rows_in_order_of_stamps(rt: HostRuntime) -> Result<(), Fail> {
     let alloc = rt.alloc();
@@ -199,7 +200,8 @@ const LOTS: [(u64, u64, &str, Result<(), Ended>); 5] = [
     (101, 9, "", Ok(())),
 ];
 
-// Checks the lots that walks over accounts pass, sorted by symbol, and the results of the walks.
+// Checks, for each walk of `LOTS` over the lots of an account, that it passes exactly the wanted
+// lots, sorted by symbol, and that it has the wanted result.
 #[test]
 fn walks_lots_in_order_of_symbols(rt: HostRuntime) -> Result<(), Fail> {
     let alloc = rt.alloc();

@@ -44,8 +44,8 @@ const WANTED: &str = "Statement of account 100\n\
     Holdings                  1500.00\n\
     Cash rows 3, lots 1\n";
 
-// Returns the error of a writer with room for `room` bytes: `None`, so that it accepts no byte,
-// another error, or an interruption, in turn.
+// Returns the error of a writer with room for `room` bytes, by the remainder of `room` divided by
+// 3: `None` for 0, so that it accepts no byte, `Other` for 1, and `Interrupted` for 2.
 fn write_error_for_room(room: usize) -> Option<ErrorKind> {
     match room % 3 {
         0 => None,
@@ -54,8 +54,9 @@ fn write_error_for_room(room: usize) -> Option<ErrorKind> {
     }
 }
 
-// Writes the statement with a writer that has room for `room` bytes. Checks that it fails with
-// `Write`, or completes if there is room for all, and the written bytes.
+// Writes the statement of account 100 for March 2024 with a writer that has room for `room` bytes.
+// Checks that it fails with `Write`, or completes if there is room for all, and that exactly its
+// first `room` bytes are written.
 fn expect_statement_write_fault(
     rt: &impl Abort,
     alloc: Global,
@@ -89,8 +90,9 @@ fn expect_statement_write_fault(
     Ok(())
 }
 
-// Checks, for each byte of a statement, the result and the written bytes of a statement whose
-// writer fails, is interrupted or accepts no byte there.
+// Checks, for each byte of a statement whose writer fails, is interrupted or accepts no byte there,
+// that the statement fails with `Write` and that exactly the bytes before are written, and that it
+// completes with room for all bytes.
 #[test]
 fn statement_writers_failing_at_each_byte(rt: HostRuntime) -> Result<(), Fail> {
     let alloc = rt.alloc();
