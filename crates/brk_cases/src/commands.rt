@@ -306,9 +306,9 @@ fn execute_desk_command(
 }
 
 /// Executes the command `command` with its input lines `pieces` on the open desk or database,
-/// appends its output lines, and returns the desk or database that is open after it. If no desk is
-/// open and the command needs one or is unknown, appends only `! no desk`. Fails only if memory
-/// runs out.
+/// appends its output lines, and returns the desk or database that is open after it. If the
+/// command needs a desk or is unknown, and no desk is open, appends only `! no desk`; if it is
+/// unknown and a desk is open, appends only `! no such command`. Fails only if memory runs out.
 pub fn execute_command(
     alloc: Global,
     out: &mut String,

@@ -168,7 +168,8 @@ settlement_of_trade_or_zeros tables trade = unwrap_or (find (λ s. s.trade == tr
 abbrev pub cash_rows_before_completion : Tables → TradeRow → List MoveRow
 cash_rows_before_completion tables u = filter (λ row. nat_lt row.stamp u.stamp) (cash_move_rows_of_account tables u.account)
 
--- The results of the completed trade `u`, from its rows in `tables`.
+-- The results of the completed trade `u` that follow from `tables` (`ResultDetails`). Its price is
+-- 0 if it has none, and its settlement a row of zeros if it has none.
 abbrev pub result_details_of_trade : Tables → TradeRow → ResultDetails
 result_details_of_trade tables u = record {
   price = completion_price_or_zero u;

@@ -28,7 +28,7 @@ pub fn refused_commands_return_their_refusal()
 
 /// Proves that the checks of a cancel against the row of its trade refuse it exactly as the model
 /// does. If they pass, the model accepts the cancel, and its row changes lead to the tables after
-/// it. The base satisfies the books invariant.
+/// it. The base satisfies the books invariant, and the clock reading is at most the greatest stamp.
 pub fn cancel_row_changes_implement_commands()
     ensures first { (base : Base) (now id : ℕ) → BooksInvariant base → now ≤ greatest_stamp
         → first_refusal (cancel_checks_on_trade_row (trade_row_with_id (sheets base) id) (sheets base).last now)
@@ -41,7 +41,8 @@ pub fn cancel_row_changes_implement_commands()
 
 /// Proves that the checks of a feed against the last trades of its symbols refuse it exactly as the
 /// model does. If they pass, the model accepts the feed, its row changes lead to the tables after
-/// it, and the reply lists the trades that it triggers. The base satisfies the books invariant.
+/// it, and the reply lists the trades that it triggers. The base satisfies the books invariant, and
+/// the clock reading is at most the greatest stamp.
 pub fn feed_row_changes_implement_commands()
     ensures first { (base : Base) (now : ℕ) (ticks : List Tick) → BooksInvariant base → now ≤ greatest_stamp
         → first_refusal (feed_checks_on_tables (sheets base) ticks (sheets base).last now) ≡ refusal_of_command base now (FeedTicks ticks) }
