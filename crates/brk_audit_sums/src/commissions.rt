@@ -56,7 +56,7 @@ fn commission_postings_of_trades(
 }
 
 // Returns true if the commission total in the broker's row is the sum at the broker's id in `sums`,
-// in cents.
+// in cents, or 0 if `sums` does not contain the id.
 fn has_commission_sum(sums: &BTreeMap<u64, i128>, row: &BrokerRow) -> bool
     ensures { IsTrue result ↔ (pos row.now.commissions ≡ sum_at_key nat_cmp sums.now row.now.broker.id) }
 {
@@ -65,7 +65,7 @@ fn has_commission_sum(sums: &BTreeMap<u64, i128>, row: &BrokerRow) -> bool
 }
 
 // Returns true if the commission total in each broker's row is the sum at the broker's id in
-// `sums`, in cents.
+// `sums`, in cents, or 0 if `sums` does not contain the id.
 fn all_brokers_have_commission_sums(sums: &BTreeMap<u64, i128>, rows: &[BrokerRow]) -> bool
     ensures { IsTrue result ↔ AllByRecursion (λ row. pos row.commissions ≡ sum_at_key nat_cmp sums.now row.broker.id) rows.now }
 {

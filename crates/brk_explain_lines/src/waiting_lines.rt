@@ -67,9 +67,9 @@ fn trigger_condition_text(alloc: Global, kind: TradeType, price: Price) -> Resul
     }
 }
 
-// Returns the text of the event for which a trade waits, by its status: the event that triggers it
-// if it is pending, `a result` if it is submitted, and otherwise `nothing`. Fails with `Memory`
-// only.
+// Returns the text of the event for which a trade waits, by its status: if it is pending, the tick
+// that triggers it, or `a cancel` for a market type; `a result` if it is submitted; and otherwise
+// `nothing`. Fails with `Memory` only.
 fn awaited_event_text(
     alloc: Global,
     status: Status,

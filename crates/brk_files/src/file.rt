@@ -43,8 +43,8 @@ pub fn close_desk_file(store: FileDesk) -> Result<(), Fault>
     close_connection(store.into_conn())
 }
 
-// Opens a connection to the database file at `path`. Fails with `Store` only, for any error of the
-// open.
+// Opens a connection to the database file at `path`, also to a missing file, which becomes a new
+// database. Fails with `Store` only, for any error of the open.
 fn open_connection(rt: &HostRuntime, path: &str) -> Result<Connection<FileStore<File>>, Fault>
     ensures opened { IfOk result IsNewConnectionToFile }
     ensures fault { OnErr result (result ≡ Err fault.Store) }

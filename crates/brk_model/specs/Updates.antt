@@ -49,12 +49,14 @@ selected_trade_ids base test first last =
     map (λ t. t.id) (take 20 (trades_oldest_first (filter (λ t. test t && trade_stamp_is_between first last t) (completed_trades base))))
 
 -- The ids of the trades that an `upcash` of the account `account` updates: the first 20 completed
--- trades of the account between `first` and `last`, oldest first.
+-- trades of the account whose last status change is between `first` and `last`, both included,
+-- oldest first.
 abbrev pub selected_ids_of_account : Base → ℕ → ℕ → ℕ → List ℕ
 selected_ids_of_account base account first last = selected_trade_ids base (λ t. t.account == account) first last
 
 -- The ids of the trades that an `uptext` of the symbol `symbol` updates: the first 20 completed
--- cash trades of the symbol between `first` and `last`, oldest first.
+-- cash trades of the symbol whose last status change is between `first` and `last`, both included,
+-- oldest first.
 abbrev pub selected_ids_of_symbol : Base → Text → ℕ → ℕ → List ℕ
 selected_ids_of_symbol base symbol first last = selected_trade_ids base (λ t. t.is_cash && bytes_eq t.symbol symbol) first last
 

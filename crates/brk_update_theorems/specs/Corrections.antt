@@ -124,7 +124,7 @@ tables_after_command base now command = sheets (base_after_command base now comm
 abbrev pub trade_row_without_executor_name : TradeRow → TradeRow
 trade_row_without_executor_name r = record r { executor = [] }
 
--- The rows of TRADE with empty executor names.
+-- The rows `rows` of TRADE, each with its executor name replaced by the empty text.
 abbrev pub trade_rows_without_executor_names : List TradeRow → List TradeRow
 trade_rows_without_executor_names rows = map trade_row_without_executor_name rows
 
@@ -132,7 +132,7 @@ trade_rows_without_executor_names rows = map trade_row_without_executor_name row
 abbrev pub settlement_row_without_text : SettlementRow → SettlementRow
 settlement_row_without_text r = record r { cash_type = [] }
 
--- The rows of SETTLEMENT with empty texts.
+-- The rows `rows` of SETTLEMENT, each with its text (SE_CASH_TYPE) replaced by the empty text.
 abbrev pub settlement_rows_without_texts : List SettlementRow → List SettlementRow
 settlement_rows_without_texts rows = map settlement_row_without_text rows
 
@@ -140,7 +140,7 @@ settlement_rows_without_texts rows = map settlement_row_without_text rows
 abbrev pub cash_row_without_text : MoveRow → MoveRow
 cash_row_without_text r = record r { name = [] }
 
--- The rows of CASH_MOVE with empty texts.
+-- The rows `rows` of CASH_MOVE, each with its text (CM_NAME) replaced by the empty text.
 abbrev pub cash_rows_without_texts : List MoveRow → List MoveRow
 cash_rows_without_texts rows = map cash_row_without_text rows
 
