@@ -23,7 +23,7 @@ use std::alloc::Global;
 use std::collections::BTreeMap;
 
 // Returns the trade's commission, in cents, as a posting at the broker of its account, or `None` if
-// the trade is not completed. The map `terms` has the broker of its account.
+// the trade is not completed. The map `terms` contains the broker of each account.
 fn commission_posting_of_trade(
     terms: &BTreeMap<u64, AccountTerms>,
     trade: &TradeRow,
@@ -38,8 +38,9 @@ fn commission_posting_of_trade(
     Some(Posting { key, amount })
 }
 
-// Returns the commissions of all completed trades as postings at the brokers of their accounts.
-// Fails with `Memory` only.
+// Returns the commissions, in cents, of all completed trades as postings at the brokers of their
+// accounts, in the order of the trades. The map `terms` contains the broker of each account. Fails
+// with `Memory` only.
 fn commission_postings_of_trades(
     alloc: Global,
     terms: &BTreeMap<u64, AccountTerms>,
@@ -77,9 +78,9 @@ fn all_brokers_have_commission_sums(sums: &BTreeMap<u64, i128>, rows: &[BrokerRo
     true
 }
 
-/// Returns true if the rows satisfy the condition `Commission`: each broker's commission total is
-/// the sum of the commissions of the completed trades of the broker's accounts. Fails with `Memory`
-/// only.
+/// Returns true if the rows, which must satisfy `Form` and `Status`, satisfy the condition
+/// `Commission`: each broker's commission total is the sum of the commissions of the completed
+/// trades of the broker's accounts. Fails with `Memory` only.
 pub fn commission_condition_holds(alloc: Global, sheets: &Sheets) -> Result<bool, Fault>
     requires form { HasWellFormedRows sheets.now }
     requires status { HasValidStatuses sheets.now }
