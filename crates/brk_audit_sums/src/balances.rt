@@ -24,7 +24,8 @@ use std::alloc::Global;
 use std::collections::BTreeMap;
 
 // Returns the trade's settlement amount, in cents, as a posting at its account, or `None` if it is
-// not a completed cash trade. The map `terms` contains the tax status of each account.
+// not a completed cash trade. The tax status of the account is looked up in `terms`; it is
+// `Untaxed` if `terms` does not contain the account.
 fn cash_posting_of_trade(
     terms: &BTreeMap<u64, AccountTerms>,
     trade: &TradeRow,
@@ -40,8 +41,8 @@ fn cash_posting_of_trade(
 }
 
 // Returns the settlement amounts, in cents, of all completed cash trades as postings at their
-// accounts, in the order of the trades. The map `terms` contains the tax status of each account.
-// Fails with `Memory` only.
+// accounts, in the order of the trades. The tax statuses are looked up in `terms`
+// (`account_tax_status`). Fails with `Memory` only.
 fn cash_postings_of_trades(
     alloc: Global,
     terms: &BTreeMap<u64, AccountTerms>,

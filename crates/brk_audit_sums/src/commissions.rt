@@ -23,7 +23,8 @@ use std::alloc::Global;
 use std::collections::BTreeMap;
 
 // Returns the trade's commission, in cents, as a posting at the broker of its account, or `None` if
-// the trade is not completed. The map `terms` contains the broker of each account.
+// the trade is not completed. The broker is looked up in `terms`; it is 0 if `terms` does not
+// contain the account.
 fn commission_posting_of_trade(
     terms: &BTreeMap<u64, AccountTerms>,
     trade: &TradeRow,
@@ -39,8 +40,8 @@ fn commission_posting_of_trade(
 }
 
 // Returns the commissions, in cents, of all completed trades as postings at the brokers of their
-// accounts, in the order of the trades. The map `terms` contains the broker of each account. Fails
-// with `Memory` only.
+// accounts, in the order of the trades. The brokers are looked up in `terms` (`account_broker_id`).
+// Fails with `Memory` only.
 fn commission_postings_of_trades(
     alloc: Global,
     terms: &BTreeMap<u64, AccountTerms>,

@@ -23,7 +23,8 @@ use std::alloc::Global;
 use std::collections::BTreeMap;
 
 // Returns the amount 1 as a posting at the broker of the trade's account, or `None` if the trade is
-// not completed. The map `terms` contains the broker of each account.
+// not completed. The broker is looked up in `terms`; it is 0 if `terms` does not contain the
+// account.
 fn count_posting_of_trade(
     terms: &BTreeMap<u64, AccountTerms>,
     trade: &TradeRow,
@@ -38,8 +39,8 @@ fn count_posting_of_trade(
 }
 
 // Returns, for each completed trade, in the order of the trades, the amount 1 as a posting at the
-// broker of its account. The map `terms` contains the broker of each account. Fails with `Memory`
-// only.
+// broker of its account. The brokers are looked up in `terms` (`account_broker_id`). Fails with
+// `Memory` only.
 fn count_postings_of_trades(
     alloc: Global,
     terms: &BTreeMap<u64, AccountTerms>,
