@@ -55,9 +55,9 @@ impl<'a> Replay<'a> {
         })
     }
 
-    // Executes the pending command, copies the line `line` to the replay, and makes it the pending
-    // command unless it is a comment or empty. Returns the state of the replay after it. Fails only
-    // if memory runs out.
+    // Executes the pending command, copies the line `line` to the replay, and starts the next
+    // pending command with it, unless it is a comment or empty. Returns the state of the replay
+    // after it. Fails only if memory runs out.
     fn execute_pending_and_start_next(
         self,
         alloc: Global,
@@ -80,7 +80,8 @@ impl<'a> Replay<'a> {
 
     // Processes the next line of a transcript, and returns the state of the replay after it: drops
     // an output line; copies an input line and adds it to the pending command; executes the pending
-    // command at any other line, which begins the next one. Fails only if memory runs out.
+    // command at any other line and copies this line, which starts the next command unless it is a
+    // comment or empty. Fails only if memory runs out.
     fn process_line(
         self,
         alloc: Global,
@@ -100,7 +101,7 @@ impl<'a> Replay<'a> {
     }
 }
 
-/// Executes the commands of a transcript, and returns the transcript with their output lines in
+/// Executes the commands of a transcript, and returns the transcript with their new output lines in
 /// place of the old ones.
 ///
 /// Fails only if memory runs out.
