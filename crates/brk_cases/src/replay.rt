@@ -41,8 +41,9 @@ struct Replay<'a> {
 }
 
 impl<'a> Replay<'a> {
-    // Returns the replay with an input line, without its escapes, added to its pending command;
-    // unchanged if there is none. Fails only if memory runs out.
+    // Adds the input line `text`, without its escapes, to the pending command and returns the
+    // replay after it, or returns the replay unchanged if no command is pending. Fails only if
+    // memory runs out.
     fn with_input_line(self, alloc: Global, text: &str) -> Result<Replay<'a>, Failed> {
         let Replay { place, due } = self;
         let Some(mut due) = due else {

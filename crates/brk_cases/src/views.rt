@@ -84,7 +84,7 @@ pub fn execute_ask_command(
     }
 }
 
-// Returns the form of a printed view that `word` names: JSON for `json` and `json-heads`, and
+// Returns the format of a printed view that `word` names: JSON for `json` and `json-heads`, and
 // otherwise CSV; with the names of the fields for `csv-heads` and `json-heads`, and otherwise
 // without.
 fn form_of_printed_view(word: &str) -> Form {
@@ -94,9 +94,9 @@ fn form_of_printed_view(word: &str) -> Form {
     }
 }
 
-/// Prints a view of a desk: `words` has the form and the name of the view, separated by a space,
-/// and the input lines are its arguments. Appends the printed text and, if it failed, `no` and the
-/// number of the refusal, or `! fault`. Fails only if memory runs out.
+/// Prints a view of a desk: `words` contains the format and the name of the view, separated by a
+/// space, and the input lines are its arguments. Appends the printed text and, if it failed, `no`
+/// and the number of the refusal, or `! fault`. Fails only if memory runs out.
 pub fn execute_print_command(
     alloc: Global,
     out: &mut String,

@@ -109,7 +109,7 @@ fn date_text_bytes(date: Date) -> [u8; 10]
     ]
 }
 
-/// Appends the canonical text of a day, such as `2024-03-01`.
+/// Appends the canonical text of a day, such as `2024-03-01`, to `out`.
 ///
 /// Fails with `Memory` only; `out` is then unchanged.
 #[tactic(auto, using(crate::proofs::DayTexts::text_of, crate::proofs::Calendar::from_zero))]

@@ -26,9 +26,9 @@ impl<'a> Failing<'a> {
 }
 
 impl Read for Failing<'_> {
-    /// Copies the next bytes, as many as the buffer can hold, to the buffer and returns their
-    /// number, 0 at the end. Fails once, with an error of the kind `fault`, after the bytes of
-    /// `before`.
+    /// Copies the next bytes, at most as many as the buffer can hold, to the buffer and returns
+    /// their number, 0 at the end. Fails once, with an error of the kind `fault`, after the bytes
+    /// of `before`.
     fn read(&mut self, buf: &mut [u8]) -> io::Result<usize> {
         if self.before.is_empty() {
             if let Some(kind) = self.fault.take() {

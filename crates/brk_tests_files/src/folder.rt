@@ -9,8 +9,8 @@ pub fn write_file(rt: &HostRuntime, path: &str, bytes: &[u8]) -> bool {
     fs::write(rt, path, bytes).is_ok()
 }
 
-/// Copies a file: `paths` has the paths of the file and of its copy, separated by a space. Returns
-/// true if that succeeds, and false also if `paths` has no space.
+/// Copies a file: `paths` contains the paths of the file and of its copy, separated by a space.
+/// Returns true if that succeeds, and false also if `paths` has no space.
 pub fn copy_file(rt: &HostRuntime, paths: &str) -> bool {
     match paths.split_once(' ') {
         Some((from, to)) => fs::copy(rt, from, to).is_ok(),

@@ -16,7 +16,7 @@ fn ending_of_batch_fault(kind: FaultKind) -> Ending {
 }
 
 // Checks that `end_with` returns the exit status `status` for an ending, and that it writes exactly
-// the text `text` to standard error.
+// the text `text` to its error stream.
 fn expect_status_and_line(rt: &impl Abort, alloc: Global, ending: &Ending, status: u8, text: &str) {
     let mut errors = Vec::new(alloc);
     assert!(rt; end_with(ending, &mut errors) == status, "{text}");

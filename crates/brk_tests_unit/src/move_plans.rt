@@ -100,9 +100,9 @@ fn movement_replies_and_refusals(rt: HostRuntime) -> Result<(), Fail> {
     Ok(())
 }
 
-// Checks that the reply to setting the settlement day `days` on a desk with the settlement day
-// `rule`, or with none, or `no,` and the refusal, is the text `wanted`. The last stamp is on
-// 2024-03-01 UTC; both days are in days since 1970-01-01.
+// Checks that the reply to the command that sets the settlement day `days`, or `no,` and the
+// refusal of the command, is the text `wanted`. The desk has the settlement day `rule`, or none,
+// and its last stamp is on 2024-03-01 UTC; both days are in days since 1970-01-01.
 fn expect_settlement_day_reply(
     rt: &impl Abort,
     alloc: Global,

@@ -56,7 +56,7 @@ const STOPS: [Stop; 4] = [
     },
 ];
 
-// Fails with the name of the crash, its call and `what` if `is_so` is false.
+// Fails, with the name of the crash, its number of calls and the text `what`, if `is_so` is false.
 fn fail_unless(is_so: bool, stop: Stop, what: &str) -> Result<(), Fail> {
     if is_so {
         Ok(())
@@ -323,8 +323,8 @@ fn crash_and_retry_upgrade(
 
 // Upgrades the desk of an older schema in the files `start` until the crash `stop`, and then
 // retries the upgrade. Checks that the upgrade is atomic, that no line of a batch is written before
-// it is committed, and that the retry completes it with the tables `tables`, those of schema 3.
-// Returns true if there was a crash.
+// the upgrade is committed, and that the retry completes the upgrade with the tables `tables`,
+// those of schema 3. Returns true if there was a crash.
 fn expect_upgrade_crash_recovered(
     alloc: Global,
     stop: Stop,

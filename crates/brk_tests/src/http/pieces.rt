@@ -65,9 +65,9 @@ fn streams_in_pieces_get_the_same_replies(rt: HostRuntime) -> Result<(), Fail> {
     Ok(())
 }
 
-// Returns an HTTP request for the submitted trades with a head of `len` bytes, which one long field
-// fills. `len` must be at least the length of the head without this field's value. Fails only if
-// memory runs out.
+// Returns an HTTP request for the submitted trades with a head of `len` bytes: its last header
+// field is as long as needed. `len` must be at least the length of the head without the value of
+// this field. Fails only if memory runs out.
 fn request_with_head_of_length(alloc: Global, len: usize) -> Result<String, AllocError> {
     let front = "POST /ask/submitted HTTP/1.1\r\nContent-Length: 2\r\nX: ";
     let mut head = String::from_str(alloc, front)?;
