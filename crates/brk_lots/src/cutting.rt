@@ -25,7 +25,7 @@ fn remove_front_lots(lots: &mut Vec<Lot>, last: usize, qty: i64) -> usize
 }
 
 // Removes the lots after the index `last` from the vector, and sets the quantity of the lot at
-// `last` to `qty`, or removes that lot too if `qty` is 0.
+// `last` to `qty`, or removes this lot too if `qty` is 0.
 fn remove_back_lots(lots: &mut Vec<Lot>, last: usize, qty: i64)
     requires { last < vec_len lots.old }
     ensures left { (lot : Lot) → lot ≡ slice_index_or lots.old.items last lot → lots.new.items ≡ take last lots.old.items ++ lot_with_nonzero_quantity qty lot }
@@ -41,9 +41,9 @@ fn remove_back_lots(lots: &mut Vec<Lot>, last: usize, qty: i64)
     lots[last].qty = qty;
 }
 
-// Applies the changes `touched` of a closing to the lots from the index `first` on. They close the
-// lots at one end of these, the front or the back, and the last of them may only reduce its lot.
-// Returns the index of the first remaining lot.
+// Applies the lot changes `touched` to the lots from the index `first` on. The changes must be
+// those of the first or of the last of these lots, in sequence from that end: each closes its lot,
+// and only the last change may merely reduce its lot. Returns the index of the first remaining lot.
 pub(crate) fn apply_touches_to_lots(lots: &mut Vec<Lot>, first: usize, touched: &[Touch]) -> usize
     requires within { first ≤ vec_len lots.old }
     requires walk { IsPositionInAnyOrder (drop first lots.old.items) }
