@@ -187,7 +187,8 @@ tables_with_stored_reply k t = record t { kept = insert_row_by_key kept_key k t.
 abbrev pub tables_with_last_stamp : ℕ → Tables → Tables
 tables_with_last_stamp stamp t = record t { last = Some stamp }
 
--- The tables after one typed row change, by its kind: a row is inserted, updated or deleted.
+-- The function that returns the tables after one typed row change: a row is inserted, updated or
+-- deleted, or the settlement day or the last stamp is set.
 abbrev pub tables_after_change : Change → Tables → Tables
 tables_after_change (AddBroker broker) = tables_with_broker (abstract_broker broker)
 tables_after_change (AddCustomer customer) = tables_with_customer (abstract_customer customer)
