@@ -53,8 +53,8 @@ span_including_price price span = record {
 abbrev pub span_including_tick : Text → Span → Tick → Span
 span_including_tick symbol span tick = if bytes_eq tick.symbol symbol then span_including_price tick.price span else span
 
--- The lowest and the highest price, in cents, of `first` and of those of `others` that have its
--- symbol.
+-- The lowest and the highest price, in cents, of `first` and of those ticks of `others` that have
+-- the symbol of `first`.
 abbrev pub price_span_of_first_symbol : Tick → List Tick → Span
 price_span_of_first_symbol first others = fold (span_including_tick first.symbol) (record { lowest = first.price; highest = first.price }) others
 

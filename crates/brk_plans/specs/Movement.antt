@@ -19,12 +19,12 @@ use Rattle.brk_plans.specs.declared.movement.MovementPlanFacts.{MovementPlanFact
 use Rattle.brk_plans.specs.declared.plan.Plan.{Plan}
 use Rattle.brk_plans.specs.declared.reply.Reply.TheVariants as reply
 
--- The `amount` of a movement in cents: above 0 for a deposit, below 0 for a withdrawal.
+-- The `amount` of a movement in cents, negated for a withdrawal.
 abbrev pub signed_cash_amount : Direction → ℕ → ℤ
 signed_cash_amount Deposit amount = pos amount
 signed_cash_amount Withdrawal amount = neg_ℤ (pos amount)
 
--- The amount of the movement `m` in cents: above 0 for a deposit, below 0 for a withdrawal.
+-- The amount of the movement `m` in cents, negated for a withdrawal.
 abbrev pub signed_amount_of_movement : Movement → ℤ
 signed_amount_of_movement m = signed_cash_amount m.direction m.amount
 

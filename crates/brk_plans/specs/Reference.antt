@@ -30,13 +30,13 @@ abbrev pub permission_checks : ReferenceFacts → List RefusalCheck
 permission_checks found = (not found.account, NoAccount) ∷ duplicate_check found.same_id ∷ []
 
 -- The checks of a new commission band `band` against the facts `found`: its bounds are not reversed
--- (`BadQty`), and no other band shares a quantity with it (`Overlap`).
+-- (`BadQty`), and no band of its tier, type and exchange shares a quantity with it (`Overlap`).
 abbrev pub band_checks : Band → ReferenceFacts → List RefusalCheck
 band_checks band found = (nat_lt band.to_qty band.from_qty, BadQty) ∷ (found.overlaps, Overlap) ∷ []
 
--- True if the sum of a customer's tax rates, the first argument, plus the rate of another tax, the
--- second one, exceeds the greatest rate (hundred-thousandths). A sum of none exceeds it already,
--- and another rate of none counts as 0.
+-- True if the sum of a customer's tax rates plus the rate of another tax exceeds the greatest rate
+-- (hundred-thousandths). True also if the sum is `None`, which means that it exceeds the greatest
+-- rate already. A rate of `None` counts as 0.
 abbrev pub exceeds_greatest_tax_rate : Option ℕ → Option ℕ → Bool
 exceeds_greatest_tax_rate None rate = true
 exceeds_greatest_tax_rate (Some rates) rate = nat_lt greatest_tax_rate (rates + unwrap_or rate 0)

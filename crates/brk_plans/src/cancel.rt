@@ -11,9 +11,9 @@ use brk_changes::Change;
 use brk_money::{Fault, Id, Planned, Refusal, Stamp, Status, stamp_after};
 use std::alloc::Global;
 
-// Returns the refusal of a cancel of the trade whose status is `found`: `NoTrade` if it is `None`,
-// so that there is no such trade, or `WrongStatus` if it is not pending. Returns `None` if the
-// trade is pending.
+// Returns the refusal of a cancel of the trade whose status is `found`: `NoTrade` if `found` is
+// `None`, which means that there is no such trade, or `WrongStatus` if the trade is not pending.
+// Returns `None` if the trade is pending.
 fn refusal_of_cancel(found: Option<Status>) -> Option<Refusal>
     ensures { result ≡ first_refusal (cancel_checks found) }
 {

@@ -120,7 +120,8 @@ fn create_movement_changes(
 }
 
 // Returns the plan of an accepted movement: it adds a cash row with the id `number`, and sets the
-// balance of the account to `balance` and the last stamp to `stamp`. Fails with `Memory` only.
+// balance of the account to `balance` cents and the last stamp to `stamp`. Its reply has the stamp,
+// the id and the balance. Fails with `Memory` only.
 fn create_movement_plan(
     alloc: Global,
     movement: &Movement,
