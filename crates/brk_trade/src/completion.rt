@@ -221,8 +221,8 @@ fn append_quantity_text(name: &mut String, qty: Qty) -> Result<(), AllocError>
     write!(name, " {} shares of ", qty.get())
 }
 
-// Returns the cash text of a trade: the name of its type, its quantity, " shares of " and the name
-// of its security. Fails if memory runs out.
+// Returns the cash text of a trade: the name of its type, a space, its quantity, " shares of " and
+// the name of its security. Fails if memory runs out.
 fn format_trade_cash_text(
     alloc: Global,
     trade: &TradeRow,

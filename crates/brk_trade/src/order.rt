@@ -177,8 +177,8 @@ fn first_status(kind: TradeType) -> Status
     }
 }
 
-// Returns the executor's name as a trade stores it: the first name, a space, the last name. Fails
-// if memory runs out.
+// Returns the executor's name as a TRADE row stores it: the first name, a space, the last name.
+// Fails if memory runs out.
 fn executor_name(alloc: Global, executor: &Executor) -> Result<String, AllocError>
     ensures { IfOk result (λ name. string_bytes name ≡ model.executor_name (abstract_executor executor.now)) }
 {
