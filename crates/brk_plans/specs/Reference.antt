@@ -16,21 +16,22 @@ use Rattle.brk_plans.specs.declared.reference.Reference.{Reference}
 use Rattle.brk_plans.specs.declared.reference.Reference.TheVariants as reference
 use Rattle.brk_plans.specs.declared.reply.Reply.TheVariants.{Booked}
 
--- The checks of a new account against the facts `found`: its customer and its broker exist
--- (`NoCustomer`, `NoBroker`), its id is new (`Exists`), and its customer has fewer accounts than
--- the greatest number (`Range(Accounts)`).
+-- The checks of a new account against the facts `found`, in this order: its customer and its broker
+-- exist (`NoCustomer`, `NoBroker`), its id is new (`Exists`), and its customer has fewer accounts
+-- than the greatest number (`Range(Accounts)`).
 abbrev pub account_checks : ReferenceFacts → List RefusalCheck
 account_checks found =
     (not found.customer, NoCustomer) ∷ (not found.broker, NoBroker) ∷ duplicate_check found.same_id
     ∷ (nat_le most_accounts_per_customer found.accounts, Range limit.Accounts) ∷ []
 
--- The checks of a new permission against the facts `found`: its account exists (`NoAccount`), and
--- no permission has its account and its tax id (`Exists`).
+-- The checks of a new permission against the facts `found`, in this order: its account exists
+-- (`NoAccount`), and no permission has its account and its tax id (`Exists`).
 abbrev pub permission_checks : ReferenceFacts → List RefusalCheck
 permission_checks found = (not found.account, NoAccount) ∷ duplicate_check found.same_id ∷ []
 
--- The checks of a new commission band `band` against the facts `found`: its bounds are not reversed
--- (`BadQty`), and no band of its tier, type and exchange shares a quantity with it (`Overlap`).
+-- The checks of a new commission band `band` against the facts `found`, in this order: its bounds
+-- are not reversed (`BadQty`), and no band of its tier, type and exchange shares a quantity with it
+-- (`Overlap`).
 abbrev pub band_checks : Band → ReferenceFacts → List RefusalCheck
 band_checks band found = (nat_lt band.to_qty band.from_qty, BadQty) ∷ (found.overlaps, Overlap) ∷ []
 
@@ -41,9 +42,9 @@ abbrev pub exceeds_greatest_tax_rate : Option ℕ → Option ℕ → Bool
 exceeds_greatest_tax_rate None rate = true
 exceeds_greatest_tax_rate (Some rates) rate = nat_lt greatest_tax_rate (rates + unwrap_or rate 0)
 
--- The checks of a new tax of a customer against the facts `found`: the customer and the tax exist
--- (`NoCustomer`, `NoTax`), the customer does not pay it yet (`Exists`), and the sum of its rates
--- does not exceed the greatest rate (`TaxSum`).
+-- The checks of a new tax of a customer against the facts `found`, in this order: the customer and
+-- the tax exist (`NoCustomer`, `NoTax`), the customer does not pay it yet (`Exists`), and the sum
+-- of the customer's rates, this tax included, does not exceed the greatest rate (`TaxSum`).
 abbrev pub customer_tax_checks : ReferenceFacts → List RefusalCheck
 customer_tax_checks found =
     (not found.customer, NoCustomer) ∷ (is_none found.rate, NoTax) ∷ duplicate_check found.same_id ∷ (exceeds_greatest_tax_rate found.rates found.rate, TaxSum)
@@ -94,7 +95,7 @@ row_changes_adding_record stamp other = row_change_adding_record other ∷ []
 
 -- `plan` adds the record `reference` at the stamp of the command, where `found` are the facts in
 -- the tables, `last` is the last stamp, and `now` the clock reading. The record passes its checks,
--- and a later stamp is left. The row changes are those that add the record and that of the last
+-- and a later stamp exists. The row changes are those that add the record and that of the last
 -- stamp, and the reply has the stamp.
 pub record IsReferencePlan (reference : Reference) (found : ReferenceFacts) (last : Option ℕ) (now : ℕ) (plan : Plan) : Type 0 where
   pub stamp : ℕ

@@ -43,7 +43,7 @@ fn create_cancel_changes(alloc: Global, trade: Id, stamp: Stamp) -> Result<Vec<C
 /// reply has the stamp.
 ///
 /// Refuses with the first that applies of `NoTrade`; `WrongStatus`, if the trade is not pending;
-/// and `ClockEnd`, if no later stamp is left. Fails with `Memory` only.
+/// and `ClockEnd`, if no later stamp exists. Fails with `Memory` only.
 pub fn plan_cancel(
     alloc: Global,
     trade: Id,

@@ -258,8 +258,8 @@ fn apply_ticks_to_quotes(
 /// has the stamp and the triggered trades.
 ///
 /// Refuses with the first that applies of `NoSecurity`, if a tick has no quote; `Range(Volume)`, if
-/// a volume exceeds its limit after all ticks; and `ClockEnd`, if no later stamp is left. Fails
-/// with `Memory` only.
+/// a volume exceeds its limit after all ticks; and `ClockEnd`, if no later stamp exists. Fails with
+/// `Memory` only.
 pub fn plan_feed(
     alloc: Global,
     feed: &Feed,

@@ -152,7 +152,7 @@ fn create_movement_plan(
 ///
 /// Refuses with the first that applies of `NoAccount`; `Range(Balance)`, if the balance would
 /// exceed its limit; `Range(Moves)`, if there are already `Id::GREATEST` deposits and withdrawals;
-/// and `ClockEnd`, if no later stamp is left. Fails with `Memory` only.
+/// and `ClockEnd`, if no later stamp exists. Fails with `Memory` only.
 pub fn plan_move(
     alloc: Global,
     movement: &Movement,

@@ -222,8 +222,7 @@ fn create_reference_changes(
 ///
 /// Refuses with the first that applies of `BadQty` (the bounds of a band are reversed),
 /// `NoAccount`, `NoCustomer`, `NoBroker`, `NoTax`, `Exists`, `Overlap`, `TaxSum` and
-/// `Range(Accounts)`; and then with `ClockEnd`, if no later stamp is left. Fails with `Memory`
-/// only.
+/// `Range(Accounts)`; and then with `ClockEnd`, if no later stamp exists. Fails with `Memory` only.
 pub fn plan_reference(
     alloc: Global,
     reference: &Reference,

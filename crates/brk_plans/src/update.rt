@@ -142,7 +142,7 @@ fn count_updated_trades(found: &TextUpdate) -> usize
 /// the number of trades. No status and no stamp of a trade changes.
 ///
 /// Refuses with `NoTrade`, `NoAccount` or `NoSecurity`, by the kind of the update, if `found` is
-/// `None`, and otherwise with `ClockEnd` if no later stamp is left. Fails with `Memory` only.
+/// `None`, and otherwise with `ClockEnd` if no later stamp exists. Fails with `Memory` only.
 pub fn plan_update(
     alloc: Global,
     update: &Update,
