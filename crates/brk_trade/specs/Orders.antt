@@ -37,8 +37,8 @@ use Rattle.brk_plans.specs.declared.reply.Reply.TheVariants.{Ordered}
 use Rattle.brk_changes.specs.declared.request_row.RequestRow.{RequestRow}
 use Rattle.brk_changes.specs.declared.trade_row.TradeRow.{TradeRow}
 
--- The checks of an order against the facts `found`: its account and its security exist
--- (`NoAccount`, `NoSecurity`), its executor is permitted (`NotPermitted`), and a charge and a
+-- The checks of an order against the facts `found`, in this order: its account and its security
+-- exist (`NoAccount`, `NoSecurity`), its executor is permitted (`NotPermitted`), and a charge and a
 -- commission rate apply (`NoCharge`, `NoRate`).
 abbrev pub order_checks : OrderPlanFacts → List RefusalCheck
 order_checks found =
@@ -87,8 +87,8 @@ pub record EstimatesCheckedOrder (order : Order) (found : OrderPlanFacts) (given
   pub accepted : first_refusal (order_checks found) ≡ None
   pub estimated : MatchesModelEstimate (terms_of_order order found) given estimate
 
--- The check that an id is left for a new trade (`Range(Trades)`), where `last` is the greatest id
--- in use, or none if there are no trades. Trades are numbered from 1 without a gap.
+-- The check that a free id exists for a new trade (`Range(Trades)`), where `last` is the greatest
+-- id in use, or none if there are no trades. Trades are numbered from 1 without a gap.
 abbrev pub free_trade_id_check : Option ℕ → RefusalCheck
 free_trade_id_check last = (nat_le greatest_id (unwrap_or last 0), Range limit.Trades)
 
@@ -154,9 +154,9 @@ pub record AreOrderChanges (order : Order) (terms : Terms) (broker trade stamp :
 
 -- `plan` adds the trade of `order` at the stamp of the command, with the next id, where `found` are
 -- the facts in the tables, `given` is true of each list of lots that the source may return, `last`
--- is the last stamp, and `now` the clock reading. The order passes its checks, an id and a later
--- stamp are left, and the reply has the stamp, the id, the first status and the estimate from the
--- lots of the source (`MatchesModelEstimate`).
+-- is the last stamp, and `now` the clock reading. The order passes its checks, a free id and a
+-- later stamp exist, and the reply has the stamp, the id, the first status and the estimate from
+-- the lots of the source (`MatchesModelEstimate`).
 pub record IsOrderPlan (order : Order) (found : OrderPlanFacts) (given : List Lot → Type 0) (last : Option ℕ) (now : ℕ) (plan : Plan) : Type 0 where
   pub stamp : ℕ
   pub estimate : Estimate

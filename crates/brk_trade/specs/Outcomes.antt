@@ -70,8 +70,9 @@ balance_after_result found price values = balance_after_settlement_amount found 
 abbrev pub broker_commissions_after_result : ResultPlanFacts → ℕ → ℕ
 broker_commissions_after_result found price = found.broker.commissions + commission_of_result found price
 
--- The checks of a result that need no lots: the trade is submitted (`WrongStatus`), a commission
--- rate applies (`NoRate`), and the shares held after it do not exceed the limit (`Range(Summary)`).
+-- The checks of a result that need no lots, in this order: the trade is submitted (`WrongStatus`),
+-- a commission rate applies (`NoRate`), and the shares held after the trade do not exceed the limit
+-- (`Range(Summary)`).
 abbrev pub checks_before_reading_lots : ResultPlanFacts → List RefusalCheck
 checks_before_reading_lots found =
     (not (is_same_trade_status found.trade.status Submitted), WrongStatus found.trade.status) ∷ (is_none found.rate, NoRate)
@@ -82,9 +83,10 @@ checks_before_reading_lots found =
 abbrev pub due_day_check : Option ℕ → Option ℕ → RefusalCheck
 due_day_check rule stamp = (option_map_or (λ s. nat_lt greatest_day (due_day_of_completion_stamp rule s)) stamp true, ClockEnd)
 
--- The checks of a result that need the values of the closed shares or the stamp: the balance after
--- a cash trade and the broker's commissions do not exceed their limits (`Range(Balance)`,
--- `Range(Broker)`), the stamp is not `None`, and the due day is not after 9999-12-31 (`ClockEnd`).
+-- The checks of a result that need the values of the closed shares or the stamp, in this order: the
+-- balance after a cash trade and the broker's commissions do not exceed their limits
+-- (`Range(Balance)`, `Range(Broker)`), the stamp is not `None`, and the due day is not after
+-- 9999-12-31 (`ClockEnd`).
 abbrev pub checks_after_reading_lots : ResultPlanFacts → ℕ → Values → Option ℕ → List RefusalCheck
 checks_after_reading_lots found price values stamp =
     (found.trade.is_cash && nat_lt greatest_amount (nat_abs (balance_after_result found price values)), Range limit.Balance)

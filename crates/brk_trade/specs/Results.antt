@@ -37,7 +37,7 @@ use Rattle.brk_plans.specs.declared.reply.Reply.TheVariants as reply
 use Rattle.brk_changes.specs.declared.trade_row.TradeRow.{TradeRow}
 
 -- The row change of the HOLDING row of the lot of `touch`: the lot is deleted if none of its shares
--- is left, and otherwise its quantity is set.
+-- remains, and otherwise its quantity is set.
 abbrev pub row_change_of_touched_holding : Touch → Change
 row_change_of_touched_holding touch = if is_zero touch.after then change.RemoveLot touch.lot else change.SetLot touch.lot touch.after
 

@@ -45,7 +45,7 @@ fn append_completed_trade_changes(
 }
 
 // Returns the row change of the HOLDING row of a touched lot: the lot is deleted if none of its
-// shares is left, and otherwise its quantity is set.
+// shares remains, and otherwise its quantity is set.
 fn create_touched_lot_change(touch: &Touch) -> Change
     ensures { result ≡ spec.row_change_of_touched_holding touch.now }
 {

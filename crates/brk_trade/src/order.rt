@@ -153,7 +153,7 @@ pub fn plan_estimate<L: LotSource>(
 }
 
 // Returns the id of the next trade: `last` plus 1, or 1 if there are no trades. Returns `None` if
-// no id is left.
+// no free id exists.
 fn next_free_trade_id(last: Option<Id>) -> Option<Id>
     ensures { MatchOption result
         (first_refusal (free_trade_id_check last ∷ []) ≡ Some (Range limit.Trades))
@@ -317,7 +317,7 @@ fn create_order_changes(
 /// last stamp. Its reply has the stamp, the number, the status and the estimate.
 ///
 /// Refuses with the first that applies of `NoAccount`, `NoSecurity`, `NotPermitted`, `NoCharge`,
-/// `NoRate`; `Range(Trades)`, if no id is left; and `ClockEnd`, if no later stamp is left. Fails
+/// `NoRate`; `Range(Trades)`, if no free id exists; and `ClockEnd`, if no later stamp exists. Fails
 /// with `Memory` or a fault of the source. Reads no lot if it refuses, or if the account holds no
 /// shares that the order would close.
 pub fn plan_order<L: LotSource>(
