@@ -18,8 +18,8 @@ abbrev pub closed_share_count : Side → ℕ → List Lot → ℕ
 closed_share_count side q [] = 0
 closed_share_count side q (l ∷ ls) = if is_same_side (side_of_qty l.qty) side then 0 else min q (length (shares_of_lots (l ∷ ls)))
 
--- The lot changes by which the first `k` shares of the lots are closed: one for each lot that loses
--- a share, with its quantity before and after. None of the lots has 0 shares.
+-- The lot changes by which the first `k` shares of the lots, each of at least one share, are
+-- closed: one for each lot that loses a share, with its quantity before and after.
 abbrev pub touches_of_first_shares : ℕ → List Lot → List Touch
 touches_of_first_shares k [] = []
 touches_of_first_shares k (l ∷ ls) =
