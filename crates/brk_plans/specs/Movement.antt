@@ -28,7 +28,7 @@ signed_cash_amount Withdrawal amount = neg_ℤ (pos amount)
 abbrev pub signed_amount_of_movement : Movement → ℤ
 signed_amount_of_movement m = signed_cash_amount m.direction m.amount
 
--- The text of the cash row of a deposit or of a withdrawal (CM_NAME).
+-- The text of the cash row of a movement (CM_NAME): `Deposit` or `Withdrawal`.
 abbrev pub cash_text_of_direction : Direction → Text
 cash_text_of_direction Deposit = codes "Deposit"
 cash_text_of_direction Withdrawal = codes "Withdrawal"

@@ -50,9 +50,9 @@ customer_tax_checks found =
     (not found.customer, NoCustomer) ∷ (is_none found.rate, NoTax) ∷ duplicate_check found.same_id ∷ (exceeds_greatest_tax_rate found.rates found.rate, TaxSum)
     ∷ []
 
--- The checks of a new record of reference data against the facts `found`, by its kind. A record
--- whose kind has no checks of its own must have a new key (`Exists`), and a customer also a new tax
--- id.
+-- The checks of a new record of reference data against the facts `found`. An account, a permission,
+-- a band and a tax of a customer have the checks of their kind. Any other record must have a new
+-- key, and a customer also a new tax id (`Exists`).
 abbrev pub reference_checks : Reference → ReferenceFacts → List RefusalCheck
 reference_checks (reference.Broker broker) found = duplicate_check found.same_id ∷ []
 reference_checks (reference.Customer customer) found = duplicate_check found.same_id ∷ duplicate_check found.same_tax_id ∷ []
@@ -64,12 +64,13 @@ reference_checks (reference.Band band) found = band_checks band found
 reference_checks (reference.TaxRate tax) found = duplicate_check found.same_id ∷ []
 reference_checks (reference.CustomerTax pays) found = customer_tax_checks found
 
--- The check that a command at the clock reading `now` has a stamp later than `last` (`ClockEnd`).
+-- The check that a stamp later than `last` exists for a command at the clock reading `now`
+-- (`ClockEnd`). It passes if `last` is `None`.
 abbrev pub later_stamp_check : Option ℕ → ℕ → RefusalCheck
 later_stamp_check last now = (is_none (stamp_after last now), ClockEnd)
 
--- The row change that adds a record of reference data, by its kind. For a listing, it adds the
--- SECURITY row only.
+-- The row change that adds the row of a record of reference data; for a listing, its SECURITY row
+-- only.
 abbrev pub row_change_adding_record : Reference → Change
 row_change_adding_record (reference.Broker broker) = change.AddBroker broker
 row_change_adding_record (reference.Customer customer) = change.AddCustomer customer

@@ -37,7 +37,7 @@ fn signed_movement_amount(movement: &Movement) -> Cents
     Cents::new(cents).unwrap()
 }
 
-// Returns the text of the cash row of a deposit or of a withdrawal (CM_NAME).
+// Returns the text of the cash row of a movement (CM_NAME): `Deposit` or `Withdrawal`.
 fn movement_cash_text(direction: Direction) -> &'static str
     ensures { result.now ≡ spec.cash_text_of_direction direction }
 {

@@ -134,15 +134,16 @@ fn count_updated_trades(found: &TextUpdate) -> usize
     }
 }
 
-/// Plans a text update (Trade-Update). `found` has the trades that it selects, or is `None` if what
-/// it names does not exist, `last` is the stamp of the last accepted command, and `now` the clock
+/// Plans a text update (Trade-Update). `found` has the trades that it selects, or is `None` if its
+/// target does not exist, `last` is the stamp of the last accepted command, and `now` the clock
 /// reading.
 ///
 /// The plan replaces one text of each trade and sets the last stamp. Its reply has the stamp and
 /// the number of trades. No status and no stamp of a trade changes.
 ///
-/// Refuses with `NoTrade`, `NoAccount` or `NoSecurity`, by the kind of the update, if `found` is
-/// `None`, and otherwise with `ClockEnd` if no later stamp exists. Fails with `Memory` only.
+/// Refuses, if `found` is `None`, with `NoTrade`, `NoAccount` or `NoSecurity`, as the update names
+/// trades, an account or a security, and otherwise with `ClockEnd` if no later stamp exists. Fails
+/// with `Memory` only.
 pub fn plan_update(
     alloc: Global,
     update: &Update,
