@@ -33,8 +33,8 @@ deal_of_trade_row t price stamp = record { trade = t.id; side = side_of_trade_ty
 abbrev pub shares_held_after_trade : ResultPlanFacts → ℤ
 shares_held_after_trade found = unwrap_or found.summary (pos 0) +ℤ signed_by_side (side_of_trade_type found.trade.kind) found.trade.qty
 
--- The commission of the trade at `price`, in cents, at the rate of its band. The rate counts as 0
--- if there is no band.
+-- The commission of the trade at `price`, in cents, at the commission rate of its band. The rate
+-- counts as 0 if there is no band.
 abbrev pub commission_of_result : ResultPlanFacts → ℕ → ℕ
 commission_of_result found price = commission (unwrap_or found.rate 0) found.trade.qty price
 

@@ -123,8 +123,8 @@ summary_broker_settlement_changes found outcome =
     ∷ row_change_adding_settlement found.trade outcome.completed ∷ []
 
 -- The row changes that complete the trade of `found`: of the trade itself, of the lots that it
--- touches and of the one that it opens, of the summary, the broker's totals and the settlement, of
--- its cash row, if any, and of the last stamp.
+-- closes or reduces and of the lot that it opens, of the summary, the broker's totals and the
+-- settlement, of its cash row, if any, and of the last stamp.
 abbrev pub row_changes_of_result : ResultPlanFacts → ℕ → ClosedLots → ResultFigures → Option MoveRow → List Change
 row_changes_of_result found price closed outcome cash =
     row_changes_of_completed_trade found.trade.id price outcome.completed
@@ -134,8 +134,8 @@ row_changes_of_result found price closed outcome cash =
     ++ flat_map (row_changes_of_cash_row found.trade.account outcome.completed.balance) (option_to_list cash)
     ++ change.SetLastStamp outcome.completed.stamp ∷ []
 
--- `changes` are the row changes that complete the trade of `found` at `price` with the touched lots
--- of `closed` and the figures `outcome`. They add a cash row if it is a cash trade.
+-- `changes` are the row changes that complete the trade of `found` at `price` with the lots of
+-- `closed` and the figures `outcome`. They add a cash row if it is a cash trade.
 pub record AreResultChanges (found : ResultPlanFacts) (price : ℕ) (closed : ClosedLots) (outcome : ResultFigures) (changes : List Change) : Type 0 where
   pub cash : Option MoveRow
   pub moved : option_map abstract_move_row cash ≡ cash_row_of_result found outcome.completed

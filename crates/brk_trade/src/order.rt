@@ -188,9 +188,9 @@ fn executor_name(alloc: Global, executor: &Executor) -> Result<String, AllocErro
     Ok(name)
 }
 
-// Returns the TRADE row of a new order with the terms, the commission in cents, the id, the stamp,
-// the symbol and the executor's name that are passed: in its first status, without a price, with
-// tax 0.
+// Returns the TRADE row of a new order with the terms, their commission in cents, the id, the
+// stamp, the symbol and the executor's name that are passed: in its first status, without a price,
+// with tax 0.
 fn create_trade_row_with_texts(
     order: &Order,
     terms: &Terms,
@@ -222,7 +222,7 @@ fn create_trade_row_with_texts(
     }
 }
 
-// Returns the TRADE row of a new order with the terms, the commission in cents, the id and the
+// Returns the TRADE row of a new order with the terms, their commission in cents, the id and the
 // stamp that are passed: in its first status, without a price, with tax 0. Fails if memory runs
 // out.
 fn create_order_trade_row(
@@ -288,7 +288,7 @@ fn create_new_trade_changes(
     Ok(changes)
 }
 
-// Returns the row changes of an accepted order with the placement, the commission in cents, the id
+// Returns the row changes of an accepted order with the placement, its commission in cents, the id
 // and the stamp that are passed: its TRADE row, its first TRADE_HISTORY row and its request, if
 // any, are added, and the last stamp is set. Fails if memory runs out.
 fn create_order_changes(

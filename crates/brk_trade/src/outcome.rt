@@ -86,7 +86,8 @@ pub(crate) fn checked_rate_and_summary(found: &ResultPlanFacts) -> Result<RateAn
 // Returns the figures of the completion, or the first refusal that applies once lots are read:
 // `Range(Balance)`, if the balance after a cash trade would exceed its limit; `Range(Broker)`, if
 // the broker's commissions would exceed theirs; or `ClockEnd`, if `stamp` is `None` or the due day
-// is after 9999-12-31.
+// is after 9999-12-31. `known` must be the value that `checked_rate_and_summary` returns, and the
+// sell value at most that of the trade's quantity at the greatest price.
 pub(crate) fn checked_result_figures(
     found: &ResultPlanFacts,
     price: Price,

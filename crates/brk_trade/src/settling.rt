@@ -55,7 +55,8 @@ fn withheld_part_of_tax(status: TaxStatus, tax: Amount) -> u64
 }
 
 // Returns the proceeds of a trade minus the costs `taken_off`, in cents. The proceeds are `value`
-// for a sale, and `-value` for a purchase.
+// for a sale, and `-value` for a purchase. `value` must be at most the greatest value of a trade,
+// and `taken_off` at most three times as much.
 fn proceeds_less_costs(side: Side, value: u64, taken_off: u64) -> Cents
     requires value { value ≤ greatest_trade_value }
     requires taken_off { taken_off ≤ 3 * greatest_trade_value }
@@ -70,7 +71,7 @@ fn proceeds_less_costs(side: Side, value: u64, taken_off: u64) -> Cents
 
 // Returns the settlement amount of the trade, in cents, below 0 if the account pays: the value of
 // the trade at `price`, negated for a purchase, minus the charge, the commission and the withheld
-// tax.
+// tax. `commission` and `tax` must each be at most the greatest value of a trade.
 pub(crate) fn settlement_amount_of_trade(
     found: &ResultPlanFacts,
     price: Price,
