@@ -16,7 +16,7 @@ use brk_store::Store;
 use sqlite::Alter;
 use std::alloc::Global;
 
-/// The tax rates of the customer of a trade, and the commission band of its quantity.
+/// The tax rates of the customer of a trade, and the commission band of the trade, if there is one.
 #[derive(Drop)]
 pub struct TaxRatesAndBand {
     pub rates: Vec<Tax>,
@@ -89,9 +89,9 @@ fn read_band_for_tier<S: Alter>(
     Ok(first_band_with_quantity(bands, order.trade.qty))
 }
 
-// Returns the tax rates of the customer of the order's trade and the trade's commission band, as
-// the tables have them now. Fails with `Memory` or `Store`; with `Store` also if the customer or
-// one of the rates does not exist.
+// Returns the tax rates of the customer of the order's account, and the commission band of the
+// order's trade, if any, as the tables have them now. Fails with `Memory` or `Store`; with `Store`
+// also if the customer or one of the rates does not exist.
 pub(crate) fn read_tax_rates_and_band<S: Alter>(
     alloc: Global,
     store: &mut Store<S>,
