@@ -92,7 +92,7 @@ fn check_end_record_and_write_end_line<W: Write>(
 // Reads the first record, the header `batch,NAME`, and returns the name of the batch.
 //
 // Fails with `BadHeader` if there is no record or it is no such header, with `Read` if the reader
-// fails, and with `Desk(Memory)`.
+// fails, and with `Desk(Memory)` if memory runs out.
 fn read_batch_name<R: Read>(alloc: Global, records: &mut Reader<R>) -> Result<BatchName, FaultKind>
     requires { IsBatchReader records.old }
     ensures setup { OnOk result (IsBatchReader records.new) }
