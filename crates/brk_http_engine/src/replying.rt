@@ -233,8 +233,9 @@ fn reply_bytes(
     Ok(text)
 }
 
-/// Returns the bytes of the reply with this response, its status, head and JSON body, with a
-/// `Connection: close` line if `closes` is true. Fails only if memory runs out.
+/// Returns the bytes of the reply with this response: its status, head and JSON body. The head has
+/// an `Allow: POST` line if the method of the request is not POST, and a `Connection: close` line
+/// if `closes` is true. Fails only if memory runs out.
 pub fn reply_text<D: Service>(
     alloc: Global,
     told: &ServiceResponse<D::Reply, D::View>,
@@ -253,7 +254,8 @@ pub fn reply_text<D: Service>(
 }
 
 /// Returns the bytes of the reply to a request that could not be read, because of this problem,
-/// with a `Connection: close` line. Fails only if memory runs out.
+/// with a `Connection: close` line, and with an `Allow: POST` line if the problem is `NotAllowed`.
+/// Fails only if memory runs out.
 pub fn format_problem_reply(alloc: Global, problem: RequestProblem) -> Result<String, AllocError>
     ensures { IfOk result (λ s. string_bytes s ≡ reply_text (FromProblem problem) Bool.true) }
 {
