@@ -38,9 +38,9 @@ WritesViewOrFails form query (Ok (Ok view)) before after result = WritesTextOrFa
 WritesViewOrFails form query (Ok (Err refusal)) before after result = FailsWritingNothing before after result (Refused refusal)
 WritesViewOrFails form query (Err fault) before after result = FailsWritingNothing before after result (Desk fault)
 
--- The desk executed the parsed query and nothing else, and its view was written as
--- `WritesViewOrFails` specifies. If the query is malformed, the desk is unchanged, `result` is its
--- refusal, and nothing was written.
+-- The desk executed exactly the parsed query, and its view was written as `WritesViewOrFails`
+-- specifies. If the query is malformed, the desk is unchanged, `result` is the refusal of the
+-- query, and nothing was written.
 abbrev pub AsksQueryAndWritesView : {S : Type 0} → Ghosts S → Held S → Held S → Form → ReadResult Query → Option Text → Option Text
     → Result (Unit {0}) ReportFault → Type 0
 AsksQueryAndWritesView g old new form (Ok query) before after result =

@@ -45,8 +45,9 @@ fn write_trade_explanation<W: Write, S: Alter>(
 }
 
 // Writes all lines of the explanation of an account, from its row and holdings in `details` and
-// from its cash rows and lots, which it reads. Fails with `Desk` if a read fails, memory runs out
-// or an amount overflows, and with `Write` if the writer fails. The open database is unchanged.
+// from its cash rows and lots, which the function reads. Fails with `Desk` if a read fails, memory
+// runs out or an amount overflows, and with `Write` if the writer fails. If the database is still
+// open, it is unchanged.
 fn write_account_lines<W: Write, S: Alter>(
     alloc: Global,
     desk: &mut Desk<S>,
@@ -115,9 +116,9 @@ fn write_holding_explanation<W: Write, S: Alter>(
 }
 
 // Writes all lines of the explanation of a broker, from its row and number of accounts in `details`
-// and from the completed trades of its accounts, which it reads. Fails with `Desk` if a read fails,
-// memory runs out or a sum overflows, and with `Write` if the writer fails. The open database is
-// unchanged.
+// and from the completed trades of its accounts, which the function reads. Fails with `Desk` if a
+// read fails, memory runs out or a sum overflows, and with `Write` if the writer fails. If the
+// database is still open, it is unchanged.
 fn write_broker_lines<W: Write, S: Alter>(
     alloc: Global,
     desk: &mut Desk<S>,
