@@ -30,7 +30,7 @@ WritesTextOrFails text before after (Err (Refused refusal)) = ⊥
 WritesTextOrFails text before after (Err (Desk fault)) = (after ≡ before) × (fault ≡ Memory)
 WritesTextOrFails text before after (Err Write) = (k : ℕ) × Appends before after (take k text)
 
--- `result` is the result of writing the answer of the desk to the query `query`, in the form
+-- `result` is the result of writing the answer of the desk to the query `query`, in the format
 -- `form`. A view is written as `WritesTextOrFails` specifies; for a refusal or a fault of the desk,
 -- `result` is this refusal or this fault, and nothing is written.
 abbrev pub WritesViewOrFails : Form → Query → Result (Result View Refusal) Fault → Option Text → Option Text → Result (Unit {0}) ReportFault → Type 0

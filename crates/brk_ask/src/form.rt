@@ -1,4 +1,4 @@
-/// The form in which a view is written.
+/// The format in which a view is written.
 #[derive(Clone, Copy, Debug, PartialEq, Eq)]
 pub struct Form {
     /// If true, one line of JSON, `{"view":[["TEXT",..],..]}`; otherwise CSV rows, one for each

@@ -195,7 +195,8 @@ fn execute_rows_and_write_lines<R: Read, W: Write, C: Clock, D: Rows>(
 }
 
 /// Reads a batch, executes its rows in order, and writes their lines and the end line. Returns the
-/// counts of the answers.
+/// counts of the answers. Only the first `MAXIMUM_INPUT_BYTES` bytes are read, and a row is
+/// executed only if a record follows it.
 ///
 /// At an error returns the fault with the number of decided rows, whose changes remain:
 /// `BadHeader`, `NoEnd` or `BadEnd` if the header or the end record is missing or wrong, `Read` or

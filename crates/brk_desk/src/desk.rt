@@ -160,8 +160,8 @@ impl<S: Alter> Desk<S> {
         Ok(())
     }
 
-    // Executes a call at the clock reading `now` and returns its outcome: the answer to a command
-    // or to a query, its refusal, or its fault.
+    // Executes a call at the clock reading `now` and returns its outcome: the answer to a command,
+    // the view or the refusal of a query, or the fault of the call.
     fn execute_call(&mut self, alloc: Global, now: Stamp, call: &Call) -> Outcome
         ensures executed { OutcomePost S.Store self.old self.new now call.now result }
     {

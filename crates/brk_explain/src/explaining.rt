@@ -160,8 +160,8 @@ fn write_broker_explanation<W: Write, S: Alter>(
     Ok(())
 }
 
-/// Writes the explanation of a trade, of an account, of a holding or of a broker of the desk. The
-/// open database is unchanged, whatever the result.
+/// Writes the explanation of a trade, of an account, of a holding or of a broker of the desk. If
+/// the database is still open, it is unchanged, whatever the result.
 ///
 /// Fails with `Refused` and nothing written if a record does not exist: with refusal 5 (`NoTrade`)
 /// for the trade, 1 (`NoAccount`) for the account, also of a holding, 4 (`NoSecurity`) for the

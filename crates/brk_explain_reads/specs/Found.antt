@@ -67,9 +67,9 @@ IsSettlementOfTrade t trade settled =
     (abstract_settlement_row settled.settlement ≡ settlement_of_trade_or_zeros t trade)
     × (option_map abstract_move_row settled.cash ≡ find (is_cash_row_of_trade trade) t.moves) × (settled.rule ≡ t.rule)
 
--- `details` has the results of the order's trade in the tables `t`: its price, closings, own lot,
--- settlement, cash row, earlier cash rows, current tax rates and band, and the settlement day.
--- Vacuous if `order` does not have the rows and status changes of its trade in these tables
--- (`IsOrderOfTrade`).
+-- `details` has the results of the trade of `order` in the tables `t`: the trade's price, closings,
+-- opened lot, settlement and cash row, the number and the sum of the account's earlier cash rows,
+-- the current tax rates and commission band, and the settlement day. Vacuous if `order` does not
+-- have the rows and status changes of its trade in these tables (`IsOrderOfTrade`).
 abbrev pub IsResultOfOrder : OrderDetails → ResultDetails → Tables → Type 0
 IsResultOfOrder order details t = IsOrderOfTrade order.trade order t → abstract_result_details details ≡ result_details_of_trade t (abstract_trade_row order.trade)

@@ -15,7 +15,7 @@ use std::alloc::Global;
 use std::fs;
 use std::io::ErrorKind;
 
-/// A desk's store in a file, which its connection locks for this program alone.
+/// A desk's store in a file, which its connection locks for this program only.
 pub type FileDesk = Store<FileStore<File>>;
 
 // Closes the files of a connection. At `Ok` the database file contains the last commit even without
