@@ -236,14 +236,14 @@ fn timestamp_of_matches(matches: &ArgMatches<'_>) -> Option<Stamp> {
 }
 
 // Returns the day that the argument `name` gives, such as 2024-03-01. Fails with `Day` if its text
-// is no day or the argument is missing.
+// is not a day or the argument is missing.
 fn parse_day_argument(matches: &ArgMatches<'_>, name: &str) -> Result<Day, UsageFault> {
     let text = matches.get_str(name).unwrap_or("");
     parse_day(text.as_bytes()).ok_or(UsageFault::Day)
 }
 
 // Returns the statement job that the arguments request. Fails with `Day` if the text of `--from` or
-// `--to` is no day, with `Memory`, or with `Words` and an empty text if there is no account.
+// `--to` is not a day, with `Memory`, or with `Words` and an empty text if there is no account.
 fn statement_job(alloc: Global, matches: &ArgMatches<'_>) -> Result<Job, UsageFault> {
     let Some(account) = matches.get_one::<u64>("account").and_then(Id::new) else {
         return Err(UsageFault::Words(String::new(alloc)));

@@ -47,9 +47,9 @@ AsksQueryAndWritesView g old new form (Ok query) before after result =
     (seen : Result (Result View Refusal) Fault) × AskPost g old new query seen × WritesViewOrFails form query seen before after result
 AsksQueryAndWritesView g old new form (Err refusal) before after result = (new ≡ old) × FailsWritingNothing before after result (Refused refusal)
 
--- The postcondition of printing the view of a parsed query: the desk executed the query and its
--- view was written, with the result of `AsksQueryAndWritesView`; or memory ran out before that, and
--- the desk and the writer's content are unchanged.
+-- The postcondition of parsing a query and printing its view: the desk and the output are as
+-- `AsksQueryAndWritesView` specifies; or memory ran out before the query was executed, and the desk
+-- and the writer's content are unchanged.
 abbrev pub PrintViewPost : {S : Type 0} → Ghosts S → Held S → Held S → Form → ReadResult Query → Option Text → Option Text → Result (Unit {0}) ReportFault
     → Type 0
 PrintViewPost g old new form query before after result =

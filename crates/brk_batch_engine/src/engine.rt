@@ -50,8 +50,9 @@ fn write_answer_line<W: Write, D: Rows>(
     }
 }
 
-// Writes the line that refuses row `n`, after which the input has no record. Returns the fault that
-// ends the batch: `NoEnd`, or `Write` or `Desk(Memory)` if the line could not be written.
+// Writes the line that refuses row `n` with `BadText`, because the input has no record after it.
+// Returns the fault that ends the batch: `NoEnd`, or `Write` or `Desk(Memory)` if the line could
+// not be written.
 fn write_refusal_of_cut_row<W: Write, D: Rows>(alloc: Global, writer: &mut W, n: u64) -> FaultKind
     ensures { CutRowEndsBatchWith (W.contents writer.old) (W.contents writer.new) (answer_line n (Refused BadText)) result }
 {

@@ -214,9 +214,9 @@ impl<S: Alter> Desk<S> {
     /// does not exist.
     ///
     /// Fails with `Memory` or `Store` only; `Store` may also mean that a row that another row
-    /// requires does not exist or, for a completed trade, that the trade or a trade that opened a
-    /// closed lot has no price, or that the number or the sum of the account's earlier cash rows
-    /// overflows. If the database is still open, it is unchanged, whatever the result.
+    /// requires does not exist or, for a completed trade, that the trade or a trade that opened the
+    /// lot of a closing has no price, or that the number or the sum of the account's earlier cash
+    /// rows overflows. If the database is still open, it is unchanged, whatever the result.
     ///
     /// A crash exposes only states that a crash before the call could expose.
     pub fn trade_explanation_rows(

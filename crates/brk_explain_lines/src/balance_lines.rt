@@ -63,9 +63,9 @@ pub(crate) fn put_balance_lines(
     Ok(())
 }
 
-// Appends to `out` the last line of the explanation of a completed trade, with the numbers of
-// status changes (`statuses`), closed lots (`lots`) and earlier cash rows (`cash`). Fails with
-// `Memory` only.
+// Appends to `out` the last line of the explanation of a completed trade, with the numbers of its
+// status changes (`statuses`), of the lots of which it closed shares (`lots`), and of the account's
+// earlier cash rows (`cash`). Fails with `Memory` only.
 fn put_trade_counts_line(
     out: &mut Vec<u8>,
     statuses: usize,
@@ -86,8 +86,8 @@ fn put_trade_counts_line(
 }
 
 /// Appends to `out` the last line of the explanation of the completed trade `order` with the
-/// results `details`: the numbers of its status changes, of the lots that it closed, and of the
-/// earlier cash rows. Fails with `Memory` only.
+/// results `details`: the numbers of its status changes, of the lots of which it closed shares, and
+/// of the account's earlier cash rows. Fails with `Memory` only.
 #[tactic(auto, unfolding(brk_explain_model::specs::TradeLines::trade_counts_lines))]
 pub(crate) fn put_counts_of_completed_trade(
     out: &mut Vec<u8>,

@@ -186,9 +186,9 @@ fn put_realised_gain_lines(
     put_labeled_amount_line(alloc, out, "Realised gain", gain)
 }
 
-/// Appends to `out` the lines of the price of a completed trade, of the lots that it closed and
-/// opened, of the numbers of shares, and of the realised gain. Fails with `Memory` or `Store`; with
-/// `Store` if a number of shares or an amount overflows.
+/// Appends to `out` the lines of the price of a completed trade, of its closings, of the lot that
+/// it opened, of the numbers of shares, and of the realised gain. Fails with `Memory` or `Store`;
+/// with `Store` if a number of shares or an amount overflows.
 #[tactic(auto, unfolding(brk_explain_model::specs::TradeLines::lot_and_gain_lines, brk_explain_model::specs::TradeLines::closed_lot_lines))]
 pub(crate) fn put_lot_and_gain_lines(
     alloc: Global,

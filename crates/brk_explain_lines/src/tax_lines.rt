@@ -121,7 +121,8 @@ fn put_band_bounds(out: &mut Vec<u8>, band: &Band) -> Result<(), Fault>
     Ok(())
 }
 
-// Appends to `out` the tier and the exchange of a commission band. Fails with `Memory` only.
+// Appends to `out` the text after the bounds of a commission band: `, tier `, its tier, `, ` and
+// its exchange. Fails with `Memory` only.
 #[tactic(auto, unfolding(brk_explain_model::specs::TradeLines::band_tier_and_exchange_text))]
 fn put_band_tier_and_exchange(out: &mut Vec<u8>, band: &Band) -> Result<(), Fault>
     ensures ok { OnOk result (out.new.items ≡ out.old.items ++ lines.band_tier_and_exchange_text (abstract_band band.now)) }

@@ -88,7 +88,8 @@ fn awaited_event_text(
     }
 }
 
-// Appends to `out` the line of a label, an amount and the text `words`. Fails with `Memory` only.
+// Appends to `out` the line of a label, an amount in cents, written with two decimal places and
+// right-aligned in 22 places, a space, and the text `words`. Fails with `Memory` only.
 fn put_amount_line_with_remark(
     alloc: Global,
     out: &mut Vec<u8>,

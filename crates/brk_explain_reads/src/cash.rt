@@ -56,8 +56,8 @@ impl Visitor<MoveRow, Fault> for EarlierCashSum {
 
     ghost stops = { λ _ _ e _. e ≡ Store };
 
-    /// Counts the cash row and adds its amount if its stamp is before `until`, otherwise does
-    /// nothing. Fails with `Store` if the number or the total overflows.
+    /// If the stamp of the cash row is before `until`, counts the row and adds its amount to the
+    /// total; otherwise does nothing. Fails with `Store` if the number or the total overflows.
     fn visit(&mut self, item: &MoveRow) -> Result<(), Fault> {
         if item.stamp.get() < self.until.get() {
             self.sum = cash_sum_with_row(&self.sum, item.amount)?;

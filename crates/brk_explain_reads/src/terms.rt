@@ -73,8 +73,9 @@ fn first_band_with_quantity(bands: Vec<Band>, qty: Qty) -> Option<Band>
     found
 }
 
-// Returns the commission band of the quantity of the order's trade for its type, its exchange and
-// the customer tier `tier`, or `None` if there is none. Fails with `Memory` or `Store`.
+// Returns the first commission band of the customer tier `tier`, of the type of the order's trade
+// and of the exchange of its security, whose bounds contain the quantity of the trade, or `None` if
+// there is none. Fails with `Memory` or `Store`.
 fn read_band_for_tier<S: Alter>(
     alloc: Global,
     store: &mut Store<S>,
