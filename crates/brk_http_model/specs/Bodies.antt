@@ -17,7 +17,7 @@ text_of_json_string (number n) = None
 text_of_json_string (array items) = None
 text_of_json_string (object ms) = None
 
--- The texts of JSON values that are all strings; none if one of them is not.
+-- The texts of JSON values that are all strings, in sequence; none if one of them is no string.
 abbrev pub texts_of_json_items : Items → Option (List Text)
 texts_of_json_items no_items = Some []
 texts_of_json_items (item d ds) = option_and_then (λ t. option_map (λ ts. t ∷ ts) (texts_of_json_items ds)) (text_of_json_string d)
@@ -35,7 +35,7 @@ texts_of_json_array (object ms) = None
 unfoldable pub texts_of_body : Text → Option (List Text)
 texts_of_body body = if is_utf8 body then option_and_then texts_of_json_array (read body) else None
 
--- The JSON array of strings with these texts.
+-- The JSON value that is an array of the strings `texts`.
 abbrev pub json_array_of_texts : List Text → Data
 json_array_of_texts texts = array (items_of (map string texts))
 

@@ -16,7 +16,7 @@ leading_line_end_length (b ∷ []) = if b == 10 then Some 1 else None
 leading_line_end_length (b ∷ c ∷ bytes) = if b == 10 then Some 1 else (if b == 13 && c == 10 then Some 2 else None)
 
 -- The length of the line end (LF or CR LF) with which `bytes` begin, if the byte `b` before them is
--- an LF; otherwise none.
+-- an LF; none if `b` is no LF or `bytes` begin with no line end.
 abbrev pub line_end_length_after_byte : ℕ → Text → Option ℕ
 line_end_length_after_byte b bytes = if b == 10 then leading_line_end_length bytes else None
 
