@@ -13,8 +13,8 @@ ghost use Rattle.brk_http_model.specs.declared.head_end.HeadEnd.TheVariants.{At,
 ghost use Rattle.brk_http_model.specs.declared.problem.RequestProblem.TheVariants.{BadRequest, NotAllowed, NotFound, NotImplemented, TooLarge};
 ghost use Rattle.brk_http_examples.specs.Streams.{get_request, post_request};
 
-/// Shows that a head ends with its first empty line, which must end within the limit. An input
-/// without one is `Nothing`, `Cut` or `TooLong`.
+/// Shows that a head ends with its first empty line, which must end within the limit. For an input
+/// without such a line the result is `Nothing`, `Cut` or `TooLong`.
 pub fn head_ends_at_first_empty_line()
     ensures first { head_end (codes "GET / HTTP/1.1\r\n\r\nGET") ≡ At 18 }
     ensures line_feeds { head_end (codes "a\n\nb\r\n\r\n") ≡ At 3 }
