@@ -47,7 +47,7 @@ explain_request_readers =
 unfoldable pub read_explain_request : List Text → ReadResult ExplainRequest
 read_explain_request words = parse_by_first_field explain_request_readers words
 
--- The lines that `lines` returns for the row, or the error `refusal` if there is no row.
+-- The lines that `lines` returns for the row, or the refusal `refusal` if there is no row.
 abbrev pub lines_or_refusal : {Row : Type 0} → Refusal → (Row → List Text) → Option Row → Result (List Text) Refusal
 lines_or_refusal refusal lines None = Err refusal
 lines_or_refusal refusal lines (Some row) = Ok (lines row)

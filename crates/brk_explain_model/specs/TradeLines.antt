@@ -33,7 +33,7 @@ unfoldable pub status_change_line : HistoryRow → Text
 status_change_line row =
     left_aligned_text 6 (codes "Status") ++ 32 ∷ timestamp_text row.stamp ++ 32 ∷ trade_status_code row.status ++ 32 ∷ trade_status_name row.status
 
--- The title of the explanation of a trade, with its id.
+-- The title of the explanation of a trade, with the id of the trade.
 abbrev pub trade_title_line : OrderDetails → Text
 trade_title_line o = codes "Trade " ++ decimal o.trade.id ++ codes ", times in UTC"
 
@@ -41,7 +41,7 @@ trade_title_line o = codes "Trade " ++ decimal o.trade.id ++ codes ", times in U
 abbrev pub trade_account_line : OrderDetails → Text
 trade_account_line o = labeled_number (codes "Account") o.trade.account ++ 32 ∷ o.account_name
 
--- The title, and the lines of the account, the customer, the broker and the executor of the trade.
+-- The lines of the title, the account, the customer, the broker and the executor of the trade.
 unfoldable pub title_and_party_lines : OrderDetails → List Text
 title_and_party_lines o =
     trade_title_line o
@@ -123,7 +123,7 @@ uncompleted_trade_lines o =
 
 -- The line of the closing `c` by a trade on `side` at `price`: the word `Closed`, the timestamp and
 -- the id of the trade that opened the lot, the closed shares, the lot's price, the buy value and
--- the sell value of these shares, and the lot's quantity after it.
+-- the sell value of these shares, and the lot's quantity after the closing.
 unfoldable pub closed_lot_line : Side → ℕ → Closing → Text
 closed_lot_line side price c =
     leading_row_columns (codes "Closed") (timestamp_text c.stamp) c.lot (pos (shares_of_closing c)) c.price

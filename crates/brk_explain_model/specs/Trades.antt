@@ -199,14 +199,14 @@ details_of_trade tables u =
 abbrev pub shares_of_closing : Closing → ℕ
 shares_of_closing c = nat_abs (c.before -ℤ c.after)
 
--- The buy value of the closing `c` by a trade at `price`, in cents: the closed shares at the lot's
--- price if the trade is a sale, and at `price` if it is a purchase.
+-- The buy value of the closing `c` by a trade at `price`, in cents: the number of closed shares
+-- times the lot's price if the trade is a sale, and times `price` if it is a purchase.
 abbrev pub buy_value_of_closing : Side → ℕ → Closing → ℕ
 buy_value_of_closing Sell price c = shares_of_closing c * c.price
 buy_value_of_closing Buy price c = shares_of_closing c * price
 
--- The sell value of the closing `c` by a trade at `price`, in cents: the closed shares at `price`
--- if the trade is a sale, and at the lot's price if it is a purchase.
+-- The sell value of the closing `c` by a trade at `price`, in cents: the number of closed shares
+-- times `price` if the trade is a sale, and times the lot's price if it is a purchase.
 abbrev pub sell_value_of_closing : Side → ℕ → Closing → ℕ
 sell_value_of_closing Sell price c = shares_of_closing c * price
 sell_value_of_closing Buy price c = shares_of_closing c * c.price

@@ -13,7 +13,7 @@ use Rattle.brk_http_model.specs.declared.problem.RequestProblem.TheVariants.{Too
 abbrev pub HeadField : Type 0
 HeadField = Text × Text
 
--- True if the texts are equal when ASCII capital letters count as small ones.
+-- True if the texts are equal when the case of ASCII letters is ignored.
 abbrev pub equals_ignoring_case : Text → Text → Bool
 equals_ignoring_case a b = pointwise nat_eq (map to_ascii_lowercase a) (map to_ascii_lowercase b)
 

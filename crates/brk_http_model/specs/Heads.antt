@@ -31,9 +31,9 @@ unfoldable pub head_length : Text → Option ℕ
 head_length [] = None
 head_length (b ∷ bytes) = first_present_plus_one (line_end_length_after_byte b bytes) (head_length bytes)
 
--- The end of a head in an input of `len` bytes: after `n` bytes if the second parameter is
--- `Some n`, the end of the first empty line. Without an empty line it is `Nothing` for an empty
--- input, `TooLong` from `limit` bytes on, and `Cut` below.
+-- The end of the head of an input of `len` bytes: `At n` if the first empty line ends after `n`
+-- bytes (`Some n`). Without an empty line (`None`) it is `Nothing` for an empty input, `TooLong`
+-- for one of at least `limit` bytes, and otherwise `Cut`.
 abbrev pub head_end_by_length : ℕ → Option ℕ → ℕ → HeadEnd
 head_end_by_length limit (Some n) len = At n
 head_end_by_length limit None len = if len == 0 then Nothing else (if nat_le limit len then TooLong else Cut)

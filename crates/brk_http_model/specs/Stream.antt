@@ -50,9 +50,10 @@ pub record RequestEffect (B : Type 0) : Type 0 where
   pub next : StreamState
   pub after : B
 
--- The request `request` has the effect `effect`, after `n` earlier requests. The stream ends with
--- its reply if the request is number `most_requests_per_stream` or asks to close the stream, or if
--- the response is a fault; otherwise it continues with the bytes `rest`.
+-- With the parsers `forms` and the calls `does`, the request `request` has the effect `effect`,
+-- after `n` earlier requests. The stream ends with its reply if the request is number
+-- `most_requests_per_stream` or asks to close the stream, or if the response is a fault; otherwise
+-- it continues with the bytes `rest`.
 pub record IsEffectOfRequest {B : Type 0} (forms : RequestParsers) (does : CallRelation B) (n : ℕ) (request : Request) (rest : Text)
     (effect : RequestEffect B) : Type 0 where
   pub response : Response

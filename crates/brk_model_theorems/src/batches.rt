@@ -104,9 +104,9 @@ pub fn partial_batch_is_completed_by_retry()
 {}
 
 /// Proves that an interrupted batch, whose first rows were decided without a refusal, equals one
-/// uninterrupted run after a retry has decided all rows. The row after them may have been executed
-/// without being acknowledged. The run has that row at the clock reading of its execution, or at
-/// the clock reading of the retry.
+/// uninterrupted run after a retry has decided all rows. The row after the first rows may have been
+/// executed without being acknowledged; the run has this row at the clock reading of that
+/// execution, or at the clock reading of the retry.
 pub fn interrupted_batch_is_completed_by_retry()
     ensures { (form : Fields → ReadResult Command) (name : List ℕ) (base mid stood last : Base) (moments others : List ℕ) (front more : List Fields)
         (answers told : List Answer) → refused_answer_count answers ≡ 0 → BatchRowsAreDecided form step_of_row name base moments front answers mid
