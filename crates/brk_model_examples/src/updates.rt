@@ -50,8 +50,8 @@ pub fn text_updates_after_sale()
         ∷ codes "upcash,100,5,4" ∷ []))).settlements ≡ codes "Cash" ∷ codes "Cash" ∷ codes "Cash" ∷ [] }
 {}
 
-/// Shows that `upname` replaces each ` X ` in an executor's name by a space if the name contains
-/// one, and otherwise each space by ` X `.
+/// Shows that `upname` replaces each ` X ` in an executor's name, from the left without overlap, by
+/// a space if the name contains one, and otherwise each space by ` X `.
 pub fn update_toggles_executor_name()
     ensures inserted { map (λ t. t.executor) (base_after_batch base_after_fifo_sale
         (codes "upname,1" ∷ [])).trades ≡ codes "Ann X Lee" ∷ codes "Ann Lee" ∷ codes "Ann Lee" ∷ [] }
