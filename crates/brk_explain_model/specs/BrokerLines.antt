@@ -29,7 +29,7 @@ completed_trades_of_broker tables broker =
     sort_by_key (λ u. u.stamp) (filter (λ u. has_completed_status u && (broker_of_account_or_zero tables u.account == broker)) tables.trades)
 
 -- The line of the completed trade `u`: the word `Trade`, its timestamp, id, account and commission,
--- and `total`, the sum of the commissions up to and including it.
+-- and `total`, in cents, the sum of the commissions up to and including its own.
 unfoldable pub trade_commission_line : TradeRow → ℤ → Text
 trade_commission_line u total =
     left_aligned_text 6 (codes "Trade") ++ 32 ∷ timestamp_text u.stamp ++ 32 ∷ right_aligned_text 13 (decimal u.id) ++ 32
