@@ -61,8 +61,8 @@ fn decode_kept_keys(alloc: Global, rows: Vec<Row>) -> Result<Vec<Kept>, DecodeEr
     Ok(all)
 }
 
-/// Decodes the rows of one table after the other. It goes on after a malformed row, so that all
-/// tables are read before it is known that one has such a row.
+/// A decoder of the rows of one table after the other. After a malformed row it continues with the
+/// next table, and `are_well_formed` is false.
 #[derive(Clone, Copy)]
 pub(crate) struct Decoder {
     /// True if all rows so far are well-formed.
@@ -122,9 +122,9 @@ impl Decoder {
         }
     }
 
-    /// Decodes the stamp of the last accepted command from all rows of DESK, with the number of
-    /// `schema`; it is `None` if none is stored. If there is not exactly one well-formed row, sets
-    /// `are_well_formed` to false and returns `None`. Fails with `Memory` only.
+    /// Decodes the stamp of the last accepted command from all rows of DESK, or returns `None` if
+    /// none is stored. If there is not exactly one row, well-formed and with the number of
+    /// `schema`, sets `are_well_formed` to false and returns `None`. Fails with `Memory` only.
     pub(crate) fn decode_last_stamp(
         &mut self,
         schema: Schema,
