@@ -63,7 +63,7 @@ IsSchemaOfDatabase None db = (schema : known.Schema) → ¬ DatabaseHasSchema (a
 
 -- `answer` is the result of an audit of the database `db` by the conditions of the schema that it
 -- has: the first condition that it fails, or `None` if it passes. The result is never `NotEmpty`,
--- and it is `Schema` if the database has none of the three schemas.
+-- and it is `Schema` if and only if the database has none of the three schemas.
 abbrev pub IsDatabaseAuditResult : Database → Option Condition → Type 0
 IsDatabaseAuditResult db (Some condition.NotEmpty) = ⊥
 IsDatabaseAuditResult db (Some condition.Schema) = IsSchemaOfDatabase None db

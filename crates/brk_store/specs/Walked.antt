@@ -20,7 +20,7 @@ use Rattle.brk_tables_walks.specs.declared.walking.WalkError.TheVariants.{Failed
 use Rattle.brk_store.specs.Holds.{HoldsRows, WasOpenAndIsUnchanged}
 
 -- The cash rows of `account` whose stamps are from `from` to `to`, both included, sorted by stamp,
--- ascending. Rows with equal stamps are in the order of their numbers.
+-- ascending. Rows with equal stamps are in the order of the table CASH_MOVE.
 abbrev pub cash_rows_in_span : ℕ → ℕ → ℕ → Tables → List MoveRow
 cash_rows_in_span account from to t = filter (λ r. is_in_range from to r.stamp) (cash_move_rows_of_account t account)
 
