@@ -192,7 +192,7 @@ fn append_trade_status_records(
 }
 
 // Returns the record of the names of an account's customer and broker, followed by one record for
-// each trade of the account. Fails with `Memory` only.
+// each trade in `account`. Fails with `Memory` only.
 pub(crate) fn account_status_records(
     alloc: Global,
     account: &AccountStatus,
