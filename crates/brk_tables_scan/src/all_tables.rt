@@ -227,9 +227,10 @@ fn read_later_schema_tables<S: Alter>(
 }
 
 /// Returns the decoded rows of the tables of `schema`, each list sorted by key, ascending, and the
-/// rows of KEPT with empty texts. The list of a table that `schema` lacks is empty. If a table is
-/// malformed, sets `are_well_formed` of the decoder to false and returns no rows of this table.
-/// Fails with `Memory` or `Store` only.
+/// rows of KEPT with empty texts. The list of a table that `schema` lacks is empty. If a table has
+/// a malformed row, DESK not exactly one row, or SETTLE_RULE two rows or more, sets
+/// `are_well_formed` of the decoder to false and returns no rows of this table. Fails with `Memory`
+/// or `Store` only.
 pub(crate) fn read_all_tables<S: Alter>(
     tx: &mut Transaction<'_, S>,
     alloc: Global,

@@ -43,8 +43,8 @@ first_five_trade_fields t = codes "trade" ∷ decimal t.id ∷ decimal t.stamp �
 abbrev pub order_fields_of_trade : tables.TradeRow → List Text
 order_fields_of_trade t = t.symbol ∷ decimal t.qty ∷ nonnegative_cents_text t.bid ∷ t.executor ∷ []
 
--- The fields 10 to 13 of the trade `t`: its price, which is empty if it is not completed, charge,
--- commission and tax.
+-- The fields 10 to 13 of the trade `t`: its price, which is empty if the trade has none, its
+-- charge, commission and tax.
 abbrev pub price_and_cost_fields : tables.TradeRow → List Text
 price_and_cost_fields t =
     option_map_or nonnegative_cents_text t.price [] ∷ nonnegative_cents_text t.charge ∷ nonnegative_cents_text t.commission ∷ nonnegative_cents_text t.tax ∷ []

@@ -44,7 +44,7 @@ fn append_order_texts(alloc: Global, texts: &mut Vec<String>, trade: &TradeRow) 
 }
 
 // Appends to `texts` the fields 10 to 13 of the fifteen fields of a trade: its price, which is
-// empty if it is not completed, charge, commission and tax. Fails with `Memory` only.
+// empty if the trade has none, its charge, commission and tax. Fails with `Memory` only.
 fn append_price_and_cost_texts(
     alloc: Global,
     texts: &mut Vec<String>,
@@ -131,8 +131,8 @@ fn history_status_texts(alloc: Global, moment: StatusMoment) -> Result<Vec<Strin
     Ok(texts)
 }
 
-// Appends to `records` the record of the settlement, or nothing if `row` is `None`. Fails with
-// `Memory` only.
+// Appends to `records` the record of the settlement `row`, or nothing if `row` is `None`. Fails
+// with `Memory` only.
 fn append_settlement_record(
     alloc: Global,
     records: &mut Vec<Vec<String>>,
@@ -149,7 +149,7 @@ fn append_settlement_record(
     Ok(())
 }
 
-// Appends to `records` the record of the cash row, or nothing if `row` is `None`. Fails with
+// Appends to `records` the record of the cash row `row`, or nothing if `row` is `None`. Fails with
 // `Memory` only.
 fn append_cash_record(
     alloc: Global,
