@@ -9,16 +9,16 @@ use Rattle.brk_changes.specs.Sheets.{abstract_sheets}
 use Rattle.brk_changes.specs.declared.sheets.Sheets.{Sheets}
 use Rattle.brk_tables_schema.specs.Cells.{kept_cells}
 
--- The keys of the typed rows, in order.
+-- The keys of the typed rows `rows` of KEPT, in order.
 abbrev pub keys_of_kept_rows : List typed.Kept → List Key
 keys_of_kept_rows rows = map (λ r. abstract_key r.key) rows
 
--- The raw row encodes some typed row of KEPT with the key of `row`. Its texts may differ.
+-- The raw row `raw` encodes some typed row of KEPT with the key of `row`, and with any texts.
 abbrev pub HasKeyOfRawRow : typed.Kept → Row → Type 0
 HasKeyOfRawRow row raw = (whole : typed.Kept) × (kept_cells (abstract_kept_row whole) ≡ raw) × (abstract_key whole.key ≡ abstract_key row.key)
 
--- The raw rows are, in order, the encodings of some typed rows of KEPT with the keys of `rows`.
--- Their texts may differ.
+-- The raw rows `raw` are, in order, the encodings of some typed rows of KEPT with the keys of
+-- `rows`, and with any texts.
 abbrev pub HaveKeysOfRawRows : List typed.Kept → List Row → Type 0
 HaveKeysOfRawRows rows raw = (whole : List typed.Kept) × (map (λ r. kept_cells (abstract_kept_row r)) whole ≡ raw) × (keys_of_kept_rows whole ≡ keys_of_kept_rows rows)
 
