@@ -129,8 +129,9 @@ fn bounds_contain_quantity(band: &Band, qty: Qty) -> bool
     band.from_qty.get() <= qty.get() && qty.get() <= band.to_qty.get()
 }
 
-/// Returns true if two bands have the same tier, the same type and the same exchange, and some
-/// quantity is within the bounds of both.
+/// Returns true if two bands have the same tier, the same type and the same exchange, and the lower
+/// bound of each is at most the upper bound of the other. If neither has reversed bounds, some
+/// quantity is then within the bounds of both.
 pub fn bands_share_quantity(one: &Band, other: &Band) -> bool
     ensures { result ≡ bands_overlap (abstract_band one.now) (abstract_band other.now) }
 {
@@ -154,8 +155,8 @@ pub fn band_for(bands: &[Band], qty: Qty) -> Option<Rate>
     Some(band.rate)
 }
 
-/// Returns true if one of `bands` has the tier, the type and the exchange of `band`, and some
-/// quantity is within the bounds of both.
+/// Returns true if one of `bands` has the tier, the type and the exchange of `band`, and the lower
+/// bound of each is at most the upper bound of the other.
 pub fn overlaps(bands: &[Band], band: &Band) -> bool
     ensures { result ≡ list_any (bands_overlap (abstract_band band.now)) (map abstract_band bands.now) }
 {

@@ -44,7 +44,7 @@ rows_of_trade_status s = (abstract_trade_row s.trade, Some (abstract_security_ro
 abbrev pub trade_row_with_security : Tables → tables.TradeRow → tables.TradeRow × Option SecurityRow
 trade_row_with_security t row = (row, security_row_with_symbol t row.symbol)
 
--- The records of the account `a`: one with the names of its customer and its broker, followed by
--- one for each of its trades.
+-- The records of the account status `a`: one with the names of the account's customer and broker,
+-- followed by one for each trade in `a`, in its order (the account's last trades, not all).
 abbrev pub records_of_account_status : AccountStatus → model.View
 records_of_account_status a = party_names_record a ∷ map trade_status_record a.trades.items
