@@ -171,7 +171,7 @@ fn write_broker_explanation<W: Write, S: Alter>(
 /// the last one. After `Write` whole lines are written, from the first on, and a part of the next
 /// one.
 ///
-/// A crash exposes only states that a crash before the call could expose.
+/// A crash after the call exposes only states that a crash before the call could expose.
 pub fn write_explanation<W: Write, S: Alter>(
     alloc: Global,
     desk: &mut Desk<S>,

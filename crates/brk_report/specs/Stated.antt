@@ -20,20 +20,20 @@ use Rattle.brk_report_lines.specs.declared.fault.ReportFault.TheVariants.{Refuse
 use Rattle.brk_report.specs.declared.visitors.CashCountAndTotal.{CashCountAndTotal}
 
 -- The call between the states `old` and `new` of the desk's store changes nothing: the rows and the
--- open database are unchanged, and a crash exposes only states that a crash before the call could
--- expose. `g` is the specification of the storage `S`.
+-- open database are unchanged, and a crash after the call exposes only states that a crash before
+-- the call could expose. `g` is the specification of the storage `S`.
 pub record PreservesDesk {S : Type 0} (g : Ghosts S) (old new : Held S) : Type 0 where
   -- The store holds after the call the rows that it held before.
   pub same_rows : (t : Tables) → HoldsRows g old t → HoldsRows g new t
   -- If the database is open after the call, it was open before and is unchanged. Vacuous if the
   -- disk assumption fails.
   pub same : HasCleanDisk (state g new) → IsTrue (state g new).is_open → WasOpenAndIsUnchanged (state g old) (state g new)
-  -- A crash exposes only states that a crash before the call could expose. Vacuous if the disk
-  -- assumption fails.
+  -- A crash after the call exposes only states that a crash before the call could expose. Vacuous
+  -- if the disk assumption fails.
   pub survives : Survives (state g old) (state g new) (λ _. ⊥)
 
--- All tables that the store held before the call, in the state `old`, satisfy `So`. Vacuous if the
--- disk assumption fails after the call.
+-- All tables that the store held before the call, in the state `old`, satisfy `So`. Vacuous if some
+-- read up to the return of the call did not return what was written.
 abbrev pub HoldsForStoredTables : {S : Type 0} → Ghosts S → Held S → Held S → (Tables → Type 0) → Type 0
 HoldsForStoredTables g old new So = HasCleanDisk (state g new) → (t : Tables) → HoldsRows g old t → So t
 
@@ -101,7 +101,7 @@ IsRefusalOrMemoryStoreOrWriteFault Write = Unit {0}
 pub record StatementPost {S : Type 0} (g : Ghosts S) (old new : Held S) (account from to : ℕ) (before after : Option Text)
     (result : Result (Unit {0}) ReportFault) : Type 0 where
   -- The output is that of `WritesStatement` for all rows that the store held before the call.
-  -- Vacuous if the disk assumption fails after the call.
+  -- Vacuous if some read up to the return of the call did not return what was written.
   pub written : HoldsForStoredTables g old new (λ t. WritesStatement t account from to before after result)
   -- A fault of the desk is `Memory` or `Store`. This does not depend on the disk assumption.
   pub fault : IfErr result IsRefusalOrMemoryStoreOrWriteFault

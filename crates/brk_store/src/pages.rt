@@ -21,7 +21,8 @@ use std::alloc::Global;
 // contain this number too.
 const PAGE_SIZE: usize = 16;
 
-/// The rows of a page, and the number of them that were returned as lots.
+/// The rows of a page, and the number of them that were returned as lots (1 for an empty page that
+/// was read).
 #[derive(Drop)]
 pub struct Page {
     rows: Vec<HoldingRow>,
@@ -154,7 +155,7 @@ impl<S: Alter> Store<S> {
     /// lot of the next page has no shares, or that the number of rows read exceeds 32 bits. The
     /// remaining lots and the open database are then unchanged, so the call may be retried.
     ///
-    /// A crash during its reads exposes only states that a crash before them could expose.
+    /// A crash after its reads exposes only states that a crash before them could expose.
     pub fn lot_pages<'a>(
         &'a mut self,
         alloc: Global,
