@@ -21,17 +21,17 @@ use brk_changes::{
 };
 use brk_money::{Day, Fault, Stamp};
 use brk_ref::{
-    AccountRow, Band, BrokerRow, Charge, Customer, CustomerTax, Kept, LastTrade, Permission,
+    AccountRow, Band, BrokerRow, Charge, Customer, CustomerTax, Key, LastTrade, Permission,
     Security, Tax,
 };
 use sqlite::{Alter, Transaction};
 use std::alloc::Global;
 
-/// The typed rows of DESK, KEPT, BROKER and CUSTOMER.
+/// The typed rows of DESK, BROKER and CUSTOMER, and the keys of KEPT.
 #[derive(Drop)]
 pub struct DeskAndCustomerSheets {
     last: Option<Stamp>,
-    kept: Vec<Kept>,
+    kept: Vec<Key>,
     brokers: Vec<BrokerRow>,
     customers: Vec<Customer>,
 }
