@@ -554,13 +554,14 @@ rule_rows (Some day) = record {{ id = 1; day = day }} ∷ []
 abbrev pub rule_key : RuleRow → List KeyPart
 rule_key r = number r.id ∷ []
 
--- True if the schema `schema` has the table. Only CASH_MOVE and SETTLE_RULE depend on it.
+-- True if the schema `schema` has the table. The result depends on the schema for CASH_MOVE and
+-- SETTLE_RULE only.
 abbrev pub schema_has_table : Schema → DeskTable → Bool
 {chr(10).join(f'schema_has_table schema {d[2]} = schema.{LATER[d[0]]}' for d in DATA if d[0] in LATER)}
 schema_has_table schema w = true
 
--- The definition of a table of a desk, with its rows at the given tree: its SQL name, columns, keys
--- and foreign keys.
+-- The definition of the table `w` of a desk, with its rows at the given tree: its SQL name, columns,
+-- keys and foreign keys.
 abbrev pub table_definition_at : DeskTable → ℕ → Table
 {both(lambda d: f'table_definition_at {d[2]} = {d[0]}_table')}
 
@@ -568,15 +569,15 @@ abbrev pub table_definition_at : DeskTable → ℕ → Table
 abbrev pub table_definition_has_tree : (w : DeskTable) (tree : ℕ) → (table_definition_at w tree).tree ≡ tree
 {both(lambda d: f'table_definition_has_tree {d[2]} tree = refl')}
 
--- The type of the records of a table of a desk.
+-- The type of the records of the table `w` of a desk.
 abbrev pub RecordOfTable : DeskTable → Type 0
 {both(lambda d: f'RecordOfTable {d[2]} = {d[3]}')}
 
--- The SQL row that encodes a record of a table: its values in the order of the columns.
+-- The SQL row that encodes a record of the table `w`: its values in the order of the columns.
 abbrev pub encoded_row : (w : DeskTable) → RecordOfTable w → Row
 {both(lambda d: f'encoded_row {d[2]} = {d[0]}_cells')}
 
--- The primary key of a record of a table: its parts, in the order of the key's columns.
+-- The primary key of a record of the table `w`: its parts, in the order of the key's columns.
 abbrev pub primary_key_of_record : (w : DeskTable) → RecordOfTable w → List KeyPart
 {both(lambda d: f'primary_key_of_record {d[2]} = {d[4]}')}
 
@@ -730,17 +731,17 @@ use Rattle.brk_tables_create.specs.declared.table.Table.TheVariants as table
 abbrev pub specified_table : Table → DeskTable
 {chr(10).join(f'specified_table table.{d[2]} = {d[2]}' for d in DATA)}
 
--- The text of the SQL statement that creates a table of a desk.
+-- The CREATE TABLE statement of each table of a desk, with its columns, keys and foreign keys.
 abbrev pub create_table_text : DeskTable → List ℕ
 {chr(10).join(f'create_table_text {d[2]} = codes "{create_text(d)}"' for d in DATA)}
 
--- The text of a DELETE statement on the table `w`. It is compiled, to check if a table of this name
--- exists, and never executed.
+-- The text of a DELETE statement on the table `w`, which compiles if and only if a table of this name
+-- exists.
 abbrev pub existence_probe_text : DeskTable → List ℕ
 existence_probe_text w = codes "DELETE FROM " ++ table_name w
 """
     save('crates/brk_tables_create/specs/Texts.antt', out)
-    probe = 'Returns the text of a DELETE statement on the table. It is compiled, to check if a table of\n    /// this name exists, and never executed.'
+    probe = 'Returns the text of a DELETE statement on the table, which compiles if and only if a table of\n    /// this name exists.'
     def function(name, what, contract, text):
         return f"""
     /// {what}
@@ -763,7 +764,7 @@ pub enum Table {{
 {chr(10).join(f'    /// {d[1]}{chr(10)}    {d[2]},' for d in DATA)}
 }}
 
-impl Table {{{function('create_table_text', 'Returns the text of the SQL statement that creates the table.', 'create_table_text', create_text)}{function('existence_probe_text', probe, 'existence_probe_text', lambda d: f'DELETE FROM {d[1]}')}}}
+impl Table {{{function('create_table_text', 'Returns the CREATE TABLE statement of the table, with its columns, keys and foreign keys.', 'create_table_text', create_text)}{function('existence_probe_text', probe, 'existence_probe_text', lambda d: f'DELETE FROM {d[1]}')}}}
 """
     for name, what, tables in by_schema():
         out += f"""

@@ -1,4 +1,4 @@
--- The figures of a trade's cash row, as the program holds them.
+-- The figures of a trade's cash row, as values of the program.
 use Rattle.brk_audit_sums.specs.Settling.{MoveRowFigures}
 use Rattle.brk_audit.specs.declared.cash.Posted as declared
 

@@ -28,9 +28,9 @@ value_by_last_of_two_valid_statuses Canceled Pending first second = first
 value_by_last_of_two_valid_statuses Pending Submitted first second = second
 value_by_last_of_two_valid_statuses _ _ first second = false
 
--- True if the statuses of the history rows `a` and `b`, sorted by status code, form a valid status
--- sequence in the order of their stamps, and the row `r` of TRADE has the status and the stamp of
--- the later one.
+-- True if the history rows `a` and `b`, sorted by status code, form a valid status sequence in
+-- strictly ascending order of their stamps, and the row `r` of TRADE has the status and the stamp
+-- of the later one.
 abbrev pub is_valid_two_row_history : TradeRow → HistoryRow → HistoryRow → Bool
 is_valid_two_row_history r a b =
     value_by_last_of_two_valid_statuses a.status b.status (nat_lt b.stamp a.stamp && has_status_and_stamp_of_row r a) (nat_lt a.stamp b.stamp
@@ -42,16 +42,16 @@ abbrev pub value_if_three_statuses_are_valid : Status → Status → Status → 
 value_if_three_statuses_are_valid Completed Pending Submitted told = told
 value_if_three_statuses_are_valid _ _ _ told = false
 
--- True if the statuses of the history rows `a`, `b` and `c`, sorted by status code, form a valid
--- status sequence in the order of their stamps, and the row `r` of TRADE has the status and the
--- stamp of the last one.
+-- True if the history rows `a`, `b` and `c`, sorted by status code, form a valid status sequence in
+-- strictly ascending order of their stamps, and the row `r` of TRADE has the status and the stamp
+-- of the last one.
 abbrev pub is_valid_three_row_history : TradeRow → HistoryRow → HistoryRow → HistoryRow → Bool
 is_valid_three_row_history r a b c =
     value_if_three_statuses_are_valid a.status b.status c.status (nat_lt b.stamp c.stamp && nat_lt c.stamp a.stamp && has_status_and_stamp_of_row r a)
 
--- True if the statuses of the history rows, sorted by status code, form a valid status sequence in
--- the order of their stamps, and the row `r` of TRADE has the status and the stamp of the last one.
--- False if there are no rows.
+-- True if the history rows, sorted by status code, form a valid status sequence in strictly
+-- ascending order of their stamps, and the row `r` of TRADE has the status and the stamp of the
+-- last one. False if there are no rows.
 abbrev pub is_valid_history : TradeRow → List HistoryRow → Bool
 is_valid_history r [] = false
 is_valid_history r (h ∷ []) = is_first_status h.status && has_status_and_stamp_of_row r h

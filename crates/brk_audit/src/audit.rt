@@ -19,8 +19,8 @@ use brk_changes::{Schema, Sheets};
 use brk_money::{Condition, Fault};
 use std::alloc::Global;
 
-/// Returns the first condition of `schema` that the rows fail, in the order `Form`, `Status`,
-/// `Requests`, `Lots`, `History`, `Summary`, `Count`, `Commission`, `Settlement`, `Cash`,
+/// Returns the first condition of `schema` that the rows of `sheets` fail, in the order `Form`,
+/// `Status`, `Requests`, `Lots`, `History`, `Summary`, `Count`, `Commission`, `Settlement`, `Cash`,
 /// `Balance`, or `None` if they pass the audit.
 ///
 /// Fails with `Memory` only.

@@ -23,7 +23,7 @@ use std::alloc::Global;
 use std::collections::BTreeMap;
 
 // Returns true if the row of CASH_TRANSACTION has the id and the stamp of the completed trade, and
-// its settlement amount at the tax status of its account.
+// its settlement amount at the tax status `tax_status`. The name of the row is not compared.
 fn cash_row_matches_trade(cash: &CashRow, trade: &TradeRow, tax_status: TaxStatus) -> bool
     ensures { IsTrue result
         ↔ ((cash.now.trade ≡ trade.now.id) × (cash.now.stamp ≡ trade.now.stamp)
@@ -42,8 +42,8 @@ fn is_completed_cash_trade_row(trade: &TradeRow) -> bool
 }
 
 // Returns the rows of CASH_TRANSACTION after the row of `trade`, or all rows if `trade` is not a
-// completed cash trade. Returns `None` if `trade` is a completed cash trade and the first row is
-// not its row.
+// completed cash trade. Returns `None` if `trade` is a completed cash trade and `cash` does not
+// begin with its row. Names of rows are not compared.
 fn cash_rows_after_trade<'a>(
     cash: &'a [CashRow],
     trade: &TradeRow,
@@ -69,7 +69,7 @@ fn cash_rows_after_trade<'a>(
 }
 
 // Returns true if the rows of CASH_TRANSACTION are exactly the rows of the completed cash trades,
-// in the order of the trades.
+// in the order of the trades. Names of rows are not compared.
 fn cash_rows_match_trades(
     cash: &[CashRow],
     trades: &[TradeRow],
@@ -127,8 +127,8 @@ fn posted_figures_of_move_rows(alloc: Global, moves: &[MoveRow]) -> Result<Vec<P
     Ok(all)
 }
 
-// Returns true if the figures of a row of CASH_MOVE are the account, the id, the stamp and the
-// settlement amount of the completed trade, at the tax status of its account.
+// Returns true if the figures of a row of CASH_MOVE are the account, the id and the stamp of the
+// completed trade, and its settlement amount at the tax status `tax_status`.
 fn has_figures_of_trade(row: Posted, trade: &TradeRow, tax_status: TaxStatus) -> bool
     ensures { IsTrue result
         ↔ ((row.account ≡ trade.now.account) × (row.trade ≡ trade.now.id) × (row.stamp ≡ trade.now.stamp)
@@ -140,9 +140,9 @@ fn has_figures_of_trade(row: Posted, trade: &TradeRow, tax_status: TaxStatus) ->
         && row.amount.get() == settlement_amount_of_row(trade, tax_status)
 }
 
-// Returns the figures after those of `trade`, or all of `rows` if `trade` is not a completed cash
-// trade. Returns `None` if `trade` is a completed cash trade and the first figures are not its
-// figures.
+// Returns the figures in `rows` after those of `trade`, or all of `rows` if `trade` is not a
+// completed cash trade. Returns `None` if `trade` is a completed cash trade and `rows` does not
+// begin with its figures.
 fn posted_rows_after_trade<'a>(
     rows: &'a [Posted],
     trade: &TradeRow,
@@ -211,10 +211,11 @@ fn move_rows_are_numbered_by_stamp(moves: &[MoveRow]) -> bool
     true
 }
 
-/// Returns true if the rows satisfy the condition `Cash` of `schema`: the cash rows of trades are
-/// exactly the rows of the completed cash trades. In schema 1 they are in CASH_TRANSACTION. In
-/// later schemas they are in CASH_MOVE, which also has the deposits and withdrawals and is numbered
-/// from 1 by stamp, and CASH_TRANSACTION is empty. Fails with `Memory` only.
+/// Returns true if the rows, which must satisfy `Form` of `schema` and `Status`, satisfy the
+/// condition `Cash` of `schema`: the cash rows of trades are exactly the rows of the completed cash
+/// trades. In schema 1 they are in CASH_TRANSACTION. In later schemas they are in CASH_MOVE, which
+/// also has the deposits and withdrawals and is numbered from 1 by ascending stamp, and
+/// CASH_TRANSACTION is empty. Fails with `Memory` only.
 pub(crate) fn cash_condition_holds(
     alloc: Global,
     schema: Schema,

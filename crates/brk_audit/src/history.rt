@@ -23,8 +23,9 @@ use brk_money::Fault;
 use std::alloc::Global;
 use std::cmp::Ordering;
 
-// Appends to `rows` the lot changes of the completed trades `run`, which all have one account and
-// symbol and are sorted by stamp. Fails with `Memory` only.
+// Appends to `rows` the lot changes of the completed trades `run`, executed in order from no lots.
+// The trades must have prices, distinct ids and strictly ascending stamps. Fails with `Memory`
+// only.
 fn append_lot_changes_of_trades(
     alloc: Global,
     rows: &mut Vec<DealTouch>,
@@ -41,8 +42,9 @@ fn append_lot_changes_of_trades(
     Ok(())
 }
 
-// Returns the lot changes of the completed trades `done`, position by position. The trades are
-// sorted by account, symbol and stamp. Fails with `Memory` only.
+// Returns the lot changes of the completed trades `done`, position by position. The trades must be
+// sorted by account, symbol and stamp, and have prices, distinct ids and distinct stamps. Fails
+// with `Memory` only.
 fn lot_changes_of_trades(alloc: Global, done: &[&TradeRow]) -> Result<Vec<DealTouch>, Fault>
     requires order { IsSortedBy (λ one other. is_before_by_position (abstract_trade_row one.now) (abstract_trade_row other.now)) done.now }
     requires apart { IsDistinct has_same_id_or_stamp (map (λ row. abstract_trade_row row.now) done.now) }
@@ -89,8 +91,7 @@ fn lot_change_equals_row(touch: &DealTouch, row: &LotChange) -> bool
         && touch.touch.after == row.after
 }
 
-// Returns true if the lot changes equal the rows of HOLDING_HISTORY, one by one, in the order of
-// both lists.
+// Returns true if the lot changes equal the rows of HOLDING_HISTORY, in number and in order.
 fn lot_changes_equal_rows(touches: &[DealTouch], rows: &[LotChange]) -> bool
     ensures { IsTrue result ↔ (map abstract_deal_touch touches.now ≡ map abstract_lot_change_row rows.now) }
 {
@@ -105,8 +106,9 @@ fn lot_changes_equal_rows(touches: &[DealTouch], rows: &[LotChange]) -> bool
     true
 }
 
-/// Returns true if the rows satisfy the condition `History`: the rows of HOLDING_HISTORY are
-/// exactly the lot changes of the completed trades. Fails with `Memory` only.
+/// Returns true if the rows, which must satisfy `Form` and `Status`, satisfy the condition
+/// `History`: the rows of HOLDING_HISTORY are exactly the lot changes of the completed trades.
+/// Fails with `Memory` only.
 pub(crate) fn history_condition_holds(alloc: Global, sheets: &Sheets) -> Result<bool, Fault>
     requires form { HasWellFormedRows sheets.now }
     requires status { HasValidStatuses sheets.now }

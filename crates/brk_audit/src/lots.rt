@@ -44,7 +44,8 @@ fn append_holding_rows(
 }
 
 // Returns the rows of HOLDING of the lots that remain after the completed trades `done`, position
-// by position. The trades are sorted by account, symbol and stamp. Fails with `Memory` only.
+// by position. The trades must be sorted by account, symbol and stamp, and have prices, distinct
+// ids and distinct stamps. Fails with `Memory` only.
 fn lots_left_by_trades(alloc: Global, done: &[&TradeRow]) -> Result<Vec<HoldingRow>, Fault>
     requires order { IsSortedBy (λ one other. is_before_by_position (abstract_trade_row one.now) (abstract_trade_row other.now)) done.now }
     requires apart { IsDistinct has_same_id_or_stamp (map (λ row. abstract_trade_row row.now) done.now) }
@@ -91,8 +92,9 @@ fn are_holding_lists_equal(rows: &[HoldingRow], others: &[HoldingRow]) -> bool
     true
 }
 
-/// Returns true if the rows satisfy the condition `Lots`: the rows of HOLDING are exactly the lots
-/// that remain after the completed trades. Fails with `Memory` only.
+/// Returns true if the rows, which must satisfy `Form` and `Status`, satisfy the condition `Lots`:
+/// the rows of HOLDING are exactly the lots that remain after the completed trades. Fails with
+/// `Memory` only.
 pub(crate) fn lot_condition_holds(alloc: Global, sheets: &Sheets) -> Result<bool, Fault>
     requires form { HasWellFormedRows sheets.now }
     requires status { HasValidStatuses sheets.now }

@@ -109,7 +109,8 @@ pub(crate) fn deal_of_completed_trade(row: &TradeRow) -> Deal
     }
 }
 
-/// Returns the deals of completed trades, in the order of the trades. Fails with `Memory` only.
+/// Returns the deals of the completed trades `run`, in the order of the trades. Each trade must
+/// have a price. Fails with `Memory` only.
 pub(crate) fn deals_of_completed_trades(
     alloc: Global,
     run: &[&TradeRow],
@@ -125,8 +126,8 @@ pub(crate) fn deals_of_completed_trades(
     Ok(deals)
 }
 
-/// Returns the position after the completed trades `run`, executed in order from no lots. Fails
-/// with `Memory` only.
+/// Returns the position after the completed trades `run`, executed in order from no lots. The
+/// trades must have prices, distinct ids and strictly ascending stamps. Fails with `Memory` only.
 pub(crate) fn position_after_trades(alloc: Global, run: &[&TradeRow]) -> Result<Position, Fault>
     requires priced { AllByRecursion (λ row. IsSome row.now.price) run.now }
     requires deals { AreAscendingDeals (map (λ row. deal_of_completed_row (abstract_trade_row row.now)) run.now) }

@@ -53,7 +53,7 @@ fn is_pending(status: Status) -> bool
 }
 
 // Returns the requests after the request of `trade`, or all requests if `trade` is not pending.
-// Returns `None` if `trade` is pending and the first request is not its request.
+// Returns `None` if `trade` is pending and `requests` does not begin with its request.
 fn requests_after_trade<'a>(
     requests: &'a [RequestRow],
     trade: &TradeRow,
@@ -99,8 +99,9 @@ fn requests_match_trades(
     rest.is_empty()
 }
 
-/// Returns true if the rows satisfy the condition `Requests`: the rows of TRADE_REQUEST are exactly
-/// the requests of the pending trades. Fails with `Memory` only.
+/// Returns true if the rows, which must satisfy `Form` and `Status`, satisfy the condition
+/// `Requests`: the rows of TRADE_REQUEST are exactly the requests of the pending trades. Fails with
+/// `Memory` only.
 pub(crate) fn request_condition_holds(alloc: Global, sheets: &Sheets) -> Result<bool, Fault>
     requires form { HasWellFormedRows sheets.now }
     requires status { HasValidStatuses sheets.now }

@@ -29,8 +29,8 @@ fn settles_on_day(day: Day, rule: Option<Day>, stamp: Stamp) -> bool
     day.get() == completed.get() + i32::from(days_to_settlement(rule, completed))
 }
 
-// Returns true if the settlement has the id, the due day and the settlement amount of the completed
-// trade, by the settlement day `rule` and the tax status of its account. The settlement text is not
+// Returns true if the settlement has the id of the completed trade, its due day by the settlement
+// day `rule`, and its settlement amount at the tax status `tax_status`. The settlement text is not
 // compared.
 fn settlement_matches_trade(
     settlement: &SettlementRow,
@@ -47,7 +47,8 @@ fn settlement_matches_trade(
 }
 
 // Returns the settlements after the settlement of `trade`, or all settlements if `trade` is not
-// completed. Returns `None` if `trade` is completed and the first settlement is not its settlement.
+// completed. Returns `None` if `trade` is completed and `settlements` does not begin with its
+// settlement. Settlement texts are not compared.
 fn settlements_after_trade<'a>(
     settlements: &'a [SettlementRow],
     trade: &TradeRow,
@@ -100,8 +101,9 @@ fn settlements_match_trades(
     rest.is_empty()
 }
 
-/// Returns true if the rows satisfy the condition `Settlement`: SETTLEMENT has exactly one row for
-/// each completed trade, with its due day and its settlement amount. Fails with `Memory` only.
+/// Returns true if the rows, which must satisfy `Form` and `Status`, satisfy the condition
+/// `Settlement`: SETTLEMENT has exactly one row for each completed trade, with its due day and its
+/// settlement amount, and no other row. Fails with `Memory` only.
 pub(crate) fn settlement_condition_holds(alloc: Global, sheets: &Sheets) -> Result<bool, Fault>
     requires form { HasWellFormedRows sheets.now }
     requires status { HasValidStatuses sheets.now }

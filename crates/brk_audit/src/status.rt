@@ -48,8 +48,8 @@ fn has_status_and_stamp_of_row(trade: &TradeRow, row: HistoryRow) -> bool
     trade.status == row.status && trade.stamp == row.stamp
 }
 
-// Returns true if the statuses of the rows `a` and `b`, which are sorted by status code, form a
-// valid status sequence in the order of their stamps, and the trade's row has the status and the
+// Returns true if the rows `a` and `b`, which are sorted by status code, form a valid status
+// sequence in strictly ascending order of their stamps, and the trade's row has the status and the
 // stamp of the later one.
 fn is_valid_two_row_history(trade: &TradeRow, a: HistoryRow, b: HistoryRow) -> bool
     ensures { result ≡ spec.is_valid_two_row_history (abstract_trade_row trade.now) (abstract_history_row a) (abstract_history_row b) }
@@ -65,8 +65,8 @@ fn is_valid_two_row_history(trade: &TradeRow, a: HistoryRow, b: HistoryRow) -> b
     }
 }
 
-// Returns true if the statuses of the rows `a`, `b` and `c`, which are sorted by status code, form
-// a valid status sequence in the order of their stamps, and the trade's row has the status and the
+// Returns true if the rows `a`, `b` and `c`, which are sorted by status code, form a valid status
+// sequence in strictly ascending order of their stamps, and the trade's row has the status and the
 // stamp of the last one.
 fn is_valid_three_row_history(trade: &TradeRow, a: HistoryRow, b: HistoryRow, c: HistoryRow) -> bool
     ensures { result
@@ -82,8 +82,8 @@ fn is_valid_three_row_history(trade: &TradeRow, a: HistoryRow, b: HistoryRow, c:
     }
 }
 
-// Returns true if the statuses of the history rows, which are sorted by status code, form a valid
-// status sequence in the order of their stamps, and the trade's row has the status and the stamp of
+// Returns true if the history rows, which are sorted by status code, form a valid status sequence
+// in strictly ascending order of their stamps, and the trade's row has the status and the stamp of
 // the last one. Returns false if there are no rows.
 fn is_valid_trade_history(trade: &TradeRow, rows: &[HistoryRow]) -> bool
     ensures { result ≡ spec.is_valid_history (abstract_trade_row trade.now) (map abstract_history_row rows.now) }
@@ -96,7 +96,8 @@ fn is_valid_trade_history(trade: &TradeRow, rows: &[HistoryRow]) -> bool
     }
 }
 
-// Returns the number of rows at the beginning of `history` that belong to the trade with the id.
+// Returns the number of rows at the beginning of `history` that belong to the trade with the id
+// `trade`.
 fn leading_row_count_of_trade(history: &[HistoryRow], trade: Id) -> usize
     ensures { result ≡ prefix_len (λ h. h.trade == trade) history.now }
 {
@@ -180,9 +181,10 @@ fn has_distinct_stamps(
     Ok(true)
 }
 
-/// Returns true if the rows satisfy the condition `Status`: each trade's history is a valid status
-/// sequence, and no two completions, deposits or withdrawals have the same stamp. Fails with
-/// `Memory` only.
+/// Returns true if the rows, which must satisfy `Form`, satisfy the condition `Status`: each
+/// trade's history is a valid status sequence with strictly ascending stamps, the trade's row has
+/// the status and the stamp of the last status change, and no two completions, deposits or
+/// withdrawals have the same stamp. Fails with `Memory` only.
 pub(crate) fn status_condition_holds(alloc: Global, sheets: &Sheets) -> Result<bool, Fault>
     requires form { HasWellFormedRows sheets.now }
     ensures value { IfOk result (λ holds. (schema : Schema) → IsTrue holds ↔ ConditionHolds schema condition.Status (abstract_sheets sheets.now)) }

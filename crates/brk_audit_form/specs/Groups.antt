@@ -66,9 +66,9 @@ reference_rows_are_well_formed schema s =
     && list_all (λ r. is_well_formed_tax_rate_row (abstract_tax_rate r)) s.tax_rates.items
     && list_all (λ r. is_well_formed_customer_tax_row (abstract_sheets s) (abstract_customer_tax r)) s.customer_taxes.items
 
--- True if each of the typed rows `s` of trades, requests, lots, summaries and settlements is
--- well-formed and within the limits of the schema, and each record that it refers to exists. Cash
--- rows are not checked.
+-- True if each of the typed rows `s` of TRADE, TRADE_HISTORY, TRADE_REQUEST, HOLDING,
+-- HOLDING_SUMMARY, HOLDING_HISTORY and SETTLEMENT is well-formed and within the limits of the
+-- schema, and each record that it refers to exists.
 abbrev pub trading_rows_are_well_formed : Schema → Sheets → Bool
 trading_rows_are_well_formed schema s =
     list_all (λ r. is_well_formed_trade_row schema (abstract_sheets s) (abstract_trade_row r)) s.trades.items

@@ -19,7 +19,8 @@ use brk_money::{Cents, Fault, Id, Qty};
 use brk_ref::Symbol;
 use std::alloc::{AllocError, Global};
 
-// Returns the name of the security with the symbol, or the empty text if it does not exist.
+// Returns the name of the security with the symbol, or the empty text if it does not exist. The
+// tables must be sorted by key.
 fn security_name<'a>(sheets: &'a Sheets, symbol: &Symbol) -> &'a str
     requires { HasSortedKeys sheets.now }
     ensures { result.now ≡ security_name_or_empty (abstract_sheets sheets.now) symbol.now }
@@ -55,8 +56,9 @@ fn format_cash_text_of_trade(
     Ok(name)
 }
 
-// Returns true if `name` is one of the two cash texts of the trade: the name of its type, its
-// quantity, ` shares of ` or ` Shares of `, and the name of its security. Fails with `Memory` only.
+// Returns true if `name` is one of the two cash texts of the trade: the name of its type, a space,
+// its quantity, ` shares of ` or ` Shares of `, and the name of its security, which is empty if the
+// security does not exist. The tables must be sorted by key. Fails with `Memory` only.
 fn is_cash_text_of_trade(
     alloc: Global,
     sheets: &Sheets,
@@ -76,8 +78,8 @@ fn is_cash_text_of_trade(
     Ok(name == second.as_str())
 }
 
-// Returns true if the trade with the id exists and `name` is one of its two cash texts, with
-// ` shares of ` or with ` Shares of `. Fails with `Memory` only.
+// Returns true if the trade with the id `id` exists and `name` is one of its two cash texts, with
+// ` shares of ` or with ` Shares of `. The tables must be sorted by key. Fails with `Memory` only.
 fn is_cash_text_of_trade_id(
     alloc: Global,
     sheets: &Sheets,
@@ -97,7 +99,7 @@ fn is_cash_text_of_trade_id(
 
 // Returns true if the row of CASH_TRANSACTION is well-formed: its trade exists, its text is one of
 // the two cash texts of the trade, its stamp is at most the last stamp, and its amount is within
-// the limit. Fails with `Memory` only.
+// the limit. The tables must be sorted by key. Fails with `Memory` only.
 fn cash_row_is_well_formed(alloc: Global, sheets: &Sheets, row: &CashRow) -> Result<bool, Fault>
     requires { HasSortedKeys sheets.now }
     ensures value { IfOk result (λ holds. holds ≡ form.is_well_formed_cash_row (abstract_sheets sheets.now) (abstract_cash_row row.now)) }
@@ -121,8 +123,8 @@ fn movement_name_matches_sign(name: &str, amount: Cents) -> bool
 
 // Returns true if the row of CASH_MOVE has a trade, the trade exists, and the text of the row is
 // one of the two cash texts of that trade. If the row has no trade, returns true if its text is
-// `Deposit` and its amount is above 0, or its text is `Withdrawal` and its amount is below 0. Fails
-// with `Memory` only.
+// `Deposit` and its amount is above 0, or its text is `Withdrawal` and its amount is below 0. The
+// tables must be sorted by key. Fails with `Memory` only.
 fn has_valid_cash_text(alloc: Global, sheets: &Sheets, row: &MoveRow) -> Result<bool, Fault>
     requires { HasSortedKeys sheets.now }
     ensures value { IfOk result (λ holds. holds
@@ -138,7 +140,7 @@ fn has_valid_cash_text(alloc: Global, sheets: &Sheets, row: &MoveRow) -> Result<
 
 // Returns true if the row of CASH_MOVE is well-formed: its number and its amount are within their
 // limits, its account exists, its text fits its trade or its amount (`has_valid_cash_text`), and
-// its stamp is at most the last stamp. Fails with `Memory` only.
+// its stamp is at most the last stamp. The tables must be sorted by key. Fails with `Memory` only.
 fn move_row_is_well_formed(alloc: Global, sheets: &Sheets, row: &MoveRow) -> Result<bool, Fault>
     requires { HasSortedKeys sheets.now }
     ensures value { IfOk result (λ holds. holds ≡ form.is_well_formed_move_row (abstract_sheets sheets.now) (abstract_move_row row.now)) }
@@ -154,7 +156,8 @@ fn move_row_is_well_formed(alloc: Global, sheets: &Sheets, row: &MoveRow) -> Res
     )
 }
 
-/// Returns true if each row of CASH_TRANSACTION is well-formed. Fails with `Memory` only.
+/// Returns true if each row of CASH_TRANSACTION is well-formed (`cash_row_is_well_formed`). The
+/// tables must be sorted by key. Fails with `Memory` only.
 pub(crate) fn all_cash_rows_well_formed(alloc: Global, sheets: &Sheets) -> Result<bool, Fault>
     requires { HasSortedKeys sheets.now }
     ensures value { IfOk result (λ holds. holds
@@ -170,7 +173,8 @@ pub(crate) fn all_cash_rows_well_formed(alloc: Global, sheets: &Sheets) -> Resul
     Ok(true)
 }
 
-/// Returns true if each row of CASH_MOVE is well-formed. Fails with `Memory` only.
+/// Returns true if each row of CASH_MOVE is well-formed (`move_row_is_well_formed`). The tables
+/// must be sorted by key. Fails with `Memory` only.
 pub(crate) fn all_move_rows_well_formed(alloc: Global, sheets: &Sheets) -> Result<bool, Fault>
     requires { HasSortedKeys sheets.now }
     ensures value { IfOk result (λ holds. holds

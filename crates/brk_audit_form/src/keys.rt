@@ -13,7 +13,7 @@ use std::cmp::Ordering;
 pub(crate) trait Keyed {
     ghost key: { Self → List KeyPart };
 
-    /// Returns the order of the key of the row and the key of another row.
+    /// Returns the order of the key of the row and the key of `other`.
     fn compare_keys(&self, other: &Self) -> Ordering
         ensures { result ≡ key_cmp (key self.now) (key other.now) };
 }

@@ -71,8 +71,7 @@ impl Formed for AccountRow {
 impl Formed for Permission {
     ghost form = { λ schema tables row. form.is_well_formed_permission_row tables (of.abstract_permission row) };
 
-    // Returns true if its rights, its tax id and both names are well-formed, and the account
-    // exists.
+    // Returns true if the ACL, the tax id and both names are well-formed, and the account exists.
     fn is_row_well_formed(&self, _schema: Schema, sheets: &Sheets) -> bool {
         is_well_formed_text(&self.acl)
             && is_well_formed_text(&self.tax_id)
@@ -121,8 +120,8 @@ impl Formed for Charge {
 impl Formed for Band {
     ghost form = { λ schema tables row. form.is_well_formed_band_row schema (of.abstract_band row) };
 
-    // Returns true if the tier, the exchange, both bounds and the rate are well-formed, and the
-    // lower bound is at most the upper.
+    // Returns true if the tier, the exchange and the rate are well-formed, both bounds are within
+    // the limits of the schema, and the lower bound is at most the upper bound.
     fn is_row_well_formed(&self, schema: Schema, _sheets: &Sheets) -> bool {
         is_tier_within_limits(self.tier)
             && is_well_formed_text(&self.exchange)

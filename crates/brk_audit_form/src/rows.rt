@@ -13,14 +13,15 @@ pub(crate) trait Formed {
     ghost form: { schemas.Schema → Tables → Self → Bool };
 
     /// Returns true if the columns of the row are well-formed and within the limits of the schema,
-    /// and each record that it refers to exists.
+    /// and each record that the row refers to exists in `sheets`, whose tables must be sorted by
+    /// key.
     fn is_row_well_formed(&self, schema: Schema, sheets: &Sheets) -> bool
         requires { HasSortedKeys sheets.now }
         ensures { result ≡ form (abstract_schema schema) (abstract_sheets sheets.now) self.now };
 }
 
-/// Returns true if each row is well-formed and within the limits of the schema, and each record
-/// that it refers to exists.
+/// Returns true if each of `rows` is well-formed and within the limits of the schema, and each
+/// record that it refers to exists in `sheets`, whose tables must be sorted by key.
 pub(crate) fn all_rows_well_formed<R: Formed>(schema: Schema, sheets: &Sheets, rows: &[R]) -> bool
     requires { HasSortedKeys sheets.now }
     ensures { result ≡ list_all (R.form (abstract_schema schema) (abstract_sheets sheets.now)) rows.now }

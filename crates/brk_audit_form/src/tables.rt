@@ -52,7 +52,8 @@ pub(crate) fn all_tables_have_sorted_keys(sheets: &Sheets) -> bool
 }
 
 /// Returns true if each row of KEPT, of LAST_TRADE and of reference data is well-formed and within
-/// the limits of the schema, and each record that it refers to exists.
+/// the limits of the schema, and each record that it refers to exists. The tables must be sorted by
+/// key.
 pub(crate) fn has_well_formed_reference_rows(schema: Schema, sheets: &Sheets) -> bool
     requires { HasSortedKeys sheets.now }
     ensures { result ≡ reference_rows_are_well_formed (abstract_schema schema) sheets.now }
@@ -70,9 +71,9 @@ pub(crate) fn has_well_formed_reference_rows(schema: Schema, sheets: &Sheets) ->
         && all_rows_well_formed(schema, sheets, &sheets.customer_taxes)
 }
 
-/// Returns true if each row of trades, requests, lots, summaries and settlements is well-formed and
-/// within the limits of the schema, and each record that it refers to exists. Rows of
-/// CASH_TRANSACTION and CASH_MOVE are not checked.
+/// Returns true if each row of TRADE, TRADE_HISTORY, TRADE_REQUEST, HOLDING, HOLDING_SUMMARY,
+/// HOLDING_HISTORY and SETTLEMENT is well-formed and within the limits of the schema, and each
+/// record that it refers to exists. The tables must be sorted by key.
 pub(crate) fn has_well_formed_trading_rows(schema: Schema, sheets: &Sheets) -> bool
     requires { HasSortedKeys sheets.now }
     ensures { result ≡ trading_rows_are_well_formed (abstract_schema schema) sheets.now }

@@ -19,7 +19,7 @@ use brk_changes::{
 use brk_money::{Day, Stamp, Status};
 
 // Returns true if the trade of the row has a completion in TRADE_HISTORY and a price from 1 cent to
-// the greatest price, or neither a completion nor a price.
+// the greatest price, or neither a completion nor a price. The tables must be sorted by key.
 fn row_has_price_exactly_if_completed(sheets: &Sheets, row: &TradeRow) -> bool
     requires { HasSortedKeys sheets.now }
     ensures { result ≡ form.price_matches_completion (abstract_sheets sheets.now) (of.abstract_trade_row row.now) }
@@ -52,9 +52,9 @@ fn is_settlement_text_of_trade_kind(is_cash: bool, word: CashType) -> bool
 impl Formed for TradeRow {
     ghost form = { λ schema tables row. form.is_well_formed_trade_row schema tables (of.abstract_trade_row row) };
 
-    // Returns true if the numbers are within their limits, the stamp is at most the last stamp, the
-    // account and the security exist, and the row has a price if and only if its trade has a
-    // completion.
+    // Returns true if the id, the quantity, the bid, the charge, the commission and the tax are
+    // within their limits, the stamp is at most the last stamp, the account and the security exist,
+    // and the row has a price, within its limits, if and only if its trade has a completion.
     fn is_row_well_formed(&self, schema: Schema, sheets: &Sheets) -> bool {
         is_id_within_limits(self.id)
             && is_quantity_within_limits(schema, self.qty)
@@ -112,8 +112,8 @@ impl Formed for HoldingRow {
 impl Formed for SummaryRow {
     ghost form = { λ schema tables row. form.is_well_formed_summary_row schema tables (of.abstract_summary_row row) };
 
-    // Returns true if the account and the security exist, and the quantity is within the limit of
-    // the schema.
+    // Returns true if the account and the security exist, and the absolute value of the quantity is
+    // at most the greatest summary of the schema.
     fn is_row_well_formed(&self, schema: Schema, sheets: &Sheets) -> bool {
         has_account(sheets, self.account)
             && has_security(sheets, &self.symbol)

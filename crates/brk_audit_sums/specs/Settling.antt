@@ -20,7 +20,7 @@ account_broker_or_zero t account = option_map_or (λ a. a.broker) (account_row_w
 abbrev pub account_tax_status_or_untaxed : Tables → ℕ → TaxStatus
 account_tax_status_or_untaxed t account = option_map_or (λ a. a.tax_status) (account_row_with_id t account) Untaxed
 
--- The row of TRADE_REQUEST of the pending trade `r`, where `brokers` gives the broker of an
+-- The row of TRADE_REQUEST of the pending trade `r`, where `brokers` returns the broker of an
 -- account.
 abbrev pub request_row_of_trade : (ℕ → ℕ) → TradeRow → RequestRow
 request_row_of_trade brokers r = record { trade = r.id; kind = r.kind; symbol = r.symbol; qty = r.qty; bid = r.bid; broker = brokers r.account }
@@ -44,7 +44,7 @@ abbrev pub settlement_figures_of_row : SettlementRow → SettlementFigures
 settlement_figures_of_row s = record { trade = s.trade; due_day = s.due_day; amount = s.amount }
 
 -- The trade, the due day and the amount of the settlement of the completed trade `r`, by the
--- settlement day `rule`, where `statuses` gives the tax status of an account.
+-- settlement day `rule`, where `statuses` returns the tax status of an account.
 abbrev pub settlement_figures_of_trade : SettleRule → (ℕ → TaxStatus) → TradeRow → SettlementFigures
 settlement_figures_of_trade rule statuses r =
     record { trade = r.id; due_day = due_day_of_completion_stamp rule r.stamp; amount = settlement_amount_at_tax_status (statuses r.account) r }
@@ -60,7 +60,7 @@ abbrev pub cash_figures_of_row : CashRow → CashRowFigures
 cash_figures_of_row c = record { trade = c.trade; stamp = c.stamp; amount = c.amount }
 
 -- The trade, the stamp and the amount of the row of CASH_TRANSACTION of the completed cash trade
--- `r`, where `statuses` gives the tax status of an account.
+-- `r`, where `statuses` returns the tax status of an account.
 abbrev pub cash_figures_of_trade : (ℕ → TaxStatus) → TradeRow → CashRowFigures
 cash_figures_of_trade statuses r = record { trade = r.id; stamp = r.stamp; amount = settlement_amount_at_tax_status (statuses r.account) r }
 
@@ -78,7 +78,7 @@ abbrev pub posted_figures_of_row : MoveRow → Option MoveRowFigures
 posted_figures_of_row r = option_map (λ id. record { account = r.account; trade = id; stamp = r.stamp; amount = r.amount }) r.trade
 
 -- The account, the trade, the stamp and the amount of the row of CASH_MOVE of the completed cash
--- trade `r`, where `statuses` gives the tax status of an account.
+-- trade `r`, where `statuses` returns the tax status of an account.
 abbrev pub posted_figures_of_trade : (ℕ → TaxStatus) → TradeRow → MoveRowFigures
 posted_figures_of_trade statuses r =
     record { account = r.account; trade = r.id; stamp = r.stamp; amount = settlement_amount_at_tax_status (statuses r.account) r }

@@ -18,8 +18,8 @@ pub struct AccountTerms {
     pub tax_status: TaxStatus,
 }
 
-/// Returns a map from the id of each account to its broker and tax status. Fails with `Memory`
-/// only.
+/// Returns a map from the id of each account to the broker and the tax status of the first row with
+/// this id. Fails with `Memory` only.
 pub fn account_terms_by_id(
     alloc: Global,
     accounts: &[AccountRow],

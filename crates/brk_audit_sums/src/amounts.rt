@@ -33,7 +33,8 @@ fn price_or_zero(price: Option<Price>) -> u64
     }
 }
 
-// Returns the value of `qty` shares at a price, in cents.
+// Returns the value, in cents, of `qty` shares at the price `cents`, in cents. Both must be within
+// the limits of quantities and prices.
 fn value_of_shares(qty: u32, cents: u64) -> u64
     requires qty { qty ≤ greatest_qty }
     requires cents { cents ≤ greatest_price }
@@ -44,7 +45,8 @@ fn value_of_shares(qty: u32, cents: u64) -> u64
 }
 
 // Returns the value of a sale, or the negated value of a purchase, minus the deductions
-// `taken_off`, all in cents.
+// `taken_off`, all in cents. `value` must be at most the greatest quantity times the greatest
+// price, and `taken_off` at most three times the greatest amount.
 fn proceeds_less_deductions(side: Side, value: u64, taken_off: u64) -> i64
     requires value { value ≤ greatest_qty * greatest_price }
     requires taken_off { taken_off ≤ 3 * greatest_amount }
@@ -58,7 +60,8 @@ fn proceeds_less_deductions(side: Side, value: u64, taken_off: u64) -> i64
 }
 
 /// Returns the settlement amount of a completed trade at the tax status of its account, in cents:
-/// the signed value minus charge, commission and withheld tax. It is below 0 if the account pays.
+/// its value, negated for a purchase, minus charge, commission and withheld tax. It is below 0 if
+/// the account pays. A missing price counts as 0.
 pub fn settlement_amount_of_row(trade: &TradeRow, tax_status: TaxStatus) -> i64
     ensures { result ≡ settlement_amount_at_tax_status tax_status (abstract_trade_row trade.now) }
 {

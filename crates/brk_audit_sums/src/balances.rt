@@ -24,7 +24,8 @@ use std::alloc::Global;
 use std::collections::BTreeMap;
 
 // Returns the trade's settlement amount, in cents, as a posting at its account, or `None` if it is
-// not a completed cash trade. The map `terms` has the tax status of its account.
+// not a completed cash trade. The tax status of the account is looked up in `terms`; it is
+// `Untaxed` if `terms` does not contain the account.
 fn cash_posting_of_trade(
     terms: &BTreeMap<u64, AccountTerms>,
     trade: &TradeRow,
@@ -39,8 +40,9 @@ fn cash_posting_of_trade(
     Some(Posting { key, amount })
 }
 
-// Returns the settlement amounts of all completed cash trades as postings at their accounts. Fails
-// with `Memory` only.
+// Returns the settlement amounts, in cents, of all completed cash trades as postings at their
+// accounts, in the order of the trades. The tax statuses are looked up in `terms`
+// (`account_tax_status`). Fails with `Memory` only.
 fn cash_postings_of_trades(
     alloc: Global,
     terms: &BTreeMap<u64, AccountTerms>,
@@ -56,8 +58,8 @@ fn cash_postings_of_trades(
     Ok(all)
 }
 
-// Returns the amount of a deposit or a withdrawal as a posting at its account, or `None` if the row
-// of CASH_MOVE belongs to a trade.
+// Returns the amount, in cents, of a deposit or a withdrawal as a posting at its account, or `None`
+// if the row of CASH_MOVE belongs to a trade.
 fn posting_of_movement_row(row: &MoveRow) -> Option<Posting<u64>>
     ensures { result ≡ movement_posting_of_row (abstract_move_row row.now) }
 {
@@ -69,8 +71,8 @@ fn posting_of_movement_row(row: &MoveRow) -> Option<Posting<u64>>
     Some(Posting { key, amount })
 }
 
-// Appends to `all` the amounts of the deposits and withdrawals of `moves` as postings at their
-// accounts. Fails with `Memory` only.
+// Appends to `all` the amounts, in cents, of the deposits and withdrawals of `moves` as postings at
+// their accounts, in the order of the rows. Fails with `Memory` only.
 fn append_movement_postings(all: &mut Vec<Posting<u64>>, moves: &[MoveRow]) -> Result<(), Fault>
     ensures all { OnOk result (all.new.items ≡ all.old.items ++ filter_map (λ r. movement_posting_of_row (abstract_move_row r)) moves.now) }
     ensures fault { OnErr result (result ≡ Err Memory) }
@@ -106,7 +108,7 @@ fn balance_equals_opening_plus_moved(balance: i64, opening: i64, moved: i128) ->
 }
 
 // Returns true if the account's balance is its opening balance plus the sum at the account's id in
-// `sums`, all in cents.
+// `sums`, all in cents. The sum is 0 if `sums` does not contain the id.
 fn is_account_balanced(sums: &BTreeMap<u64, i128>, row: &AccountRow) -> bool
     ensures { IsTrue result ↔ (row.now.balance ≡ row.now.account.opening +ℤ sum_at_key nat_cmp sums.now row.now.account.id) }
 {
@@ -115,7 +117,7 @@ fn is_account_balanced(sums: &BTreeMap<u64, i128>, row: &AccountRow) -> bool
 }
 
 // Returns true if the balance of each account is its opening balance plus the sum at its id in
-// `sums`, all in cents.
+// `sums`, all in cents. The sum is 0 if `sums` does not contain the id.
 fn all_accounts_are_balanced(sums: &BTreeMap<u64, i128>, rows: &[AccountRow]) -> bool
     ensures { IsTrue result ↔ AllByRecursion (λ row. row.balance ≡ row.account.opening +ℤ sum_at_key nat_cmp sums.now row.account.id) rows.now }
 {
@@ -127,9 +129,9 @@ fn all_accounts_are_balanced(sums: &BTreeMap<u64, i128>, rows: &[AccountRow]) ->
     true
 }
 
-/// Returns true if the rows satisfy the condition `Balance`: the balance of each account is its
-/// opening balance plus the settlement amounts of its completed cash trades and the amounts of its
-/// deposits and withdrawals. Fails with `Memory` only.
+/// Returns true if the rows, which must satisfy `Form` and `Status`, satisfy the condition
+/// `Balance`: the balance of each account is its opening balance plus the settlement amounts of its
+/// completed cash trades and the amounts of its deposits and withdrawals. Fails with `Memory` only.
 pub fn balance_condition_holds(alloc: Global, sheets: &Sheets) -> Result<bool, Fault>
     requires form { HasWellFormedRows sheets.now }
     requires status { HasValidStatuses sheets.now }

@@ -23,7 +23,8 @@ use std::alloc::Global;
 use std::collections::BTreeMap;
 
 // Returns the trade's commission, in cents, as a posting at the broker of its account, or `None` if
-// the trade is not completed. The map `terms` has the broker of its account.
+// the trade is not completed. The broker is looked up in `terms`; it is 0 if `terms` does not
+// contain the account.
 fn commission_posting_of_trade(
     terms: &BTreeMap<u64, AccountTerms>,
     trade: &TradeRow,
@@ -38,7 +39,8 @@ fn commission_posting_of_trade(
     Some(Posting { key, amount })
 }
 
-// Returns the commissions of all completed trades as postings at the brokers of their accounts.
+// Returns the commissions, in cents, of all completed trades as postings at the brokers of their
+// accounts, in the order of the trades. The brokers are looked up in `terms` (`account_broker_id`).
 // Fails with `Memory` only.
 fn commission_postings_of_trades(
     alloc: Global,
@@ -77,9 +79,9 @@ fn all_brokers_have_commission_sums(sums: &BTreeMap<u64, i128>, rows: &[BrokerRo
     true
 }
 
-/// Returns true if the rows satisfy the condition `Commission`: each broker's commission total is
-/// the sum of the commissions of the completed trades of the broker's accounts. Fails with `Memory`
-/// only.
+/// Returns true if the rows, which must satisfy `Form` and `Status`, satisfy the condition
+/// `Commission`: each broker's commission total is the sum of the commissions of the completed
+/// trades of the broker's accounts. Fails with `Memory` only.
 pub fn commission_condition_holds(alloc: Global, sheets: &Sheets) -> Result<bool, Fault>
     requires form { HasWellFormedRows sheets.now }
     requires status { HasValidStatuses sheets.now }

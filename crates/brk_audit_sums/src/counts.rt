@@ -23,7 +23,8 @@ use std::alloc::Global;
 use std::collections::BTreeMap;
 
 // Returns the amount 1 as a posting at the broker of the trade's account, or `None` if the trade is
-// not completed. The map `terms` has the broker of its account.
+// not completed. The broker is looked up in `terms`; it is 0 if `terms` does not contain the
+// account.
 fn count_posting_of_trade(
     terms: &BTreeMap<u64, AccountTerms>,
     trade: &TradeRow,
@@ -37,8 +38,9 @@ fn count_posting_of_trade(
     Some(Posting { key, amount: 1 })
 }
 
-// Returns, for each completed trade, the amount 1 as a posting at the broker of its account. Fails
-// with `Memory` only.
+// Returns, for each completed trade, in the order of the trades, the amount 1 as a posting at the
+// broker of its account. The brokers are looked up in `terms` (`account_broker_id`). Fails with
+// `Memory` only.
 fn count_postings_of_trades(
     alloc: Global,
     terms: &BTreeMap<u64, AccountTerms>,
@@ -54,7 +56,8 @@ fn count_postings_of_trades(
     Ok(all)
 }
 
-// Returns true if the trade count in the broker's row is the sum at the broker's id in `sums`.
+// Returns true if the trade count in the broker's row is the sum at the broker's id in `sums`, or 0
+// if `sums` does not contain the id.
 fn has_trade_count(sums: &BTreeMap<u64, i128>, row: &BrokerRow) -> bool
     ensures { IsTrue result ↔ (row.now.trades ≡ sum_at_key nat_cmp sums.now row.now.broker.id) }
 {
@@ -62,7 +65,8 @@ fn has_trade_count(sums: &BTreeMap<u64, i128>, row: &BrokerRow) -> bool
     i128::from(row.trades) == count
 }
 
-// Returns true if the trade count in each broker's row is the sum at the broker's id in `sums`.
+// Returns true if the trade count in each broker's row is the sum at the broker's id in `sums`, or
+// 0 if `sums` does not contain the id.
 fn all_brokers_have_trade_counts(sums: &BTreeMap<u64, i128>, rows: &[BrokerRow]) -> bool
     ensures { IsTrue result ↔ AllByRecursion (λ row. row.trades ≡ sum_at_key nat_cmp sums.now row.broker.id) rows.now }
 {
@@ -74,8 +78,9 @@ fn all_brokers_have_trade_counts(sums: &BTreeMap<u64, i128>, rows: &[BrokerRow])
     true
 }
 
-/// Returns true if the rows satisfy the condition `Count`: each broker's trade count is the number
-/// of the completed trades of the broker's accounts. Fails with `Memory` only.
+/// Returns true if the rows, which must satisfy `Form` and `Status`, satisfy the condition `Count`:
+/// each broker's trade count is the number of the completed trades of the broker's accounts. Fails
+/// with `Memory` only.
 pub fn count_condition_holds(alloc: Global, sheets: &Sheets) -> Result<bool, Fault>
     requires form { HasWellFormedRows sheets.now }
     requires status { HasValidStatuses sheets.now }

@@ -1,6 +1,6 @@
 //! The part of the audit that sums by key: trade counts, commissions, balances and holding
-//! summaries. Also the terms of accounts and the settlement amounts of trades, by which the other
-//! checks go too.
+//! summaries. Also the terms of accounts and the settlement amounts of trades, which the other
+//! checks use too.
 #![tactic(auto)]
 
 pub mod account_terms;

@@ -43,7 +43,7 @@ fn share_posting_of_row(trade: &TradeRow) -> Option<Posting<(u64, &str)>>
 }
 
 // Returns the quantities of all completed trades, negated for sales, as postings at their accounts
-// and symbols. Fails with `Memory` only.
+// and symbols, in the order of the trades. Fails with `Memory` only.
 fn share_postings_of_trades<'a>(
     alloc: Global,
     trades: &'a [TradeRow],
@@ -69,8 +69,8 @@ fn posting_of_summary(row: &SummaryRow) -> Posting<(u64, &str)>
     Posting { key, amount }
 }
 
-// Returns the quantities of all holding summaries as postings at their accounts and symbols. Fails
-// with `Memory` only.
+// Returns the quantities of all holding summaries as postings at their accounts and symbols, in the
+// order of the rows. Fails with `Memory` only.
 fn postings_of_summaries<'a>(
     alloc: Global,
     rows: &'a [SummaryRow],
@@ -128,9 +128,10 @@ pub fn all_three_true(one: bool, other: bool, last: bool) -> bool
     one && other && last
 }
 
-/// Returns true if the rows satisfy the condition `Summary`: for each account and symbol, the
-/// holding summaries sum to the quantities of the completed trades, purchases minus sales, and no
-/// summary has the quantity 0. Fails with `Memory` only.
+/// Returns true if the rows, which must satisfy `Form` and `Status`, satisfy the condition
+/// `Summary`: for each account and symbol, the holding summaries sum to the quantities of the
+/// completed trades, purchases minus sales, and no summary has the quantity 0. Fails with `Memory`
+/// only.
 pub fn summary_condition_holds(alloc: Global, sheets: &Sheets) -> Result<bool, Fault>
     requires form { HasWellFormedRows sheets.now }
     requires status { HasValidStatuses sheets.now }

@@ -44,8 +44,8 @@ account_id_key a = number a.id ∷ []
 abbrev pub security_symbol_key : Security → List KeyPart
 security_symbol_key s = word s.symbol ∷ []
 
--- The base with its reference records and stored replies sorted by key. Its trades and movements
--- are unchanged.
+-- The base with its reference records and stored replies sorted by key. Its trades, its movements,
+-- its last stamp and its settlement day are unchanged.
 abbrev pub base_sorted_by_keys : Base → Base
 base_sorted_by_keys b = record b {
   brokers = rows_sorted_by_key broker_id_key b.brokers;

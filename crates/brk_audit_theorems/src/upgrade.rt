@@ -20,8 +20,8 @@ pub fn upgraded_rows_are_tables_of_their_base()
 {}
 
 /// Proves that, for rows that pass the audit of a schema, the upgrade from that schema equals the
-/// upgrade with all cash rows in CASH_MOVE, sorted by stamp and numbered from 1, and equals the
-/// tables of the base that the rows describe.
+/// upgrade with all cash rows in CASH_MOVE, sorted by stamp and numbered from 1
+/// (`tables_after_upgrade`), and equals the tables of the base that the rows describe.
 pub fn upgrade_yields_tables_of_the_base()
     ensures same { (schema : Schema) (rows : Tables) → PassesAudit schema rows → tables_upgraded_from_schema schema rows ≡ tables_after_upgrade rows }
     ensures tables { (schema : Schema) (rows : Tables) → PassesAudit schema rows → tables_upgraded_from_schema schema rows ≡ sheets (base_of_tables rows) }

@@ -91,7 +91,8 @@ pub record MovementBooksInvariant (all_accounts : List Account) (last : Option â
   pub holders : AllByRecursion (MovementAccountExists all_accounts) all_movements
   -- None has a stamp after the last stamp, so the next cash row is the last one.
   pub early : AllByRecursion (MovementStampIsAtMostLastStamp last) all_movements
-  -- Each has a stamp of its own, so the order of the cash rows is unique.
+  -- No movement shares its stamp with another movement or a completion, so the order of the cash
+  -- rows is unique.
   pub apart : HasDistinctMovementStamps done all_movements
 
 -- The lower bound of the band is at most its upper bound.
@@ -129,7 +130,7 @@ pub record AccountBooksInvariant (all_brokers : List Broker) (all_customers : Li
   pub customers : AllByRecursion (AccountCustomerExists all_customers) all_accounts
   -- No two accounts have one id, so each summary belongs to one account.
   pub owners : HasDistinctAccountIds all_accounts
-  -- An account has at most one permission for a tax id, so this one alone decides on its executor.
+  -- An account has at most one permission for a tax id, so only this one decides on its executor.
   pub permissions : HasDistinctPermissions all_permissions
 
 -- The part of the books invariant that concerns securities and bands: no two securities have the
@@ -146,8 +147,8 @@ pub record SecurityBooksInvariant (all_securities : List Security) (all_bands : 
   pub apart : HasDisjointBands all_bands
 
 -- The part of the books invariant that concerns trades: their accounts and securities exist, their
--- ids are 1, 2, 3 and so on, in order, a pending trade has exactly one status change, and a
--- submitted trade has no completion.
+-- ids are 1, 2, 3 and so on, in the sequence of the list, a pending trade has exactly one status
+-- change, and a submitted trade has no completion.
 pub record TradeBooksInvariant (all_accounts : List Account) (all_securities : List Security) (all_trades : List Trade) : Type 0 where
   -- The account and the security of each trade exist.
   pub accounts : AllByRecursion (TradeAccountExists all_accounts) all_trades
@@ -173,9 +174,10 @@ pub record CompletionBooksInvariant (last : Option â„•) (done : List Trade) : Ty
 
 -- The base satisfies the books invariant: the records that accounts, trades and movements refer to
 -- exist; account ids, permissions, symbols, and the stamps of completions and movements are unique;
--- bands are disjoint; trades are numbered from 1, and their histories agree with their statuses; no
--- completion and no movement has a stamp after the last stamp. Each part concerns only the lists of
--- the base that it names, so a command that does not change these lists preserves the part.
+-- volumes are within their limit; bands are disjoint; trades are numbered from 1; a pending trade
+-- has exactly one status change, and a submitted trade has no completion; no completion and no
+-- movement has a stamp after the last stamp. Each part concerns only the lists of the base that it
+-- names, so a command that does not change these lists preserves the part.
 pub record BooksInvariant (base : Base) : Type 0 where
   pub parties : AccountBooksInvariant base.brokers base.customers base.accounts base.permissions
   pub open parties use *

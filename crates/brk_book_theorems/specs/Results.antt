@@ -40,8 +40,8 @@ pub record ResultRows : Type 0 where
 
 -- ---- the trade
 
--- The tables with the trade of the row `r` completed at its stamp, price, commission and tax, and
--- with its completion added to TRADE_HISTORY.
+-- The tables with the trade of the row `r` completed at the stamp, price, commission and tax of
+-- `r`, and with its completion added to TRADE_HISTORY. A missing price counts as 0.
 abbrev pub tables_with_trade_completed_and_history : TradeRow → Tables → Tables
 tables_with_trade_completed_and_history r t =
     tables_with_history_row (history_row_of_status r.id Completed r.stamp) (tables_with_trade_completed r.id r.stamp (unwrap_or r.price 0) r.commission r.tax t)
@@ -52,8 +52,8 @@ tables_with_trade_completed_and_history r t =
 abbrev pub history_row_of_touch : ℕ → Touch → HoldingHistoryRow
 history_row_of_touch trade touch = record { lot = touch.lot; trade = trade; before = touch.before; after = touch.after }
 
--- The tables with the quantity of the touched lot set to `touch.after`, or without the lot if that
--- is 0.
+-- The tables with the quantity of the touched lot set to `touch.after`, or without the lot if
+-- `touch.after` is 0.
 abbrev pub tables_with_lot_reduced : Touch → Tables → Tables
 tables_with_lot_reduced touch t = if is_zero touch.after then tables_without_lot touch.lot t else tables_with_lot_quantity touch.lot touch.after t
 

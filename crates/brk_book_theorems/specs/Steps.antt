@@ -11,7 +11,8 @@ use Rattle.brk_model.specs.Step.{base_after_accepted_command, security_of_listin
 use Rattle.brk_changes.specs.Changes.{tables_with_last_stamp, tables_with_last_trade, tables_with_security}
 use Rattle.brk_book_theorems.specs.Books.{BooksInvariant}
 
--- The base after the command, as if it is accepted from `base` at the clock reading `now`.
+-- The base after the command, as if `base` accepted the command at the clock reading `now`, whether
+-- or not it does.
 abbrev pub base_after_command : Base → ℕ → Command → Base
 base_after_command base now command = base_after_accepted_command base (stamp_of_next_command base now) command
 

@@ -23,7 +23,7 @@ is_completed_trade_of_broker t broker r =
 abbrev pub completed_trade_rows_of_broker : Tables → ℕ → List TradeRow
 completed_trade_rows_of_broker t broker = filter (is_completed_trade_of_broker t broker) t.trades
 
--- True if the row `h` of HOLDING belongs to the account and the symbol.
+-- True if the row `h` of HOLDING has the account `account` and the symbol `symbol`.
 abbrev pub is_lot_of_position : ℕ → Text → HoldingRow → Bool
 is_lot_of_position account symbol h = (h.account == account) && bytes_eq h.symbol symbol
 

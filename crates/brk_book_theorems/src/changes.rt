@@ -26,7 +26,7 @@ ghost use Rattle.brk_book_theorems.specs.Movements.{tables_after_movement};
 ghost use Rattle.brk_book_theorems.specs.Results.{tables_after_result, result_rows_of_trade};
 ghost use Rattle.brk_book_theorems.specs.Trading.{tables_after_cancel, trade_ids_triggered_by_feed, tables_after_feed, tables_after_order};
 
-/// Proves that the tables of the empty base have no rows.
+/// Proves that the tables of the empty base have no rows, no last stamp and no settlement day.
 pub fn empty_base_has_no_rows()
     ensures { sheets empty_base ≡ tables_without_rows }
 {}

@@ -144,18 +144,19 @@ pub fn requests_belong_to_distinct_trades()
     ensures { (base : Base) → BooksInvariant base → all_distinct (map (λ r. r.trade) (sheets base).requests) ≡ true }
 {}
 
-/// Proves that an executor is permitted by the one permission of an account for the executor's tax
-/// id in the tables if and only if by all permissions of the account in the base, if the base
-/// satisfies the books invariant. An executor is also permitted if it is the customer `c`.
+/// Proves that the permission of an account for the executor's tax id in the tables permits an
+/// executor if and only if some permission of the account in the base permits the executor, if the
+/// base satisfies the books invariant. An executor who is the customer `c` is permitted in both
+/// cases.
 pub fn one_permission_decides_on_executor()
     ensures { (base : Base) (account : ℕ) (c : Customer) (e : Executor) → BooksInvariant base
         → is_customer_or_has_permission c (permission_list_for_tax_id (sheets base) account e.tax_id) e
         ≡ is_customer_or_has_permission c (filter (λ p. p.account == account) base.permissions) e }
 {}
 
-/// Proves that an executor is permitted by the permissions of an account in the tables if and only
-/// if by the permissions of the account in the base. An executor is also permitted if it is the
-/// customer `c`.
+/// Proves that some permission of an account in the tables permits an executor if and only if some
+/// permission of the account in the base permits the executor. An executor who is the customer `c`
+/// is permitted in both cases.
 pub fn account_permissions_match_the_base()
     ensures { (base : Base) (account : ℕ) (c : Customer) (e : Executor)
         → is_customer_or_has_permission c (permissions_of_account (sheets base) account) e

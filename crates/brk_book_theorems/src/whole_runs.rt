@@ -35,7 +35,8 @@ pub fn runs_preserve_books_invariant()
 /// Proves that, after any run from a base that satisfies the books invariant, the lots of an
 /// account in a symbol, the oldest first, form a position and have exactly the shares that remain
 /// if the completed trades are replayed in the order of their completion. The lots equal the lots
-/// that the model forms from these shares, and the changes of each lot form a lot history.
+/// that the model forms from these shares, and the changes of each lot form a chain from 0 to its
+/// remaining quantity (`IsLotHistory`).
 pub fn lots_match_replayed_shares()
     ensures position { (base after : Base) (calls : List (ℕ × Call)) (outcomes : List Outcome) (account : ℕ) (symbol : Text)
         → BooksInvariant base → Run base calls outcomes after → IsPosition (lots_of_position (sheets after) account symbol) }

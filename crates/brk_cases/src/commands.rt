@@ -29,8 +29,8 @@ impl Clock for Still {
     }
 }
 
-// Returns a clock that always returns the timestamp that `moment` spells in milliseconds, or 0 if
-// it spells none.
+// Returns a clock that always returns the timestamp with the canonical text `moment`, in
+// milliseconds, or 0 if `moment` is no such text.
 fn fixed_clock_from_word(moment: &str) -> Still {
     Still {
         at: parse_stamp(moment.as_bytes()).unwrap_or(Stamp::nearest(0)),
@@ -50,8 +50,8 @@ fn join_input_lines(alloc: Global, pieces: &[Piece]) -> Result<Vec<u8>, AllocErr
     Ok(bytes)
 }
 
-// Returns the word for a fault of a batch in an output line, such as `bad header`; for any fault of
-// the desk `desk`.
+// Returns the word for a fault of a batch in an output line, such as `bad header`; the word for any
+// fault of the desk is `desk`.
 fn word_of_batch_fault(kind: FaultKind) -> &'static str {
     match kind {
         FaultKind::BadHeader => "bad header",
@@ -119,9 +119,10 @@ fn execute_http_command(
     Ok(())
 }
 
-// Writes the statement of the account and the days, the first and the last, that `words` name.
-// Appends its lines and, if it failed, `no` and the number of its refusal, or `! fault`. If `words`
-// are malformed, appends only the refusal 18. Fails only if memory runs out.
+// Writes the statement of the account and of the first and the last day that `words` names,
+// separated by spaces. Appends the lines that it wrote and, if it failed, `no` and the number of
+// its refusal, or `! fault`. If `words` is malformed, appends only the refusal 18. Fails only if
+// memory runs out.
 fn execute_statement_command(
     alloc: Global,
     out: &mut String,
@@ -147,9 +148,9 @@ fn execute_statement_command(
     }
 }
 
-// Writes the explanation that `words` request. Appends its lines and, if it failed, `no` and the
-// number of its refusal, or `! fault`. If `words` request none, appends only the refusal 18. Fails
-// only if memory runs out.
+// Writes the explanation that `words` requests. Appends the lines that it wrote and, if it failed,
+// `no` and the number of its refusal, or `! fault`. If `words` requests none, appends only the
+// refusal 18. Fails only if memory runs out.
 fn execute_explain_command(
     alloc: Global,
     out: &mut String,
@@ -229,8 +230,8 @@ fn execute_adopt_command(alloc: Global, out: &mut String, place: Place) -> Resul
     }
 }
 
-// Executes an SQL statement, as another program would, and appends the output line `! sql` if it
-// fails or is not UTF-8. Fails only if memory runs out.
+// Executes the SQL statement `bytes`, as another program would, and appends the output line `! sql`
+// if it fails or is not UTF-8. Fails only if memory runs out.
 fn execute_sql_statement(
     out: &mut String,
     conn: &mut Connection<MemStore>,
@@ -277,8 +278,8 @@ fn execute_tables_command(alloc: Global, out: &mut String, place: Place) -> Resu
     }
 }
 
-// Executes a command that needs an open desk, given by its first word `verb`, the other words
-// `words` and its input lines `pieces`. Appends its output lines, or `! no such command` if no
+// Executes a command that needs an open desk, given by its first word `verb`, the rest of its line
+// `words` and its input lines `pieces`. Appends its output lines, or `! no such command` if no such
 // command begins with `verb`. Fails only if memory runs out.
 fn execute_desk_command(
     alloc: Global,

@@ -31,9 +31,10 @@ fn value_of_hex_digit(byte: u8) -> u8 {
     u8::try_from(value).unwrap_or(0)
 }
 
-// Reads one byte of an input line after the part of an escape that `read` names. Appends the byte
-// that it completes, if any, and returns the part of an escape that was read after it. After `\x`,
-// a byte that is no hexadecimal digit has the value 0. Fails only if memory runs out.
+// Unescapes the byte `byte` of an input line; `read` is the part of an escape that was read before
+// it. Appends the unescaped byte that `byte` completes, if any, and returns the part of an escape
+// that is read after it. After `\x`, a byte that is no hexadecimal digit has the value 0. Fails
+// only if memory runs out.
 fn unescape_byte(bytes: &mut Vec<u8>, read: Escape, byte: u8) -> Result<Escape, AllocError> {
     match (read, byte) {
         (Escape::Nothing, b'\\') => return Ok(Escape::Backslash),
@@ -46,10 +47,11 @@ fn unescape_byte(bytes: &mut Vec<u8>, read: Escape, byte: u8) -> Result<Escape, 
     Ok(Escape::Nothing)
 }
 
-/// Returns the bytes of an input line without its escapes: `\r`, `\x` with two hexadecimal digits,
-/// and a backslash before any other byte, of which only this byte remains. Returns also whether a
-/// line feed follows: a single backslash at the end of the line means that none does. An escape
-/// `\x` without both digits at the end of the line is dropped. Fails only if memory runs out.
+/// Returns the bytes of an input line without its escapes: `\r` is a carriage return, `\x` with two
+/// hexadecimal digits the byte with this value, and a backslash before any other byte only this
+/// byte. Returns also whether a line feed follows: a single backslash at the end of the line means
+/// that none does. An escape `\x` without both digits at the end of the line is dropped. Fails only
+/// if memory runs out.
 pub fn unescape_input_line(alloc: Global, text: &str) -> Result<Piece, AllocError> {
     let mut bytes = Vec::new(alloc);
     let mut read = Escape::Nothing;
@@ -63,8 +65,8 @@ pub fn unescape_input_line(alloc: Global, text: &str) -> Result<Piece, AllocErro
 }
 
 // Appends a text with the escapes of an output line: a backslash as `\\`, a carriage return as
-// `\r`, and any other control character as `\x` with two hexadecimal digits, and so a bar if
-// `in_record` is true. Fails only if memory runs out.
+// `\r`, and each other character below 20 (hexadecimal), the character 7f, and a bar if `in_record`
+// is true, as `\x` with two hexadecimal digits. Fails only if memory runs out.
 fn append_escaped_text(out: &mut String, text: &str, in_record: bool) -> Result<(), Failed> {
     for c in text.chars() {
         match c {
@@ -79,8 +81,9 @@ fn append_escaped_text(out: &mut String, text: &str, in_record: bool) -> Result<
 }
 
 /// Appends bytes with the escapes of an output line: a backslash as `\\`, a carriage return as
-/// `\r`, and any other control character, or byte that is no part of a UTF-8 character, as `\x`
-/// with two hexadecimal digits, and so a bar if `in_record` is true. Fails only if memory runs out.
+/// `\r`, and each other byte below 20 (hexadecimal), the byte 7f, each byte that is no part of a
+/// UTF-8 character, and a bar if `in_record` is true, as `\x` with two hexadecimal digits. Fails
+/// only if memory runs out.
 pub fn append_escaped_bytes(out: &mut String, bytes: &[u8], in_record: bool) -> Result<(), Failed> {
     let mut rest = bytes;
     for _ in 0..bytes.len() {
@@ -99,9 +102,9 @@ pub fn append_escaped_bytes(out: &mut String, bytes: &[u8], in_record: bool) -> 
     Ok(())
 }
 
-/// Appends written bytes as output lines: one for the bytes before each line feed, and one that
-/// ends in a single backslash for the bytes after the last line feed, if there are any. Fails only
-/// if memory runs out.
+/// Appends written bytes as output lines with escapes: one for the bytes before each line feed, and
+/// one that ends in a single backslash for the bytes after the last line feed, if there are any.
+/// Fails only if memory runs out.
 pub fn append_written_bytes(out: &mut String, bytes: &[u8]) -> Result<(), Failed> {
     for piece in bytes.split_inclusive(|byte| *byte == b'\n') {
         out.push_str("> ")?;

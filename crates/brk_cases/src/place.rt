@@ -18,7 +18,8 @@ pub enum Place {
 }
 
 impl Place {
-    /// Creates an open database in memory without tables, or returns `Nothing` if memory runs out.
+    /// Returns a new database in memory, open and without tables, or `Nothing` if it cannot be
+    /// opened.
     pub fn with_empty_database(alloc: Global) -> Place {
         match Connection::open_in_memory(alloc) {
             Ok(conn) => Place::Database(conn),
@@ -26,8 +27,8 @@ impl Place {
         }
     }
 
-    /// Creates an open desk in memory, with empty tables, or returns `Nothing` if it cannot be
-    /// created.
+    /// Returns a new desk in memory, or `Nothing` if it cannot be created. Its tables have no rows,
+    /// except for one row of DESK.
     pub fn with_new_desk(alloc: Global) -> Place {
         let Ok(conn) = Connection::open_in_memory(alloc) else {
             return Place::Nothing;
@@ -48,8 +49,8 @@ impl Place {
     }
 }
 
-/// Adopts the database of a connection. Returns its desk and `Ok` if its rows pass the audit,
-/// otherwise the database without a desk, and the fault: `Damaged` with the first condition that
+/// Adopts the database of a connection. Returns its desk and `Ok` if the database passes the audit,
+/// and otherwise the database without a desk and the fault: `Damaged` with the first condition that
 /// fails, `Memory` or `Store`.
 pub fn adopt_database(alloc: Global, conn: Connection<MemStore>) -> (Place, Result<(), Fault>) {
     match Store::adopt(alloc, conn) {

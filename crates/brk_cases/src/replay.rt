@@ -41,8 +41,9 @@ struct Replay<'a> {
 }
 
 impl<'a> Replay<'a> {
-    // Returns the replay with an input line, without its escapes, added to its pending command;
-    // unchanged if there is none. Fails only if memory runs out.
+    // Adds the input line `text`, without its escapes, to the pending command and returns the
+    // replay after it, or returns the replay unchanged if no command is pending. Fails only if
+    // memory runs out.
     fn with_input_line(self, alloc: Global, text: &str) -> Result<Replay<'a>, Failed> {
         let Replay { place, due } = self;
         let Some(mut due) = due else {
@@ -55,9 +56,9 @@ impl<'a> Replay<'a> {
         })
     }
 
-    // Executes the pending command, copies the line `line` to the replay, and makes it the pending
-    // command unless it is a comment or empty. Returns the state of the replay after it. Fails only
-    // if memory runs out.
+    // Executes the pending command, copies the line `line` to the replay, and starts the next
+    // pending command with it, unless it is a comment or empty. Returns the state of the replay
+    // after it. Fails only if memory runs out.
     fn execute_pending_and_start_next(
         self,
         alloc: Global,
@@ -80,7 +81,8 @@ impl<'a> Replay<'a> {
 
     // Processes the next line of a transcript, and returns the state of the replay after it: drops
     // an output line; copies an input line and adds it to the pending command; executes the pending
-    // command at any other line, which begins the next one. Fails only if memory runs out.
+    // command at any other line and copies this line, which starts the next command unless it is a
+    // comment or empty. Fails only if memory runs out.
     fn process_line(
         self,
         alloc: Global,
@@ -100,7 +102,7 @@ impl<'a> Replay<'a> {
     }
 }
 
-/// Executes the commands of a transcript, and returns the transcript with their output lines in
+/// Executes the commands of a transcript, and returns the transcript with their new output lines in
 /// place of the old ones.
 ///
 /// Fails only if memory runs out.

@@ -7,9 +7,9 @@ use sqlite::types::ValueRef;
 use sqlite::{Connection, MemStore, Row};
 use std::alloc::Global;
 
-// Appends the value of the column at index `at` of a row, with a bar before each but the first. A
-// value that is neither a whole number nor text, for example a null, is written as `\x00`. Fails
-// only if memory runs out.
+// Appends the value of the column at index `at` of a row, after a bar unless `at` is 0. A value
+// that is neither a whole number nor text, for example a null, is written as `\x00`. Fails only if
+// memory runs out.
 fn append_cell_text(out: &mut String, row: &Row, at: usize) -> Result<(), Failed> {
     if at > 0 {
         out.push_str("|")?;
@@ -22,8 +22,8 @@ fn append_cell_text(out: &mut String, row: &Row, at: usize) -> Result<(), Failed
     Ok(())
 }
 
-// Appends a row of a table as an output line: the name of the table, and the values of the columns,
-// separated by bars. Fails only if memory runs out.
+// Appends a row of a table as an output line: the name of the table, a space, and the values of the
+// columns, separated by bars. Fails only if memory runs out.
 fn append_table_row(out: &mut String, table: &str, row: &Row) -> Result<(), Failed> {
     write!(out, "> {table} ")?;
     for at in 0..row.column_count() {

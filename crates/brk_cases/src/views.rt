@@ -53,7 +53,7 @@ fn bytes_of_input_lines(alloc: Global, pieces: &[Piece]) -> Result<Vec<&[u8]>, A
 }
 
 // Parses a query from the name of a view and its arguments, and executes it on a desk. Returns the
-// view or the refusal of the query, 18 if the texts are no query. Fails with `Memory` or `Store`.
+// view, or the refusal of the arguments or of the query. Fails with `Memory` or `Store`.
 fn parse_and_execute_query(
     alloc: Global,
     desk: &mut Desk<MemStore>,
@@ -67,8 +67,8 @@ fn parse_and_execute_query(
 }
 
 /// Executes the query for the view `view` on a desk, with the input lines as its arguments. Appends
-/// the records of the view as output lines, or `no` and the number of the refusal, or `! fault` if
-/// the query failed. Fails only if memory runs out.
+/// the records of the view as output lines, `no` and the number of the refusal, or `! fault` if the
+/// query failed. Fails only if memory runs out.
 pub fn execute_ask_command(
     alloc: Global,
     out: &mut String,
@@ -84,8 +84,9 @@ pub fn execute_ask_command(
     }
 }
 
-// Returns the form of a printed view that `word` names: as JSON for `json` and `json-heads`,
-// otherwise as CSV, and with the names of the fields for `csv-heads` and `json-heads`.
+// Returns the format of a printed view that `word` names: JSON for `json` and `json-heads`, and
+// otherwise CSV; with the names of the fields for `csv-heads` and `json-heads`, and otherwise
+// without.
 fn form_of_printed_view(word: &str) -> Form {
     Form {
         json: word == "json" || word == "json-heads",
@@ -93,9 +94,9 @@ fn form_of_printed_view(word: &str) -> Form {
     }
 }
 
-/// Prints a view of a desk. Appends the printed text and, if it failed, `no` and the number of the
-/// refusal, or `! fault`. `words` are the form and the name of the view, the input lines its
-/// arguments. Fails only if memory runs out.
+/// Prints a view of a desk: `words` contains the format and the name of the view, separated by a
+/// space, and the input lines are its arguments. Appends the printed text and, if it failed, `no`
+/// and the number of the refusal, or `! fault`. Fails only if memory runs out.
 pub fn execute_print_command(
     alloc: Global,
     out: &mut String,

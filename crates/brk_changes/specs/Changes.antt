@@ -25,15 +25,16 @@ use Rattle.brk_changes.specs.declared.change.Change.TheVariants.{AddLotChange, A
 use Rattle.brk_changes.specs.declared.change.Change.TheVariants.{SetBalance, SetBrokerTotals, SetExecutor, SetCashType, SetCashName, SetSettlementDay}
 use Rattle.brk_changes.specs.declared.change.Change.TheVariants.{AddStoredReply, SetLastStamp}
 
--- The tables `t` with the broker `b` inserted, with 0 completed trades and 0 commissions.
+-- The tables `t` with the broker `b` inserted in key order, with 0 completed trades and 0
+-- commissions.
 abbrev pub tables_with_broker : Broker → Tables → Tables
 tables_with_broker b t = record t { brokers = insert_row_by_key broker_key (record { id = b.id; name = b.name; trades = pos 0; commissions = 0 }) t.brokers }
 
--- The tables `t` with the customer `c` inserted.
+-- The tables `t` with the customer `c` inserted in key order.
 abbrev pub tables_with_customer : Customer → Tables → Tables
 tables_with_customer c t = record t { customers = insert_row_by_key customer_key c t.customers }
 
--- The tables `t` with the account `a` inserted, whose balance is its opening balance.
+-- The tables `t` with the account `a` inserted in key order, whose balance is its opening balance.
 abbrev pub tables_with_account : Account → Tables → Tables
 tables_with_account a t = record t {
   accounts = insert_row_by_key account_key
@@ -41,35 +42,35 @@ tables_with_account a t = record t {
       t.accounts;
 }
 
--- The tables `t` with the permission `p` inserted.
+-- The tables `t` with the permission `p` inserted in key order.
 abbrev pub tables_with_permission : Permission → Tables → Tables
 tables_with_permission p t = record t { permissions = insert_row_by_key permission_key p t.permissions }
 
--- The tables `t` with the security `s` inserted.
+-- The tables `t` with the security `s` inserted in key order.
 abbrev pub tables_with_security : SecurityRow → Tables → Tables
 tables_with_security s t = record t { securities = insert_row_by_key security_key s t.securities }
 
--- The tables `t` with the LAST_TRADE row `l` inserted.
+-- The tables `t` with the LAST_TRADE row `l` inserted in key order.
 abbrev pub tables_with_last_trade : LastTradeRow → Tables → Tables
 tables_with_last_trade l t = record t { last_trades = insert_row_by_key last_trade_key l t.last_trades }
 
--- The tables `t` with the charge `c` inserted.
+-- The tables `t` with the charge `c` inserted in key order.
 abbrev pub tables_with_charge : Charge → Tables → Tables
 tables_with_charge c t = record t { charges = insert_row_by_key charge_key c t.charges }
 
--- The tables `t` with the commission band `b` inserted.
+-- The tables `t` with the commission band `b` inserted in key order.
 abbrev pub tables_with_band : Band → Tables → Tables
 tables_with_band b t = record t { bands = insert_row_by_key band_key b t.bands }
 
--- The tables `t` with the tax rate `r` inserted.
+-- The tables `t` with the tax rate `r` inserted in key order.
 abbrev pub tables_with_tax_rate : TaxRate → Tables → Tables
 tables_with_tax_rate r t = record t { tax_rates = insert_row_by_key tax_rate_key r t.tax_rates }
 
--- The tables `t` with the tax `x` of a customer inserted.
+-- The tables `t` with the tax `x` of a customer inserted in key order.
 abbrev pub tables_with_customer_tax : CustomerTax → Tables → Tables
 tables_with_customer_tax x t = record t { customer_taxes = insert_row_by_key customer_tax_key x t.customer_taxes }
 
--- The tables `t` with the TRADE row `r` inserted.
+-- The tables `t` with the TRADE row `r` inserted in key order.
 abbrev pub tables_with_trade : TradeRow → Tables → Tables
 tables_with_trade r t = record t { trades = insert_row_by_key trade_key r t.trades }
 
@@ -78,11 +79,11 @@ tables_with_trade r t = record t { trades = insert_row_by_key trade_key r t.trad
 abbrev pub tables_with_trade_status : ℕ → Status → ℕ → Tables → Tables
 tables_with_trade_status id status stamp t = record t { trades = update_where (λ r. r.id == id) (λ r. record r { status = status; stamp = stamp }) t.trades }
 
--- The tables `t` with the TRADE_HISTORY row `r` inserted.
+-- The tables `t` with the TRADE_HISTORY row `r` inserted in key order.
 abbrev pub tables_with_history_row : HistoryRow → Tables → Tables
 tables_with_history_row r t = record t { history = insert_row_by_key history_key r t.history }
 
--- The tables `t` with the TRADE_REQUEST row `r` inserted.
+-- The tables `t` with the TRADE_REQUEST row `r` inserted in key order.
 abbrev pub tables_with_request : RequestRow → Tables → Tables
 tables_with_request r t = record t { requests = insert_row_by_key request_key r t.requests }
 
@@ -106,7 +107,7 @@ tables_with_trade_completed id stamp price commission tax t = record t {
       (λ r. record r { status = Completed; stamp = stamp; price = Some price; commission = commission; tax = tax }) t.trades;
 }
 
--- The tables `t` with the HOLDING row `r` inserted.
+-- The tables `t` with the HOLDING row `r` inserted in key order.
 abbrev pub tables_with_lot : HoldingRow → Tables → Tables
 tables_with_lot r t = record t { holdings = insert_row_by_key holding_key r t.holdings }
 
@@ -120,11 +121,11 @@ tables_with_lot_quantity trade qty t = record t { holdings = update_where (λ r.
 abbrev pub tables_without_lot : ℕ → Tables → Tables
 tables_without_lot trade t = record t { holdings = filter (λ r. not (r.trade == trade)) t.holdings }
 
--- The tables `t` with the HOLDING_HISTORY row `r` inserted.
+-- The tables `t` with the HOLDING_HISTORY row `r` inserted in key order.
 abbrev pub tables_with_lot_change : HoldingHistoryRow → Tables → Tables
 tables_with_lot_change r t = record t { holding_history = insert_row_by_key holding_history_key r t.holding_history }
 
--- The tables `t` with the HOLDING_SUMMARY row `r` inserted.
+-- The tables `t` with the HOLDING_SUMMARY row `r` inserted in key order.
 abbrev pub tables_with_summary : SummaryRow → Tables → Tables
 tables_with_summary r t = record t { summaries = insert_row_by_key summary_key r t.summaries }
 
@@ -139,11 +140,11 @@ tables_with_summary_quantity s t =
 abbrev pub tables_without_summary : ℕ → Text → Tables → Tables
 tables_without_summary account symbol t = record t { summaries = filter (λ r. not ((r.account == account) && bytes_eq r.symbol symbol)) t.summaries }
 
--- The tables `t` with the SETTLEMENT row `r` inserted.
+-- The tables `t` with the SETTLEMENT row `r` inserted in key order.
 abbrev pub tables_with_settlement : SettlementRow → Tables → Tables
 tables_with_settlement r t = record t { settlements = insert_row_by_key settlement_key r t.settlements }
 
--- The tables `t` with the CASH_MOVE row `r` inserted.
+-- The tables `t` with the CASH_MOVE row `r` inserted in key order.
 abbrev pub tables_with_cash_row : MoveRow → Tables → Tables
 tables_with_cash_row r t = record t { moves = insert_row_by_key move_key r t.moves }
 
@@ -178,7 +179,8 @@ tables_with_cash_text trade name t = record t { moves = update_where (is_cash_ro
 abbrev pub tables_with_settlement_day : ℕ → Tables → Tables
 tables_with_settlement_day day t = record t { rule = Some day }
 
--- The tables `t` with the KEPT row `k` inserted: a stored request and its stored reply.
+-- The tables `t` with the KEPT row `k` inserted in key order: a stored request and its stored
+-- reply.
 abbrev pub tables_with_stored_reply : Kept → Tables → Tables
 tables_with_stored_reply k t = record t { kept = insert_row_by_key kept_key k t.kept }
 
@@ -187,7 +189,8 @@ tables_with_stored_reply k t = record t { kept = insert_row_by_key kept_key k t.
 abbrev pub tables_with_last_stamp : ℕ → Tables → Tables
 tables_with_last_stamp stamp t = record t { last = Some stamp }
 
--- The tables after one typed row change, by its kind: a row is inserted, updated or deleted.
+-- The function that returns the tables after one typed row change: a row is inserted, updated or
+-- deleted, or the settlement day or the last stamp is set.
 abbrev pub tables_after_change : Change → Tables → Tables
 tables_after_change (AddBroker broker) = tables_with_broker (abstract_broker broker)
 tables_after_change (AddCustomer customer) = tables_with_customer (abstract_customer customer)

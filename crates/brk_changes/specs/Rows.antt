@@ -55,7 +55,7 @@ abstract_summary_row r = record { account = r.account; symbol = r.symbol; qty = 
 abbrev pub abstract_lot_change_row : lot_change.LotChange → HoldingHistoryRow
 abstract_lot_change_row r = record { lot = r.lot; trade = r.trade; before = r.before; after = r.after }
 
--- The settlement text of a cash type, as the column SE_CASH_TYPE has it.
+-- The settlement text of a cash type, as the column SE_CASH_TYPE stores it.
 abbrev pub cash_type_text : CashType → Text
 cash_type_text CashAccount = codes "Cash Account"
 cash_type_text Cash = codes "Cash"

@@ -3,7 +3,7 @@ use Rattle.brk_model.specs.Schemas.{Schema, first_schema, second_schema, third_s
 use Rattle.brk_changes.specs.declared.schema.Schema as declared
 use Rattle.brk_changes.specs.declared.schema.Schema.TheVariants.{First, Second, Third}
 
--- The model's schema of the typed schema: the first, the second or the third.
+-- The model's schema with the number of the typed schema.
 abbrev pub abstract_schema : declared.Schema → Schema
 abstract_schema First = first_schema
 abstract_schema Second = second_schema

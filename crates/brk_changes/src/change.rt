@@ -71,7 +71,8 @@ pub enum Change {
     RemoveLot(Id),
     /// Inserts the change of a lot by a trade.
     AddLotChange(LotChange),
-    /// Inserts the number of shares of a security that an account holds, which had no such row.
+    /// Inserts the number of shares of a security that an account holds; the account had no such
+    /// row.
     AddSummary(SummaryRow),
     /// Sets the number of shares of a security that an account holds.
     SetSummary(SummaryRow),

@@ -49,7 +49,8 @@ impl Schema {
         }
     }
 
-    /// Returns the greatest quantity of an order or of a bound of a band, in shares.
+    /// Returns the greatest quantity, in shares, that the schema allows of an order and of a bound
+    /// of a band.
     pub fn greatest_qty(self) -> u32
         ensures { result ≡ (abstract_schema self).greatest_qty }
     {
@@ -59,7 +60,8 @@ impl Schema {
         }
     }
 
-    /// Returns the greatest number of shares of a security that an account may hold or be short of.
+    /// Returns the greatest number of shares of a security that the schema allows an account to
+    /// hold or to be short of.
     pub fn greatest_summary(self) -> u64
         ensures { result ≡ (abstract_schema self).greatest_summary }
     {

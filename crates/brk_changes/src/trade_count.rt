@@ -18,7 +18,7 @@ impl Model for TradeCount {
 }
 
 impl TradeCount {
-    /// The greatest count: there are no more trade ids.
+    /// The greatest count, equal to the greatest trade id.
     pub const GREATEST: u64 = 1_000_000_000_000;
 
     /// Returns the count `trades`, or `None` if `trades` exceeds `GREATEST`.

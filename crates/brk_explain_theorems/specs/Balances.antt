@@ -23,7 +23,8 @@ postings_before_stamp stamp posted = filter (λ p. nat_lt p.stamp stamp) posted
 abbrev pub postings_up_to_stamp : ℕ → List Posting → List Posting
 postings_up_to_stamp stamp posted = filter (λ p. nat_le p.stamp stamp) posted
 
--- The balance of the account, in cents, by the postings of the base whose stamp is at most `stamp`.
+-- The balance of the account `account`, in cents: its opening balance plus the amounts of its
+-- postings in the base whose stamp is at most `stamp`.
 abbrev pub balance_at_stamp : Base → ℕ → ℕ → ℤ
 balance_at_stamp base stamp account = balance_of_account base.accounts (postings_up_to_stamp stamp (postings_of_base base)) account
 

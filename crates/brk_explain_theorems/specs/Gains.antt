@@ -16,8 +16,8 @@ use Rattle.brk_explain_model.specs.Running.{running_totals}
 use Rattle.brk_book_theorems.specs.TradeReads.{lots_of_position}
 use Rattle.brk_explain_theorems.specs.Balances.{last_number_or_default}
 
--- The sum of the quantity changes (after - before), in shares, in the rows of HOLDING_HISTORY of
--- changes by the trade with the id `trade`.
+-- The sum of the quantity changes (after minus before), in shares, that the rows of HOLDING_HISTORY
+-- record for the trade with the id `trade`.
 abbrev pub lot_change_sum_of_trade : Tables → ℕ → ℤ
 lot_change_sum_of_trade tables trade = total_by (λ row. row.after -ℤ row.before) (filter (λ row. row.trade == trade) tables.holding_history)
 

@@ -6,10 +6,11 @@ ghost use Rattle.brk_model.specs.Records.{Trade};
 ghost use Rattle.brk_book_theorems.specs.Books.{BooksInvariant};
 ghost use Rattle.brk_explain_theorems.specs.Equations.{PrintedSettlementMatchesBase};
 
-/// Proves that the printed settlement of a completed trade is the sum of its printed value, charge,
-/// commission and withheld tax, and equals its settlement amount, and that its due day is the day
-/// of completion plus the printed days to settle. The printed tax and commission at current rates
-/// equal the values that the model computes from the base. The base satisfies the books invariant.
+/// Proves, for a base that satisfies the books invariant: the printed settlement of a completed
+/// trade is its printed value less its charge, commission and withheld tax, and equals its
+/// settlement amount. The cash moved is the settlement of a cash trade, and 0 for a margin trade.
+/// The due day is the day of completion plus the printed days to settle. The printed tax and
+/// commission at current rates equal the values that the model computes from the base.
 pub fn printed_settlements_match_the_base()
     ensures { (base : Base) (t : Trade) → BooksInvariant base → trade_with_id base t.id ≡ Some t → is_completed t ≡ true → PrintedSettlementMatchesBase base t }
 {}

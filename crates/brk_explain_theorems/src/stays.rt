@@ -7,9 +7,11 @@ ghost use Rattle.brk_model.specs.Run.{Call, Outcome, Run};
 ghost use Rattle.brk_book_theorems.specs.Books.{BooksInvariant};
 ghost use Rattle.brk_explain_theorems.specs.Stays.{PrintsSameFigures};
 
-/// Proves that, after any run of calls, the explanation of a completed trade prints the columns,
-/// lots, amounts, days and balances that it printed before the run. Of the trade's own columns,
-/// only the executor's name may differ. The base satisfies the books invariant.
+/// Proves that, after any run of calls from a base that satisfies the books invariant, the
+/// explanation of a completed trade prints the figures that it printed before the run
+/// (`PrintsSameFigures`): the columns of the trade except the executor's name, its account's
+/// customer, broker, tax status and opening balance, its status changes, its lots, its settlement,
+/// its due day, the cash that it moved, and the balances before and after it.
 pub fn runs_preserve_explanations()
     ensures { (base later : Base) (calls : List (ℕ × Call)) (outcomes : List Outcome) (t : Trade) → BooksInvariant base → Run base calls outcomes later
         → trade_with_id base t.id ≡ Some t → is_completed t ≡ true → (u : Trade) × (trade_with_id later t.id ≡ Some u) × PrintsSameFigures base later t u }

@@ -1,5 +1,5 @@
--- The fields of a command and of a key whose formats an audit needs. A typed command satisfies
--- them; not every command that does so is well-formed (`IsWellFormedCommand`).
+-- The formats of a command's fields and of a key that an audit needs. A command of typed values
+-- meets them; not every command that meets them is well-formed (`IsWellFormedCommand`).
 use Rattle.brk_money.specs.OrderTypes.{price_of_order}
 use Rattle.brk_money.specs.Moments.{greatest_day}
 use Rattle.std.specs.Prelude.{◌≡◌, ⊤, ℕ, ◌&&◌, Bool, true, nat_le, IfSome}
@@ -20,14 +20,14 @@ use Rattle.brk_invariant_theorems.specs.Sound.{is_well_formed_account, is_well_f
 abbrev pub is_well_formed_listing : Listing → Bool
 is_well_formed_listing l = are_well_formed_listing_texts l.symbol l.name l.exchange l.sector && is_price l.price
 
--- True if the tier, the exchange and both bounds of the band are well-formed and its rate is at
--- most the greatest commission rate. Whether the lower bound is at most the upper bound is not
--- checked.
+-- True if the tier and the exchange of the band are well-formed, both bounds are within the limits
+-- of the third schema, and the rate is at most the greatest commission rate. Whether the lower
+-- bound is at most the upper bound is not checked.
 abbrev pub is_well_formed_band : Band → Bool
 is_well_formed_band b = has_well_formed_tier_exchange_and_bounds third_schema b && nat_le b.rate greatest_commission_rate
 
--- The order's quantity is from 1 to the greatest quantity, and its price, if it has one, is from 1
--- cent to the greatest price.
+-- The order's quantity is from 1 to the greatest quantity of the third schema, and its price, if it
+-- has one, is from 1 cent to the greatest price.
 pub record OrderMeetsAuditFormats (o : Order) : Type 0 where
   pub qty : is_quantity_in_schema third_schema o.qty ≡ true
   pub price : IfSome (price_of_order o.order_type) (λ p. is_price p ≡ true)

@@ -34,7 +34,8 @@ customer_tax_id_key c = word c.tax_id ∷ []
 abbrev pub is_well_formed_broker : Broker → Bool
 is_well_formed_broker b = are_well_formed_id_and_name b.id b.name
 
--- True if the id, the name and the opening balance of the account are well-formed.
+-- True if the id and the name of the account are well-formed and its opening balance is within the
+-- limit of amounts.
 abbrev pub is_well_formed_account : Account → Bool
 is_well_formed_account a = are_well_formed_account_fields a.id a.name a.opening
 
@@ -64,22 +65,23 @@ HasDueDayInCalendar rule m = is_due_within_calendar rule m.status m.stamp ≡ tr
 abbrev pub has_price_exactly_if_completed : Trade → Bool
 has_price_exactly_if_completed t = has_price_exactly_if (is_completed t) t.price
 
--- True if the trade's cash text is the name of its type, its quantity, ` shares of ` or
+-- True if the trade's cash text is the name of its type, a space, its quantity, ` shares of ` or
 -- ` Shares of `, and the security name `name`.
 abbrev pub has_cash_text_with_security_name : Trade → Text → Bool
 has_cash_text_with_security_name t name =
     bytes_eq t.cash_name (cash_row_name_from_parts (codes " shares of ") t.kind t.qty name)
     || bytes_eq t.cash_name (cash_row_name_from_parts (codes " Shares of ") t.kind t.qty name)
 
--- True if the trade's cash text is the name of its type, its quantity, ` shares of ` or
--- ` Shares of `, and the name of its security.
+-- True if the trade's cash text is the name of its type, a space, its quantity, ` shares of ` or
+-- ` Shares of `, and the name of its security in `securities`, which is empty if it is not listed.
 abbrev pub has_cash_text_of_security : List Security → Trade → Bool
 has_cash_text_of_security securities t = has_cash_text_with_security_name t (security_name_in_list securities t.symbol)
 
 -- The trade satisfies those conditions of the audit invariant that depend on the trade alone: its
--- numbers are within their limits, its statuses are a valid status sequence with ascending stamps,
--- it has a price if and only if it is completed, and its settlement text and cash text agree with
--- its status.
+-- numbers are within their limits, its statuses are a valid status sequence with strictly ascending
+-- stamps, it has a price if and only if it is completed, it has no stray texts (`HasNoStrayTexts`),
+-- and if it is completed, its settlement text is one of the two of a cash trade or of a margin
+-- trade.
 pub record TradeOnlyAuditInvariant (t : Trade) : Type 0 where
   pub fields : has_trade_numbers_in_range t ≡ true
   -- Its statuses are a valid status sequence, with stamps in ascending order.
@@ -92,9 +94,9 @@ pub record TradeOnlyAuditInvariant (t : Trade) : Type 0 where
   pub cash_type : is_completed t ≡ true → is_cash_type_of_trade t.is_cash t.cash_type ≡ true
 
 -- The trade satisfies the conditions of the audit invariant on a trade: the conditions that depend
--- on the trade alone, no stamp after the last stamp `last`, a due day within the calendar by the
--- settlement day `rule`, a cash text with the name of its security, and a settlement amount within
--- the limit.
+-- on the trade alone, no stamp after the last stamp `last`, and a due day within the calendar by
+-- the settlement day `rule`. If it is completed, its settlement amount is within the limit and, if
+-- it is also a cash trade, its cash text has the name of its security.
 pub record TradeAuditInvariant (last : Option ℕ) (rule : SettleRule) (accounts : List Account) (securities : List Security) (t : Trade) : Type 0 where
   pub alone : TradeOnlyAuditInvariant t
   pub open alone use *
@@ -121,8 +123,8 @@ abbrev pub is_well_formed_movement : Movement → Bool
 is_well_formed_movement m = is_movement_name_and_amount m.name m.amount && is_within_amount_limit m.amount
 
 -- The part of the audit invariant that concerns the movements and the settlement day `rule`: the
--- texts and amounts of the movements are well-formed, their stamps are ascending, their number is
--- at most the greatest id, and the settlement day is within the calendar.
+-- texts and amounts of the movements are well-formed, their stamps are strictly ascending, their
+-- number is at most the greatest id, and the settlement day, if it is set, is within the calendar.
 pub record MovementAuditInvariant (movements : List Movement) (rule : SettleRule) : Type 0 where
   pub fields : AllByRecursion (λ m. is_well_formed_movement m ≡ true) movements
   -- The movements are in ascending order of their stamps, and their number is within the limit of
@@ -171,10 +173,10 @@ pub record PartyAuditInvariant (all_brokers : List Broker) (all_customers : List
   -- A customer has at most `most_accounts_per_customer` accounts.
   pub owned : (customer : ℕ) → length (filter (λ a. a.customer == customer) all_accounts) ≤ most_accounts_per_customer
 
--- The part of the audit invariant that concerns charges, bands, tax rates and customers' taxes:
--- their fields are well-formed, the keys of charges, tax rates and customers' taxes are unique, the
--- customer and the tax rate of each customer's tax exist, and the rates of each customer sum to at
--- most the greatest tax rate.
+-- The part of the audit invariant that concerns charges, bands, tax rates and customers' taxes: the
+-- fields of charges, bands and tax rates are well-formed, the keys of charges, tax rates and
+-- customers' taxes are unique, the customer and the tax rate of each customer's tax exist, and the
+-- rates of each customer sum to at most the greatest tax rate.
 pub record RateAuditInvariant (all_customers : List Customer) (all_charges : List Charge) (all_bands : List Band) (all_tax_rates : List TaxRate)
     (all_taxes : List CustomerTax) : Type 0 where
   pub charges : AllByRecursion (λ c. is_well_formed_charge_row c ≡ true) all_charges
@@ -189,25 +191,26 @@ pub record RateAuditInvariant (all_customers : List Customer) (all_charges : Lis
   -- The rates of a customer sum to at most the greatest tax rate.
   pub rates : (customer : ℕ) → tax_rate_sum_in_lists all_tax_rates all_taxes customer ≤ greatest_tax_rate
 
--- The part of the audit invariant that concerns securities: their fields are well-formed, and no
--- last trade has a stamp after the last stamp `last`.
+-- The part of the audit invariant that concerns securities: their fields are well-formed, and the
+-- stamp of the last tick of each, or of its listing before the first tick, is at most the last
+-- stamp `last`.
 pub record SecurityAuditInvariant (last : Option ℕ) (all_securities : List Security) : Type 0 where
   pub securities : AllByRecursion (λ s. is_well_formed_security s ≡ true) all_securities
   pub moments : AllByRecursion (λ s. is_up_to_last_stamp last s.moment ≡ true) all_securities
 
 -- The part of the audit invariant that concerns sums over the completed trades `done` and the
--- movements: the summaries of all accounts, the balances of all accounts and the commission totals
--- of all brokers are within their limits.
+-- movements: the holding summaries and balances of all accounts, and the commission totals of all
+-- brokers, are within their limits.
 pub record SumAuditInvariant (accounts : List Account) (done : List Trade) (movements : List Movement) : Type 0 where
   pub summaries : (account : ℕ) → (symbol : Text) → nat_abs (holding_summary_quantity done account symbol) ≤ greatest_summary
   pub balances : (account : ℕ) → nat_abs (balance_of_account accounts (postings accounts done movements) account) ≤ greatest_amount
   pub commissions : (broker : ℕ) → commission_total_of_broker accounts done broker ≤ greatest_amount
 
--- The base satisfies the audit invariant: its fields are well-formed, its keys are unique, the
--- records that its records refer to exist, and its numbers and sums are within their limits. If the
--- base also satisfies the books invariant, its tables pass an audit. Each part concerns only the
--- lists of the base that it names, so a command that does not change these lists preserves the
--- part.
+-- The base satisfies the audit invariant: the fields of its records are well-formed, and its keys,
+-- references, stamps, statuses, limits and sums are as its parts require. If the base also
+-- satisfies the books invariant, its tables pass the audit of the third schema. Each part depends
+-- only on the fields of the base that it names, so a command that does not change these fields
+-- preserves the part.
 pub record AuditInvariant (base : Base) : Type 0 where
   pub keyed : StoredReplyAuditInvariant base.kept
   pub open keyed use *

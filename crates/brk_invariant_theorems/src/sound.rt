@@ -28,9 +28,10 @@ ghost use Rattle.brk_invariant_theorems.specs.InForm.{MeetsAuditFormats, IsWellF
 ghost use Rattle.brk_invariant_theorems.specs.Runs.{CallMeetsAuditFormats, IsWellFormedCall};
 ghost use Rattle.brk_invariant_theorems.specs.Sound.{AuditInvariant};
 
-/// Proves that a base that satisfies the books invariant satisfies the audit invariant if and only
-/// if it has valid histories and its tables satisfy the condition `Form` of the third schema. The
-/// tables of a base that satisfies both invariants pass the audit of the third schema.
+/// Proves that a base that satisfies the audit invariant has valid histories. If a base satisfies
+/// the books invariant, it satisfies the audit invariant if and only if it has valid histories and
+/// its tables, sorted by key, satisfy the condition `Form` of the third schema. If it satisfies
+/// both invariants, these tables pass the audit of the third schema.
 pub fn audit_invariant_makes_tables_pass_audit()
     ensures form { (base : Base) → BooksInvariant base → AuditInvariant base → IsTrue (satisfies_form_condition third_schema (sheets base)) }
     ensures histories { (base : Base) → AuditInvariant base → HasValidHistories base }
@@ -39,8 +40,8 @@ pub fn audit_invariant_makes_tables_pass_audit()
         → AuditInvariant base ↔ (HasValidHistories base × IsTrue (satisfies_form_condition third_schema (sheets base))) }
 {}
 
-/// Proves that the base of rows that pass the audit of the third schema satisfies the audit
-/// invariant.
+/// Proves that the base that rows describe (`base_of_tables`) satisfies the audit invariant, if the
+/// rows pass the audit of the third schema.
 pub fn passing_rows_satisfy_audit_invariant()
     ensures { (rows : Tables) → PassesAudit third_schema rows → AuditInvariant (base_of_tables rows) }
 {}
@@ -50,10 +51,10 @@ pub fn empty_base_satisfies_audit_invariant()
     ensures { AuditInvariant empty_base }
 {}
 
-/// Proves that every accepted command whose fields meet the formats of the audit
-/// (`MeetsAuditFormats`) preserves the audit invariant, if the base satisfies the books invariant.
-/// A call of such a command, with a well-formed key or without a key, preserves it too, whatever
-/// the answer.
+/// Proves that a command whose fields meet the formats of the audit (`MeetsAuditFormats`) preserves
+/// the audit invariant of a base that satisfies the books invariant. Clause `step`: if the step
+/// accepts the command. Clause `keyed`: whatever the answer is, if the command has no key or a
+/// well-formed key.
 pub fn commands_preserve_audit_invariant()
     ensures step { (base : Base) (now : ℕ) (command : Command) (reply : Reply) (after : Base)
         → AuditInvariant base → BooksInvariant base → MeetsAuditFormats command → step base now command ≡ Ok (reply, after) → AuditInvariant after }

@@ -4,7 +4,7 @@ use Rattle.brk_money.specs.declared.side.Side.{Side}
 use Rattle.brk_money.specs.declared.side.Side.TheVariants.{Buy, Sell}
 
 -- True if a trade of the side closes lots of a position with the signed number of shares: a
--- purchase if it is below 0, a sale if it is above 0.
+-- purchase if the number is below 0, a sale if the number is above 0.
 abbrev pub closes_lots : Side → ℤ → Bool
 closes_lots Buy (pos n) = false
 closes_lots Buy (negsuc n) = true

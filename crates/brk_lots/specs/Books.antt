@@ -18,12 +18,12 @@ lot_cost_basis ls = total_by (λ l. l.qty *ℤ pos l.price) ls
 abbrev pub share_cost_basis : List Share → ℤ
 share_cost_basis us = total_by (λ u. signed_by_side u.side u.price) us
 
--- The sum of the quantities of the deals, in shares, where sales count below 0.
+-- The sum of the quantities of the deals, in shares; the quantity of a sale counts below 0.
 abbrev pub deal_quantity_sum : List Deal → ℤ
 deal_quantity_sum ds = total_by (λ d. signed_by_side d.side d.qty) ds
 
--- The value of all purchases minus the value of all sales, in cents, where the value of a deal is
--- its quantity times its price.
+-- The value of all purchases minus the value of all sales, in cents. The value of a deal is its
+-- quantity times its price.
 abbrev pub purchases_minus_sales : List Deal → ℤ
 purchases_minus_sales ds = total_by (λ d. signed_by_side d.side (d.qty * d.price)) ds
 

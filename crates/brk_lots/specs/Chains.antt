@@ -13,12 +13,13 @@ use Rattle.brk_lots.specs.Lots.{list_in_closing_order}
 abbrev pub changes_of_lot : ℕ → List Deal → List Share → List Touch
 changes_of_lot trade ds us = map touch_of_row (filter row_changes_quantity (holding_history_rows_of_deals trade us ds))
 
--- The quantity `after` has the side of `before` and fewer shares.
+-- The quantity `after` is nearer to 0 than `before`, and is 0 or has the sign of `before`.
 abbrev pub IsNearerToZero : ℤ → ℤ → Type 0
 IsNearerToZero after before = (side : Side) × (m : ℕ) × (n : ℕ) × (after ≡ signed_by_side side m) × (before ≡ signed_by_side side n) × (m < n)
 
--- The changes form a chain from `from` to `to`: each starts where the one before it ended and ends
--- strictly nearer to 0, on the same side. The first starts at `from`, and the last ends at `to`.
+-- The changes form a chain from `from` to `to`: the first starts at `from`, each later one starts
+-- where the one before it ended, and the last ends at `to`. Each ends strictly nearer to 0 than it
+-- starts, at 0 or on the same side. Without changes `from` equals `to`.
 abbrev pub ShrinksTowardZero : ℤ → List Touch → ℤ → Type 0
 ShrinksTowardZero from [] to = from ≡ to
 ShrinksTowardZero from (row ∷ rows) to = (row.before ≡ from) × IsNearerToZero row.after row.before × ShrinksTowardZero row.after rows to
@@ -35,7 +36,7 @@ abbrev pub opening_touch : Lot → Touch
 opening_touch l = record { lot = l.trade; before = pos 0; after = l.qty }
 
 -- The HOLDING_HISTORY rows of the deal `d` on the shares `us`: those of the lots that it closes or
--- reduces, in the sequence in which it takes them, and then that of the lot that it opens, if any.
+-- reduces, in the sequence in which it closes them, and then that of the lot that it opens, if any.
 abbrev pub lot_changes_of_deal : Deal → List Share → List HoldingHistoryRow
 lot_changes_of_deal d us =
     map (holding_history_row d.trade) (list_in_closing_order d.is_lifo (touches_of_existing_lots d us)
@@ -47,6 +48,6 @@ abbrev pub lot_changes_of_deals : List Deal → List Share → List HoldingHisto
 lot_changes_of_deals [] us = []
 lot_changes_of_deals (d ∷ ds) us = lot_changes_of_deal d us ++ lot_changes_of_deals ds (shares_after_deal us d)
 
--- The model's HOLDING_HISTORY row with the values of the typed change `t`.
+-- The model's HOLDING_HISTORY row with the values of the lot change `t` of the program.
 abbrev pub abstract_deal_touch : DealTouch → HoldingHistoryRow
 abstract_deal_touch t = record { lot = t.touch.lot; trade = t.trade; before = t.touch.before; after = t.touch.after }

@@ -6,7 +6,7 @@ use Rattle.brk_model.specs.Records.{Trade}
 use Rattle.brk_model.specs.Shares.{Share, Deal, Touch, changes_lot_quantity, shares_after_deal, touch_of_lot}
 use Rattle.brk_model.specs.Tables.{HoldingHistoryRow, holding_history_row}
 
--- The lot of a HOLDING_HISTORY row, with its quantities before and after.
+-- The lot change of a HOLDING_HISTORY row: its lot, and the quantities of the lot before and after.
 abbrev pub touch_of_row : HoldingHistoryRow → Touch
 touch_of_row row = record { lot = row.lot; before = row.before; after = row.after }
 
@@ -21,7 +21,7 @@ holding_history_rows_of_deals lot shares [] = []
 holding_history_rows_of_deals lot shares (d ∷ deals) =
     holding_history_row d.trade (touch_of_lot lot d shares) ∷ holding_history_rows_of_deals lot (shares_after_deal shares d) deals
 
--- The HOLDING_HISTORY rows of the lot that the completed trade `t` opened: of one for each deal of
--- its position, those that change the lot's quantity.
+-- The HOLDING_HISTORY rows of the lot that the trade `t` opened: one for each deal of its account
+-- and symbol, over the completed trades `done`, that changes the quantity of the lot.
 abbrev pub changing_rows_of_lot : List Trade → Trade → List HoldingHistoryRow
 changing_rows_of_lot done t = filter row_changes_quantity (holding_history_rows_of_deals t.id [] (deals_of_position done t.account t.symbol))

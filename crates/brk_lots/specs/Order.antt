@@ -4,7 +4,7 @@ use Rattle.std.specs.Prelude.{◌≡◌, ◌≢◌, pos, ◌<◌, ⊤, List, [],
 use Rattle.brk_lots.specs.declared.lot.Lot.{Lot}
 use Rattle.brk_lots.specs.Lots.{side_of_qty}
 
--- The first lot of the list satisfies `P`. Holds of the empty list by convention.
+-- The first lot of the list, if there is one, satisfies `P`.
 abbrev pub FirstLotSatisfies : (Lot → Type 0) → List Lot → Type 0
 FirstLotSatisfies P [] = ⊤
 FirstLotSatisfies P (l ∷ ls) = P l

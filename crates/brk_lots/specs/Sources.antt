@@ -9,8 +9,8 @@ use Rattle.brk_lots.specs.Position.{IsPositionInAnyOrder}
 abbrev pub AreLotsOfFaithfulSource : Type 0 → (List Lot → Type 0) → List Lot → Type 0
 AreLotsOfFaithfulSource told remaining ls = told × remaining ls
 
--- The lots `ls` form a position, in any order, and `given` holds of them, reversed if `lifo` is
--- true, and otherwise in their sequence.
+-- The lots `ls` form a position, in any order, and the list `ls`, reversed if `lifo` is true,
+-- satisfies `given`.
 abbrev pub YieldsPosition : (List Lot → Type 0) → Bool → List Lot → Type 0
 YieldsPosition given lifo ls = given (list_in_closing_order lifo ls) × IsPositionInAnyOrder ls
 

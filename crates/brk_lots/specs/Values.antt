@@ -16,9 +16,9 @@ closing_values_of_deal d shares = record { buy_value = buy_value d shares; sell_
 abbrev pub closing_values_by_side : Side → ℕ → ℕ → Values
 closing_values_by_side side closed opened = record { buy_value = buy_value_by_side side closed opened; sell_value = sell_value_by_side side closed opened }
 
--- `over`, `taken` and `worth` are the result of a trade of `qty` shares at `price` on `side`
--- against the lots `ls`: the quantity that closes no share, the changes of the lots that it closes
--- or reduces, and the buy value and the sell value of the closed shares, in cents.
+-- A trade of `qty` shares at `price` on `side` meets the lots `ls`, which have one side: `over` is
+-- the quantity that closes no share, `taken` are the changes of the lots that it closes or reduces,
+-- and `worth` is the buy value and the sell value of the closed shares, in cents.
 pub record IsResultOfTradeAgainstLots (side : Side) (qty price : ℕ) (ls : List Lot) (taken : List Touch) (over : ℕ) (worth : Values) : Type 0 where
   pub left : over + closed_share_count side qty ls ≡ qty
   pub rows : taken ≡ touches_of_first_shares (closed_share_count side qty ls) ls

@@ -11,15 +11,15 @@ use Rattle.brk_lots.specs.declared.lot.Lot.{Lot}
 use Rattle.brk_lots.specs.declared.lot.Touch.{Touch}
 use Rattle.brk_lots.specs.Lots.{side_of_qty, shares_of_lots}
 
--- The number of shares that a trade of `q` shares on the side closes of the lots, which have one
--- side. It is 0 if the first lot has the side of the trade or there is none, and otherwise the
+-- The number of shares of the lots, which have one side, that a trade of `q` shares on the side
+-- closes. It is 0 if there is no lot or the first lot has the side of the trade, and otherwise the
 -- smaller of `q` and the number of all shares.
 abbrev pub closed_share_count : Side → ℕ → List Lot → ℕ
 closed_share_count side q [] = 0
 closed_share_count side q (l ∷ ls) = if is_same_side (side_of_qty l.qty) side then 0 else min q (length (shares_of_lots (l ∷ ls)))
 
--- The lot changes by which the first `k` shares of the lots are closed: one for each lot that loses
--- a share, with its quantity before and after.
+-- The lot changes by which the first `k` shares of the lots, each of at least one share, are
+-- closed: one for each lot that loses a share, with its quantity before and after.
 abbrev pub touches_of_first_shares : ℕ → List Lot → List Touch
 touches_of_first_shares k [] = []
 touches_of_first_shares k (l ∷ ls) =
@@ -27,14 +27,15 @@ touches_of_first_shares k (l ∷ ls) =
     else record { lot = l.trade; before = l.qty; after = signed_by_side (side_of_qty l.qty) (unsigned_abs l.qty - k) }
     ∷ touches_of_first_shares (k - unsigned_abs l.qty) ls
 
--- The value, in cents, at which the first `k` shares of the lots were opened.
+-- The value, in cents, at which the first `k` shares of the lots were opened, or all shares if
+-- there are fewer.
 abbrev pub cost_of_first_shares : ℕ → List Lot → ℕ
 cost_of_first_shares k [] = 0
 cost_of_first_shares k (l ∷ ls) = min k (unsigned_abs l.qty) * l.price + cost_of_first_shares (k - unsigned_abs l.qty) ls
 
--- `over`, `taken` and `cost` are the result of closing the lots `ls` by a trade of `qty` shares on
--- `side`: the quantity that closes no share, the changes of the lots that it closes or reduces, and
--- the value, in cents, at which the closed shares were opened.
+-- A trade of `qty` shares on `side` meets the lots `ls`, which have one side: `over` is the
+-- quantity that closes no share, `taken` are the changes of the lots that it closes or reduces, and
+-- `cost` is the value, in cents, at which the closed shares were opened.
 pub record IsResultOfClosingLots (side : Side) (qty : ℕ) (ls : List Lot) (taken : List Touch) (over cost : ℕ) : Type 0 where
   pub left : over + closed_share_count side qty ls ≡ qty
   pub rows : taken ≡ touches_of_first_shares (closed_share_count side qty ls) ls
@@ -52,8 +53,8 @@ abbrev pub sell_value_by_side : Side → ℕ → ℕ → ℕ
 sell_value_by_side Buy traded opened = opened
 sell_value_by_side Sell traded opened = traded
 
--- The signed quantity of the lot `l` after the changes: that of the first change of this lot, or
--- its own if there is none.
+-- The signed quantity of the lot `l` after the changes: the quantity after the first change of this
+-- lot in the list, or the quantity of `l` if no change is of this lot.
 abbrev pub quantity_after_touches : List Touch → Lot → ℤ
 quantity_after_touches [] l = l.qty
 quantity_after_touches (t ∷ ts) l = if nat_eq t.lot l.trade then t.after else quantity_after_touches ts l
@@ -62,11 +63,12 @@ quantity_after_touches (t ∷ ts) l = if nat_eq t.lot l.trade then t.after else 
 abbrev pub lot_with_nonzero_quantity : ℤ → Lot → List Lot
 lot_with_nonzero_quantity qty l = if int_eq qty (pos 0) then [] else record { trade = l.trade; price = l.price; qty = qty; stamp = l.stamp } ∷ []
 
--- The rest of the lot `l` after the changes `ts`, as a list of one element, or the empty list if
--- they close it.
+-- The lot `l` with its quantity after the changes `ts`, as a list of one element, or the empty list
+-- if that quantity is 0.
 abbrev pub rest_of_lot_after_touches : List Touch → Lot → List Lot
 rest_of_lot_after_touches ts l = lot_with_nonzero_quantity (quantity_after_touches ts l) l
 
--- The rests of the lots `ls` after the changes `ts`, without the lots that these close.
+-- The lots `ls` with their quantities after the changes `ts`, without the lots whose quantity is
+-- then 0.
 abbrev pub lots_after_touches : List Touch → List Lot → List Lot
 lots_after_touches ts ls = flat_map (rest_of_lot_after_touches ts) ls

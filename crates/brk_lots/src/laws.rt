@@ -26,8 +26,8 @@ pub fn replayed_lots_match_their_deals()
 /// Proves for deals of distinct trades with strictly ascending stamps that the changes of each lot
 /// form a chain. The first starts at 0 and opens the lot, each later one starts where the one
 /// before it ended and ends strictly nearer to 0, and the last ends at the current quantity. Proves
-/// also that the quantity of the lot of a deal's trade is the number of shares that the deal opens,
-/// below 0 for a sale.
+/// also for a deal whose trade opened no lot of the position that the lot of this trade, after the
+/// deal, has the number of shares that the deal opens, below 0 for a sale.
 pub fn lot_histories_are_chains()
     ensures history { (deals : List Deal) (trade : ℕ) → AreAscendingDeals deals
         → IsLotHistory (changes_of_lot trade deals []) (lot_quantity (replay deals) trade) }
@@ -35,8 +35,8 @@ pub fn lot_histories_are_chains()
         lot_quantity (shares_after_deal (shares_of_lots ls) d) d.trade ≡ signed_by_side d.side (d.qty - closed_share_count_of_deal d (shares_of_lots ls)) }
 {}
 
-/// Proves that the lot changes of a deal are those of the lots that it closes or reduces, followed
-/// by that of the lot that it opens, if its trade opened no lot of the position before.
+/// Proves for a deal whose trade opened no lot of the position that its lot changes are those of
+/// the lots that it closes or reduces, followed by that of the lot that it opens, if any.
 pub fn history_is_touched_and_opened_lots()
     ensures { (d : Deal) (ls : List Lot) → IsPosition ls → AreOpenedByOtherTrades d.trade ls →
         lot_touches_of_deal d (shares_of_lots ls)

@@ -47,8 +47,8 @@ impl Lot {
         self.qty.unsigned_abs()
     }
 
-    // Returns the signed quantity of the lot after `shares` of its shares are closed, which must
-    // not be more than it has.
+    // Returns the signed quantity of the lot after `shares` of its shares are closed. `shares` must
+    // be at most the number of its shares.
     fn quantity_after_closing(&self, shares: u32) -> i64
         requires { shares ≤ unsigned_abs self.now.qty }
         ensures { result ≡ signed_by_side (side_of_qty self.now.qty) (unsigned_abs self.now.qty - shares) }
@@ -60,8 +60,8 @@ impl Lot {
         }
     }
 
-    // Returns the change of the lot, its quantity before and after, that closes `shares` of its
-    // shares.
+    // Returns the lot change that closes `shares` shares of the lot: its trade, and its signed
+    // quantity before and after. `shares` must be at most the number of its shares.
     pub(crate) fn touch_closing_shares(&self, shares: u32) -> Touch
         requires { shares ≤ unsigned_abs self.now.qty }
         ensures { result
@@ -85,7 +85,7 @@ pub fn are_same_side(a: Side, b: Side) -> bool
     }
 }
 
-// Returns the number of shares as a signed quantity: above 0 for a purchase, below 0 for a sale.
+// Returns `shares` for a purchase and `-shares` for a sale.
 pub(crate) fn signed_qty(side: Side, shares: u32) -> i64
     ensures { result ≡ signed_by_side side shares }
 {

@@ -47,8 +47,9 @@ impl Position {
         }
     }
 
-    /// Creates a position of these lots, the oldest first. Returns `None` if they do not form one.
-    /// Takes no allocator.
+    /// Returns the position with the lots `lots`, the oldest first. Returns `None` if they form no
+    /// position: a lot has 0 shares, two lots differ in side or are of the same trade, or the
+    /// stamps do not ascend strictly. Takes no allocator.
     pub fn from_lots(mut lots: Vec<Lot>) -> Option<Position>
         ensures { MatchOption result (IsPosition lots.items → ⊥) (λ position. (position ≡ lots.items) × IsPosition lots.items) }
     {

@@ -13,7 +13,7 @@ use crate::position::Position;
 use brk_money::{Fault, Id};
 use std::alloc::Global;
 
-/// A change of a lot by a trade that touched or opened it.
+/// A change of a lot by the trade that closed, reduced or opened the lot.
 #[derive(Clone, Copy)]
 pub struct DealTouch {
     pub trade: Id,
@@ -82,8 +82,8 @@ impl Position {
     /// must have distinct trades and strictly ascending stamps.
     ///
     /// Appends to `rows`, for each deal, the changes of the lots that it closed or reduced, in the
-    /// sequence in which it took them, and then that of the lot that it opened, if any. Fails with
-    /// `Memory` only.
+    /// sequence in which it closed them, and then that of the lot that it opened, if any. Fails
+    /// with `Memory` only.
     pub fn replay_with_lot_changes(
         alloc: Global,
         deals: &[Deal],

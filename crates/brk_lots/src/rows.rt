@@ -6,7 +6,8 @@ ghost use Rattle.brk_money.specs.declared.fault.Fault.TheVariants.{Memory};
 use crate::lot::Touch;
 use brk_money::Fault;
 
-// A receiver of lot changes: it takes each lot that is closed or reduced, one at a time.
+// A receiver of lot changes: it receives the changes of the lots that are closed or reduced, one at
+// a time.
 pub(crate) trait TouchReceiver {
     // Relates the receiver to the lot changes that were added to it.
     ghost holds: { Self → List Touch → Type 0 };
@@ -14,7 +15,7 @@ pub(crate) trait TouchReceiver {
     // The faults with which a call may fail.
     ghost fails: { Fault → Type 0 };
 
-    // Takes the next lot change. Fails with a fault of the receiver only.
+    // Appends a lot change to those of the receiver. Fails with a fault of the receiver only.
     fn add(&mut self, row: Touch) -> Result<(), Fault>
         ensures added { OnOk result ((rows : List Touch) → holds self.old rows → holds self.new (rows ++ row ∷ [])) }
         ensures fault { IfErr result fails };

@@ -20,7 +20,8 @@ pub struct Values {
 }
 
 // Returns the buy value and the sell value, in cents, of shares that a trade of the side closes at
-// the value `traded` and that were opened at the value `opened`.
+// the value `traded` and that were opened at the value `opened`. Both values must be at most the
+// greatest `Amount`.
 pub(crate) fn closing_values(side: Side, traded: u64, opened: u64) -> Values
     requires traded { traded ≤ greatest_amount }
     requires opened { opened ≤ greatest_amount }

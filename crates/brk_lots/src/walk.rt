@@ -29,10 +29,10 @@ pub(crate) struct CloseValues {
     pub values: Values,
 }
 
-// Closes lots of the other side until the quantity is used up, the source has no lot left, or the
-// next lot has the side of the trade. Adds the change of each lot to `rows`. Returns the quantity
-// that closed no share, and the value, in cents, at which the closed shares were opened. Fails with
-// a fault of the source or of `rows`.
+// Closes lots of the other side until the quantity is used up, the source has no further lot, or
+// the next lot has the side of the trade. Adds the change of each lot to `rows`, which must be
+// empty. Returns the quantity that closed no share, and the value, in cents, at which the closed
+// shares were opened. Fails with a fault of the source or of `rows`.
 fn close_lots_with_cost<L: LotSource, R: TouchReceiver>(
     source: &mut L,
     side: Side,
@@ -75,10 +75,10 @@ fn close_lots_with_cost<L: LotSource, R: TouchReceiver>(
     Ok(CloseCost { left, cost })
 }
 
-// Closes lots of the other side until the quantity is used up, the source has no lot left, or the
-// next lot has the side of the trade. Adds the change of each lot to `rows`. Returns the quantity
-// that closed no share, and the buy value and the sell value, in cents, of the shares that were
-// closed at `price`. Fails with a fault of the source or of `rows`.
+// Closes lots of the other side until the quantity is used up, the source has no further lot, or
+// the next lot has the side of the trade. Adds the change of each lot to `rows`, which must be
+// empty. Returns the quantity that closed no share, and the buy value and the sell value, in cents,
+// of the shares that were closed at `price`. Fails with a fault of the source or of `rows`.
 pub(crate) fn close_lots_with_values<L: LotSource, R: TouchReceiver>(
     source: &mut L,
     side: Side,

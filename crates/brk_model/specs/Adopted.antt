@@ -29,7 +29,7 @@ posting_of_cash_row tables c = record {
   name = c.name;
 }
 
--- The posting of a CASH_MOVE row.
+-- The posting that a CASH_MOVE row describes: its account, trade, stamp, amount and name.
 abbrev pub posting_of_move_row : MoveRow → Posting
 posting_of_move_row r = record { account = r.account; trade = r.trade; stamp = r.stamp; amount = r.amount; name = r.name }
 
@@ -41,7 +41,7 @@ postings_of_tables tables = map (posting_of_cash_row tables) tables.cash ++ map 
 abbrev pub is_posting_of_trade : ℕ → Posting → Bool
 is_posting_of_trade trade p = is_id_of_trade trade p.trade
 
--- The movement that a CASH_MOVE row without a trade describes.
+-- The movement that a CASH_MOVE row without a trade describes: its account, stamp, amount and name.
 abbrev pub movement_of_row : MoveRow → Movement
 movement_of_row r = record { account = r.account; stamp = r.stamp; amount = r.amount; name = r.name }
 
@@ -72,13 +72,13 @@ abbrev pub security_of_rows : SecurityRow → LastTradeRow → Security
 security_of_rows s l =
     record { symbol = s.symbol; name = s.name; exchange = s.exchange; sector = s.sector; last_price = l.price; volume = l.volume; moment = l.stamp }
 
--- The row that stands in for a missing LAST_TRADE row of the symbol: its price, volume and stamp
--- are 0.
+-- A LAST_TRADE row of the symbol `symbol` with the price, the volume and the stamp 0, which is used
+-- if the table has no row of the symbol.
 abbrev pub zero_last_trade_row : Text → LastTradeRow
 zero_last_trade_row symbol = record { symbol = symbol; stamp = 0; price = 0; volume = 0 }
 
--- The security that a SECURITY row and the LAST_TRADE row of its symbol describe; without such a
--- row its price, volume and stamp are 0.
+-- The security that a SECURITY row and the LAST_TRADE row of its symbol describe; the price, the
+-- volume and the stamp are 0 if there is no such LAST_TRADE row.
 abbrev pub security_of_row : Tables → SecurityRow → Security
 security_of_row tables s =
     option_map_or (security_of_rows s) (find (λ l. bytes_eq l.symbol s.symbol) tables.last_trades) (security_of_rows s (zero_last_trade_row s.symbol))

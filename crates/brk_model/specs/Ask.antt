@@ -34,8 +34,8 @@ checks_of_query base (TradesOfSymbol symbol first last) = security_exists_check 
 checks_of_query base (LotsTouched account first) = account_exists_check base account ∷ []
 checks_of_query base (VolumeOf sector names) = []
 
--- The view of the query on `base`: the rows that it selects from the tables, or the figures of its
--- estimate.
+-- The view of the query on `base`: the records that it selects from the tables, or one record with
+-- the figures of an estimate.
 unfoldable pub view_of_base : Base → Query → View
 view_of_base base (EstimateOf order) = estimate_fields (estimate base order) ∷ []
 view_of_base base query = unwrap_or (view_of_tables (tables_of_base base) query) []
@@ -47,8 +47,8 @@ ask base query = value_unless_refused (first_refusal (checks_of_query base query
 
 -- ---- from arguments to a query
 
--- The query that `read` reads from the only argument, or its refusal; the refusal `BadText` if
--- there is none or more than one.
+-- The query that `read` reads from the only argument, or the refusal of `read`; the refusal
+-- `BadText` if there is no argument or more than one.
 abbrev pub read_single_argument : (Text → ReadResult Query) → List Text → ReadResult Query
 read_single_argument read (argument ∷ []) = read argument
 read_single_argument read _ = Err BadText
@@ -59,13 +59,13 @@ read_no_arguments query [] = Ok query
 read_no_arguments query (argument ∷ arguments) = Err BadText
 
 -- The query that three arguments parse as, a value (by `read`) and two stamps, or the refusal of a
--- malformed one; the refusal `BadText` if there are fewer or more.
+-- malformed argument; the refusal `BadText` if there are fewer or more arguments.
 abbrev pub read_value_and_stamps : {A : Type 0} → (Text → ReadResult A) → (A → ℕ → ℕ → Query) → List Text → ReadResult Query
 read_value_and_stamps read query (what ∷ first ∷ last ∷ []) = Ok query ⊛ read what ⊛ read_stamp first ⊛ read_stamp last
 read_value_and_stamps read query _ = Err BadText
 
 -- The query for touched lots that two arguments parse as, an account and a stamp, or the refusal of
--- a malformed one; the refusal `BadText` if there are fewer or more.
+-- a malformed argument; the refusal `BadText` if there are fewer or more arguments.
 abbrev pub read_lots_query : List Text → ReadResult Query
 read_lots_query (account ∷ first ∷ []) = Ok (λ a f. LotsTouched a f) ⊛ read_id account ⊛ read_stamp first
 read_lots_query _ = Err BadText
@@ -110,7 +110,7 @@ volume_view_parsers = (codes "volume", read_volume_query) ∷ []
 abbrev pub view_parsers : List (NamedParser Query)
 view_parsers = order_view_parsers ++ account_view_parsers ++ lookup_view_parsers ++ volume_view_parsers
 
--- The query that the name of a view and its arguments parse as, or a refusal: `BadText` if there is
--- no such view.
+-- The query that the name of a view and its arguments parse as, or the refusal of the parser of
+-- that view; the refusal `BadText` if there is no such view.
 unfoldable pub parse_query : Text → List Text → ReadResult Query
 parse_query view arguments = parse_by_first_field view_parsers (view ∷ arguments)

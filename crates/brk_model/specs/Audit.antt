@@ -1,5 +1,4 @@
--- The conditions that an audit checks of tables, each only if those before it hold (consistency
--- conditions, and this project's own).
+-- The conditions that an audit checks on tables, each only if those before it are satisfied.
 use Rattle.std.specs.Prelude.{◌≡◌, ◌⊎◌, ⊤, List, [], ◌∷◌, map, Option, Some, None, IsTrue}
 use Rattle.brk_money.specs.declared.fault.Condition.{Condition}
 use Rattle.brk_money.specs.declared.fault.Condition.TheVariants as condition
@@ -14,8 +13,10 @@ use Rattle.brk_model.specs.Ways.{satisfies_status_condition}
 abbrev pub expected_tables : Schema → Tables → Tables
 expected_tables schema t = sheets_in_schema schema (base_of_tables t)
 
--- The tables `t` of the schema `schema`, sorted by key, satisfy the condition. `NotEmpty` and
--- `Schema` are conditions of a database, not of rows, so no tables satisfy them.
+-- The tables `t` of the schema `schema`, sorted by key, satisfy the condition: for `Form` and
+-- `Status` its check is true, and for each other condition on rows its tables or column equal those
+-- of `expected_tables`. `NotEmpty` and `Schema` are conditions of a database, not of rows, so no
+-- tables satisfy them.
 unfoldable pub ConditionHolds : Schema → Condition → Tables → Type 0
 ConditionHolds schema condition.NotEmpty t = ⊥
 ConditionHolds schema condition.Schema t = ⊥

@@ -16,8 +16,9 @@ use Rattle.brk_model.specs.Records.{Broker, Customer, Account, Permission, Secur
 use Rattle.brk_model.specs.Records.{SettleRule, Kept}
 use Rattle.brk_model.specs.Lists.{update_where}
 
--- The base (abstract state): a list for each kind of record, the settlement rule, the stored
--- requests with their replies (`kept`), and the stamp of the last accepted command (`last`).
+-- The base (abstract state): a list for each kind of record, the settlement day (`rule`), the
+-- stored requests with their replies (`kept`), and the stamp of the last accepted command (`last`),
+-- or none before the first.
 pub record Base : Type 0 where
   pub brokers : List Broker
   pub customers : List Customer
@@ -126,33 +127,35 @@ tax_status_in_accounts accounts account = option_map_or (λ a. a.tax_status) (ac
 abbrev pub opening_balance_in_accounts : List Account → ℕ → ℤ
 opening_balance_in_accounts accounts account = option_map_or (λ a. a.opening) (account_with_id_in_list accounts account) (pos 0)
 
--- The id of the broker of the account `account` of `base`; 0 if the account does not exist.
+-- The id of the broker of the account `account` in `base`; 0 if the account does not exist.
 abbrev pub broker_id_of_account : Base → ℕ → ℕ
 broker_id_of_account base account = broker_id_in_accounts base.accounts account
 
--- The id of the customer of the account `account` of `base`; 0 if the account does not exist.
+-- The id of the customer of the account `account` in `base`; 0 if the account does not exist.
 abbrev pub customer_id_of_account : Base → ℕ → ℕ
 customer_id_of_account base account = option_map_or (λ a. a.customer) (account_with_id base account) 0
 
--- The tier of the customer of the account `account` of `base`; 0 if the account or its customer
+-- The tier of the customer of the account `account` in `base`; 0 if the account or its customer
 -- does not exist.
 abbrev pub tier_of_account : Base → ℕ → ℕ
 tier_of_account base account = option_map_or (λ c. c.tier) (customer_with_id base (customer_id_of_account base account)) 0
 
--- The exchange of the security `symbol` of `base`; empty if the security does not exist.
+-- The exchange of the security with the symbol `symbol` in `base`; empty if there is no such
+-- security.
 abbrev pub exchange_of_security : Base → Text → Text
 exchange_of_security base symbol = option_map_or (λ s. s.exchange) (security_with_symbol base symbol) []
 
--- The name of the security `symbol` of the list `securities`; empty if there is no such security.
+-- The name of the security with the symbol `symbol` in the list `securities`; empty if there is no
+-- such security.
 abbrev pub security_name_in_list : List Security → Text → Text
 security_name_in_list securities symbol = option_map_or (λ s. s.name) (security_with_symbol_in_list securities symbol) []
 
--- The name of the security `symbol` of `base`; empty if the security does not exist.
+-- The name of the security with the symbol `symbol` in `base`; empty if there is no such security.
 abbrev pub security_name : Base → Text → Text
 security_name base symbol = security_name_in_list base.securities symbol
 
--- The last market price of the security `symbol` of `base`, in cents; 0 if the security does not
--- exist.
+-- The last market price, in cents, of the security with the symbol `symbol` in `base`; 0 if there
+-- is no such security.
 abbrev pub last_price : Base → Text → ℕ
 last_price base symbol = option_map_or (λ s. s.last_price) (security_with_symbol base symbol) 0
 
@@ -162,8 +165,8 @@ abbrev pub tax_rate_sum_in_lists : List TaxRate → List CustomerTax → ℕ →
 tax_rate_sum_in_lists tax_rates customer_taxes customer =
     sum_by (λ x. option_map_or (λ r. r.rate) (tax_rate_with_id_in_list tax_rates x.tax) 0) (filter (λ x. x.customer == customer) customer_taxes)
 
--- The sum of the tax rates that the customer `customer` pays, in hundred-thousandths; a tax whose
--- rate record does not exist counts as 0.
+-- The sum of the tax rates that the customer `customer` of `base` pays, in hundred-thousandths; a
+-- tax whose rate record does not exist counts as 0.
 abbrev pub tax_rate_sum_of_customer : Base → ℕ → ℕ
 tax_rate_sum_of_customer base customer = tax_rate_sum_in_lists base.tax_rates base.customer_taxes customer
 

@@ -23,17 +23,18 @@ pub data BatchEnding : Type 0 where
   NoEnd : BatchEnding
   BadEnd : BatchEnding
 
--- The result of a batch: the bytes that answer it, the base after it, how it ends, and the number
--- of rows that were decided.
+-- The result of a batch: its output (`text`), the base after it, its ending, and the number of its
+-- rows that were decided (`rows`).
 pub record BatchResult (B : Type 0) : Type 0 where
   pub text : Text
   pub base : B
   pub ending : BatchEnding
   pub rows : ℕ
 
--- The batch name is well-formed, none of the rows is an end record, and the rows have exactly these
--- answers, one each, and lead from `base` to `after`. Malformed rows are refused; the others are
--- executed in sequence by `step`, at the clock readings `moments`, one each.
+-- The batch name is well-formed, none of the rows is an end record, and the rows, executed from
+-- `base` on, have exactly the answers `answers`, one each, and result in the base `after`. Rows
+-- that `form` refuses are answered with their refusals; `step` executes the others in sequence,
+-- each at the next of the clock readings `moments`, all of which are used.
 pub record BatchRowsAreDecided {B C : Type 0} (form : Fields → ReadResult C) (step : RowStep B C) (name : Text) (base : B) (moments : List ℕ)
     (rows : List Fields) (answers : List Answer) (after : B) : Type 0 where
   pub named : IsBatchName name
@@ -41,30 +42,32 @@ pub record BatchRowsAreDecided {B C : Type 0} (form : Fields → ReadResult C) (
   pub answered : RowsAreAnswered form step name base moments rows answers after
   pub each : length answers ≡ length rows
 
--- The text has no record, or its first record is no header. An unknown text always satisfies this.
+-- The text has no record, or its first record is no header with a well-formed batch name. An
+-- unknown text always satisfies this.
 abbrev pub HasNoHeader : Option Text → Type 0
 HasNoHeader text =
     HasExactlyRecords text [] ⊎ ((first : Fields) × BeginsWithRecords text (first ∷ []) × ((name : Text) → IsBatchName name → first ≡ batch_header name → ⊥))
 
--- The text ends after its header, and `rows` and `told` are empty; or it ends after its header,
--- `rows` and one record more, which is no end record, and `told` is `answers` followed by the
--- refusal `BadText` of that record, which is not executed. An unknown text always satisfies the
--- part about its records.
+-- Either the text ends after the header of the batch `name`, and `rows` and `told` are empty; or it
+-- ends after this header, the records `rows` and one more record, which is not an end record, and
+-- `told` is `answers` followed by the refusal `BadText`. An unknown text always satisfies the part
+-- about its records.
 abbrev pub EndsWithoutEndRecord : Option Text → Text → List Fields → List Answer → List Answer → Type 0
 EndsWithoutEndRecord text name rows answers told =
     ((rows ≡ []) × HasExactlyRecords text (batch_header name ∷ []) × (told ≡ []))
     ⊎ ((last : Fields) × ¬ (IsEndRecord last) × HasExactlyRecords text (batch_header name ∷ (rows ++ (last ∷ []))) × (told ≡ answers ++ (Refused BadText ∷ [])))
 
--- The text has, after its header and `rows`, an end record that is not the correct one for the
--- number of `rows`. An unknown text always satisfies this.
+-- The text has, after the header of the batch `name` and the records `rows`, an end record that is
+-- not the correct one for the number of `rows`. An unknown text always satisfies this.
 abbrev pub EndsWithWrongEndRecord : Option Text → Text → List Fields → Type 0
 EndsWithWrongEndRecord text name rows =
     (last : Fields) × IsEndRecord last × (last ≡ correct_end_record (length rows) → ⊥) × BeginsWithRecords text (batch_header name ∷ (rows ++ (last ∷ [])))
 
--- The text has the header of the batch `name`, then the records `rows`, and then the end that the
--- ending requires. The answers `told` are those that are printed: `answers`, and for `NoEnd` also
--- the refusal of the last record if there is one. The output `out` has one line for each of them,
--- and the `end` line for `CorrectEnd` only. It is false for `BadHeader`.
+-- The text has the header of the batch `name`, then the records `rows`, and then an end record,
+-- correct for `CorrectEnd` and wrong for `BadEnd`; for `NoEnd` it satisfies `EndsWithoutEndRecord`.
+-- The answers `told` are those that are printed: `answers`, and for `NoEnd` also the refusal of the
+-- last record if there is one. The output `out` has one line for each of them, and the `end` line
+-- for `CorrectEnd` only. It is false for `BadHeader`.
 abbrev pub MatchesEnding : Option Text → BatchEnding → Text → List Fields → List Answer → List Answer → Text → Type 0
 MatchesEnding text CorrectEnd name rows answers told out =
     BeginsWithRecords text (batch_header name ∷ (rows ++ (correct_end_record (length rows) ∷ []))) × (told ≡ answers)
@@ -96,8 +99,8 @@ pub record IsResultOfTextWithoutHeader {B : Type 0} (base : B) (moments : List �
   pub told : batch.text ≡ []
   pub counted : batch.rows ≡ 0
 
--- The batch is the result of the bytes `input` executed by `step` from `base` on, with `moments` as
--- the clock readings of the executed rows, one each.
+-- The batch is the result of the bytes `input`, whose rows `form` parses and `step` executes from
+-- `base` on, with `moments` as the clock readings of the executed rows, one each.
 abbrev pub IsResultOfBatch : {B C : Type 0} → (Fields → ReadResult C) → RowStep B C → B → List ℕ → Text → BatchResult B → Type 0
 IsResultOfBatch form step base moments input batch =
     IsResultOfTextWithHeader form step base moments (Some (input_text input)) batch ⊎ IsResultOfTextWithoutHeader base moments (Some (input_text input)) batch

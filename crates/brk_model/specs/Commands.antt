@@ -14,9 +14,10 @@ pub record Listing : Type 0 where
   pub sector : Text
   pub price : ℕ
 
--- An order of `qty` shares of `symbol` for `account`, placed by `executor`. Its type has a price
--- unless it is a market type. It is a cash trade if `is_cash` is true, otherwise a margin trade,
--- and closes the last shares first if `is_lifo` is true, otherwise the first ones.
+-- An order of `qty` shares of `symbol` for `account`, placed by `executor`. `order_type` includes
+-- the requested price unless it is a market type. The order creates a cash trade if `is_cash` is
+-- true, otherwise a margin trade. The trade closes the last shares of its position first if
+-- `is_lifo` is true, otherwise the first ones.
 pub record Order : Type 0 where
   pub account : ℕ
   pub order_type : OrderType
@@ -58,8 +59,8 @@ pub data Command : Type 0 where
   SetOneDay : (day : ℕ) → Command
 
 -- The estimate of an order, in cents: the price of a share, the buy value and the sell value of the
--- shares that it would close, the tax on their gain, the commission, the charge, and the assets of
--- the account before it.
+-- shares that the order would close, the tax on their gain, the commission, the charge, and the
+-- assets of the account before the order.
 pub record Estimate : Type 0 where
   pub price : ℕ
   pub buy_value : ℕ
@@ -70,8 +71,8 @@ pub record Estimate : Type 0 where
   pub assets : ℤ
 
 -- The figures of a completed trade. `commission`, `tax`, the settlement amount (`amount`), the buy
--- value and the sell value of the closed shares, and the balance of the account after it are in
--- cents; `due_day` is in days since 1970-01-01.
+-- value and the sell value of the closed shares, and the balance of the account after the
+-- completion are in cents; `due_day` is in days since 1970-01-01.
 pub record Completion : Type 0 where
   pub commission : ℕ
   pub tax : ℕ
@@ -84,22 +85,24 @@ pub record Completion : Type 0 where
 -- The reply to an accepted command, with its stamp and the figures of its kind. Amounts are in
 -- cents.
 pub data Reply : Type 0 where
-  -- To a reference record, and to the settlement day.
+  -- The reply to a reference record or to the settlement day: the stamp only.
   Booked : (stamp : ℕ) → Reply
-  -- To an order: the id of its trade, the first status and the estimate.
+  -- The reply to an order: the id of its trade, the first status and the estimate.
   Ordered : (stamp trade : ℕ) → Status → Estimate → Reply
-  -- To a feed: the ids of the trades that it triggered.
+  -- The reply to a feed: the ids of the trades that it triggered.
   Ticked : (stamp : ℕ) → (triggered : List ℕ) → Reply
-  -- To a cancel.
+  -- The reply to a cancel: the stamp only.
   CanceledTrade : (stamp : ℕ) → Reply
-  -- To a result: the figures of the completion.
+  -- The reply to a result: the figures of the completion.
   CompletedTrade : (stamp : ℕ) → Completion → Reply
-  -- To a text update: the number of trades that it selects.
+  -- The reply to a text update: the number of trades that it selects.
   Changed : (stamp count : ℕ) → Reply
-  -- To a deposit or a withdrawal: the number of its cash row, and the balance after it.
+  -- The reply to a deposit or a withdrawal: the number of its cash row, and the balance of the
+  -- account after it.
   MovedCash : (stamp move : ℕ) → (balance : ℤ) → Reply
 
--- The answer to a command: done with a reply, again with a stored reply, or refused.
+-- The answer to a command: the reply, if the command was accepted now (`Done`), the stored line of
+-- the reply to an earlier attempt under the same key (`Again`), or the refusal (`Refused`).
 pub data Answer : Type 0 where
   Done : Reply → Answer
   Again : (line : Text) → Answer

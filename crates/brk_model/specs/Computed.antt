@@ -12,7 +12,7 @@ use Rattle.brk_model.specs.Input.{input_text}
 use Rattle.brk_model.specs.Lines.{answer_lines_from, batch_end_line}
 use Rattle.brk_model.specs.Batch.{BatchResult, BatchEnding, CorrectEnd, BadHeader, NoEnd, BadEnd, step_of_row}
 
--- The type of a run: a list of answers, with the base after them.
+-- The type of a pair: a list of answers, and the base after them.
 abbrev pub AnswersAndBase : Type 0 → Type 0
 AnswersAndBase B = List Answer × B
 
@@ -21,8 +21,9 @@ abbrev pub answers_and_base_of_result : {B : Type 0} → ResultOfRows B → Answ
 answers_and_base_of_result result = (result.answers, result.base)
 
 -- The answers to the rows of the batch `name`, numbered from 1 and executed in sequence from `base`
--- on, and the base after the last. Each well-formed row takes the next of the clock readings
--- `moments`; malformed rows are refused.
+-- on, and the base after the last. Each well-formed row uses the next of the clock readings
+-- `moments`; if none is left, neither it nor a row after it has an answer. Malformed rows are
+-- refused.
 abbrev pub answers_and_base_of_rows : {B C : Type 0} → (Fields → ReadResult C) → RowStep B C → Text → B → List ℕ → List Fields → AnswersAndBase B
 answers_and_base_of_rows form step name base moments rows = answers_and_base_of_result (result_of_rows form step name 1 base moments rows)
 
@@ -45,47 +46,48 @@ abbrev pub split_at_end_record : List Fields → RowsAndEndRecord
 split_at_end_record [] = ([], None)
 split_at_end_record (row ∷ rows) = if is_end_record row then ([], Some row) else with_row_in_front row (split_at_end_record rows)
 
--- The batch name of the first record of a batch; none if the record is no header with a well-formed
--- name.
+-- The batch name of the header of a batch: the second field of a record that has exactly two
+-- fields, the word `batch` and a well-formed name; none for any other record.
 abbrev pub batch_name_of_header : Fields → Option Text
 batch_name_of_header (word ∷ name ∷ []) = if bytes_eq word (codes "batch") then (if is_batch_name name then Some name else None) else None
 batch_name_of_header _ = None
 
--- True if the end record has exactly one field after the word, the number `n`.
+-- True if the record has exactly two fields and the second is the decimal text of the number `n`.
 abbrev pub has_correct_row_count : ℕ → Fields → Bool
 has_correct_row_count n (word ∷ count ∷ []) = bytes_eq count (decimal n)
 has_correct_row_count n _ = false
 
--- The result of a batch with these answers and this ending: its output is one line for each answer,
--- without an `end` line.
+-- The result of a batch with the answers and the base of `run` and the ending `ending`: its output
+-- is one line for each answer, without an `end` line, and each answer counts as a decided row.
 abbrev pub batch_without_end_line : {B : Type 0} → AnswersAndBase B → BatchEnding → BatchResult B
 batch_without_end_line run ending = record { text = answer_lines_from 1 run.0; base = run.1; ending = ending; rows = length run.0 }
 
--- The result of a complete batch with these answers: its output is one line for each answer and the
--- `end` line.
+-- The result of a complete batch with the answers and the base of `run`: its output is one line for
+-- each answer and the `end` line, and each answer counts as a decided row.
 abbrev pub complete_batch : {B : Type 0} → AnswersAndBase B → BatchResult B
 complete_batch run = record { text = answer_lines_from 1 run.0 ++ batch_end_line run.0; base = run.1; ending = CorrectEnd; rows = length run.0 }
 
--- The result of a batch without an end record: one more row than these answers is refused with
--- `BadText` and not executed.
+-- The result, with the ending `NoEnd`, of a batch without an end record: the answers of `run`,
+-- followed by the refusal `BadText` of the last row, which is not executed.
 abbrev pub batch_with_refused_last_row : {B : Type 0} → AnswersAndBase B → BatchResult B
 batch_with_refused_last_row run = batch_without_end_line (run.0 ++ Refused BadText ∷ [], run.1) NoEnd
 
--- The result of a batch whose rows are followed by the end record `last`: complete if this record
--- is correct, otherwise with the ending `BadEnd`.
+-- The result of a batch whose rows are followed by the end record `last`: complete if the record
+-- has the number of the rows, otherwise with the ending `BadEnd`.
 abbrev pub batch_with_end_record : {B C : Type 0} → (Fields → ReadResult C) → RowStep B C → Text → B → List ℕ → List Fields → Fields → BatchResult B
 batch_with_end_record form step name base moments rows last =
     if has_correct_row_count (length rows) last then complete_batch (answers_and_base_of_rows form step name base moments rows)
     else batch_without_end_line (answers_and_base_of_rows form step name base moments rows) BadEnd
 
--- The result of a batch without an end record: its last row is refused and not executed.
+-- The result, with the ending `NoEnd`, of a batch without an end record: its last row, if it has
+-- rows, is refused with `BadText` and not executed.
 abbrev pub batch_without_end_record : {B C : Type 0} → (Fields → ReadResult C) → RowStep B C → Text → B → List ℕ → List Fields → BatchResult B
 batch_without_end_record form step name base moments [] = batch_without_end_line (answers_and_base_of_rows form step name base moments []) NoEnd
 batch_without_end_record form step name base moments (row ∷ rows) =
     batch_with_refused_last_row (answers_and_base_of_rows form step name base moments (take (length rows) (row ∷ rows)))
 
--- The result of a batch that has these rows after its header, and then the end record if there is
--- one.
+-- The result of the batch `name` whose header is followed by the rows of a split and, if the split
+-- has one, by its end record.
 abbrev pub batch_of_rows : {B C : Type 0} → (Fields → ReadResult C) → RowStep B C → Text → B → List ℕ → RowsAndEndRecord → BatchResult B
 batch_of_rows form step name base moments (rows, Some last) = batch_with_end_record form step name base moments rows last
 batch_of_rows form step name base moments (rows, None) = batch_without_end_record form step name base moments rows
@@ -96,8 +98,8 @@ abbrev pub batch_with_optional_name : {B C : Type 0} → (Fields → ReadResult 
 batch_with_optional_name form step None base moments rows = record { text = []; base = base; ending = BadHeader; rows = 0 }
 batch_with_optional_name form step (Some name) base moments rows = batch_of_rows form step name base moments (split_at_end_record rows)
 
--- The result of a batch with these records. The first must be a header; otherwise nothing is
--- executed and the ending is `BadHeader`.
+-- The result of a batch with the given records. If the first is no header, or there is none,
+-- nothing is executed and the ending is `BadHeader`.
 abbrev pub batch_of_records : {B C : Type 0} → (Fields → ReadResult C) → RowStep B C → B → List ℕ → List Fields → BatchResult B
 batch_of_records form step base moments [] = batch_with_optional_name form step None base moments []
 batch_of_records form step base moments (header ∷ rows) = batch_with_optional_name form step (batch_name_of_header header) base moments rows

@@ -47,7 +47,7 @@ unfoldable pub shares_of_position : List Trade → ℕ → Text → List Share
 shares_of_position done account symbol = replay (deals_of_position done account symbol)
 
 -- The holding summary of the account `account` in the symbol `symbol`: shares bought less shares
--- sold over the completed trades `done`, without regard to lots (HS_QTY, consistency condition).
+-- sold over the completed trades `done`, without regard to lots (HS_QTY).
 unfoldable pub holding_summary_quantity : List Trade → ℕ → Text → ℤ
 holding_summary_quantity done account symbol = total_by (λ t. signed_by_side (side_of_trade_type t.kind) t.qty) (trades_of_position done account symbol)
 
@@ -108,7 +108,7 @@ posting_of_movement m = record { account = m.account; trade = None; stamp = m.st
 abbrev pub postings : List Account → List Trade → List Movement → List Posting
 postings accounts done movements = map (posting_of_trade accounts) (cash_trades done) ++ map posting_of_movement movements
 
--- The postings, sorted by stamp, ascending; two postings with one stamp keep their sequence.
+-- The postings sorted by stamp, ascending; the sort is stable.
 abbrev pub postings_sorted_by_stamp : List Posting → List Posting
 postings_sorted_by_stamp posted = sort_by_key (λ p. p.stamp) posted
 
@@ -120,13 +120,13 @@ postings_of_base base = postings base.accounts (completed_trades base) base.move
 abbrev pub postings_to_account : List Posting → ℕ → List Posting
 postings_to_account posted account = filter (λ p. p.account == account) posted
 
--- The balance of the account `account`, in cents: its opening balance plus the amounts of its
--- postings in `posted` (CA_BAL).
+-- The balance of the account `account`, in cents: its opening balance in `accounts`, 0 if the list
+-- has no such account, plus the amounts of its postings in `posted` (CA_BAL).
 unfoldable pub balance_of_account : List Account → List Posting → ℕ → ℤ
 balance_of_account accounts posted account = opening_balance_in_accounts accounts account +ℤ total_by (λ p. p.amount) (postings_to_account posted account)
 
--- The market value of the holdings of the account `account`, in cents: the sum over `securities` of
--- holding summary times last price.
+-- The market value of the holdings of the account `account` after the completed trades `done`, in
+-- cents: the sum over `securities` of holding summary times last price.
 unfoldable pub holdings_market_value : List Security → List Trade → ℕ → ℤ
 holdings_market_value securities done account = total_by (λ s. holding_summary_quantity done account s.symbol *ℤ pos s.last_price) securities
 
@@ -134,13 +134,12 @@ holdings_market_value securities done account = total_by (λ s. holding_summary_
 abbrev pub trades_of_broker : List Account → List Trade → ℕ → List Trade
 trades_of_broker accounts done broker = filter (λ t. broker_id_in_accounts accounts t.account == broker) done
 
--- The number of the completed trades `done` whose accounts have the broker `broker` (B_NUM_TRADES,
--- consistency condition).
+-- The number of the completed trades `done` whose accounts have the broker `broker` (B_NUM_TRADES).
 unfoldable pub trade_count_of_broker : List Account → List Trade → ℕ → ℕ
 trade_count_of_broker accounts done broker = length (trades_of_broker accounts done broker)
 
 -- The sum of the commissions, in cents, of the completed trades `done` whose accounts have the
--- broker `broker` (B_COMM_TOTAL, consistency condition).
+-- broker `broker` (B_COMM_TOTAL).
 unfoldable pub commission_total_of_broker : List Account → List Trade → ℕ → ℕ
 commission_total_of_broker accounts done broker = sum_by (λ t. t.commission) (trades_of_broker accounts done broker)
 

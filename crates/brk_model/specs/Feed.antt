@@ -28,23 +28,25 @@ is_triggered_by_tick tick t = has_status Pending t && bytes_eq t.symbol tick.sym
 abbrev pub security_after_tick : ℕ → Tick → Security → Security
 security_after_tick stamp tick s = record s { last_price = tick.price; volume = s.volume + tick.qty; moment = stamp }
 
--- The base `base` with the last price, volume and stamp of the security of the tick `tick` updated.
+-- The base `base` in which each security with the symbol of the tick `tick` has the price of the
+-- tick, the volume increased by the quantity of the tick, and the stamp `stamp`; all else is
+-- unchanged.
 abbrev pub base_with_security_after_tick : ℕ → Tick → Base → Base
 base_with_security_after_tick stamp tick base =
     record base { securities = update_where (λ s. bytes_eq s.symbol tick.symbol) (security_after_tick stamp tick) base.securities }
 
--- The base after the tick `tick`: its security is updated, and each trade that it triggers gets the
--- status `Submitted` at `stamp`.
+-- The base after the tick `tick`, executed at `stamp` on `base`: its security is updated, and a
+-- status change to `Submitted` is added to each trade that it triggers.
 abbrev pub base_after_tick : ℕ → Base → Tick → Base
 base_after_tick stamp base tick =
     base_with_updated_trades (is_triggered_by_tick tick) (trade_with_status_change stamp Submitted) (base_with_security_after_tick stamp tick base)
 
--- The base after the ticks, each executed at `stamp` on the base after the one before.
+-- The base after the ticks `ticks`, executed in sequence on `base`, each at `stamp`.
 unfoldable pub base_after_ticks : ℕ → Base → List Tick → Base
 base_after_ticks stamp base ticks = fold (base_after_tick stamp) base ticks
 
--- The ids of the trades that the ticks trigger, tick by tick, and for one tick in the sequence of
--- the trades of the base.
+-- The ids of the trades that the ticks `ticks` trigger if they are executed in sequence on `base`:
+-- in the sequence of the ticks, and for one tick in the sequence of the trades of the base.
 unfoldable pub triggered_trade_ids : ℕ → Base → List Tick → List ℕ
 triggered_trade_ids stamp base [] = []
 triggered_trade_ids stamp base (tick ∷ ticks) =

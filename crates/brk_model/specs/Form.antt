@@ -84,12 +84,11 @@ has_customer tables id = is_some (customer_with_id_in_list tables.customers id)
 abbrev pub has_broker : Tables → ℕ → Bool
 has_broker tables id = is_some (find (λ b. b.id == id) tables.brokers)
 
--- True if the batch name and the row number of the key are well-formed.
+-- True if the batch name of the key is well-formed and its row number is from 1 to the greatest id.
 abbrev pub is_well_formed_key : Key → Bool
 is_well_formed_key key = is_batch_name key.batch && is_id key.row
 
--- True if the key of a row of KEPT is a well-formed batch name and a row number; the texts of the
--- row are not checked.
+-- True if the key of a row of KEPT is well-formed; the texts of the row are not checked.
 abbrev pub is_well_formed_kept_row : Kept → Bool
 is_well_formed_kept_row k = is_well_formed_key k.key
 
@@ -210,7 +209,7 @@ are_trade_numbers_in_range schema id qty bid charge commission tax =
 
 -- True if the id, the quantity, the bid, the charge, the commission and the tax of a row of TRADE
 -- are within their limits, its stamp is not after the last stamp, its security and account exist,
--- and its price agrees with its history. The executor is not checked.
+-- and it passes `price_matches_completion`. The executor is not checked.
 abbrev pub is_well_formed_trade_row : Schema → Tables → TradeRow → Bool
 is_well_formed_trade_row schema t row =
     are_trade_numbers_in_range schema row.id row.qty row.bid row.charge row.commission row.tax
@@ -321,11 +320,12 @@ is_well_formed_move_row t r =
 abbrev pub trade_ids_of_cash_rows : List MoveRow → List ℕ
 trade_ids_of_cash_rows rows = flat_map (λ r. option_to_list r.trade) rows
 
--- True if the tables that the schema `schema` lacks have no rows: CASH_MOVE, and SETTLE_RULE.
+-- True if, of the tables CASH_MOVE and SETTLE_RULE, those that the schema `schema` lacks have no
+-- rows.
 abbrev pub lacks_rows_of_later_schemas : Schema → Tables → Bool
 lacks_rows_of_later_schemas schema t = (schema.has_cash_move_table || (length t.moves == 0)) && (schema.has_settle_rule_table || is_none t.rule)
 
--- True if no two bands of the list share a quantity for one tier, trade type and exchange.
+-- True if no two bands of the list overlap (`bands_overlap`).
 abbrev pub bands_are_disjoint : List Band → Bool
 bands_are_disjoint [] = true
 bands_are_disjoint (b ∷ bands) = not (list_any (bands_overlap b) bands) && bands_are_disjoint bands
@@ -374,18 +374,18 @@ tables_are_sorted_by_unique_key t =
     && is_sorted_by_unique_key cash_key t.cash
     && is_sorted_by_unique_key move_key t.moves
 
--- True if no two customers of the list have one tax id.
+-- True if no two customers of the list have equal tax ids.
 abbrev pub has_distinct_tax_ids : List Customer → Bool
 has_distinct_tax_ids [] = true
 has_distinct_tax_ids (c ∷ customers) = not (list_any (λ d. bytes_eq d.tax_id c.tax_id) customers) && has_distinct_tax_ids customers
 
--- True if the tables `t` satisfy the condition `Form` in the schema `schema`. Columns are
--- well-formed and within its limits, and references resolve. The rows of every table that has a key
--- are sorted by it, and no key and no tax id of a customer occurs twice. Bands do not overlap, no
--- customer is above its limits of accounts and of tax rates, and trades are numbered from 1 without
--- a gap. No trade has two rows of CASH_MOVE, and at most `greatest_id` of these rows have no trade.
--- The last stamp and the settlement day, if they are set, are within the calendar. The tables that
--- the schema lacks have no rows.
+-- True if the tables `t` satisfy the condition `Form` in the schema `schema`. Each row passes the
+-- check of its table: of formats, limits and references. The rows of every table that has a key are
+-- sorted by it, and no key and no tax id of a customer occurs twice. Bands do not overlap, no
+-- customer is above the limits of accounts and of tax rates, and trades are numbered from 1 without
+-- a gap. No trade has two rows of CASH_MOVE, and at most `greatest_id` rows of CASH_MOVE have no
+-- trade. The last stamp and the settlement day, if they are set, are within the calendar. The
+-- tables that the schema lacks have no rows.
 unfoldable pub satisfies_form_condition : Schema → Tables → Bool
 satisfies_form_condition schema t =
     is_last_stamp_in_calendar t.last
@@ -415,8 +415,7 @@ satisfies_form_condition schema t =
     && is_settlement_day_in_calendar t.rule
     && lacks_rows_of_later_schemas schema t
 
--- True if the texts of K_ROW, K_LINE, T_EXEC_NAME, CT_NAME and CM_NAME are UTF-8. Typed rows always
--- satisfy this; the bytes of a database need not.
+-- True if the texts of K_ROW, K_LINE, T_EXEC_NAME, CT_NAME and CM_NAME in the tables `t` are UTF-8.
 abbrev pub has_utf8_texts : Tables → Bool
 has_utf8_texts t =
     list_all (λ k. is_utf8 k.row_text && is_utf8 k.line) t.kept

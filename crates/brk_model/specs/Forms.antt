@@ -34,7 +34,7 @@ format_refusal_rank BadType = 3
 format_refusal_rank _ = 4
 
 -- The function applied to the value if both were read, otherwise the refusal; of two refusals, the
--- first in the sequence of the format checks.
+-- one with the lower `format_refusal_rank`, or the first if the ranks are equal.
 infixl 60 ◌⊛◌
 abbrev pub ◌⊛◌ : {A B : Type 0} → ReadResult (A → B) → ReadResult A → ReadResult B
 Ok f ⊛ Ok x = Ok (f x)
@@ -210,7 +210,8 @@ refusal_of_unknown_type_by_price_text (c ∷ text) = Err BadType ⊛ read_price 
 
 -- The order type of a trade type, with the price that a text parses as. The text must be empty for
 -- a market type and a well-formed price for any other type; otherwise it is the refusal `BadPrice`.
--- Without a trade type it is the refusal `BadPrice` or `BadType`.
+-- Without a trade type it is the refusal `BadType` if the text is empty or a well-formed price,
+-- otherwise `BadPrice`.
 abbrev pub order_type_with_price : Option TradeType → Text → ReadResult OrderType
 order_type_with_price None = refusal_of_unknown_type_by_price_text
 order_type_with_price (Some MarketBuy) = market_type_if_price_is_empty asked.MarketBuy
@@ -219,8 +220,9 @@ order_type_with_price (Some StopLoss) = priced_order_type (λ price. asked.StopL
 order_type_with_price (Some LimitSell) = priced_order_type (λ price. asked.LimitSell price)
 order_type_with_price (Some LimitBuy) = priced_order_type (λ price. asked.LimitBuy price)
 
--- The order type that two texts parse as, the code of the trade type and the price; otherwise the
--- refusal `BadType` or `BadPrice`.
+-- The order type that two texts parse as, the code of the trade type and the price. Otherwise it is
+-- a refusal: `BadType` if the code is unknown and the price is empty or well-formed, `BadPrice` in
+-- any other case.
 abbrev pub read_order_type : Text → Text → ReadResult OrderType
 read_order_type type_text price_text = order_type_with_price (trade_type_with_code type_text) price_text
 

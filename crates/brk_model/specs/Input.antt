@@ -35,10 +35,10 @@ IsBatchName name = IsTrue (is_batch_name name)
 abbrev pub batch_header : Text → Fields
 batch_header name = codes "batch" ∷ name ∷ []
 
--- The record is an end record: its first field is the word `end`. Its other fields may be wrong.
+-- The record is an end record: its first field is the word `end`. Its other fields are not checked.
 abbrev pub IsEndRecord : Fields → Type 0
 IsEndRecord row = field_at row 0 ≡ Some (codes "end")
 
--- The correct end record of a batch of `n` rows: the word `end` and the number.
+-- The correct end record of a batch of `n` rows: the word `end` and the decimal text of `n`.
 abbrev pub correct_end_record : ℕ → Fields
 correct_end_record n = codes "end" ∷ decimal n ∷ []

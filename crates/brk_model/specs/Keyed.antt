@@ -8,7 +8,8 @@ use Rattle.brk_model.specs.Commands.{Command, Reply, Answer, Done, Again, Refuse
 use Rattle.brk_model.specs.Rows.{row_text, line_text}
 use Rattle.brk_model.specs.Step.{step}
 
--- The row and the reply that `base` stores under the key `key`; none if the key was not recorded.
+-- The first row, with its reply, that `base` stores under the key `key`; none if the key was not
+-- recorded.
 abbrev pub stored_row_with_key : Base → Key → Option Kept
 stored_row_with_key base key = find (λ k. bytes_eq k.key.batch key.batch && (k.key.row == key.row)) base.kept
 
@@ -27,7 +28,7 @@ answer_and_base_of_step base key command (Ok booked) = (Done booked.0, base_with
 answer_and_base_of_step base key command (Err refusal) = (Refused refusal, base)
 
 -- The answer to a command whose key is recorded, and the unchanged base: the stored reply if the
--- stored row `k` is the row of the command, otherwise the refusal 19 (`KeyReused`).
+-- stored row `k` has the text of the command's row, otherwise the refusal 19 (`KeyReused`).
 abbrev pub answer_to_repeated_row : Base → Command → Kept → Answer × Base
 answer_to_repeated_row base command k = (if bytes_eq k.row_text (row_text command) then Again k.line else Refused KeyReused, base)
 
@@ -43,6 +44,7 @@ abbrev pub stored_row_with_optional_key : Base → Option Key → Option Kept
 stored_row_with_optional_key base None = None
 stored_row_with_optional_key base (Some key) = stored_row_with_key base key
 
--- The answer to a command with or without a key at the clock reading `now`, and the base after it.
+-- The answer to a command with or without a key at the clock reading `now` on `base`, and the base
+-- after it: by the row stored under the key if there is one, otherwise by the step.
 unfoldable pub keyed_step : Base → ℕ → Command → Option Key → Answer × Base
 keyed_step base now command key = answer_by_stored_row base now command key (stored_row_with_optional_key base key)

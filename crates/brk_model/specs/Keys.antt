@@ -1,4 +1,4 @@
--- The key of each table but DESK and SETTLE_RULE, which have at most one row, and rows sorted by
+-- The key of each table except DESK and SETTLE_RULE, which have at most one row, and rows sorted by
 -- key.
 use Rattle.std.specs.Prelude.{ℕ, Bool, true, false, ◌&&◌, ◌||◌, nat_lt, not, List, [], ◌∷◌}
 use Rattle.brk_money.specs.Spelling.{Text}
@@ -32,12 +32,12 @@ is_key_less (j ∷ js) (k ∷ ks) = is_key_part_less j k || (not (is_key_part_le
 abbrev pub is_row_key_less : {Row : Type 0} → (Row → List KeyPart) → Row → Row → Bool
 is_row_key_less key a b = is_key_less (key a) (key b)
 
--- The rows sorted by their key, ascending; two rows with one key keep their sequence.
+-- The rows sorted by their key, ascending; the sort is stable.
 abbrev pub rows_sorted_by_key : {Row : Type 0} → (Row → List KeyPart) → List Row → List Row
 rows_sorted_by_key key rows = sort_by (is_row_key_less key) rows
 
--- The list `rows` with `row` inserted before the first row whose key is not less than its key, or
--- at the end if there is none.
+-- The list `rows` with `row` inserted before the first row whose key is not less than the key of
+-- `row`, or at the end if there is none.
 abbrev pub insert_row_by_key : {Row : Type 0} → (Row → List KeyPart) → Row → List Row → List Row
 insert_row_by_key key row rows = insert_by (is_row_key_less key) row rows
 

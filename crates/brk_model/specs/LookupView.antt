@@ -12,17 +12,17 @@ use Rattle.brk_model.specs.Rows.{nonnegative_cents_text, cash_or_margin_word, li
 use Rattle.brk_model.specs.Queries.{View}
 use Rattle.brk_model.specs.Joins.{trade_row_with_id, trade_rows_of_account, history_rows_with_trade_id, trade_rows_oldest_first, is_id_of_trade}
 
--- The record of a settlement: the word `settlement`, cash type, due day and amount.
+-- The lookup record of a settlement: the word `settlement`, cash type, due day and amount.
 abbrev pub settlement_record : SettlementRow → List Text
 settlement_record s = codes "settlement" ∷ s.cash_type ∷ day_text s.due_day ∷ cents_text s.amount ∷ []
 
--- The record of a cash row: the word `cash`, stamp, amount and name.
+-- The lookup record of a cash row: the word `cash`, stamp, amount and name.
 abbrev pub cash_record : MoveRow → List Text
 cash_record c = codes "cash" ∷ decimal c.stamp ∷ cents_text c.amount ∷ c.name ∷ []
 
--- The record of a trade, with 15 fields: the word `trade`, id, stamp, status, type, symbol,
--- quantity, bid, executor, price, charge, commission, tax, `cash` or `margin`, and `lifo` or
--- `fifo`. The field of the price is empty if the trade has none.
+-- The lookup record of a trade, with 15 fields: the word `trade`, id, stamp, status code, type
+-- code, symbol, quantity, bid, executor, price, charge, commission, tax, `cash` or `margin`, and
+-- `lifo` or `fifo`. The field of the price is empty if the trade has none.
 abbrev pub trade_record : TradeRow → List Text
 trade_record t =
     codes "trade" ∷ decimal t.id ∷ decimal t.stamp ∷ trade_status_code t.status ∷ trade_type_code t.kind
@@ -35,7 +35,8 @@ abbrev pub is_cash_row_of_trade : ℕ → MoveRow → Bool
 is_cash_row_of_trade trade row = is_id_of_trade trade row.trade
 
 -- The records of the trade of a TRADE row: the trade, its settlement and its cash row if they
--- exist, and its status changes, sorted by stamp, ascending.
+-- exist, and one (`history`, stamp, status code) for each of its status changes, sorted by stamp,
+-- ascending.
 abbrev pub trade_lookup_records : Tables → TradeRow → View
 trade_lookup_records tables t =
     trade_record t
@@ -44,7 +45,8 @@ trade_lookup_records tables t =
     ++ map (λ h. codes "history" ∷ decimal h.stamp ∷ trade_status_code h.status
     ∷ []) (sort_by (λ a b. nat_lt a.stamp b.stamp) (history_rows_with_trade_id tables t.id))
 
--- The records of the first 20 trades that pass `test`, sorted by stamp, then by id, both ascending.
+-- The records (`trade_lookup_records`) of the trades that pass `test`, sorted by stamp, then by id,
+-- both ascending; only the first 20 of these trades are included.
 unfoldable pub trade_lookup_view : Tables → (TradeRow → Bool) → View
 trade_lookup_view tables test = flat_map (trade_lookup_records tables) (take 20 (trade_rows_oldest_first (filter test tables.trades)))
 
@@ -71,8 +73,8 @@ touched_lots_view tables t =
     (filter (λ row. trade_touches_lot tables t.id row.lot) tables.holding_history)))
 
 -- The view of the lots that the oldest trade of the account `account` with a stamp of at least
--- `first` touched: the id of this trade, and the first 20 changes of these lots. Empty if there is
--- no such trade.
+-- `first` touched: one record with the id of this trade, and one for each of the first 20 changes
+-- of these lots. Empty if there is no such trade.
 unfoldable pub touched_lots_of_oldest_trade : Tables → ℕ → ℕ → View
 touched_lots_of_oldest_trade tables account first =
     flat_map (touched_lots_view tables) (take 1 (trade_rows_oldest_first (filter (λ t. nat_le first t.stamp) (trade_rows_of_account tables account))))

@@ -22,8 +22,8 @@ use Rattle.brk_model.specs.Commands.{Order, Estimate, Reply, Ordered}
 abbrev pub executor_has_identity : Executor → Text → Text → Text → Bool
 executor_has_identity e first last tax_id = bytes_eq e.first_name first && bytes_eq e.last_name last && bytes_eq e.tax_id tax_id
 
--- True if the executor `e` is the customer `c`, or if one of the `permissions` has the executor's
--- first name, last name and tax id (Trade-Order, frame 2).
+-- True if the executor `e` has the first name, the last name and the tax id of the customer `c` or
+-- of one of the `permissions` (Trade-Order, frame 2).
 abbrev pub is_customer_or_has_permission : Customer → List Permission → Executor → Bool
 is_customer_or_has_permission c permissions e =
     executor_has_identity e c.first_name c.last_name c.tax_id || list_any (λ p. executor_has_identity e p.first_name p.last_name p.tax_id) permissions
@@ -47,7 +47,7 @@ commission_by_band base account kind symbol qty price =
     option_map (λ b. commission b.rate qty price) (commission_band_for_quantity base (tier_of_account base account) kind (exchange_of_security base symbol) qty)
 
 -- The tax, in cents, on the gain of the deal `d` against the position `shares` of the account
--- `account`; 0 if the account is not taxable.
+-- `account`; 0 if there is no gain or the account is not taxable.
 abbrev pub tax_on_deal : Base → ℕ → Deal → List Share → ℕ
 tax_on_deal base account d shares =
     if is_taxable_account base account then tax (realised_gain d shares) (tax_rate_sum_of_customer base (customer_id_of_account base account)) else 0
@@ -91,7 +91,7 @@ estimate base o = estimate_against_shares (shares_of_position (completed_trades 
 abbrev pub first_status : TradeType → Status
 first_status kind = if is_market_type kind then Submitted else Pending
 
--- The executor's first name, a space and the last name.
+-- The name of the executor `e`: the first name, a space and the last name.
 abbrev pub executor_name : Executor → Text
 executor_name e = e.first_name ++ 32 ∷ e.last_name
 
@@ -117,7 +117,7 @@ trade_of_order base stamp o = record {
   cash_name = [];
 }
 
--- The base `base` with the trade of the order `o` added at the end.
+-- The base `base` with the trade of the order `o`, accepted at `stamp`, added at the end.
 abbrev pub base_after_order : Base → ℕ → Order → Base
 base_after_order base stamp o = record base { trades = base.trades ++ trade_of_order base stamp o ∷ [] }
 

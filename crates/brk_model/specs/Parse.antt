@@ -160,8 +160,7 @@ read_settlement_day _ = Err BadText
 abbrev pub NamedParser : Type 0 → Type 0
 NamedParser A = Text × (List Text → ReadResult A)
 
--- The value that `read` reads from the input, with `wrap` applied to it, or the refusal of the
--- reading.
+-- The value that `read` reads from the input, with `wrap` applied to it, or the refusal of `read`.
 abbrev pub read_and_wrap : {A B Input : Type 0} → (A → B) → (Input → ReadResult A) → Input → ReadResult B
 read_and_wrap wrap read input = Ok wrap ⊛ read input
 

@@ -37,7 +37,7 @@ last_ten_trade_rows tables account = take 10 (trade_rows_recent_first (trade_row
 
 -- One record (`trade`, id, symbol, quantity) for each of the 10 most recent trades of the account
 -- `account`, then one (`history`, trade, status name, stamp) for each TRADE_HISTORY row of these
--- trades. Both are sorted by stamp, then by trade, descending.
+-- trades. Both parts are sorted by stamp, then by trade id, both descending.
 unfoldable pub recent_trades_view : Tables → ℕ → View
 recent_trades_view tables account =
     map (λ t. codes "trade" ∷ decimal t.id ∷ t.symbol ∷ decimal t.qty ∷ []) (last_ten_trade_rows tables account)

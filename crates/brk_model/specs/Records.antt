@@ -20,7 +20,8 @@ pub record Customer : Type 0 where
   pub last_name : Text
   pub first_name : Text
 
--- An account of a customer with a broker; `opening` is its opening balance, in cents.
+-- An account of the customer with the id `customer` at the broker with the id `broker`; `opening`
+-- is its opening balance, in cents.
 pub record Account : Type 0 where
   pub id : ℕ
   pub customer : ℕ
@@ -29,8 +30,8 @@ pub record Account : Type 0 where
   pub tax_status : TaxStatus
   pub opening : ℤ
 
--- A permission to order for an account, for a person with this tax id and these names in addition
--- to the customer. `acl` is recorded and has no effect.
+-- The permission of the person with the tax id `tax_id` and the names `last_name` and `first_name`
+-- to place orders for the account with the id `account`. `acl` is stored and has no effect.
 pub record Permission : Type 0 where
   pub account : ℕ
   pub acl : Text
@@ -83,8 +84,9 @@ pub record StatusChange : Type 0 where
 
 -- A trade as ordered, with its status changes (`marks`) and the values that its completion
 -- recorded. `bid` is the requested price, `price` the price at completion, and `charge`,
--- `commission` and `tax` are amounts, all in cents. It is a cash trade if `is_cash` is true,
--- otherwise a margin trade, and closes the last shares first if `is_lifo` is true. `cash_type` is
+-- `commission` and `tax` are amounts, all in cents; `executor` is the name of the person who
+-- ordered. The trade is a cash trade if `is_cash` is true, otherwise a margin trade. It closes the
+-- last shares of its position first if `is_lifo` is true, otherwise the first ones. `cash_type` is
 -- empty without a settlement, and `cash_name` without a cash row.
 pub record Trade : Type 0 where
   pub id : ℕ
@@ -117,18 +119,18 @@ pub record Movement : Type 0 where
 abbrev pub SettleRule : Type 0
 SettleRule = Option ℕ
 
--- The idempotency key of a row: the name of its batch and its number.
+-- The idempotency key of a row of a batch: the name of the batch, and the number of the row in it.
 pub record Key : Type 0 where
   pub batch : Text
   pub row : ℕ
 
--- An accepted row: its key, its text, and the line of its reply, which a retry returns.
+-- An accepted row of a batch: its key, its text, and the line of its reply, which a retry returns.
 pub record Kept : Type 0 where
   pub key : Key
   pub row_text : Text
   pub line : Text
 
--- The person who places an order.
+-- The person who places an order: first name, last name and tax id.
 pub record Executor : Type 0 where
   pub first_name : Text
   pub last_name : Text

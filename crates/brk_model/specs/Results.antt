@@ -31,8 +31,8 @@ cash_row_name_from_parts words kind qty security = trade_type_name kind ++ 32 �
 abbrev pub cash_row_name : Text → Base → Trade → Text
 cash_row_name words base t = cash_row_name_from_parts words t.kind t.qty (security_name base t.symbol)
 
--- The name of the cash row of the trade `t` at its completion (CM_NAME; CT_NAME in the first
--- schema); empty if the trade is not a cash trade.
+-- The name of the cash row of the trade `t` at its completion, with the text " shares of "
+-- (CM_NAME; CT_NAME in the first schema); empty if the trade is not a cash trade.
 abbrev pub cash_row_name_at_completion : Base → Trade → Text
 cash_row_name_at_completion base t = if t.is_cash then cash_row_name (codes " shares of ") base t else []
 

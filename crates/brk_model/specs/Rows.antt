@@ -10,7 +10,7 @@ use Rattle.brk_model.specs.Commands.{MovedCash, AddBroker, AddCustomer, AddAccou
 use Rattle.brk_model.specs.Commands.{PlaceOrder, FeedTicks, CancelTrade, CompleteTrade, ChangeExecutors, ChangeCashTypes, ChangeCashNames, DepositCash}
 use Rattle.brk_model.specs.Commands.{WithdrawCash, SetOneDay}
 
--- The canonical text of an amount of `n` cents, which is never negative.
+-- The canonical text, such as 12.05, of the amount of `n` cents, which is not negative.
 abbrev pub nonnegative_cents_text : ℕ → Text
 nonnegative_cents_text n = cents_text (pos n)
 
@@ -23,7 +23,9 @@ cash_or_margin_word is_cash = if is_cash then codes "cash" else codes "margin"
 abbrev pub lifo_or_fifo_word : Bool → Text
 lifo_or_fifo_word is_lifo = if is_lifo then codes "lifo" else codes "fifo"
 
--- The ten fields of the order `o`; the field of the price is empty if its type has no price.
+-- The ten fields of the order `o`: account, code of the type, symbol, quantity, price, `cash` or
+-- `margin`, `lifo` or `fifo`, and the executor's first name, last name and tax id. The field of the
+-- price is empty if the type has no price.
 abbrev pub order_fields : Order → List Text
 order_fields o =
     decimal o.account ∷ trade_type_code (trade_type_of_order o.order_type) ∷ o.symbol ∷ decimal o.qty
@@ -34,7 +36,8 @@ order_fields o =
 abbrev pub tick_fields : Tick → List Text
 tick_fields tick = tick.symbol ∷ nonnegative_cents_text tick.price ∷ decimal tick.qty ∷ []
 
--- The fields of a command's row, of which the first is the word of its kind.
+-- The fields of a command's row: the word of its kind, followed by the canonical texts of its
+-- values.
 unfoldable pub row_fields : Command → List Text
 row_fields (AddBroker b) = codes "broker" ∷ decimal b.id ∷ b.name ∷ []
 row_fields (AddCustomer c) = codes "customer" ∷ decimal c.id ∷ decimal c.tier ∷ c.tax_id ∷ c.last_name ∷ c.first_name ∷ []
@@ -75,7 +78,8 @@ completion_fields c =
     nonnegative_cents_text c.commission ∷ nonnegative_cents_text c.tax ∷ cents_text c.amount ∷ day_text c.due_day
     ∷ nonnegative_cents_text c.buy_value ∷ nonnegative_cents_text c.sell_value ∷ cents_text c.balance ∷ []
 
--- The fields of a reply, of which the first is its stamp.
+-- The fields of a reply: its stamp, followed by the canonical texts of its other values; for a
+-- cancel, the stamp and the status code `CNCL`.
 unfoldable pub reply_fields : Reply → List Text
 reply_fields (Booked stamp) = decimal stamp ∷ []
 reply_fields (Ordered stamp trade status e) = decimal stamp ∷ decimal trade ∷ trade_status_code status ∷ estimate_fields e
@@ -89,6 +93,6 @@ reply_fields (MovedCash stamp move balance) = decimal stamp ∷ decimal move ∷
 abbrev pub comma_separated_text : List Text → Text
 comma_separated_text fields = join_with_byte 44 fields
 
--- The line of a reply, as it is stored with its key: the fields joined by commas.
+-- The line of a reply, as it is stored under a key: the fields joined by commas.
 abbrev pub line_text : Reply → Text
 line_text reply = comma_separated_text (reply_fields reply)

@@ -1,4 +1,5 @@
--- A run of calls: each has the result that the model gives, or fails and leaves the base unchanged.
+-- A run of calls: each has the outcome that the model specifies, or fails with a fault and does not
+-- change the base.
 use Rattle.std.specs.Prelude.{◌≡◌, ◌⊎◌, ℕ, List, [], ◌∷◌, Option, Result, Ok, Err}
 use Rattle.brk_money.specs.declared.refusal.Refusal.{Refusal}
 use Rattle.brk_money.specs.declared.fault.Fault.{Fault}
@@ -40,7 +41,8 @@ IsResultOfQuery base (Ask query) seen after = (ask base query ≡ seen) × (afte
 IsResultOfQuery base (Do command key) seen after = ⊥
 
 -- The call at the clock reading `now` on `base` may have the outcome, and the base after it may
--- then be `after`. A fault, `Memory` or `Store`, is always possible and leaves the base unchanged.
+-- then be `after`. A fault, `Memory` or `Store`, is always possible, and `after` then equals
+-- `base`.
 abbrev pub IsOutcomeOfCall : Base → ℕ → Call → Outcome → Base → Type 0
 IsOutcomeOfCall base now call (Did answer) after = IsAnswerOfCommand base now call answer after
 IsOutcomeOfCall base now call (Saw view) after = IsResultOfQuery base call (Ok view) after

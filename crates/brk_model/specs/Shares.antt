@@ -15,8 +15,9 @@ pub record Share : Type 0 where
   pub price : ℕ
   pub stamp : ℕ
 
--- The effect of a trade on a position: it buys or sells `qty` shares at `price`, in cents. It
--- closes the last shares first if `is_lifo`, otherwise the first ones.
+-- The effect of the trade with the id `trade` on a position: at `stamp` it buys or sells, by
+-- `side`, `qty` shares at `price` cents each. It closes the last shares of the position first if
+-- `is_lifo` is true, otherwise the first ones.
 pub record Deal : Type 0 where
   pub trade : ℕ
   pub side : Side
@@ -25,14 +26,14 @@ pub record Deal : Type 0 where
   pub stamp : ℕ
   pub is_lifo : Bool
 
--- True if the first share of the position `shares` is of the other side than the deal `d`; false if
--- the position is empty.
+-- True if the side of the first share of the position `shares` differs from the side of the deal
+-- `d`; false if the position is empty.
 abbrev pub opposes_position : Deal → List Share → Bool
 opposes_position d [] = false
 opposes_position d (share ∷ shares) = not (is_same_side share.side d.side)
 
--- The number of shares of the position `shares` that the deal `d` closes: the smaller of its
--- quantity and the size of the position if their sides differ, otherwise 0.
+-- The number of shares of the position `shares` that the deal `d` closes: the smaller of the deal's
+-- quantity and the number of shares of the position if `opposes_position` is true, otherwise 0.
 abbrev pub closed_share_count_of_deal : Deal → List Share → ℕ
 closed_share_count_of_deal d shares = if opposes_position d shares then min d.qty (length shares) else 0
 
@@ -47,12 +48,12 @@ abbrev pub remaining_shares : Deal → List Share → List Share
 remaining_shares d shares =
     if d.is_lifo then take (length shares - closed_share_count_of_deal d shares) shares else drop (closed_share_count_of_deal d shares) shares
 
--- One of the shares that the deal `d` opens, with its side, trade, price and stamp.
+-- A share that the deal `d` opens, with the side, the trade, the price and the stamp of the deal.
 abbrev pub opened_share : Deal → Share
 opened_share d = record { side = d.side; trade = d.trade; price = d.price; stamp = d.stamp }
 
--- The shares that the deal `d` opens, all equal: as many as its quantity less the number of shares
--- of `shares` that it closes.
+-- The shares that the deal `d` opens, all equal: their number is the deal's quantity less the
+-- number of shares of the position `shares` that the deal closes.
 abbrev pub opened_shares : Deal → List Share → List Share
 opened_shares d shares = replicate (d.qty - closed_share_count_of_deal d shares) (opened_share d)
 
@@ -61,41 +62,46 @@ opened_shares d shares = replicate (d.qty - closed_share_count_of_deal d shares)
 unfoldable pub shares_after_deal : List Share → Deal → List Share
 shares_after_deal shares d = remaining_shares d shares ++ opened_shares d shares
 
--- The position after all `deals`, each applied to the position after the one before, from the empty
--- position on.
+-- The position after the deals `deals`, applied in sequence to the empty position.
 abbrev pub replay : List Deal → List Share
 replay deals = fold shares_after_deal [] deals
 
--- The sum of the prices at which the shares that the deal `d` closes were opened, in cents.
+-- The sum, in cents, of the opening prices of the shares of the position `shares` that the deal `d`
+-- closes.
 abbrev pub closed_value_at_opening_prices : Deal → List Share → ℕ
 closed_value_at_opening_prices d shares = sum_by (λ share. share.price) (closed_shares d shares)
 
--- The number of shares that the deal `d` closes, times its price, in cents.
+-- The number of shares of the position `shares` that the deal `d` closes, times the deal's price,
+-- in cents.
 abbrev pub closed_value_at_deal_price : Deal → List Share → ℕ
 closed_value_at_deal_price d shares = closed_share_count_of_deal d shares * d.price
 
--- The buy value, in cents, of the shares that the deal `d` closes (buy_value of Trade-Order and
--- Trade-Result): their value at opening prices for a sale, and at the deal's price for a purchase.
+-- The buy value, in cents, of the shares of the position `shares` that the deal `d` closes
+-- (buy_value of Trade-Order and Trade-Result): their value at opening prices if the given side is
+-- `Sell`, and at the deal's price if it is `Buy`.
 abbrev pub buy_value_for_side : Side → Deal → List Share → ℕ
 buy_value_for_side Sell d shares = closed_value_at_opening_prices d shares
 buy_value_for_side Buy d shares = closed_value_at_deal_price d shares
 
--- The buy value, in cents, of the shares of the position `shares` that the deal `d` closes.
+-- The buy value, in cents, of the shares of the position `shares` that the deal `d` closes: their
+-- value at opening prices if the deal sells, and at the deal's price if it buys.
 unfoldable pub buy_value : Deal → List Share → ℕ
 buy_value d shares = buy_value_for_side d.side d shares
 
--- The sell value, in cents, of the shares that the deal `d` closes (sell_value of Trade-Order and
--- Trade-Result): their value at the deal's price for a sale, and at opening prices for a purchase.
+-- The sell value, in cents, of the shares of the position `shares` that the deal `d` closes
+-- (sell_value of Trade-Order and Trade-Result): their value at the deal's price if the given side
+-- is `Sell`, and at opening prices if it is `Buy`.
 abbrev pub sell_value_for_side : Side → Deal → List Share → ℕ
 sell_value_for_side Sell d shares = closed_value_at_deal_price d shares
 sell_value_for_side Buy d shares = closed_value_at_opening_prices d shares
 
--- The sell value, in cents, of the shares of the position `shares` that the deal `d` closes.
+-- The sell value, in cents, of the shares of the position `shares` that the deal `d` closes: their
+-- value at the deal's price if the deal sells, and at opening prices if it buys.
 unfoldable pub sell_value : Deal → List Share → ℕ
 sell_value d shares = sell_value_for_side d.side d shares
 
--- The realised gain on the shares that the deal `d` closes, in cents: sell value less buy value,
--- below 0 for a loss.
+-- The realised gain on the shares of the position `shares` that the deal `d` closes, in cents: sell
+-- value less buy value, below 0 for a loss.
 abbrev pub realised_gain : Deal → List Share → ℤ
 realised_gain d shares = pos (sell_value d shares) -ℤ pos (buy_value d shares)
 
@@ -108,16 +114,18 @@ abbrev pub signed_by_side : Side → ℕ → ℤ
 signed_by_side Buy n = pos n
 signed_by_side Sell n = neg_ℤ (pos n)
 
--- The net number of shares: those bought less those sold short.
+-- The number of bought shares of the list `shares` less the number of its shares that were sold
+-- short.
 abbrev pub net_share_count : List Share → ℤ
 net_share_count shares = total_by (λ share. signed_by_side share.side 1) shares
 
--- The net number of `shares` that the trade with the id `trade` opened; below 0 if they were sold
--- short.
+-- The net number (`net_share_count`) of the shares in the list `shares` that the trade with the id
+-- `trade` opened; below 0 if they were sold short.
 abbrev pub lot_quantity : List Share → ℕ → ℤ
 lot_quantity shares trade = net_share_count (shares_opened_by_trade trade shares)
 
--- The first share of each trade that opened some of the shares, in the sequence of the list.
+-- For each trade that opened shares of the list `shares`, the first of these shares, in the
+-- sequence of the list.
 abbrev pub first_shares_of_lots : List Share → List Share
 first_shares_of_lots [] = []
 first_shares_of_lots (share ∷ shares) = share ∷ filter (λ other. not (other.trade == share.trade)) (first_shares_of_lots shares)
@@ -147,27 +155,28 @@ pub record Touch : Type 0 where
   pub before : ℤ
   pub after : ℤ
 
--- The lot that the trade with the id `trade` opened, with its quantity in the position `shares`
--- before the deal `d` and after it.
+-- The effect of the deal `d` on the lot that the trade with the id `trade` opened: the lot's
+-- quantity in the position `shares` before the deal, and in the position after it.
 abbrev pub touch_of_lot : ℕ → Deal → List Share → Touch
 touch_of_lot trade d shares = record { lot = trade; before = lot_quantity shares trade; after = lot_quantity (shares_after_deal shares d) trade }
 
--- The lot to which the share `share` belongs, with its quantity in the position `shares` before the
--- deal `d` and after it.
+-- The effect of the deal `d` on the lot to which the share `share` belongs: the lot's quantity in
+-- the position `shares` before the deal, and in the position after it.
 abbrev pub touch_of_lot_with_share : Deal → List Share → Share → Touch
 touch_of_lot_with_share d shares share = touch_of_lot share.trade d shares
 
--- True if the lot's quantities before and after the deal differ.
+-- True if the quantities before and after the deal differ in `touch`, the effect of a deal on a
+-- lot.
 abbrev pub changes_lot_quantity : Touch → Bool
 changes_lot_quantity touch = not (is_zero (touch.before -ℤ touch.after))
 
--- The lots of the position `shares` whose quantities the deal `d` changes; the lot that the deal
--- opens is not among them.
+-- The effects of the deal `d` on the lots of the position `shares` whose quantities it changes, in
+-- the sequence of the lots' first shares; the lot that the deal opens is not among them.
 unfoldable pub touches_of_existing_lots : Deal → List Share → List Touch
 touches_of_existing_lots d shares = filter changes_lot_quantity (map (touch_of_lot_with_share d shares) (first_shares_of_lots shares))
 
--- The holding history of the deal `d` (HOLDING_HISTORY): each lot of the position before it or
--- after it whose quantity it changes, the lot that it opens included.
+-- The effects of the deal `d` on the lots whose quantities it changes (HOLDING_HISTORY): on lots of
+-- the position `shares`, and on the lot that the deal opens.
 unfoldable pub lot_touches_of_deal : Deal → List Share → List Touch
 lot_touches_of_deal d shares =
     filter changes_lot_quantity (map (touch_of_lot_with_share d shares) (first_shares_of_lots (shares ++ shares_after_deal shares d)))

@@ -6,7 +6,7 @@ use Rattle.brk_model.specs.Keys.{rows_sorted_by_key, kept_key, broker_key, custo
 use Rattle.brk_model.specs.Keys.{band_key, tax_rate_key, customer_tax_key, trade_key, history_key, request_key, holding_key, summary_key, holding_history_key}
 use Rattle.brk_model.specs.Keys.{settlement_key, cash_key, move_key}
 
--- The tables `t`, each sorted by key, ascending; two rows with one key keep their sequence.
+-- The tables `t`, each sorted by key, ascending; the sort is stable.
 unfoldable pub tables_sorted_by_key : Tables → Tables
 tables_sorted_by_key t = record {
   last = t.last;

@@ -30,11 +30,13 @@ amount_line word amount = left_aligned_text 10 word ++ 32 ∷ right_aligned_text
 abbrev pub cash_move_rows_of_account : Tables → ℕ → List MoveRow
 cash_move_rows_of_account tables account = sort_by_key (λ row. row.stamp) (move_rows_of_account tables account)
 
--- The CASH_MOVE rows of the list whose day is before the day `from`.
+-- The CASH_MOVE rows of the list whose stamps are before the UTC day `from`, which is in days since
+-- 1970-01-01.
 abbrev pub cash_move_rows_before_day : ℕ → List MoveRow → List MoveRow
 cash_move_rows_before_day from rows = filter (λ row. nat_lt (day_of row.stamp) from) rows
 
--- The CASH_MOVE rows of the list whose day is from `from` to `to`, both included.
+-- The CASH_MOVE rows of the list whose stamps are on the UTC days `from` to `to`, both included,
+-- which are in days since 1970-01-01.
 abbrev pub cash_move_rows_within_days : ℕ → ℕ → List MoveRow → List MoveRow
 cash_move_rows_within_days from to rows = filter (λ row. is_in_range from to (day_of row.stamp)) rows
 
@@ -48,19 +50,22 @@ holding_rows_of_account tables account =
     sort_by (λ a b. is_text_less a.symbol b.symbol || (bytes_eq a.symbol b.symbol && nat_lt a.stamp b.stamp))
     (filter (λ row. row.account == account) tables.holdings)
 
--- The statement line of a cash row: its day, its amount and its name.
+-- The statement line of a cash row: its day, its amount, padded on its left to 22 places, and its
+-- name, separated by spaces.
 abbrev pub cash_row_line : MoveRow → Text
 cash_row_line row = day_text (day_of row.stamp) ++ 32 ∷ right_aligned_text 22 (cents_text row.amount) ++ 32 ∷ row.name
 
--- The statement line of a lot: its symbol, the id of the trade that opened it, its quantity and its
--- price.
+-- The statement line of a lot: its symbol, padded on its right to 15 places, and the id of the
+-- trade that opened it, its quantity and its price, padded on their left to 13, 11 and 10 places,
+-- separated by spaces.
 abbrev pub lot_line : HoldingRow → Text
 lot_line row =
     left_aligned_text 15 row.symbol ++ 32 ∷ right_aligned_text 13 (decimal row.trade) ++ 32 ∷ right_aligned_text 11 (signed_decimal row.qty) ++ 32
     ∷ right_aligned_text 10 (nonnegative_cents_text row.price)
 
--- The lines of the statement of account `a` over the days `from` to `to`, both included; `rows` are
--- the cash rows of the account.
+-- The lines of the statement of account `a` over the days `from` to `to`, both included: title,
+-- name, period, opening balance, cash rows of the period, closing balance, lots, market value, and
+-- the numbers of cash rows and of lots. `rows` are all cash rows of the account.
 abbrev pub statement_lines : Tables → AccountRow → ℕ → ℕ → List MoveRow → List Text
 statement_lines tables a from to rows =
     (codes "Statement of account " ++ decimal a.id)

@@ -21,9 +21,9 @@ abbrev pub account_name_records : Tables → AccountRow → View
 account_name_records tables a =
     map (λ c. c.last_name ∷ c.first_name ∷ broker_name_with_id tables a.broker ∷ []) (filter (λ c. c.id == a.customer) tables.customers)
 
--- The record of a trade in the view `status`, with 10 fields: id, stamp, status, type, symbol,
--- quantity, executor, charge, and the name and the exchange of its security, which are empty if the
--- security does not exist.
+-- The record of a trade in the view `status`, with 10 fields: id, stamp, status name, type name,
+-- symbol, quantity, executor, charge, and the name and the exchange of its security, which are
+-- empty if the security does not exist.
 abbrev pub record_of_trade_status : Tables → TradeRow → List Text
 record_of_trade_status tables t =
     decimal t.id ∷ decimal t.stamp ∷ trade_status_name t.status ∷ trade_type_name t.kind ∷ t.symbol ∷ decimal t.qty ∷ t.executor

@@ -14,8 +14,8 @@ use Rattle.brk_model.specs.Schemas.{Schema, third_schema}
 use Rattle.brk_model.specs.Derived.{Posting, deals_of_position, shares_of_position, holding_summary_quantity, settlement_amount, due_day, cash_trades, postings}
 use Rattle.brk_model.specs.Derived.{postings_sorted_by_stamp, balance_of_account, trade_count_of_broker, commission_total_of_broker, pending_trades}
 
--- A row of BROKER: id (B_ID), name (B_NAME), number of completed trades (B_NUM_TRADES), and their
--- commissions, in cents (B_COMM_TOTAL).
+-- A row of BROKER: id (B_ID), name (B_NAME), number of completed trades of the broker's accounts
+-- (B_NUM_TRADES), and the sum of the commissions of these trades, in cents (B_COMM_TOTAL).
 pub record BrokerRow : Type 0 where
   pub id : ℕ
   pub name : Text
@@ -40,18 +40,19 @@ pub record SecurityRow : Type 0 where
   pub exchange : Text
   pub sector : Text
 
--- A row of LAST_TRADE: symbol (LT_S_SYMB), stamp of the last tick or, before it, of the listing
--- (LT_DTS), last price in cents (LT_PRICE), and volume in shares (LT_VOL).
+-- A row of LAST_TRADE: symbol (LT_S_SYMB), stamp of the last tick, or of the listing before the
+-- first tick (LT_DTS), last price in cents (LT_PRICE), and volume in shares (LT_VOL).
 pub record LastTradeRow : Type 0 where
   pub symbol : Text
   pub stamp : ℕ
   pub price : ℕ
   pub volume : ℕ
 
--- A row of TRADE: T_ID, T_DTS, T_ST_ID, T_TT_ID, T_IS_CASH, T_S_SYMB, T_QTY, T_BID_PRICE, T_CA_ID,
--- T_EXEC_NAME, T_TRADE_PRICE, T_CHRG, T_COMM, T_TAX, T_LIFO. The stamp and the status are those of
--- the last status change. The bid, the price, the charge, the commission and the tax are in cents;
--- there is no price before the completion.
+-- A row of TRADE, with the columns, in the sequence of the fields, T_ID, T_DTS, T_ST_ID, T_TT_ID,
+-- T_IS_CASH, T_S_SYMB, T_QTY, T_BID_PRICE, T_CA_ID, T_EXEC_NAME, T_TRADE_PRICE, T_CHRG, T_COMM,
+-- T_TAX and T_LIFO. The stamp and the status are those of the last status change. The bid, the
+-- price, the charge, the commission and the tax are in cents; there is no price before the
+-- completion.
 pub record TradeRow : Type 0 where
   pub id : ℕ
   pub stamp : ℕ
@@ -87,7 +88,8 @@ pub record RequestRow : Type 0 where
   pub broker : ℕ
 
 -- A row of HOLDING, a lot: the trade that opened it (H_T_ID), account (H_CA_ID), symbol (H_S_SYMB),
--- stamp (H_DTS), price in cents (H_PRICE), and quantity, below 0 if it was sold short (H_QTY).
+-- stamp (H_DTS), price in cents (H_PRICE), and quantity in shares, below 0 if they were sold short
+-- (H_QTY).
 pub record HoldingRow : Type 0 where
   pub trade : ℕ
   pub account : ℕ
@@ -137,9 +139,10 @@ pub record MoveRow : Type 0 where
   pub amount : ℤ
   pub name : Text
 
--- The rows of all tables. Of DESK it has D_LAST alone, as `last`, and of SETTLE_RULE the SR_DAY of
--- its row, if there is one, as `rule`. The tables of a base have their cash rows in one of two
--- tables, by the schema: `moves` is empty in the first schema, and `cash` in each later one.
+-- The rows of all tables. `last` is D_LAST of DESK, whose other columns are left out, and `rule` is
+-- SR_DAY of the row of SETTLE_RULE, or none without a row. The tables of a base have their cash
+-- rows in one of two tables, by the schema: `moves` is empty in the first schema, and `cash` in
+-- each later one.
 pub record Tables : Type 0 where
   pub last : Option ℕ
   pub kept : List Kept
@@ -164,8 +167,8 @@ pub record Tables : Type 0 where
   pub moves : List MoveRow
   pub rule : SettleRule
 
--- The BROKER row of the broker `b`, with the number and the commission total of those of the
--- completed trades `done` whose accounts have this broker.
+-- The BROKER row of the broker `b`, with the number and the commission total of the broker's
+-- trades: those of the completed trades `done` whose accounts in `accounts` have this broker.
 abbrev pub broker_row : List Account → List Trade → Broker → BrokerRow
 broker_row accounts done b =
     record { id = b.id; name = b.name; trades = pos (trade_count_of_broker accounts done b.id); commissions = commission_total_of_broker accounts done b.id }
@@ -182,11 +185,11 @@ account_row accounts posted a = record {
   balance = balance_of_account accounts posted a.id;
 }
 
--- The SECURITY row of a security.
+-- The SECURITY row of the security `s`: its symbol, name, exchange and sector.
 abbrev pub security_row : Security → SecurityRow
 security_row s = record { symbol = s.symbol; name = s.name; exchange = s.exchange; sector = s.sector }
 
--- The LAST_TRADE row of a security: its stamp, last price and volume.
+-- The LAST_TRADE row of the security `s`: its symbol, stamp, last price and volume.
 abbrev pub last_trade_row : Security → LastTradeRow
 last_trade_row s = record { symbol = s.symbol; stamp = s.moment; price = s.last_price; volume = s.volume }
 
@@ -194,7 +197,8 @@ last_trade_row s = record { symbol = s.symbol; stamp = s.moment; price = s.last_
 abbrev pub last_status_of_trade : Trade → Status
 last_status_of_trade t = option_map_or (λ m. m.status) (last_status_change t) Canceled
 
--- The TRADE row of a trade, with its last status and the stamp of that status.
+-- The TRADE row of the trade `t`, with its last status and the stamp of that status, or `Canceled`
+-- and 0 if it has no status change.
 abbrev pub trade_row : Trade → TradeRow
 trade_row t =
     record {
@@ -215,7 +219,8 @@ trade_row t =
       is_lifo = t.is_lifo;
     }
 
--- The TRADE_HISTORY rows of a trade, one for each status change.
+-- The TRADE_HISTORY rows of the trade `t`, one for each status change, in the sequence of the
+-- changes.
 abbrev pub history_rows : Trade → List HistoryRow
 history_rows t = map (λ m. record { trade = t.id; status = m.status; stamp = m.stamp }) t.marks
 
@@ -223,7 +228,8 @@ history_rows t = map (λ m. record { trade = t.id; status = m.status; stamp = m.
 abbrev pub request_row : List Account → Trade → RequestRow
 request_row accounts t = record { trade = t.id; kind = t.kind; symbol = t.symbol; qty = t.qty; bid = t.bid; broker = broker_id_in_accounts accounts t.account }
 
--- The rows that `rows` returns for each account id and each symbol of `base`, account by account.
+-- The rows that `rows` returns for each account id and each symbol of `base`, in the sequence of
+-- the accounts, and for one account in the sequence of the securities.
 abbrev pub rows_by_position : {Row : Type 0} → Base → (ℕ → Text → List Row) → List Row
 rows_by_position base rows = flat_map (λ a. flat_map (λ s. rows a.id s.symbol) base.securities) base.accounts
 
@@ -239,12 +245,13 @@ holding_row done t = record {
   qty = lot_quantity (shares_of_position done t.account t.symbol) t.id;
 }
 
--- The HOLDING_HISTORY row of a lot that the trade with the id `trade` touched.
+-- The HOLDING_HISTORY row of `touch`, the effect of the trade with the id `trade` on a lot.
 abbrev pub holding_history_row : ℕ → Touch → HoldingHistoryRow
 holding_history_row trade touch = record { lot = touch.lot; trade = trade; before = touch.before; after = touch.after }
 
--- The HOLDING_HISTORY rows `rows` with the row of a lot that the trade with the id `trade` touched
--- in front; `rows` alone if the lot's quantity did not change.
+-- The HOLDING_HISTORY rows `rows` with one more row in front: that of `touch`, the effect of the
+-- trade with the id `trade` on a lot. If `touch` does not change the lot's quantity, `rows`
+-- unchanged.
 abbrev pub rows_with_lot_touch : ℕ → Touch → List HoldingHistoryRow → List HoldingHistoryRow
 rows_with_lot_touch trade touch rows = if changes_lot_quantity touch then holding_history_row trade touch ∷ rows else rows
 
@@ -256,21 +263,22 @@ holding_history_of_lot lot shares (d ∷ deals) =
     rows_with_lot_touch d.trade (touch_of_lot lot d shares) (holding_history_of_lot lot (shares_after_deal shares d) deals)
 
 -- The HOLDING_HISTORY rows of the lot that the completed trade `t` opened: one for each deal of its
--- position that changes the lot's quantity.
+-- position, among the completed trades `done`, that changes the lot's quantity.
 abbrev pub holding_history_rows_of_lot : List Trade → Trade → List HoldingHistoryRow
 holding_history_rows_of_lot done t = holding_history_of_lot t.id [] (deals_of_position done t.account t.symbol)
 
--- The HOLDING_SUMMARY row of the account `account` in the symbol `symbol`; no row if its quantity
--- is 0.
+-- The HOLDING_SUMMARY row of the account `account` in the symbol `symbol` after the completed
+-- trades `done`, as a list of one; the empty list if the quantity is 0.
 abbrev pub summary_rows : List Trade → ℕ → Text → List SummaryRow
 summary_rows done account symbol =
     filter (λ row. not (is_zero row.qty)) (record { account = account; symbol = symbol; qty = holding_summary_quantity done account symbol } ∷ [])
 
--- The SETTLEMENT row of a completed trade: its cash type, due day and amount.
+-- The SETTLEMENT row of the completed trade `t`: its id, cash type, due day and amount.
 abbrev pub settlement_row : List Account → SettleRule → Trade → SettlementRow
 settlement_row accounts rule t = record { trade = t.id; cash_type = t.cash_type; due_day = due_day rule t; amount = settlement_amount accounts t }
 
--- The row of the completed cash trade `t` in CASH_TRANSACTION, which only the first schema fills.
+-- The CASH_TRANSACTION row of the completed cash trade `t`; only the first schema has rows in this
+-- table.
 abbrev pub cash_transaction_row : List Account → Trade → CashRow
 cash_transaction_row accounts t = record { trade = t.id; stamp = last_status_stamp_of_trade t; amount = settlement_amount accounts t; name = t.cash_name }
 
@@ -284,11 +292,11 @@ numbered_move_rows n [] = []
 numbered_move_rows n (p ∷ posted) = cash_move_row n p ∷ numbered_move_rows (n + 1) posted
 
 -- The CASH_MOVE rows of the postings `posted`, sorted by stamp and numbered from 1; none if
--- `schema` has CASH_TRANSACTION instead.
+-- `schema` lacks this table.
 abbrev pub cash_move_rows : Schema → List Posting → List MoveRow
 cash_move_rows schema posted = if schema.has_cash_move_table then numbered_move_rows 1 (postings_sorted_by_stamp posted) else []
 
--- The CASH_TRANSACTION rows of the cash trades of `done`; none if `schema` has CASH_MOVE instead.
+-- The CASH_TRANSACTION rows of the cash trades of `done`; none if `schema` has the table CASH_MOVE.
 abbrev pub cash_transaction_rows : Schema → List Account → List Trade → List CashRow
 cash_transaction_rows schema accounts done = if schema.has_cash_move_table then [] else map (cash_transaction_row accounts) (cash_trades done)
 

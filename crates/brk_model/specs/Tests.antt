@@ -1,6 +1,6 @@
 -- The checks of a well-formed command against the base; the refusal is that of the first check that
--- fails. The bounds of a commission band are checked here once more: no row that parses has them
--- out of order (`read_quantity_bounds` of Parse).
+-- applies. The bounds of a commission band are checked here once more: no row that parses has a
+-- lower bound above the upper one (`read_quantity_bounds` of Parse).
 use Rattle.std.specs.Prelude.{ℕ, ◌+◌, Bool, true, false, not, ◌&&◌, ◌==◌, nat_le, nat_lt, List, [], ◌∷◌, ◌++◌, length, filter, find, Option, option_map}
 use Rattle.std.specs.Prelude.{is_some, is_none, nat_abs, bytes_eq}
 use Rattle.std.specs.List.{list_any}
@@ -62,8 +62,8 @@ security_exists_check base symbol = (is_none (security_with_symbol base symbol),
 abbrev pub duplicate_check : Bool → RefusalCheck
 duplicate_check found = (found, Exists)
 
--- True if the bands `b` and `c` have equal tiers, types and exchanges, and some quantity is within
--- the bounds of both.
+-- True if the bands `b` and `c` have equal tiers, types and exchanges, and the lower bound of each
+-- is at most the upper bound of the other.
 abbrev pub bands_overlap : Band → Band → Bool
 bands_overlap b c =
     (b.tier == c.tier) && is_same_trade_type b.kind c.kind && bytes_eq b.exchange c.exchange && nat_le b.from_qty c.to_qty && nat_le c.from_qty b.to_qty
@@ -81,8 +81,8 @@ commission_band_exists_check base o = (
   NoRate,
 )
 
--- The checks of the order `o`, or of its estimate, in sequence: account, security, permission,
--- charge and commission band.
+-- The checks that the order `o` and a query for its estimate share, in sequence: account, security,
+-- permission, charge and commission band.
 abbrev pub checks_of_order : Base → Order → List RefusalCheck
 checks_of_order base o =
     account_exists_check base o.account ∷ security_exists_check base o.symbol ∷ (not (may_order_for_account base o.account o.executor), NotPermitted)
@@ -159,13 +159,14 @@ abbrev pub is_settlement_day_too_early : ℕ → Command → Bool
 is_settlement_day_too_early stamp (SetOneDay day) = nat_le day (day_of stamp)
 is_settlement_day_too_early stamp _ = false
 
--- The checks of the stamp that the command would get, which are made after all others: `ClockEnd`
--- if it is past the greatest stamp, and `TooEarly` if the command sets a settlement day that is not
--- after the day of the stamp.
+-- The checks of the stamp `stamp` of a command, which follow all its other checks: `ClockEnd` if it
+-- is past the greatest stamp, and `TooEarly` if the command sets a settlement day that is not after
+-- the day of the stamp.
 abbrev pub checks_of_stamp : ℕ → Command → List RefusalCheck
 checks_of_stamp stamp command = (nat_lt greatest_stamp stamp, ClockEnd) ∷ (is_settlement_day_too_early stamp command, TooEarly) ∷ []
 
--- The refusal of the command at the clock reading `now` on `base`; none if the command is accepted.
+-- The refusal of the command at the clock reading `now` on `base`: that of the first check that
+-- applies; none if no check applies, so that the command is accepted.
 unfoldable pub refusal_of_command : Base → ℕ → Command → Option Refusal
 refusal_of_command base now command =
     first_refusal (checks_of_command base (stamp_of_next_command base now) command ++ checks_of_stamp (stamp_of_next_command base now) command)

@@ -1,5 +1,5 @@
 -- The three text updates, which have only their name from Trade-Update: each changes one text
--- column of trades that were ordered or completed.
+-- column of selected trades.
 use Rattle.std.specs.Prelude.{ℕ, Bool, ◌&&◌, ◌==◌, if◌then◌else◌, List, map, filter, take, codes, bytes_eq}
 use Rattle.brk_money.specs.Spelling.{Text}
 use Rattle.brk_model.specs.Limits.{is_in_range}
@@ -18,15 +18,15 @@ updated_executor_name name =
 abbrev pub toggled_word : Text → Text → Text → Text
 toggled_word word other text = if bytes_eq text word then other else word
 
--- The updated cash type of the settlement of the trade `t` (SE_CASH_TYPE): `Cash` if it is
--- `Cash Account` and otherwise `Cash Account` for a cash trade, `Margin` if it is `Margin Account`
--- and otherwise `Margin Account` for a margin trade.
+-- The updated cash type of the settlement of the trade `t` (SE_CASH_TYPE). For a cash trade it is
+-- `Cash` if the old one is `Cash Account`, otherwise `Cash Account`; for a margin trade it is
+-- `Margin` if the old one is `Margin Account`, otherwise `Margin Account`.
 abbrev pub updated_cash_type : Trade → Text
 updated_cash_type t =
     if t.is_cash then toggled_word (codes "Cash Account") (codes "Cash") t.cash_type
     else toggled_word (codes "Margin Account") (codes "Margin") t.cash_type
 
--- The updated name of the cash row of the trade `t` (CM_NAME), written anew from the trade and its
+-- The updated name of the cash row of the trade `t` (CM_NAME), computed from the trade and its
 -- security: with " Shares of " if the old name contains " shares of ", otherwise with
 -- " shares of ".
 abbrev pub updated_cash_row_name : Base → Trade → Text
@@ -42,21 +42,22 @@ trades_oldest_first trades = sort_by (λ t u. is_pair_less (last_status_stamp_of
 abbrev pub trade_stamp_is_between : ℕ → ℕ → Trade → Bool
 trade_stamp_is_between first last t = is_in_range first last (last_status_stamp_of_trade t)
 
--- The ids of the first 20 completed trades of `base`, oldest first, that pass `test` and whose last
--- status change is between `first` and `last`, both included.
+-- The ids of the completed trades of `base` that pass `test` and whose last status change has a
+-- stamp from `first` to `last`, both included, sorted by `trades_oldest_first`; at most the first
+-- 20.
 abbrev pub selected_trade_ids : Base → (Trade → Bool) → ℕ → ℕ → List ℕ
 selected_trade_ids base test first last =
     map (λ t. t.id) (take 20 (trades_oldest_first (filter (λ t. test t && trade_stamp_is_between first last t) (completed_trades base))))
 
--- The ids of the trades that an `upcash` of the account `account` updates: the first 20 completed
--- trades of the account whose last status change is between `first` and `last`, both included,
--- oldest first.
+-- The ids of the trades that an `upcash` of the account `account` updates: the completed trades of
+-- the account whose last status change has a stamp from `first` to `last`, both included, sorted by
+-- `trades_oldest_first`; at most the first 20.
 abbrev pub selected_ids_of_account : Base → ℕ → ℕ → ℕ → List ℕ
 selected_ids_of_account base account first last = selected_trade_ids base (λ t. t.account == account) first last
 
--- The ids of the trades that an `uptext` of the symbol `symbol` updates: the first 20 completed
--- cash trades of the symbol whose last status change is between `first` and `last`, both included,
--- oldest first.
+-- The ids of the trades that an `uptext` of the symbol `symbol` updates: the completed cash trades
+-- of the symbol whose last status change has a stamp from `first` to `last`, both included, sorted
+-- by `trades_oldest_first`; at most the first 20.
 abbrev pub selected_ids_of_symbol : Base → Text → ℕ → ℕ → List ℕ
 selected_ids_of_symbol base symbol first last = selected_trade_ids base (λ t. t.is_cash && bytes_eq t.symbol symbol) first last
 

@@ -9,7 +9,7 @@ use Rattle.brk_model.specs.StatusView.{trade_status_view, submitted_trades_view}
 use Rattle.brk_model.specs.LookupView.{trade_lookup_view, row_stamp_is_between, touched_lots_of_oldest_trade}
 use Rattle.brk_model.specs.VolumeView.{broker_volume_view}
 
--- The view of the query over the tables; none if the query is an estimate.
+-- The view of the query over the tables `tables`; none if the query asks for an estimate.
 unfoldable pub view_of_tables : Tables → Query → Option View
 view_of_tables tables (PositionOf customer) = Some (customer_position_view tables (λ c. c.id == customer))
 view_of_tables tables (PositionOfTaxId tax_id) = Some (customer_position_view tables (λ c. bytes_eq c.tax_id tax_id))

@@ -10,7 +10,9 @@ use Rattle.brk_model.specs.Records.{StatusChange}
 use Rattle.brk_model.specs.Tables.{Tables, TradeRow}
 use Rattle.brk_model.specs.Adopted.{status_changes_of_trade}
 
--- True if the statuses are one of the six valid status sequences of a trade.
+-- True if the statuses are one of the six valid status sequences of a trade. They begin with
+-- `Pending` or `Submitted`; `Submitted` or `Canceled` may follow `Pending`, and `Completed` may
+-- follow `Submitted`.
 abbrev pub is_valid_status_sequence : List Status → Bool
 is_valid_status_sequence (Submitted ∷ []) = true
 is_valid_status_sequence (Submitted ∷ Completed ∷ []) = true
@@ -26,15 +28,16 @@ is_strictly_ascending [] = true
 is_strictly_ascending (m ∷ []) = true
 is_strictly_ascending (m ∷ n ∷ ns) = nat_lt m n && is_strictly_ascending (n ∷ ns)
 
--- True if the row has the status and the stamp of the last of the status changes; false if there
--- are none.
+-- True if the TRADE row `row` has the status and the stamp of the last of the status changes; false
+-- if there are no status changes.
 abbrev pub matches_last_status_change : TradeRow → List StatusChange → Bool
 matches_last_status_change row [] = false
 matches_last_status_change row (m ∷ []) = is_same_trade_status row.status m.status && (row.stamp == m.stamp)
 matches_last_status_change row (m ∷ n ∷ marks) = matches_last_status_change row (n ∷ marks)
 
--- True if the statuses of the trade of `row` in TRADE_HISTORY are a valid sequence with strictly
--- ascending stamps, and the row has the status and the stamp of the last one.
+-- True if the statuses of the trade of `row` in TRADE_HISTORY, sorted by stamp, are a valid
+-- sequence with strictly ascending stamps, and the row has the status and the stamp of the last
+-- one.
 abbrev pub has_valid_status_history : Tables → TradeRow → Bool
 has_valid_status_history t row =
     is_valid_status_sequence (map (λ m. m.status) (status_changes_of_trade t row.id))

@@ -14,12 +14,13 @@ Text = List ℕ
 abbrev pub value_if_canonical : {A : Type 0} → (A → Text) → A → Text → Option A
 value_if_canonical spell value text = if bytes_eq (spell value) text then Some value else None
 
--- The number whose decimal digits are the ASCII digits of the text; all other bytes are left out.
+-- The number whose decimal digits are the ASCII digits of the text, or 0 if there are none; all
+-- other bytes are left out.
 abbrev pub number_from_ascii_digits : Text → ℕ
 number_from_ascii_digits text = fold (λ n c. 10 * n + (c - 48)) 0 (filter is_ascii_digit text)
 
--- The number that the text parses as: decimal digits without a leading zero; none for any other
--- text.
+-- The number whose canonical decimal text equals `text`: digits without a leading zero, except for
+-- 0 itself. None if there is no such number.
 abbrev pub decimal_number_of_text : Text → Option ℕ
 decimal_number_of_text text = value_if_canonical decimal (number_from_ascii_digits text) text
 
@@ -32,18 +33,19 @@ number_within_limit limit (Some n) = if nat_le n limit then Some n else None
 abbrev pub is_within_amount_limit : ℤ → Bool
 is_within_amount_limit z = nat_le (nat_abs z) Cents.GREATEST
 
--- The absolute value of the amount, in cents, is at most `Cents.GREATEST`, as a statement. It holds
--- if and only if `is_within_amount_limit` is true.
+-- The proposition that the absolute value of an amount, in cents, is at most `Cents.GREATEST`. It
+-- holds if and only if `is_within_amount_limit` is true for the amount.
 abbrev pub IsWithinAmountLimit : ℤ → Type 0
 IsWithinAmountLimit (pos n) = n ≤ Cents.GREATEST
 IsWithinAmountLimit (negsuc n) = suc n ≤ Cents.GREATEST
 
--- The text of `n` cents without a sign, such as 12.05: the digits of the whole units, a point and
--- two digits.
+-- The text of `n` cents without a sign, such as 12.05: the decimal digits of the whole units, a
+-- point and the two digits of the remaining cents.
 abbrev pub unsigned_cents_text : ℕ → Text
 unsigned_cents_text n = decimal (n / 100) ++ 46 ∷ (48 + n % 100 / 10) ∷ (48 + n % 10) ∷ []
 
--- The canonical text of an amount in cents, such as -12.05.
+-- The canonical text of an amount in cents, such as -12.05: a minus if the amount is negative, and
+-- the `unsigned_cents_text` of its absolute value.
 abbrev pub cents_text : ℤ → Text
 cents_text (pos n) = unsigned_cents_text n
 cents_text (negsuc n) = 45 ∷ unsigned_cents_text (suc n)
@@ -56,16 +58,17 @@ cents_from_ascii_digits text = if slice_index text 0 == 45 then neg_ℤ (pos (nu
 abbrev pub cents_of_text : Text → Option ℤ
 cents_of_text text = value_if_canonical cents_text (cents_from_ascii_digits text) text
 
--- The decimal digits of `n`, with zeros in front up to `places` digits.
+-- The decimal digits of `n`, padded with zeros in front to at least `places` digits.
 abbrev pub padded_decimal : ℕ → ℕ → Text
 padded_decimal places n = replicate (places - length (decimal n)) 48 ++ decimal n
 
--- The text of a civil date, such as 2024-03-01.
+-- The text of a civil date, such as 2024-03-01: the year, the month and the day, padded with zeros
+-- to four, two and two digits and separated by hyphens.
 abbrev pub date_text : CivilDate → Text
 date_text d = padded_decimal 4 d.year ++ 45 ∷ padded_decimal 2 d.month ++ 45 ∷ padded_decimal 2 d.day
 
--- The ten bytes of the text of the year `y`, the month `m` and the day `d`, such as 2024-03-01,
--- digit by digit. It serves the contracts of private functions.
+-- The ten bytes of the text of a date, such as 2024-03-01, digit by digit, for a year `y` below
+-- 10000 and a month `m` and a day `d` below 100. It serves the contracts of private functions.
 abbrev pub date_text_by_digits : ℕ → ℕ → ℕ → Text
 date_text_by_digits y m d =
     (48 + y / 100 / 10) ∷ (48 + y / 100 % 10) ∷ (48 + y % 100 / 10) ∷ (48 + y % 100 % 10) ∷ 45 ∷ (48 + m / 10) ∷ (48 + m % 10) ∷ 45 ∷ (48 + d / 10)
@@ -75,8 +78,8 @@ date_text_by_digits y m d =
 abbrev pub day_text : ℕ → Text
 day_text day = date_text (civil_date_of_day day)
 
--- The civil date whose year, month and day are the digits of the text at the places of a canonical
--- date; whether the calendar has it is not checked.
+-- The civil date whose year, month and day are the numbers of the ASCII digits in bytes 0 to 3, 5
+-- to 6 and 8 to 9 of the text, counted from 0. It need not be a date of the calendar.
 abbrev pub civil_date_from_ascii_digits : Text → CivilDate
 civil_date_from_ascii_digits text = record {
   year = number_from_ascii_digits (take 4 text);
@@ -95,7 +98,7 @@ amount_within_limit None = None
 amount_within_limit (Some z) = if is_within_amount_limit z then Some z else None
 
 -- The decimal number whose digits are those of `n` followed by the ASCII digits of the list. A byte
--- that is no digit is not left out: it counts as itself minus 48.
+-- that is no digit is not left out: it counts as its value minus 48, or as 0 if it is below 48.
 abbrev pub number_with_more_digits : ℕ → List ℕ → ℕ
 number_with_more_digits n [] = n
 number_with_more_digits n (c ∷ cs) = number_with_more_digits (n * 10 + (c - 48)) cs

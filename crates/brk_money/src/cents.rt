@@ -71,9 +71,10 @@ fn parse_cents_without_sign(bytes: &[u8]) -> Option<u64>
     Some(n)
 }
 
-/// Parses the canonical text of an amount: a minus if it is negative, digits without a leading
-/// zero, a point and two digits. Returns `None` for any other bytes, such as `-0.00`, `010.00` and
-/// `10.0`, and for an amount outside the limits.
+/// Parses the canonical text of an amount, such as `-12.05`: a minus if it is negative, the whole
+/// units in decimal digits, without a leading zero unless they are 0, a point and two digits.
+/// Returns `None` for any other bytes, such as `-0.00`, `010.00` and `10.0`, and for an amount
+/// outside the limits.
 #[tactic(auto, using(crate::proofs::Plain::plain_split))]
 pub fn parse_cents(bytes: &[u8]) -> Option<Cents>
     ensures found { IfSome result (λ cents. IsWithinAmountLimit cents × (bytes.now ≡ cents_text cents)) }

@@ -18,7 +18,8 @@ fn date_of_day(day: Day) -> Date
         .unwrap()
 }
 
-// Parses two decimal digits as a number below 100, or returns `None` if a byte is no digit.
+// Returns the number below 100 whose decimal digits are the ASCII bytes `tens` and `ones`, or
+// `None` if one of them is no digit.
 fn parse_two_digits(tens: u8, ones: u8) -> Option<u8>
     ensures found { IfSome result (λ n. (n < 100) × (tens ≡ 48 + n / 10) × (ones ≡ 48 + n % 10)) }
     ensures none { IfNone result ((n : ℕ) → n < 100 → tens ≡ 48 + n / 10 → ones ≢ 48 + n % 10) }
@@ -30,7 +31,7 @@ fn parse_two_digits(tens: u8, ones: u8) -> Option<u8>
 }
 
 // Returns the date of a year, a month and a day of the month, or `None` if the calendar has no such
-// date.
+// date. Requires that the year is below 10000, and the month and the day below 100.
 fn date_if_in_calendar(year: u16, month: u8, day: u8) -> Option<Date>
     requires year { year < 10000 }
     requires month { month < 100 }
@@ -45,8 +46,8 @@ fn date_if_in_calendar(year: u16, month: u8, day: u8) -> Option<Date>
 }
 
 // Parses the text of a date, such as `2024-03-01`: four digits of a year, two of a month and two of
-// a day, with a hyphen between. Returns `None` for any other bytes, and for a date that the
-// calendar does not have.
+// a day, separated by hyphens. Returns `None` for any other bytes, and for a date that the calendar
+// does not have.
 #[tactic(auto, using(crate::proofs::DayTexts::spelled, crate::proofs::DayTexts::parts_spelled))]
 fn parse_date(bytes: &[u8]) -> Option<Date>
     ensures found { IfSome result (λ date. (pos 0 ≤ℤ date.year) × (bytes.now ≡ date_text_by_digits (unsigned_abs date.year) date.month date.day)) }
@@ -70,9 +71,9 @@ fn parse_date(bytes: &[u8]) -> Option<Date>
     date_if_in_calendar(u16::from(century) * 100 + u16::from(year), month, day)
 }
 
-/// Parses the canonical text of a day, such as `2024-03-01`: four digits of a year, two of a month
-/// and two of a day, from 1970-01-01 to 9999-12-31, both included. Returns `None` for any other
-/// bytes.
+/// Parses the canonical text of a day from 1970-01-01 to 9999-12-31, both included, such as
+/// `2024-03-01`: four digits of the year, two of the month and two of the day, separated by
+/// hyphens. Returns `None` for any other bytes.
 pub fn parse_day(bytes: &[u8]) -> Option<Day>
     ensures found { IfSome result (λ day. bytes.now ≡ day_text day) }
     ensures none { IfNone result ((n : ℕ) → n ≤ greatest_day → bytes.now ≢ day_text n) }
@@ -108,7 +109,7 @@ fn date_text_bytes(date: Date) -> [u8; 10]
     ]
 }
 
-/// Appends the canonical text of a day, such as `2024-03-01`.
+/// Appends the canonical text of a day, such as `2024-03-01`, to `out`.
 ///
 /// Fails with `Memory` only; `out` is then unchanged.
 #[tactic(auto, using(crate::proofs::DayTexts::text_of, crate::proofs::Calendar::from_zero))]
@@ -124,8 +125,8 @@ pub fn write_day(out: &mut Vec<u8>, day: Day) -> Result<(), Fault>
     }
 }
 
-/// Proof-only: does nothing at run time. Proves that two days are equal if their canonical texts
-/// are.
+/// Proof-only: does nothing at run time. Proves that two days up to 9999-12-31 are equal if their
+/// canonical texts are.
 pub fn days_have_distinct_texts()
     ensures { (m n : ℕ) → m ≤ greatest_day → n ≤ greatest_day → day_text m ≡ day_text n → m ≡ n }
 {}

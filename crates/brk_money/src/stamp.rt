@@ -28,8 +28,8 @@ impl Stamp {
     /// The greatest stamp: the last millisecond of 9999-12-31 UTC.
     pub const GREATEST: i64 = 253_402_300_799_999;
 
-    /// Returns the stamp `millis` milliseconds after 1970-01-01 UTC, or `None` if it is out of
-    /// range.
+    /// Returns the stamp `millis` milliseconds after 1970-01-01 UTC, or `None` if `millis` is not
+    /// within 0 to `GREATEST`.
     pub fn new(millis: i64) -> Option<Stamp>
         ensures found { IfSome result (λ stamp. millis ≡ pos stamp) }
         ensures limits { SomeIff (option_map (λ stamp. pos stamp) result) ((pos 0 ≤ℤ millis) × (millis ≤ℤ pos spec.greatest_stamp)) millis }
@@ -60,8 +60,9 @@ impl Stamp {
     }
 }
 
-/// Returns the stamp of an accepted command: the clock reading `now`, or the millisecond after
-/// `last` if that is later. Returns `None` if `last` is the greatest stamp.
+/// Returns the stamp of an accepted command: the clock reading `now`, or the millisecond after the
+/// last stamp `last` if there is one and that is later. Returns `None` if `last` is the greatest
+/// stamp.
 pub fn stamp_after(last: Option<Stamp>, now: Stamp) -> Option<Stamp>
     ensures { result ≡ spec.stamp_after last now }
 {

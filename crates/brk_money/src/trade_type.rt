@@ -41,7 +41,7 @@ impl TradeType {
         }
     }
 
-    /// Returns the side of a trade of this type.
+    /// Returns the side, `Buy` or `Sell`, of a trade of this type.
     pub fn side(self) -> Side
         ensures { result ≡ side_of_trade_type self }
     {

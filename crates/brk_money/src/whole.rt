@@ -4,8 +4,9 @@ ghost use Rattle.std.specs.Str.{all_ascii_digits};
 ghost use Rattle.brk_money.specs.declared.cents.TheConstants.Cents;
 ghost use Rattle.brk_money.specs.Spelling.{number_with_more_digits};
 
-// Parses decimal digits as a number; no bytes parse as 0. Returns `None` if a byte is no digit or
-// the number is above `limit`.
+// Parses decimal digits, leading zeros allowed, as a number; an empty slice parses as 0. Returns
+// `None` if a byte is no digit or the number is above `limit`. Requires that `limit` is at most
+// `Cents::GREATEST`.
 #[tactic(auto, using(crate::proofs::Digits::read_on_le))]
 fn parse_decimal_digits(bytes: &[u8], limit: u64) -> Option<u64>
     requires { limit ≤ Cents.GREATEST }
@@ -25,8 +26,9 @@ fn parse_decimal_digits(bytes: &[u8], limit: u64) -> Option<u64>
     Some(value)
 }
 
-/// Parses the canonical text of a whole number: decimal digits without a sign or a leading zero.
-/// Returns `None` for any other bytes, and for a number above `limit`.
+/// Parses the canonical text of a whole number: decimal digits without a sign, and without a
+/// leading zero unless the number is 0. Returns `None` for any other bytes, and for a number above
+/// `limit`. Requires that `limit` is at most `Cents::GREATEST`.
 #[tactic(auto, using(crate::proofs::Digits::whole_found, crate::proofs::Digits::whole_only))]
 pub fn parse_whole_number(bytes: &[u8], limit: u64) -> Option<u64>
     requires { limit ≤ Cents.GREATEST }

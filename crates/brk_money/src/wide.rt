@@ -74,7 +74,7 @@ impl fmt::Display for Wide {
     }
 }
 
-// Appends the bytes of `first`, `second` and `third`, in this sequence.
+// Appends the bytes of `first`, `second` and `third`, in this sequence, to `out`.
 //
 // Fails with `Memory` only; `out` is then unchanged.
 fn append_three_texts(
@@ -98,8 +98,8 @@ fn append_three_texts(
     Err(Fault::Memory)
 }
 
-/// Appends the canonical text of an amount: a minus if it is negative, digits, a point and two
-/// digits.
+/// Appends the canonical text of an amount, such as `-12.05`, to `out`: a minus if it is negative,
+/// the whole units in decimal digits, a point and two digits.
 ///
 /// Fails with `Memory` only; `out` is then unchanged.
 pub fn write_cents(out: &mut Vec<u8>, amount: Wide) -> Result<(), Fault>

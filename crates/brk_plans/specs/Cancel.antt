@@ -19,14 +19,14 @@ abbrev pub cancel_checks : Option Status → List RefusalCheck
 cancel_checks None = (true, NoTrade) ∷ []
 cancel_checks (Some status) = (not (is_same_trade_status status Pending), WrongStatus status) ∷ []
 
--- The row changes of a cancel of `trade` at `stamp`: those by which it changes from pending to
--- canceled, and the change of the last stamp.
+-- The row changes of a cancel of `trade` at `stamp`: those by which the trade changes from pending
+-- to canceled, and the change of the last stamp.
 abbrev pub row_changes_of_cancel : ℕ → ℕ → List Change
 row_changes_of_cancel trade stamp = row_changes_of_pending_trade trade Canceled stamp ++ SetLastStamp stamp ∷ []
 
 -- `plan` cancels `trade`, whose status is `found`, at the stamp of the command, where `last` is the
 -- stamp of the last accepted command and `now` the clock reading. The trade passes its checks, a
--- later stamp is left, the row changes are `row_changes_of_cancel`, and the reply has the stamp.
+-- later stamp exists, the row changes are `row_changes_of_cancel`, and the reply has the stamp.
 pub record IsCancelPlan (trade : ℕ) (found : Option Status) (last : Option ℕ) (now : ℕ) (plan : Plan) : Type 0 where
   pub stamp : ℕ
   pub accepted : first_refusal (cancel_checks found ++ later_stamp_check last now ∷ []) ≡ None

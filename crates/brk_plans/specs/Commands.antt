@@ -6,7 +6,7 @@ use Rattle.brk_ref.specs.Records.{abstract_customer_tax}
 use Rattle.brk_plans.specs.declared.reference.Reference.{Reference}
 use Rattle.brk_plans.specs.declared.reference.Reference.TheVariants as reference
 
--- The model's command that adds a typed record of reference data, by its kind.
+-- The model's command that adds the typed record of reference data.
 abbrev pub command_adding_record : Reference → Command
 command_adding_record (reference.Broker broker) = AddBroker (abstract_broker broker)
 command_adding_record (reference.Customer customer) = AddCustomer (abstract_customer customer)

@@ -19,16 +19,16 @@ use Rattle.brk_plans.specs.declared.movement.MovementPlanFacts.{MovementPlanFact
 use Rattle.brk_plans.specs.declared.plan.Plan.{Plan}
 use Rattle.brk_plans.specs.declared.reply.Reply.TheVariants as reply
 
--- The `amount` of a movement in cents: above 0 for a deposit, below 0 for a withdrawal.
+-- The `amount` of a movement in cents, negated for a withdrawal.
 abbrev pub signed_cash_amount : Direction → ℕ → ℤ
 signed_cash_amount Deposit amount = pos amount
 signed_cash_amount Withdrawal amount = neg_ℤ (pos amount)
 
--- The amount of the movement `m` in cents: above 0 for a deposit, below 0 for a withdrawal.
+-- The amount of the movement `m` in cents, negated for a withdrawal.
 abbrev pub signed_amount_of_movement : Movement → ℤ
 signed_amount_of_movement m = signed_cash_amount m.direction m.amount
 
--- The text of the cash row of a deposit or of a withdrawal (CM_NAME).
+-- The text of the cash row of a movement (CM_NAME): `Deposit` or `Withdrawal`.
 abbrev pub cash_text_of_direction : Direction → Text
 cash_text_of_direction Deposit = codes "Deposit"
 cash_text_of_direction Withdrawal = codes "Withdrawal"
@@ -38,9 +38,9 @@ cash_text_of_direction Withdrawal = codes "Withdrawal"
 abbrev pub balance_after_movement : Movement → MovementPlanFacts → ℤ
 balance_after_movement m found = unwrap_or found.balance (pos 0) +ℤ signed_amount_of_movement m
 
--- The checks of the movement `m` against the facts `found`: the account exists (`NoAccount`), the
--- balance after it does not exceed the limit (`Range(Balance)`), and there are fewer deposits and
--- withdrawals than the greatest number (`Range(Moves)`).
+-- The checks of the movement `m` against the facts `found`, in this order: the account exists
+-- (`NoAccount`), the balance after the movement does not exceed the limit (`Range(Balance)`), and
+-- there are fewer deposits and withdrawals than the greatest number (`Range(Moves)`).
 abbrev pub movement_checks : Movement → MovementPlanFacts → List RefusalCheck
 movement_checks m found =
     (is_none found.balance, NoAccount) ∷ (nat_lt greatest_amount (nat_abs (balance_after_movement m found)), Range limit.Balance)
@@ -68,7 +68,7 @@ pub record AppliesMovement (m : Movement) (number : ℕ) (balance : ℤ) (stamp 
 
 -- `plan` applies the movement `m` at the stamp of the command, where `found` are the facts in the
 -- tables, `last` is the stamp of the last accepted command, and `now` the clock reading. The
--- movement passes its checks, a later stamp is left, and the plan has the next id of a cash row and
+-- movement passes its checks, a later stamp exists, and the plan has the next id of a cash row and
 -- the balance after the movement.
 pub record IsMovementPlan (m : Movement) (found : MovementPlanFacts) (last : Option ℕ) (now : ℕ) (plan : Plan) : Type 0 where
   pub stamp : ℕ

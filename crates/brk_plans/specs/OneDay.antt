@@ -10,13 +10,13 @@ use Rattle.brk_plans.specs.declared.plan.Plan.{Plan}
 use Rattle.brk_plans.specs.declared.reply.Reply.TheVariants as reply
 
 -- The check that `day` is later than the day (UTC) of the command's stamp (`TooEarly`), where
--- `last` is the last stamp and `now` the clock reading. It passes if no later stamp is left.
+-- `last` is the last stamp and `now` the clock reading. It passes if no later stamp exists.
 abbrev pub later_settlement_day_check : ℕ → Option ℕ → ℕ → RefusalCheck
 later_settlement_day_check day last now = (option_map_or (λ stamp. nat_le day (day_of stamp)) (stamp_after last now) false, TooEarly)
 
--- The checks of `day` as the settlement day: none is set yet (`rule`; `Exists`), a later stamp is
--- left (`ClockEnd`), and the day is later than that of the command's stamp (`TooEarly`). `last` is
--- the last stamp, and `now` the clock reading.
+-- The checks of `day` as the settlement day, in this order: none is set yet (`rule`; `Exists`), a
+-- later stamp exists (`ClockEnd`), and the day is later than that of the command's stamp
+-- (`TooEarly`). `last` is the last stamp, and `now` the clock reading.
 abbrev pub settlement_day_checks : ℕ → Option ℕ → Option ℕ → ℕ → List RefusalCheck
 settlement_day_checks day rule last now = duplicate_check (is_some rule) ∷ later_stamp_check last now ∷ later_settlement_day_check day last now ∷ []
 

@@ -16,42 +16,43 @@ use Rattle.brk_plans.specs.declared.reference.Reference.{Reference}
 use Rattle.brk_plans.specs.declared.reference.Reference.TheVariants as reference
 use Rattle.brk_plans.specs.declared.reply.Reply.TheVariants.{Booked}
 
--- The checks of a new account against the facts `found`: its customer and its broker exist
--- (`NoCustomer`, `NoBroker`), its id is new (`Exists`), and its customer has fewer accounts than
--- the greatest number (`Range(Accounts)`).
+-- The checks of a new account against the facts `found`, in this order: its customer and its broker
+-- exist (`NoCustomer`, `NoBroker`), its id is new (`Exists`), and its customer has fewer accounts
+-- than the greatest number (`Range(Accounts)`).
 abbrev pub account_checks : ReferenceFacts → List RefusalCheck
 account_checks found =
     (not found.customer, NoCustomer) ∷ (not found.broker, NoBroker) ∷ duplicate_check found.same_id
     ∷ (nat_le most_accounts_per_customer found.accounts, Range limit.Accounts) ∷ []
 
--- The checks of a new permission against the facts `found`: its account exists (`NoAccount`), and
--- no permission has its account and its tax id (`Exists`).
+-- The checks of a new permission against the facts `found`, in this order: its account exists
+-- (`NoAccount`), and no permission has its account and its tax id (`Exists`).
 abbrev pub permission_checks : ReferenceFacts → List RefusalCheck
 permission_checks found = (not found.account, NoAccount) ∷ duplicate_check found.same_id ∷ []
 
--- The checks of a new commission band `band` against the facts `found`: its bounds are not reversed
--- (`BadQty`), and no other band shares a quantity with it (`Overlap`).
+-- The checks of a new commission band `band` against the facts `found`, in this order: its bounds
+-- are not reversed (`BadQty`), and no band of its tier, type and exchange shares a quantity with it
+-- (`Overlap`).
 abbrev pub band_checks : Band → ReferenceFacts → List RefusalCheck
 band_checks band found = (nat_lt band.to_qty band.from_qty, BadQty) ∷ (found.overlaps, Overlap) ∷ []
 
--- True if the sum of a customer's tax rates, the first argument, plus the rate of another tax, the
--- second one, exceeds the greatest rate (hundred-thousandths). A sum of none exceeds it already,
--- and another rate of none counts as 0.
+-- True if the sum of a customer's tax rates plus the rate of another tax exceeds the greatest rate
+-- (hundred-thousandths). True also if the sum is `None`, which means that it exceeds the greatest
+-- rate already. A rate of `None` counts as 0.
 abbrev pub exceeds_greatest_tax_rate : Option ℕ → Option ℕ → Bool
 exceeds_greatest_tax_rate None rate = true
 exceeds_greatest_tax_rate (Some rates) rate = nat_lt greatest_tax_rate (rates + unwrap_or rate 0)
 
--- The checks of a new tax of a customer against the facts `found`: the customer and the tax exist
--- (`NoCustomer`, `NoTax`), the customer does not pay it yet (`Exists`), and the sum of its rates
--- does not exceed the greatest rate (`TaxSum`).
+-- The checks of a new tax of a customer against the facts `found`, in this order: the customer and
+-- the tax exist (`NoCustomer`, `NoTax`), the customer does not pay it yet (`Exists`), and the sum
+-- of the customer's rates, this tax included, does not exceed the greatest rate (`TaxSum`).
 abbrev pub customer_tax_checks : ReferenceFacts → List RefusalCheck
 customer_tax_checks found =
     (not found.customer, NoCustomer) ∷ (is_none found.rate, NoTax) ∷ duplicate_check found.same_id ∷ (exceeds_greatest_tax_rate found.rates found.rate, TaxSum)
     ∷ []
 
--- The checks of a new record of reference data against the facts `found`, by its kind. A record
--- whose kind has no checks of its own must have a new key (`Exists`), and a customer also a new tax
--- id.
+-- The checks of a new record of reference data against the facts `found`. An account, a permission,
+-- a band and a tax of a customer have the checks of their kind. Any other record must have a new
+-- key, and a customer also a new tax id (`Exists`).
 abbrev pub reference_checks : Reference → ReferenceFacts → List RefusalCheck
 reference_checks (reference.Broker broker) found = duplicate_check found.same_id ∷ []
 reference_checks (reference.Customer customer) found = duplicate_check found.same_id ∷ duplicate_check found.same_tax_id ∷ []
@@ -63,12 +64,13 @@ reference_checks (reference.Band band) found = band_checks band found
 reference_checks (reference.TaxRate tax) found = duplicate_check found.same_id ∷ []
 reference_checks (reference.CustomerTax pays) found = customer_tax_checks found
 
--- The check that a command at the clock reading `now` has a stamp later than `last` (`ClockEnd`).
+-- The check that a stamp later than `last` exists for a command at the clock reading `now`
+-- (`ClockEnd`). It passes if `last` is `None`.
 abbrev pub later_stamp_check : Option ℕ → ℕ → RefusalCheck
 later_stamp_check last now = (is_none (stamp_after last now), ClockEnd)
 
--- The row change that adds a record of reference data, by its kind. For a listing, it adds the
--- SECURITY row only.
+-- The row change that adds the row of a record of reference data; for a listing, its SECURITY row
+-- only.
 abbrev pub row_change_adding_record : Reference → Change
 row_change_adding_record (reference.Broker broker) = change.AddBroker broker
 row_change_adding_record (reference.Customer customer) = change.AddCustomer customer
@@ -94,7 +96,7 @@ row_changes_adding_record stamp other = row_change_adding_record other ∷ []
 
 -- `plan` adds the record `reference` at the stamp of the command, where `found` are the facts in
 -- the tables, `last` is the last stamp, and `now` the clock reading. The record passes its checks,
--- and a later stamp is left. The row changes are those that add the record and that of the last
+-- and a later stamp exists. The row changes are those that add the record and that of the last
 -- stamp, and the reply has the stamp.
 pub record IsReferencePlan (reference : Reference) (found : ReferenceFacts) (last : Option ℕ) (now : ℕ) (plan : Plan) : Type 0 where
   pub stamp : ℕ

@@ -29,28 +29,28 @@ abbrev pub toggled_cash_type_text : Bool → Text → Text
 toggled_cash_type_text is_cash word =
     if is_cash then toggled_word (codes "Cash Account") (codes "Cash") word else toggled_word (codes "Margin Account") (codes "Margin") word
 
--- The new cash text of a trade whose present one is `name`: the name of its type, its quantity, "
--- Shares of " if `name` contains " shares of " and " shares of " otherwise, and the name `security`
--- of its security.
+-- The new cash text of a trade whose present one is `name`: the name of its type, a space, its
+-- quantity, the words " Shares of " if `name` contains " shares of " and " shares of " otherwise,
+-- and the name `security` of its security.
 abbrev pub toggled_cash_text : TradeType → ℕ → Text → Text → Text
 toggled_cash_text kind qty security name =
     if contains_text (codes " shares of ") name then cash_row_name_from_parts (codes " Shares of ") kind qty security
     else cash_row_name_from_parts (codes " shares of ") kind qty security
 
--- The new cash text of the trade of `p`, where `security` is the name of its security. It has "
--- Shares of " if the present text contains " shares of ", and otherwise " shares of ".
+-- The new cash text of the trade of `p`, where `security` is the name of its security: with the
+-- words " Shares of " if the present text contains " shares of ", and with " shares of " otherwise.
 abbrev pub toggled_cash_text_of_trade : Text → CashText → Text
 toggled_cash_text_of_trade security p = toggled_cash_text p.kind p.qty security (string_bytes p.name)
 
--- The refusal of a text update if what it names does not exist: `NoTrade`, `NoAccount` or
--- `NoSecurity`, by the kind of the update.
+-- The refusal of a text update whose target does not exist: `NoTrade` if it names trades,
+-- `NoAccount` if it names an account, and `NoSecurity` if it names a security.
 abbrev pub missing_target_refusal : told.Update → Refusal
 missing_target_refusal (update.Executors trades) = NoTrade
 missing_target_refusal (update.CashTypes account span) = NoAccount
 missing_target_refusal (update.CashNames symbol span) = NoSecurity
 
--- The check of the text update `u`: what it names exists, that is its trades (`NoTrade`), its
--- account (`NoAccount`) or its security (`NoSecurity`). `found` is none if it does not exist.
+-- The check of the text update `u`: its target exists, that is its trades (`NoTrade`), its account
+-- (`NoAccount`) or its security (`NoSecurity`). `found` is `None` if the target does not exist.
 abbrev pub update_checks : told.Update → Option TextUpdate → List RefusalCheck
 update_checks u found = (is_none found, missing_target_refusal u) ∷ []
 
@@ -82,9 +82,9 @@ count_of_updated_trades (corrected.Executors trades) = length trades.items
 count_of_updated_trades (corrected.CashTypes settled) = length settled.items
 count_of_updated_trades (corrected.CashNames security paid) = length paid.items
 
--- `plan` replaces one text of each trade of `found` and sets the last stamp to that of the command,
--- where `last` is the last stamp and `now` the clock reading. A later stamp is left, and the reply
--- has the stamp and the number of the trades.
+-- `plan` replaces the text of each trade of `found` by its new one and sets the last stamp to that
+-- of the command, where `last` is the last stamp and `now` the clock reading. A later stamp exists,
+-- and the reply has the stamp and the number of the trades.
 pub record IsUpdatePlan (found : TextUpdate) (last : Option ℕ) (now : ℕ) (plan : Plan) : Type 0 where
   pub stamp : ℕ
   pub stamped : stamp_after last now ≡ Some stamp

@@ -11,9 +11,9 @@ use brk_changes::Change;
 use brk_money::{Fault, Id, Planned, Refusal, Stamp, Status, stamp_after};
 use std::alloc::Global;
 
-// Returns the refusal of a cancel of the trade whose status is `found`: `NoTrade` if it is `None`,
-// so that there is no such trade, or `WrongStatus` if it is not pending. Returns `None` if the
-// trade is pending.
+// Returns the refusal of a cancel of the trade whose status is `found`: `NoTrade` if `found` is
+// `None`, which means that there is no such trade, or `WrongStatus` if the trade is not pending.
+// Returns `None` if the trade is pending.
 fn refusal_of_cancel(found: Option<Status>) -> Option<Refusal>
     ensures { result ≡ first_refusal (cancel_checks found) }
 {
@@ -43,7 +43,7 @@ fn create_cancel_changes(alloc: Global, trade: Id, stamp: Stamp) -> Result<Vec<C
 /// reply has the stamp.
 ///
 /// Refuses with the first that applies of `NoTrade`; `WrongStatus`, if the trade is not pending;
-/// and `ClockEnd`, if no later stamp is left. Fails with `Memory` only.
+/// and `ClockEnd`, if no later stamp exists. Fails with `Memory` only.
 pub fn plan_cancel(
     alloc: Global,
     trade: Id,

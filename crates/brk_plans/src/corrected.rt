@@ -2,8 +2,8 @@ use brk_changes::{CashType, TradeRow};
 use brk_money::{Id, Qty, TradeType};
 use brk_ref::Name;
 
-/// A completed trade with its settlement text (SE_CASH_TYPE), and true if it is a cash trade, false
-/// if it is a margin trade.
+/// A completed trade with its settlement text (SE_CASH_TYPE). `is_cash` is true for a cash trade
+/// and false for a margin trade.
 #[derive(Clone, Copy)]
 pub struct SettlementText {
     pub trade: Id,

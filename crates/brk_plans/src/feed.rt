@@ -37,14 +37,14 @@ pub fn price_triggers_trade(kind: TradeType, bid: Price, price: Price) -> bool
     }
 }
 
-// Returns true if the quote is that of the symbol.
+// Returns true if the quote has the symbol.
 fn is_quote_of_symbol(quote: &Quote, symbol: &Symbol) -> bool
     ensures { result ≡ is_state_of_symbol symbol.now (state_of_quote quote.now) }
 {
     quote.last.symbol.as_str() == symbol.as_str()
 }
 
-/// Returns true if none of the quotes is that of the tick's symbol.
+/// Returns true if none of the quotes has the symbol of the tick.
 pub fn has_no_quote_of_symbol(quotes: &[Quote], tick: &Tick) -> bool
     ensures { result ≡ lacks_state_of_symbol (states_of_quotes quotes.now) tick.now }
 {
@@ -53,7 +53,7 @@ pub fn has_no_quote_of_symbol(quotes: &[Quote], tick: &Tick) -> bool
         .any(|quote| is_quote_of_symbol(quote, &tick.symbol))
 }
 
-// Returns true if none of the quotes is that of the symbol of some tick.
+// Returns true if at least one of the ticks has a symbol that none of the quotes has.
 fn has_tick_without_quote(quotes: &[Quote], ticks: &[Tick]) -> bool
     ensures { result ≡ list_any (lacks_state_of_symbol (states_of_quotes quotes.now)) ticks.now }
 {
@@ -121,7 +121,7 @@ fn append_submission_changes(
     Ok(())
 }
 
-// Returns those of the requests that the price does not trigger, in sequence. Fails with `Memory`
+// Returns the requests that the price does not trigger, in their sequence. Fails with `Memory`
 // only.
 fn requests_not_triggered(
     alloc: Global,
@@ -177,7 +177,8 @@ fn apply_tick_to_quote(
 
 // Returns the quotes after the tick. Appends the row changes of the tick to `changes`, and the ids
 // of the trades that it triggers to `ids`. Refuses with `Range(Volume)` if a volume would exceed
-// its limit; a part of them may then be appended. Fails with `Memory` only.
+// its limit; a part of the row changes and of the ids may then be appended. Fails with `Memory`
+// only.
 fn apply_tick_to_quotes(
     alloc: Global,
     stamp: Stamp,
@@ -206,8 +207,8 @@ fn apply_tick_to_quotes(
     Ok(Ok(after))
 }
 
-// Reads the volumes of the quotes and changes nothing. A caller uses it for its contract, which
-// states that no volume exceeds its limit.
+// Proves that no volume of the quotes exceeds the limit of a volume. Reads the volumes and changes
+// nothing.
 fn prove_volumes_are_within_limit(quotes: &[Quote])
     ensures { list_any exceeds_volume_limit (states_of_quotes quotes.now) ≡ false }
 {
@@ -218,7 +219,8 @@ fn prove_volumes_are_within_limit(quotes: &[Quote])
 
 // Applies the ticks in sequence to the quotes. Appends their row changes to `changes`, and the ids
 // of the trades that they trigger to `ids`. Refuses with `Range(Volume)` if a volume would exceed
-// its limit; a part of them may then be appended. Fails with `Memory` only.
+// its limit; a part of the row changes and of the ids may then be appended. Fails with `Memory`
+// only.
 fn apply_ticks_to_quotes(
     alloc: Global,
     stamp: Stamp,
@@ -248,16 +250,16 @@ fn apply_ticks_to_quotes(
     Ok(Ok(()))
 }
 
-/// Plans a feed. `quotes` has one quote for each of its symbols, `last` is the stamp of the last
-/// accepted command, and `now` the clock reading.
+/// Plans a feed. `quotes` has the quote of each symbol of the feed that is listed, `last` is the
+/// stamp of the last accepted command, and `now` the clock reading.
 ///
 /// Each tick in sequence sets the last trade of its symbol and submits the trades whose requests it
 /// triggers, after the changes of the ticks before it. The plan then sets the last stamp. Its reply
 /// has the stamp and the triggered trades.
 ///
 /// Refuses with the first that applies of `NoSecurity`, if a tick has no quote; `Range(Volume)`, if
-/// a volume exceeds its limit after all ticks; and `ClockEnd`, if no later stamp is left. Fails
-/// with `Memory` only.
+/// a volume exceeds its limit after all ticks; and `ClockEnd`, if no later stamp exists. Fails with
+/// `Memory` only.
 pub fn plan_feed(
     alloc: Global,
     feed: &Feed,

@@ -37,7 +37,7 @@ fn signed_movement_amount(movement: &Movement) -> Cents
     Cents::new(cents).unwrap()
 }
 
-// Returns the text of the cash row of a deposit or of a withdrawal (CM_NAME).
+// Returns the text of the cash row of a movement (CM_NAME): `Deposit` or `Withdrawal`.
 fn movement_cash_text(direction: Direction) -> &'static str
     ensures { result.now ≡ spec.cash_text_of_direction direction }
 {
@@ -120,7 +120,8 @@ fn create_movement_changes(
 }
 
 // Returns the plan of an accepted movement: it adds a cash row with the id `number`, and sets the
-// balance of the account to `balance` and the last stamp to `stamp`. Fails with `Memory` only.
+// balance of the account to `balance` cents and the last stamp to `stamp`. Its reply has the stamp,
+// the id and the balance. Fails with `Memory` only.
 fn create_movement_plan(
     alloc: Global,
     movement: &Movement,
@@ -151,7 +152,7 @@ fn create_movement_plan(
 ///
 /// Refuses with the first that applies of `NoAccount`; `Range(Balance)`, if the balance would
 /// exceed its limit; `Range(Moves)`, if there are already `Id::GREATEST` deposits and withdrawals;
-/// and `ClockEnd`, if no later stamp is left. Fails with `Memory` only.
+/// and `ClockEnd`, if no later stamp exists. Fails with `Memory` only.
 pub fn plan_move(
     alloc: Global,
     movement: &Movement,

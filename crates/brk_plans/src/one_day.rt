@@ -33,7 +33,7 @@ fn create_settlement_day_changes(
 /// The plan sets the day and the last stamp. Its reply has the stamp.
 ///
 /// Refuses with the first that applies of `Exists`, if a day is set; `ClockEnd`, if no later stamp
-/// is left; and `TooEarly`, if `day` is not later than the day (UTC) of the command's stamp. Fails
+/// exists; and `TooEarly`, if `day` is not later than the day (UTC) of the command's stamp. Fails
 /// with `Memory` only.
 pub fn plan_oneday(
     alloc: Global,

@@ -15,8 +15,8 @@ pub struct Quote {
     pub requests: Vec<RequestRow>,
 }
 
-/// Creates the quote of a security from its last trade and from its requests of each pending type,
-/// and sorts the requests by trade, ascending. Fails with `Memory` only.
+/// Returns the quote of a security with its last trade and with its requests of each pending type,
+/// sorted by trade, ascending. Fails with `Memory` only.
 pub fn create_quote(
     last: LastTrade,
     stop_losses: Vec<RequestRow>,

@@ -50,7 +50,7 @@ pub struct ReferenceFacts {
     pub accounts: usize,
     /// True if its account exists.
     pub account: bool,
-    /// True if a band shares a quantity with it.
+    /// True if a band of its tier, type and exchange shares a quantity with it.
     pub overlaps: bool,
     /// The rate of its tax rate, or `None` if that does not exist.
     pub rate: Option<TaxRate>,
@@ -118,8 +118,8 @@ fn permission_refusal(found: ReferenceFacts) -> Option<Refusal>
 }
 
 // Returns the first refusal that applies to a new commission band: `BadQty`, if its bounds are
-// reversed, or `Overlap`, if another band shares a quantity with it. Returns `None` if neither
-// applies.
+// reversed, or `Overlap`, if a band of its tier, type and exchange shares a quantity with it.
+// Returns `None` if neither applies.
 fn band_refusal(band: &Band, found: ReferenceFacts) -> Option<Refusal>
     ensures { result ≡ first_refusal (band_checks band.now found) }
 {
@@ -164,8 +164,8 @@ fn customer_tax_refusal(found: ReferenceFacts) -> Option<Refusal>
     None
 }
 
-// Returns the row change that adds the record; for a listing, the one that adds its SECURITY row.
-// Fails if memory runs out.
+// Returns the row change that adds the row of the record; for a listing, its SECURITY row. Fails if
+// memory runs out.
 fn create_record_change(reference: &Reference) -> Result<Change, AllocError>
     ensures { IfOk result (λ change. change ≡ row_change_adding_record reference.now) }
 {
@@ -222,8 +222,7 @@ fn create_reference_changes(
 ///
 /// Refuses with the first that applies of `BadQty` (the bounds of a band are reversed),
 /// `NoAccount`, `NoCustomer`, `NoBroker`, `NoTax`, `Exists`, `Overlap`, `TaxSum` and
-/// `Range(Accounts)`; and then with `ClockEnd`, if no later stamp is left. Fails with `Memory`
-/// only.
+/// `Range(Accounts)`; and then with `ClockEnd`, if no later stamp exists. Fails with `Memory` only.
 pub fn plan_reference(
     alloc: Global,
     reference: &Reference,

@@ -11,7 +11,7 @@ pub struct Span {
     pub highest: Price,
 }
 
-// Returns the span of prices, widened to include `price`, in cents.
+// Returns the span of prices, in cents, widened to include `price`.
 fn widen_price_span(span: Span, price: Price) -> Span
     ensures { result ≡ spec.span_including_price price span }
 {
@@ -29,7 +29,7 @@ fn widen_price_span(span: Span, price: Price) -> Span
 }
 
 /// Returns the lowest and the highest price, in cents, of `first` and of those ticks of `others`
-/// that have its symbol.
+/// that have the symbol of `first`.
 pub fn first_symbol_price_span(first: &Tick, others: &[Tick]) -> Span
     ensures { result ≡ spec.price_span_of_first_symbol first.now others.now }
 {

@@ -17,8 +17,8 @@ use brk_orders::Update;
 use brk_ref::Name;
 use std::alloc::Global;
 
-// Returns the refusal of a text update if what it names does not exist: `NoTrade`, `NoAccount` or
-// `NoSecurity`, by the kind of the update.
+// Returns the refusal of a text update whose target does not exist: `NoTrade` if it names trades,
+// `NoAccount` if it names an account, and `NoSecurity` if it names a security.
 fn refusal_if_target_is_missing(update: &Update) -> Refusal
     ensures { result ≡ spec.missing_target_refusal update.now }
 {
@@ -29,9 +29,8 @@ fn refusal_if_target_is_missing(update: &Update) -> Refusal
     }
 }
 
-// Returns the row change that replaces the executor's name of a trade by its new one: with each " X
-// " replaced by a space or, if it has none, with each space replaced by " X ". Fails with `Memory`
-// only.
+// Returns the row change that replaces the executor's name of a trade by its new one
+// (`toggle_executor_name`). Fails with `Memory` only.
 fn create_executor_name_change(alloc: Global, trade: &TradeRow) -> Result<Change, Fault>
     ensures change { IfOk result (λ change. tables_after_change change ≡ executor_name_update trade.now) }
     ensures fault { OnErr result (result ≡ Err Memory) }
@@ -43,8 +42,8 @@ fn create_executor_name_change(alloc: Global, trade: &TradeRow) -> Result<Change
     })
 }
 
-// Returns the row change that replaces the settlement text of a trade by the other text of its
-// kind, cash or margin.
+// Returns the row change that replaces the settlement text of a trade by its new one
+// (`toggle_cash_type`).
 fn create_cash_type_change(settled: &SettlementText) -> Change
     ensures { tables_after_change result ≡ cash_type_update settled.now }
 {
@@ -54,9 +53,8 @@ fn create_cash_type_change(settled: &SettlementText) -> Change
     }
 }
 
-// Returns the row change that replaces the cash text of a trade by its new one, in which " Shares
-// of " replaces " shares of ", or the other way round. `security` is the name of its security.
-// Fails with `Memory` only.
+// Returns the row change that replaces the cash text of a trade by its new one
+// (`toggle_cash_text`). `security` is the name of its security. Fails with `Memory` only.
 fn create_cash_text_change(alloc: Global, security: &Name, paid: &CashText) -> Result<Change, Fault>
     ensures change { IfOk result (λ change. tables_after_change change ≡ cash_text_update security.now paid.now) }
     ensures fault { OnErr result (result ≡ Err Memory) }
@@ -68,8 +66,8 @@ fn create_cash_text_change(alloc: Global, security: &Name, paid: &CashText) -> R
     })
 }
 
-// Returns the row changes that replace the executors' names of the trades, in sequence: " X " by a
-// space in a name that has it, otherwise each space by " X ". Fails with `Memory` only.
+// Returns the row changes that replace the executors' names of the trades by their new ones
+// (`toggle_executor_name`), in the sequence of the trades. Fails with `Memory` only.
 fn create_executor_name_changes(alloc: Global, trades: &[TradeRow]) -> Result<Vec<Change>, Fault>
     ensures changes { IfOk result (λ changes. map tables_after_change changes.items ≡ map executor_name_update trades.now) }
     ensures fault { OnErr result (result ≡ Err Memory) }
@@ -81,8 +79,8 @@ fn create_executor_name_changes(alloc: Global, trades: &[TradeRow]) -> Result<Ve
     Ok(changes)
 }
 
-// Returns the row changes that replace the settlement text of each of the trades by the other text
-// of its kind, cash or margin, in sequence. Fails with `Memory` only.
+// Returns the row changes that replace the settlement texts of the trades by their new ones
+// (`toggle_cash_type`), in the sequence of the trades. Fails with `Memory` only.
 fn create_cash_type_changes(alloc: Global, settled: &[SettlementText]) -> Result<Vec<Change>, Fault>
     ensures changes { IfOk result (λ changes. map tables_after_change changes.items ≡ map cash_type_update settled.now) }
     ensures fault { OnErr result (result ≡ Err Memory) }
@@ -94,9 +92,9 @@ fn create_cash_type_changes(alloc: Global, settled: &[SettlementText]) -> Result
     Ok(changes)
 }
 
-// Returns the row changes that replace the cash texts of the trades by their new ones, " Shares of
-// " for " shares of " or the other way round, in sequence. `security` is the name of their
-// security. Fails with `Memory` only.
+// Returns the row changes that replace the cash texts of the trades by their new ones
+// (`toggle_cash_text`), in the sequence of the trades. `security` is the name of their security.
+// Fails with `Memory` only.
 fn create_cash_text_changes(
     alloc: Global,
     security: &Name,
@@ -136,15 +134,16 @@ fn count_updated_trades(found: &TextUpdate) -> usize
     }
 }
 
-/// Plans a text update (Trade-Update). `found` has the trades that it selects, or is `None` if what
-/// it names does not exist, `last` is the stamp of the last accepted command, and `now` the clock
+/// Plans a text update (Trade-Update). `found` has the trades that it selects, or is `None` if its
+/// target does not exist, `last` is the stamp of the last accepted command, and `now` the clock
 /// reading.
 ///
 /// The plan replaces one text of each trade and sets the last stamp. Its reply has the stamp and
 /// the number of trades. No status and no stamp of a trade changes.
 ///
-/// Refuses with `NoTrade`, `NoAccount` or `NoSecurity`, by the kind of the update, if `found` is
-/// `None`, and otherwise with `ClockEnd` if no later stamp is left. Fails with `Memory` only.
+/// Refuses, if `found` is `None`, with `NoTrade`, `NoAccount` or `NoSecurity`, as the update names
+/// trades, an account or a security, and otherwise with `ClockEnd` if no later stamp exists. Fails
+/// with `Memory` only.
 pub fn plan_update(
     alloc: Global,
     update: &Update,

@@ -54,9 +54,9 @@ pub fn toggle_executor_name(alloc: Global, name: &str) -> Result<String, AllocEr
     }
 }
 
-/// Returns the new settlement text of a trade whose present one is `cash_type`: for a cash trade
-/// (`is_cash`) `Cash` if the present one is `CashAccount`, otherwise `CashAccount`; for a margin
-/// trade `Margin` if it is `MarginAccount`, otherwise `MarginAccount`.
+/// Returns the new settlement text of a trade whose present one is `cash_type`. For a cash trade
+/// (`is_cash`) it is `Cash` if the present one is `CashAccount`, otherwise `CashAccount`; for a
+/// margin trade it is `Margin` if the present one is `MarginAccount`, otherwise `MarginAccount`.
 pub fn toggle_cash_type(is_cash: bool, cash_type: CashType) -> CashType
     ensures { cash_type_text result ≡ spec.toggled_cash_type_text is_cash (cash_type_text cash_type) }
 {
@@ -76,8 +76,8 @@ fn append_quantity_and_words(text: &mut String, qty: Qty, words: &str) -> Result
     write!(text, " {}{words}", qty.get())
 }
 
-// Returns the cash text of a trade: the name of its type, a space, its quantity, the text `words`,
-// and the name of its security. Fails if memory runs out.
+// Returns the cash text of a trade: the name of its type, a space, its quantity in decimal digits,
+// the text `words`, and the name of its security. Fails if memory runs out.
 fn format_cash_text(
     alloc: Global,
     paid: &CashText,
@@ -92,10 +92,9 @@ fn format_cash_text(
     Ok(text)
 }
 
-/// Returns the new cash text of a trade, in which " Shares of " replaces " shares of ", or the
-/// other way round: the name of its type, its quantity, " Shares of " if the present text contains
-/// " shares of " and " shares of " otherwise, and the name of its security. Fails if memory runs
-/// out.
+/// Returns the new cash text of a trade: the name of its type, a space, its quantity in decimal
+/// digits, the words " Shares of " if the present text contains " shares of " and " shares of "
+/// otherwise, and the name of its security. Fails if memory runs out.
 pub fn toggle_cash_text(
     alloc: Global,
     paid: &CashText,

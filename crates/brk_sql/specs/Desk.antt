@@ -106,7 +106,8 @@ has_no_writing_foreign_keys t = list_all (λ ref. not (foreign_key_writes_rows r
 
 -- The database `new` has a table without rows, whose definition is `shape tree` for its tree `tree`
 -- and which is stored at the tree of no table of `old`. It also has all tables of `old`, at the
--- same indexes and with the same rows.
+-- same indexes and with the same rows, and satisfies `IsDatabase`. No foreign key of a table that
+-- `old` lacks changes or deletes rows.
 pub record CreatesTableOfShape (old new : Database) (shape : ℕ → Table) : Type 0 where
   pub tree : ℕ
   pub at : ℕ
@@ -142,9 +143,9 @@ pub record ProgramTables (W T : Type 0) : Type 1 where
   pub order : (w : W) → Item w → Item w → Ordering
   pub list : (w : W) → T → List (Item w)
 
--- The database contains all tables of the program `desk`, at the trees `tree`, with the records of
--- `t`. No foreign key of a table changes or deletes rows at these trees. The database may contain
--- other tables.
+-- The database contains all tables of the program `desk`, at the trees `tree`, which are distinct,
+-- with the records of `t`. No foreign key of a table changes or deletes rows at these trees. The
+-- database satisfies `IsDatabase` and may contain other tables.
 pub record HasTables {W T : Type 0} (desk : ProgramTables W T) (t : T) (tree : W → ℕ) (db : Database) : Type 0 where
   pub place : W → ℕ
   pub stands : (w : W) → IsTableAt db.schema (desk.shape w (tree w)) (place w)
@@ -155,8 +156,8 @@ pub record HasTables {W T : Type 0} (desk : ProgramTables W T) (t : T) (tree : W
   pub rows : (w : W) → TreeHoldsRecords (desk.shape w (tree w)) (desk.encode w) (desk.order w) (desk.list w t) (db.trees (tree w))
 
 -- The database contains those tables `w` of the program `desk` for which `In w` holds, at the trees
--- `tree`, with their records of `t`. No foreign key of a table changes or deletes rows at these
--- trees. The database may contain other tables.
+-- `tree`, which are distinct, with their records of `t`. No foreign key of a table changes or
+-- deletes rows at these trees. The database satisfies `IsDatabase` and may contain other tables.
 pub record HasSelectedTables {W T : Type 0} (desk : ProgramTables W T) (In : W → Type 0) (t : T) (tree : W → ℕ) (db : Database) : Type 0 where
   pub place : W → ℕ
   pub stands : (w : W) → In w → IsTableAt db.schema (desk.shape w (tree w)) (place w)
@@ -174,7 +175,7 @@ pub record PreservesUnrelatedTables {W : Type 0} (tree : W → ℕ) (old new : D
 
 -- For all records `t` and trees `tree`: if the database `old` contains the tables with the records
 -- `t` at these trees, `new` contains them with the records `f t` at the same trees. Other tables
--- are unchanged, unless a foreign key of their own writes their rows. Vacuous if `old` does not
+-- are unchanged, unless a foreign key of theirs changes or deletes rows. Vacuous if `old` does not
 -- contain the tables.
 abbrev pub ChangesTablesBy : {W T : Type 0} → ProgramTables W T → (T → T) → Database → Database → Type 0
 ChangesTablesBy {W} {T} desk f old new =

@@ -24,8 +24,9 @@ fn columns_have_names(columns: &[Bytes], names: &[&str]) -> bool
 }
 
 /// Returns true if the columns of the result of the statement `text` are exactly `names`, in order.
-/// If it returns a value, the database was open and is unchanged. Fails with the error of the
-/// database, also if the statement does not compile.
+/// The statement is compiled and not executed. If the function returns a value, the database was
+/// open and is unchanged. Fails with the error of the database, also if the statement does not
+/// compile.
 pub fn statement_has_columns<S: Alter>(
     tx: &mut Transaction<'_, S>,
     text: &str,

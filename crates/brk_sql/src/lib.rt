@@ -44,8 +44,8 @@ pub fn integers_in_column(alloc: Global, rows: &[Row], at: usize) -> Result<Vec<
 }
 
 /// Returns true if the statement `text` compiles, and false if it names a table that does not
-/// exist. If it returns a value, the database was open and is unchanged. Fails with any other error
-/// of the compilation or of the database.
+/// exist. The statement is not executed. If the function returns a value, the database was open and
+/// is unchanged. Fails with any other error of the compilation or of the database.
 pub fn statement_compiles<S: Alter>(tx: &mut Transaction<'_, S>, text: &str) -> Result<bool, Error>
     ensures same_reference { tx.new.conn.ghost_name ≡ tx.old.conn.ghost_name }
     ensures step { IsConnectionStep S.Store tx.old tx.new result (λ has old new. IsTrue old.is_open × (new.now ≡ old.now)

@@ -31,7 +31,7 @@ specified_table table.CashRows = CashRows
 specified_table table.CashMoves = CashMoves
 specified_table table.SettleRules = SettleRules
 
--- The text of the SQL statement that creates a table of a desk.
+-- The CREATE TABLE statement of each table of a desk, with its columns, keys and foreign keys.
 abbrev pub create_table_text : DeskTable → List ℕ
 create_table_text TheDesk = codes "CREATE TABLE DESK (D_ID INTEGER PRIMARY KEY NOT NULL, D_SCHEMA INTEGER NOT NULL, D_LAST INTEGER) STRICT"
 create_table_text KeptRows = codes "CREATE TABLE KEPT (K_BATCH TEXT NOT NULL, K_N INTEGER NOT NULL, K_ROW TEXT NOT NULL, K_LINE TEXT NOT NULL, PRIMARY KEY (K_BATCH, K_N)) STRICT"
@@ -56,7 +56,7 @@ create_table_text CashRows = codes "CREATE TABLE CASH_TRANSACTION (CT_T_ID INTEG
 create_table_text CashMoves = codes "CREATE TABLE CASH_MOVE (CM_ID INTEGER PRIMARY KEY NOT NULL, CM_CA_ID INTEGER NOT NULL REFERENCES CUSTOMER_ACCOUNT (CA_ID), CM_T_ID INTEGER UNIQUE REFERENCES TRADE (T_ID), CM_DTS INTEGER NOT NULL, CM_AMT INTEGER NOT NULL, CM_NAME TEXT NOT NULL) STRICT"
 create_table_text SettleRules = codes "CREATE TABLE SETTLE_RULE (SR_ID INTEGER PRIMARY KEY NOT NULL, SR_DAY INTEGER NOT NULL) STRICT"
 
--- The text of a DELETE statement on the table `w`. It is compiled, to check if a table of this name
--- exists, and never executed.
+-- The text of a DELETE statement on the table `w`, which compiles if and only if a table of this name
+-- exists.
 abbrev pub existence_probe_text : DeskTable → List ℕ
 existence_probe_text w = codes "DELETE FROM " ++ table_name w

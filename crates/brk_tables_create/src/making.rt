@@ -15,8 +15,8 @@ use brk_money::Fault;
 use brk_tables_schema::calls::execute_statement;
 use sqlite::{Alter, Transaction};
 
-// Creates one table of a desk, without rows. Fails with `Store` only, also if a table with its name
-// exists.
+// Creates the table `table` of a desk, without rows. The rows of existing tables are unchanged.
+// Fails with `Store` only, also if a table with its name exists.
 fn create_desk_table<S: Alter>(tx: &mut Transaction<'_, S>, table: Table) -> Result<(), Fault>
     ensures same_reference { tx.new.conn.ghost_name ≡ tx.old.conn.ghost_name }
     ensures step { IsConnectionStep S.Store tx.old tx.new result (λ _ a b. CreatesTableOfShape a.now b.now (table_definition_at (specified_table table))) }
@@ -25,8 +25,8 @@ fn create_desk_table<S: Alter>(tx: &mut Transaction<'_, S>, table: Table) -> Res
     execute_statement(tx, table.create_table_text(), &[])
 }
 
-// Creates the given tables of a desk in order, without rows. Fails with `Store` only, also if a
-// table with one of their names exists.
+// Creates each of `tables`, in order, without rows. The rows of existing tables are unchanged.
+// Fails with `Store` only, also if a table with the name of one of them exists.
 fn create_each_table<S: Alter>(tx: &mut Transaction<'_, S>, tables: &[Table]) -> Result<(), Fault>
     ensures same_reference { tx.new.conn.ghost_name ≡ tx.old.conn.ghost_name }
     ensures step { IsConnectionStep S.Store tx.old tx.new result
@@ -54,8 +54,8 @@ fn add_desk_row<S: Alter>(tx: &mut Transaction<'_, S>) -> Result<(), Fault>
 }
 
 /// Creates the tables of schema 3, without rows, except for the one row of DESK. The rows of
-/// existing tables are unchanged. Fails with `Store` only, also if a table with one of their names
-/// exists.
+/// existing tables are unchanged. Fails with `Store` only, also if a table with the name of a table
+/// of schema 3 exists.
 pub fn create_third_schema_tables<S: Alter>(tx: &mut Transaction<'_, S>) -> Result<(), Fault>
     ensures same_reference { tx.new.conn.ghost_name ≡ tx.old.conn.ghost_name }
     ensures step { IsConnectionStep S.Store tx.old tx.new result (λ _ a b. CreatesDeskTables a.now b.now) }
@@ -66,8 +66,8 @@ pub fn create_third_schema_tables<S: Alter>(tx: &mut Transaction<'_, S>) -> Resu
 }
 
 /// Creates the tables that `schema` does not have and later schemas add, without rows: CASH_MOVE
-/// and SETTLE_RULE for schema 1, SETTLE_RULE for schema 2, none for schema 3. Fails with `Store`
-/// only, also if one of these tables exists.
+/// and SETTLE_RULE for schema 1, SETTLE_RULE for schema 2, none for schema 3. The rows of existing
+/// tables are unchanged. Fails with `Store` only, also if one of the tables to be created exists.
 pub fn create_tables_of_later_schemas<S: Alter>(
     tx: &mut Transaction<'_, S>,
     schema: Schema,

@@ -14,8 +14,8 @@ use brk_money::Fault;
 use brk_tables_schema::calls::statement_compiles;
 use sqlite::{Alter, Transaction};
 
-// Returns true if a table with the name of `table` exists. If it returns a value, the database was
-// open and is unchanged. Fails with `Store` only.
+// Returns true if a table with the name of `table` exists. If the function returns a value, the
+// database was open and is unchanged. Fails with `Store` only.
 fn table_exists<S: Alter>(tx: &mut Transaction<'_, S>, table: Table) -> Result<bool, Fault>
     ensures same_reference { tx.new.conn.ghost_name ≡ tx.old.conn.ghost_name }
     ensures step { IsConnectionStep S.Store tx.old tx.new result (λ has a b. IsTrue a.is_open × (b.now ≡ a.now)
@@ -25,8 +25,8 @@ fn table_exists<S: Alter>(tx: &mut Transaction<'_, S>, table: Table) -> Result<b
     statement_compiles(tx, table.existence_probe_text())
 }
 
-// Returns true if at least one of the tables exists, by name. Changes nothing. Fails with `Store`
-// only.
+// Returns true if a table with the name of one of `tables` exists. Changes nothing. Fails with
+// `Store` only.
 fn has_any_of_tables<S: Alter>(tx: &mut Transaction<'_, S>, tables: &[Table]) -> Result<bool, Fault>
     ensures same_reference { tx.new.conn.ghost_name ≡ tx.old.conn.ghost_name }
     ensures step { IsConnectionStep S.Store tx.old tx.new result (λ has a b. (b.now ≡ a.now)
@@ -41,7 +41,8 @@ fn has_any_of_tables<S: Alter>(tx: &mut Transaction<'_, S>, tables: &[Table]) ->
     Ok(false)
 }
 
-// Returns true if each of the tables exists, by name. Changes nothing. Fails with `Store` only.
+// Returns true if, for each of `tables`, a table with its name exists. Changes nothing. Fails with
+// `Store` only.
 fn has_each_of_tables<S: Alter>(
     tx: &mut Transaction<'_, S>,
     tables: &[Table],
@@ -69,8 +70,8 @@ pub fn has_some_desk_table<S: Alter>(tx: &mut Transaction<'_, S>) -> Result<bool
     has_any_of_tables(tx, &IN_THIRD)
 }
 
-// Returns true if each table of `there` and no table of `absent` exists, by name. Changes nothing.
-// Fails with `Store` only.
+// Returns true if a table with the name of each table of `there` exists, and none with the name of
+// a table of `absent`. Changes nothing. Fails with `Store` only.
 fn has_exactly_tables<S: Alter>(
     tx: &mut Transaction<'_, S>,
     there: &[Table],
@@ -89,8 +90,8 @@ fn has_exactly_tables<S: Alter>(
     Ok(!has_any_of_tables(tx, absent)?)
 }
 
-// Returns true if each table of `schema` and no table that a later schema adds exists, by name.
-// Changes nothing. Fails with `Store` only.
+// Returns true if a table with the name of each table of `schema` exists, and none with the name of
+// a table that a later schema adds. Changes nothing. Fails with `Store` only.
 fn has_exactly_tables_of_schema<S: Alter>(
     tx: &mut Transaction<'_, S>,
     schema: Schema,
@@ -107,8 +108,9 @@ fn has_exactly_tables_of_schema<S: Alter>(
     }
 }
 
-/// Returns true if each table of `schema` and no table that a later schema adds exists, by name. If
-/// it returns a value, the database was open and is unchanged. Fails with `Store` only.
+/// Returns true if a table with the name of each table of `schema` exists, and none with the name
+/// of a table that a later schema adds. If the function returns a value, the database was open and
+/// is unchanged. Fails with `Store` only.
 pub fn has_exact_tables_by_name<S: Alter>(
     tx: &mut Transaction<'_, S>,
     schema: Schema,

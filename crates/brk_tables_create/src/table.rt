@@ -53,7 +53,7 @@ pub enum Table {
 }
 
 impl Table {
-    /// Returns the text of the SQL statement that creates the table.
+    /// Returns the CREATE TABLE statement of the table, with its columns, keys and foreign keys.
     pub fn create_table_text(self) -> &'static str
         ensures { result.now ≡ create_table_text (specified_table self) }
     {
@@ -105,8 +105,8 @@ impl Table {
         }
     }
 
-    /// Returns the text of a DELETE statement on the table. It is compiled, to check if a table of
-    /// this name exists, and never executed.
+    /// Returns the text of a DELETE statement on the table, which compiles if and only if a table of
+    /// this name exists.
     pub fn existence_probe_text(self) -> &'static str
         ensures { result.now ≡ existence_probe_text (specified_table self) }
     {

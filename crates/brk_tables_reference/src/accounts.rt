@@ -55,8 +55,8 @@ pub fn account_by_id<S: Alter>(
     decode_first_row(&rows)
 }
 
-/// Returns the accounts of a customer, sorted by id, ascending. Changes nothing. Fails with
-/// `Memory` or `Store`.
+/// Returns the accounts of the customer with the id `customer`, sorted by id, ascending. Changes
+/// nothing. Fails with `Memory` or `Store` only.
 pub fn accounts_of_customer<S: Alter>(
     tx: &mut Transaction<'_, S>,
     alloc: Global,

@@ -12,8 +12,8 @@ use brk_tables_schema::record::decode_first_row;
 use brk_tables_schema::values::{id_as_parameter, text_as_parameter};
 use sqlite::{Alter, Transaction};
 
-/// Inserts the permission of a person, by tax id, to order for an account (ACCOUNT_PERMISSION).
-/// Fails with `Store` only, also if the account has a permission for the tax id.
+/// Inserts a row of ACCOUNT_PERMISSION: the permission of a person, identified by tax id, to order
+/// for an account. Fails with `Store` only, also if the account has a permission for this tax id.
 pub fn add_permission<S: Alter>(
     tx: &mut Transaction<'_, S>,
     permission: &Permission,

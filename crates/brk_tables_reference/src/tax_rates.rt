@@ -14,8 +14,8 @@ use brk_tables_schema::values::{id_as_parameter, tax_rate_as_parameter, text_as_
 use sqlite::{Alter, Transaction};
 use std::alloc::Global;
 
-/// Inserts a tax with its rate, in hundred-thousandths (TAXRATE). Fails with `Store` only, also if
-/// the id exists.
+/// Inserts the row of a tax rate (TAXRATE): its id, its name, and the rate in hundred-thousandths.
+/// Fails with `Store` only, also if the id exists.
 pub fn add_tax_rate<S: Alter>(tx: &mut Transaction<'_, S>, tax: &Tax) -> Result<(), Fault>
     ensures same_reference { tx.new.conn.ghost_name ≡ tx.old.conn.ghost_name }
     ensures step { WritesDeskTables S.Store tx.old tx.new result (tables_with_tax_rate (abstract_tax_rate tax.now)) }
@@ -32,8 +32,8 @@ pub fn add_tax_rate<S: Alter>(tx: &mut Transaction<'_, S>, tax: &Tax) -> Result<
     )
 }
 
-/// Inserts the row by which a customer pays a tax (CUSTOMER_TAXRATE). Fails with `Store` only, also
-/// if the row exists.
+/// Inserts the row of CUSTOMER_TAXRATE for a tax that a customer pays: the ids of the customer and
+/// of the tax rate. Fails with `Store` only, also if the row exists.
 pub fn add_customer_tax<S: Alter>(
     tx: &mut Transaction<'_, S>,
     pays: &CustomerTax,
@@ -49,7 +49,7 @@ pub fn add_customer_tax<S: Alter>(
     )
 }
 
-/// Returns the tax with the id `id`, or `None` if there is none. Changes nothing. Fails with
+/// Returns the tax rate with the id `id`, or `None` if there is none. Changes nothing. Fails with
 /// `Store` only.
 pub fn tax_rate_by_id<S: Alter>(tx: &mut Transaction<'_, S>, id: Id) -> Result<Option<Tax>, Fault>
     ensures same_reference { tx.new.conn.ghost_name ≡ tx.old.conn.ghost_name }
@@ -64,8 +64,8 @@ pub fn tax_rate_by_id<S: Alter>(tx: &mut Transaction<'_, S>, id: Id) -> Result<O
     decode_first_row(&rows)
 }
 
-/// Returns the row by which a customer pays a tax, or `None` if the customer does not pay it.
-/// Changes nothing. Fails with `Store` only.
+/// Returns the row of CUSTOMER_TAXRATE with the customer `customer` and the tax rate `tax`, or
+/// `None` if the customer does not pay this tax. Changes nothing. Fails with `Store` only.
 pub fn customer_tax_by_customer_and_tax<S: Alter>(
     tx: &mut Transaction<'_, S>,
     customer: Id,
@@ -83,8 +83,8 @@ pub fn customer_tax_by_customer_and_tax<S: Alter>(
     decode_first_row(&rows)
 }
 
-/// Returns the rows by which a customer pays taxes, sorted by the id of the tax, ascending. Changes
-/// nothing. Fails with `Memory` or `Store`.
+/// Returns the rows of CUSTOMER_TAXRATE with the customer `customer`, sorted by the id of the tax
+/// rate, ascending. Changes nothing. Fails with `Memory` or `Store` only.
 pub fn taxes_of_customer<S: Alter>(
     tx: &mut Transaction<'_, S>,
     alloc: Global,

@@ -64,14 +64,15 @@ rule_rows (Some day) = record { id = 1; day = day } ∷ []
 abbrev pub rule_key : RuleRow → List KeyPart
 rule_key r = number r.id ∷ []
 
--- True if the schema `schema` has the table. Only CASH_MOVE and SETTLE_RULE depend on it.
+-- True if the schema `schema` has the table. The result depends on the schema for CASH_MOVE and
+-- SETTLE_RULE only.
 abbrev pub schema_has_table : Schema → DeskTable → Bool
 schema_has_table schema CashMoves = schema.has_cash_move_table
 schema_has_table schema SettleRules = schema.has_settle_rule_table
 schema_has_table schema w = true
 
--- The definition of a table of a desk, with its rows at the given tree: its SQL name, columns, keys
--- and foreign keys.
+-- The definition of the table `w` of a desk, with its rows at the given tree: its SQL name, columns,
+-- keys and foreign keys.
 abbrev pub table_definition_at : DeskTable → ℕ → Table
 table_definition_at TheDesk = desk_row_table
 table_definition_at KeptRows = kept_table
@@ -121,7 +122,7 @@ table_definition_has_tree CashRows tree = refl
 table_definition_has_tree CashMoves tree = refl
 table_definition_has_tree SettleRules tree = refl
 
--- The type of the records of a table of a desk.
+-- The type of the records of the table `w` of a desk.
 abbrev pub RecordOfTable : DeskTable → Type 0
 RecordOfTable TheDesk = DeskRow
 RecordOfTable KeptRows = Kept
@@ -146,7 +147,7 @@ RecordOfTable CashRows = CashRow
 RecordOfTable CashMoves = MoveRow
 RecordOfTable SettleRules = RuleRow
 
--- The SQL row that encodes a record of a table: its values in the order of the columns.
+-- The SQL row that encodes a record of the table `w`: its values in the order of the columns.
 abbrev pub encoded_row : (w : DeskTable) → RecordOfTable w → Row
 encoded_row TheDesk = desk_row_cells
 encoded_row KeptRows = kept_cells
@@ -171,7 +172,7 @@ encoded_row CashRows = cash_cells
 encoded_row CashMoves = move_cells
 encoded_row SettleRules = rule_cells
 
--- The primary key of a record of a table: its parts, in the order of the key's columns.
+-- The primary key of a record of the table `w`: its parts, in the order of the key's columns.
 abbrev pub primary_key_of_record : (w : DeskTable) → RecordOfTable w → List KeyPart
 primary_key_of_record TheDesk = desk_key
 primary_key_of_record KeptRows = kept_key

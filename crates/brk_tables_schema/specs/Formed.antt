@@ -165,7 +165,8 @@ is_null_or_stamp_cell = is_null_or_natural_cell (λ n. nat_le n greatest_stamp)
 
 -- ---- The check of a row
 
--- True if the row has as many columns as there are checks, and each column passes its own.
+-- True if the row has as many columns as there are checks, and each column passes the check at its
+-- index.
 abbrev pub passes_all_cell_checks : List (Value → Bool) → Row → Bool
 passes_all_cell_checks [] [] = true
 passes_all_cell_checks (has_form ∷ forms) (v ∷ row) = has_form v && passes_all_cell_checks forms row
@@ -269,7 +270,7 @@ move_column_cell_checks = is_cash_row_number_cell ∷ is_id_cell ∷ is_null_or_
 abbrev pub rule_column_cell_checks : List (Value → Bool)
 rule_column_cell_checks = is_natural_cell (λ n. n == 1) ∷ is_day_cell ∷ []
 
--- True if there is no row of SETTLE_RULE, or exactly one, which passes its checks.
+-- True if there is no row of SETTLE_RULE, or exactly one, which passes the checks of its columns.
 abbrev pub has_at_most_one_valid_rule_row : List Row → Bool
 has_at_most_one_valid_rule_row [] = true
 has_at_most_one_valid_rule_row (row ∷ []) = passes_all_cell_checks rule_column_cell_checks row

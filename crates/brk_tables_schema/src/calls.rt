@@ -32,8 +32,8 @@ pub fn execute_statement<S: Alter>(
     }
 }
 
-/// Returns the rows that the statement `text`, which has no RETURNING clause, selects with the
-/// parameters `params`, in the order of its result. Fails with `Store` only.
+/// Returns the rows that the statement `text`, which must have no RETURNING clause, selects with
+/// the parameters `params`, in the order of its result. Changes nothing. Fails with `Store` only.
 pub fn select_rows<S: Alter>(
     tx: &mut Transaction<'_, S>,
     text: &str,

@@ -109,8 +109,8 @@ pub fn formatted_text_in_column<F: Form>(row: &Row, at: usize) -> Result<FormedT
     FormedText::new(text_in_column(row, at)?).ok_or(DecodeError::Form)
 }
 
-/// Reads the number of a row of a batch, from 1, from the column `at`. Fails with `Form`, only if
-/// the column is missing or malformed, or with `Memory`.
+/// Reads the number of a row of a batch, from 1 to 10^12, from the column `at`. Fails with `Form`,
+/// only if the column is missing or malformed, or with `Memory`.
 pub fn row_number_in_column(row: &Row, at: usize) -> Result<RowNumber, DecodeError>
     ensures value { IfOk result (λ number. column row.now at ≡ Int (pos number)) }
     ensures form { result ≡ Err Formless → at < length row.now → is_id_cell (column row.now at) ≡ false }
@@ -127,8 +127,8 @@ pub fn id_in_column(row: &Row, at: usize) -> Result<Id, DecodeError>
     Id::new(natural_in_column(row, at)?).ok_or(DecodeError::Form)
 }
 
-/// Reads the number of a cash row (CM_ID), from 1, from the column `at`. Fails with `Form`, only if
-/// the column is missing or malformed, or with `Memory`.
+/// Reads the number of a cash row (CM_ID), from 1 to 2 * 10^12, from the column `at`. Fails with
+/// `Form`, only if the column is missing or malformed, or with `Memory`.
 pub fn cash_row_id_in_column(row: &Row, at: usize) -> Result<MoveId, DecodeError>
     ensures value { IfOk result (λ id. column row.now at ≡ Int (pos id)) }
     ensures form { result ≡ Err Formless → at < length row.now → is_cash_row_number_cell (column row.now at) ≡ false }
@@ -313,7 +313,7 @@ fn is_code_of_status(status: Status, bytes: &[u8]) -> bool
     status.code().as_bytes() == bytes
 }
 
-// Returns the status of a trade with this code, or `None` if no status has it.
+// Returns the status of a trade whose code is `bytes`, or `None` if no status has this code.
 fn parse_status(bytes: &[u8]) -> Option<Status>
     ensures { MatchOption result (is_status_code bytes.now ≡ false) (λ status. trade_status_code status ≡ bytes.now) }
 {
@@ -351,7 +351,8 @@ fn is_text_of_cash_type(kind: CashType, bytes: &[u8]) -> bool
     kind.word().as_bytes() == bytes
 }
 
-// Returns the cash type of a settlement with this text, or `None` if no cash type has it.
+// Returns the cash type of a settlement whose text is `bytes`, or `None` if no cash type has this
+// text.
 fn parse_cash_type(bytes: &[u8]) -> Option<CashType>
     ensures { MatchOption result (is_cash_type_text bytes.now ≡ false) (λ kind. cash_type_text kind ≡ bytes.now) }
 {

@@ -34,7 +34,7 @@ impl<T: Drop> From<AllocFailed<T>> for DecodeError {
 
     ghost from_gives = { λ _ decode_error. decode_error ≡ Refused };
 
-    /// Converts an error of an allocation that returns a value to `Memory`.
+    /// Converts the error of an allocation for a value, which the error contains, to `Memory`.
     fn from(_: AllocFailed<T>) -> DecodeError {
         DecodeError::Memory
     }
@@ -50,8 +50,8 @@ impl From<DecodeError> for Fault {
     }
 }
 
-/// Converts an error of the read of a column to a decoding error: `Form` only if the error is not
-/// out of memory.
+/// Converts an error of the read of a column: out of memory to `Memory`, and any other error to
+/// `Form`.
 pub(crate) fn decode_error_of_read_error(error: Error) -> DecodeError
     ensures { result ≡ DecodeError.Form → error ≢ Error.SqliteFailure ErrorCode.OutOfMemory }
 {

@@ -33,8 +33,8 @@ pub fn set_last_stamp<S: Alter>(tx: &mut Transaction<'_, S>, stamp: Stamp) -> Re
 }
 
 // Decodes the stamp of the last accepted command from a row of DESK with the number of `schema`, or
-// returns `None` if the row has no stamp. Fails with `Form`, only if the row is malformed, or with
-// `Memory`.
+// returns `None` if the row has no stamp. Fails with `Form`, only if the row is malformed or has
+// another schema number, or with `Memory`.
 fn last_stamp_in_desk_row(schema: Schema, row: &Row) -> Result<Option<Stamp>, DecodeError>
     ensures value { IfOk result (λ last. map desk_row_cells (desk_rows (abstract_schema schema) last) ≡ row.now ∷ []) }
     ensures form { result ≡ Err Formless → passes_all_cell_checks (desk_column_cell_checks (abstract_schema schema)) row.now ≡ false }
@@ -46,9 +46,9 @@ fn last_stamp_in_desk_row(schema: Schema, row: &Row) -> Result<Option<Stamp>, De
     optional_stamp_in_column(row, 2)
 }
 
-/// Decodes the stamp of the last accepted command from all rows of DESK, with the number of
-/// `schema`, or returns `None` if the row has no stamp. Fails with `Form`, only if there is not
-/// exactly one well-formed row, or with `Memory`.
+/// Decodes the stamp of the last accepted command from all rows of DESK, or returns `None` if the
+/// row has no stamp. Fails with `Form`, only if there is not exactly one well-formed row with the
+/// number of `schema`, or with `Memory`.
 pub fn last_stamp_in_desk_rows(schema: Schema, rows: &[Row]) -> Result<Option<Stamp>, DecodeError>
     ensures value { IfOk result (λ last. map desk_row_cells (desk_rows (abstract_schema schema) last) ≡ rows.now) }
     ensures form { result ≡ Err Formless → has_one_valid_desk_row (abstract_schema schema) rows.now ≡ false }
@@ -59,9 +59,9 @@ pub fn last_stamp_in_desk_rows(schema: Schema, rows: &[Row]) -> Result<Option<St
     }
 }
 
-// Decodes the stamp of the last accepted command from all rows of DESK in schema 3, or returns
-// `None` if the row has no stamp. Fails with `Store` only, if there is not exactly one well-formed
-// row or memory runs out.
+// Decodes the stamp of the last accepted command from all rows of DESK, or returns `None` if the
+// row has no stamp. Fails with `Store` only, if there is not exactly one well-formed row with the
+// number of schema 3 or memory runs out.
 fn last_stamp_in_third_schema_rows(rows: &[Row]) -> Result<Option<Stamp>, Fault>
     ensures value { IfOk result (λ last. map desk_row_cells (desk_rows third_schema last) ≡ rows.now) }
     ensures fault { OnErr result (result ≡ Err Store) }
@@ -71,7 +71,7 @@ fn last_stamp_in_third_schema_rows(rows: &[Row]) -> Result<Option<Stamp>, Fault>
 
 /// Returns the stamp of the last accepted command (D_LAST), in milliseconds since 1970-01-01 UTC,
 /// or `None` if none is stored. Changes nothing. Fails with `Store` only, also if DESK does not
-/// have exactly one well-formed row.
+/// have exactly one well-formed row with the number of schema 3.
 pub fn last_stamp<S: Alter>(tx: &mut Transaction<'_, S>) -> Result<Option<Stamp>, Fault>
     ensures same_reference { tx.new.conn.ghost_name ≡ tx.old.conn.ghost_name }
     ensures step { ReadsDeskTables S.Store tx.old tx.new result (λ last t. last ≡ t.last) }

@@ -22,15 +22,15 @@ pub trait Record: Drop {
     /// The check of each column of a row that encodes a record, in the order of the columns.
     ghost forms: { List (Value → Bool) };
 
-    /// Decodes a row. Fails with `Form`, only if a column is malformed or the number of columns is
-    /// wrong, or with `Memory`.
+    /// Decodes a row as the record that it encodes. Fails with `Form`, only if a column is
+    /// malformed or the number of columns is wrong, or with `Memory`.
     fn from_row(row: &Row) -> Result<Self, DecodeError>
         ensures value { IfOk result (λ r. cells r ≡ row.now) }
         ensures form { result ≡ Err Formless → passes_all_cell_checks forms row.now ≡ false };
 }
 
 /// Decodes the first of the rows, or returns `None` if there are no rows. Fails with `Store` only,
-/// if the row is malformed or memory runs out.
+/// if the first row is malformed or memory runs out.
 pub fn decode_first_row<T: Record>(rows: &[Row]) -> Result<Option<T>, Fault>
     ensures value { IfOk result (λ o. option_map T.cells o ≡ slice_get rows.now 0) }
     ensures fault { OnErr result (result ≡ Err Store) }

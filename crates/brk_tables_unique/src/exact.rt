@@ -7,13 +7,14 @@ ghost use Rattle.brk_changes.specs.declared.schema.Schema.{Schema};
 ghost use Rattle.brk_changes.specs.Schemas.{abstract_schema};
 ghost use Rattle.brk_tables_schema.specs.Made.{HasDeskTables, HasDeskTablesInSchema};
 
-/// Proves that a database contains at most one set of rows as the tables of a desk in schema 3.
+/// Proves that two sets of tables are equal if one database contains the rows of both as the tables
+/// of a desk in schema 3.
 pub fn database_rows_determine_tables()
     ensures { (t u : Tables) → (db : Database) → HasDeskTables t db → HasDeskTables u db → t ≡ u }
 {}
 
-/// Proves that a database contains the tables of a desk in at most one schema, and at most one set
-/// of rows as these tables.
+/// Proves that two schemas are equal, and two sets of tables are equal, if one database contains
+/// the rows of both sets as the tables of a desk, each set in one of the two schemas.
 pub fn database_rows_determine_schema_and_tables()
     ensures { (a b : Schema) → (t u : Tables) → (db : Database) → HasDeskTablesInSchema (abstract_schema a) t db
         → HasDeskTablesInSchema (abstract_schema b) u db → (a ≡ b) × (t ≡ u) }

@@ -12,10 +12,10 @@ use std::alloc::{AllocError, Global};
 use std::process::Abort;
 use std::test::Fail;
 
-// Returns the text of an outcome: `ok` and the stamp of a command that books only a stamp, `again`
-// and the stored reply, `no` and the refusal of a command or a query, the number of submitted
-// trades in their view and the word `trades`, and `something else` for any other outcome. Fails
-// only if memory runs out.
+// Returns the text of an outcome: `ok` and the stamp of a command whose reply is only its stamp,
+// `again` and the stored reply, `no` and the refusal of a command or a query, the number of trades
+// in the view of submitted trades and the word `trades`, and `something else` for any other
+// outcome. Fails only if memory runs out.
 fn format_outcome(alloc: Global, outcome: &Outcome) -> Result<String, AllocError> {
     match outcome {
         Outcome::Did(Answer::Done(Reply::Booked(stamp))) => {
@@ -30,7 +30,8 @@ fn format_outcome(alloc: Global, outcome: &Outcome) -> Result<String, AllocError
 }
 
 // Executes calls on a desk as one run, and checks that the texts of their outcomes, as
-// `format_outcome` returns them, are exactly `wanted`, in order. Fails also if the run fails.
+// `format_outcome` returns them, are exactly `wanted`, in order. Fails if the run fails or an
+// outcome differs.
 fn expect_run_outcomes(
     rt: &impl Abort,
     alloc: Global,

@@ -38,7 +38,8 @@ pub struct Step<'a> {
     pub lines: &'a str,
 }
 
-/// Returns a new desk in memory, whose tables have no rows. Fails if it cannot be created.
+/// Returns a new desk in memory. Its tables have no rows, except for one row of DESK. Fails if the
+/// desk cannot be created.
 pub fn new_desk_in_memory(alloc: Global) -> Result<Desk<MemStore>, Fail> {
     let Ok(store) = Store::create(Connection::open_in_memory(alloc)?) else {
         return Err("no store")?;
@@ -47,8 +48,8 @@ pub fn new_desk_in_memory(alloc: Global) -> Result<Desk<MemStore>, Fail> {
 }
 
 /// Returns a desk in memory after the batch `SET`, which adds a broker, a customer, an account, a
-/// security, charges, commission bands and a tax. Fails if the desk cannot be created or the batch
-/// writes other lines than `SET_LINES`.
+/// security, charges, commission bands and a tax rate. Fails if the desk cannot be created or the
+/// batch writes other lines than `SET_LINES`.
 pub fn desk_with_reference_data(alloc: Global) -> Result<Desk<MemStore>, Fail> {
     let mut desk = new_desk_in_memory(alloc)?;
     let set = Step {
@@ -78,8 +79,8 @@ pub fn run_batch_at_desk(
 }
 
 // Checks that a batch wrote exactly the lines `wanted`. Fails with `name` and the number of the
-// first other line, with `name` if lines are missing or there are more, and if the bytes `told` are
-// not UTF-8.
+// first line that differs, with `name` if lines are missing or there are more, and if the bytes
+// `told` are not UTF-8.
 fn expect_batch_lines(name: &str, told: &[u8], wanted: &str) -> Result<(), Fail> {
     let told = str::from_utf8(told).map_err(|_| "no text")?;
     let mut row = 0u64;

@@ -26,9 +26,9 @@ impl<'a> Failing<'a> {
 }
 
 impl Read for Failing<'_> {
-    /// Copies the next bytes, as many as the buffer can hold, to the buffer and returns their
-    /// number, 0 at the end. Fails once, with an error of the kind `fault`, in place of the first
-    /// byte after `before`.
+    /// Copies the next bytes, at most as many as the buffer can hold, to the buffer and returns
+    /// their number, 0 at the end. Fails once, with an error of the kind `fault`, after the bytes
+    /// of `before`.
     fn read(&mut self, buf: &mut [u8]) -> io::Result<usize> {
         if self.before.is_empty() {
             if let Some(kind) = self.fault.take() {
@@ -46,7 +46,7 @@ impl Read for Failing<'_> {
 }
 
 /// A writer that accepts at most seven bytes at a call, and `room` in total. The call after that
-/// fails with `error`, or accepts no byte without `error`; all later calls succeed.
+/// fails with `error`, or accepts no byte if `error` is `None`; all later calls succeed.
 #[derive(Drop)]
 pub struct Narrow {
     pub taken: Vec<u8>,
@@ -55,8 +55,8 @@ pub struct Narrow {
 }
 
 impl Narrow {
-    /// Returns a writer with room for `room` bytes, which then fails once with `error`, or accepts
-    /// no byte once without `error`.
+    /// Returns a writer with room for `room` bytes, which then fails once with `error`, or once
+    /// accepts no byte if `error` is `None`.
     pub fn new(alloc: Global, room: usize, error: Option<ErrorKind>) -> Narrow {
         Narrow {
             taken: Vec::new(alloc),
@@ -67,8 +67,9 @@ impl Narrow {
 }
 
 impl Write for Narrow {
-    /// Appends at most seven bytes and returns their number. At the first call without room, fails
-    /// with `error`, or accepts no byte without `error`; after it there is room for all bytes.
+    /// Appends at most seven bytes to `taken` and returns their number. At the first call without
+    /// room, fails with `error`, or returns 0 if `error` is `None`; after it there is room for all
+    /// bytes. Fails also if memory runs out.
     fn write(&mut self, buf: &[u8]) -> io::Result<usize> {
         let left = self.room.saturating_sub(self.taken.len());
         if left == 0 {

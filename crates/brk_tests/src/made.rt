@@ -3,7 +3,8 @@ use brk_money::{Condition, Fault};
 use sqlite::{Connection, MemStore};
 use std::test::Fail;
 
-// Creates the tables of a store in the database of a connection. Fails if they cannot be created.
+// Creates the tables of a store in the database of a connection, and returns the store. Fails if
+// they cannot be created.
 fn create_store(conn: Connection<MemStore>) -> Result<Store<MemStore>, Fail> {
     Ok(Store::create(conn).map_err(|_| "no store")?)
 }
@@ -38,8 +39,8 @@ fn creation_preserves_other_tables(rt: HostRuntime) -> Result<(), Fail> {
     Ok(())
 }
 
-// Checks that creating a store in a database that has a table with the name of a desk's table, in
-// other case, fails with `NotEmpty`.
+// Checks that creating a store fails with `NotEmpty` in a database that has a table whose name
+// differs from that of a desk's table only in upper and lower case.
 #[test]
 fn creation_beside_a_desk_table_is_refused(rt: HostRuntime) -> Result<(), Fail> {
     let mut conn = Connection::open_in_memory(rt.alloc())?;

@@ -49,9 +49,8 @@ fn format_batch_of_rows(alloc: Global, rows: &[String]) -> Result<String, Fail> 
     Ok(batch)
 }
 
-// Checks that account 100 holds 42,084 shares after all trades, by which 83,667 shares were bought
-// and 41,583 sold, that broker 1 has 500 trades and commissions of 12525.00, and that the audit
-// passes.
+// Checks that account 100 holds 42,084 shares after all trades (83,667 bought less 41,583 sold),
+// that broker 1 has 500 trades and commissions of 12525.00, and that the audit passes.
 fn expect_totals_after_trades(
     rt: &impl Abort,
     alloc: Global,
@@ -73,8 +72,9 @@ fn expect_totals_after_trades(
     Ok(())
 }
 
-// Executes the rows as one batch on a new desk. Checks that all 1,000 rows are accepted, the line
-// of the last row, the end line, and the totals of `expect_totals_after_trades`. Returns the lines.
+// Executes the rows as one batch on a new desk. Checks that all 1,000 rows are accepted, that the
+// line of the last row and the end line are the wanted ones, and the totals by
+// `expect_totals_after_trades`. Returns the lines.
 fn run_and_check_batch(rt: &impl Abort, alloc: Global, rows: &[String]) -> Result<Vec<u8>, Fail> {
     let batch = format_batch_of_rows(alloc, rows)?;
     let mut desk = desk_with_reference_data(alloc)?;
@@ -143,9 +143,9 @@ fn lines_of_outcomes(alloc: Global, outcomes: &[Outcome]) -> Result<String, Fail
     Ok(lines)
 }
 
-// Executes the calls of all rows as one run on a new desk, checks the totals of
-// `expect_totals_after_trades`, and returns the lines that a batch would write for the rows. Fails
-// if a row is not accepted.
+// Executes the calls of all rows as one run on a new desk, checks the totals by
+// `expect_totals_after_trades`, and returns the lines that a batch would write for the rows,
+// without its end line. Fails if a row is not accepted.
 fn run_rows_and_check_totals(
     rt: &impl Abort,
     alloc: Global,
@@ -158,7 +158,7 @@ fn run_rows_and_check_totals(
 }
 
 // Checks that a batch of 500 orders and their results writes the lines that result from one run of
-// the same calls.
+// the same calls, followed by its end line.
 #[test]
 fn a_batch_equals_one_run_of_its_calls(rt: HostRuntime) -> Result<(), Fail> {
     let alloc = rt.alloc();

@@ -45,8 +45,8 @@ fn files_with_hundred_lots(alloc: Global) -> Result<Held, Fail> {
     Ok(held)
 }
 
-// Returns the text of a batch with the order and the result of a sale of `shares` shares of an
-// account. Fails only if memory runs out.
+// Returns the text of a batch with the order of a sale of `shares` shares of ABC of an account and
+// its result at 10.00. Fails only if memory runs out.
 fn batch_of_one_sale(alloc: Global, account: u64, shares: u64) -> Result<String, Fail> {
     let trade = LOTS + 2;
     Ok(format!(in alloc;
@@ -82,7 +82,7 @@ fn sale_completes_within_calls(
 }
 
 // Returns the least number of calls of the database file with which the sale of one share of an
-// account completes, at most 8,192. Fails if memory runs out.
+// account completes, or 8,192 if it does not complete with fewer. Fails if memory runs out.
 fn least_calls_of_sale(alloc: Global, held: &Held, account: u64) -> Result<u64, Fail> {
     let mut most = 0u64;
     for bit in [4_096, 2_048, 1_024, 512, 256, 128, 64, 32, 16, 8, 4, 2, 1] {
@@ -95,7 +95,7 @@ fn least_calls_of_sale(alloc: Global, held: &Held, account: u64) -> Result<u64, 
 }
 
 // Checks that the sale of one share needs no more calls of the database file with 100 lots than
-// with one lot, and that a sale of 33 shares needs more.
+// with one lot, and that the sale of 33 shares of the 100 lots needs more.
 #[test]
 fn calls_of_a_sale_do_not_grow_with_lots(rt: HostRuntime) -> Result<(), Fail> {
     let alloc = rt.alloc();

@@ -25,7 +25,8 @@ fn batch_of_one_share_purchases(alloc: Global) -> Result<String, Fail> {
     Ok(batch)
 }
 
-// Returns a store on which account 100 has `LOTS` lots of one share each. Fails if the batch fails.
+// Returns a store on which account 100 has `LOTS` lots of one share each. Fails if the batch of the
+// purchases fails or memory runs out.
 fn store_with_forty_lots(alloc: Global) -> Result<Store<MemStore>, Fail> {
     let batch = batch_of_one_share_purchases(alloc)?;
     let mut desk = desk_with_reference_data(alloc)?;

@@ -62,7 +62,7 @@ const SET_TABLES: &str =
 pub struct Unread;
 
 // Appends the value of a cell as text; a null is an empty text. Fails for a value that is neither a
-// null, nor a whole number, nor UTF-8 text.
+// null, nor a whole number, nor UTF-8 text, and if memory runs out.
 fn append_cell(lines: &mut String, value: ValueRef<'_>) -> Result<(), Unread> {
     match value {
         ValueRef::Null => Ok(()),
@@ -131,8 +131,8 @@ pub fn read_all_tables<S: Alter>(
 }
 
 // Checks that the names and the rows of these tables are exactly the lines `wanted`. Fails with
-// `name` and the number of the first other line, with `name` if lines are missing or there are
-// more, and if the tables cannot be read.
+// `name` and the number of the first line that differs, with `name` if lines are missing or there
+// are more, and if the tables cannot be read.
 fn expect_rows_of_tables(
     alloc: Global,
     conn: &mut Connection<MemStore>,
@@ -157,7 +157,8 @@ fn expect_rows_of_tables(
 
 /// Checks all tables of a store: the reference tables equal those after the batch `SET`, and the
 /// names and rows of the other tables are exactly the lines `wanted`. Fails with `name` and the
-/// number of the first other line, or with `name` if lines are missing or there are more.
+/// number of the first line that differs, with `name` if lines are missing or there are more, and
+/// if the tables cannot be read.
 pub fn expect_all_tables(
     alloc: Global,
     store: Store<MemStore>,

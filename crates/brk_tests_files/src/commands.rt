@@ -6,8 +6,8 @@ use brk_exit::end_with;
 use brk_jobs::execute_arguments;
 use std::alloc::{AllocError, Global};
 
-// Returns the command-line arguments in a text, split at each of its spaces, after `brk`, the name
-// of the program. Fails only if memory runs out.
+// Returns `brk`, the name of the program, followed by the command-line arguments in a text, which
+// is split at each of its spaces. Fails only if memory runs out.
 fn split_command_line(alloc: Global, text: &str) -> Result<Vec<String>, AllocError> {
     let mut words = Vec::new(alloc);
     words.push(String::from_str(alloc, "brk")?)?;
@@ -51,10 +51,10 @@ fn run_program_and_append_output(
     Ok(())
 }
 
-// Changes a file, as another program would, by the word `verb`: `write` (the input), `copy`, `cut`
-// (to its first half) or `sql` (executes the input in it). `words` is the path of the file, for
-// `copy` two paths. Appends `= done`, or `= failed` if it fails or for any other word. Fails only
-// if memory runs out.
+// Changes a file, as another program would, by the word `verb`: writes the input to the file
+// (`write`), copies it (`copy`), removes its second half (`cut`) or executes the input as an SQL
+// statement in it (`sql`). `words` is the path of the file, for `copy` two paths. Appends `= done`,
+// or `= failed` if the change fails or `verb` is another word. Fails only if memory runs out.
 fn change_file_and_append_result(
     rt: &HostRuntime,
     out: &mut String,
@@ -73,8 +73,9 @@ fn change_file_and_append_result(
     Ok(())
 }
 
-/// Executes a command of a transcript with its input, `$` for the program and otherwise a change of
-/// a file, and appends its output lines. Fails only if memory runs out.
+/// Executes a command of a transcript with its input: the program `brk` if the first word of the
+/// command is `$`, and otherwise a change of a file. Appends its output lines. Fails only if memory
+/// runs out.
 pub fn execute_transcript_command(
     rt: &HostRuntime,
     out: &mut String,

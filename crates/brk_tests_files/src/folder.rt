@@ -3,13 +3,14 @@
 use sqlite::Connection;
 use std::fs;
 
-/// Writes the bytes `bytes` as the whole file at a path. Returns true if that succeeds.
+/// Writes the bytes `bytes` as the whole file at a path, in place of an earlier file. Returns true
+/// if that succeeds.
 pub fn write_file(rt: &HostRuntime, path: &str, bytes: &[u8]) -> bool {
     fs::write(rt, path, bytes).is_ok()
 }
 
-/// Copies a file: `paths` has the paths of the file and of its copy, separated by a space. Returns
-/// true if that succeeds, and false also if `paths` has no space.
+/// Copies a file: `paths` contains the paths of the file and of its copy, separated by a space.
+/// Returns true if that succeeds, and false also if `paths` has no space.
 pub fn copy_file(rt: &HostRuntime, paths: &str) -> bool {
     match paths.split_once(' ') {
         Some((from, to)) => fs::copy(rt, from, to).is_ok(),
@@ -17,7 +18,7 @@ pub fn copy_file(rt: &HostRuntime, paths: &str) -> bool {
     }
 }
 
-/// Removes the second half of a file; of an odd number of bytes, the byte in the middle too.
+/// Removes the second half of a file; if its number of bytes is odd, the byte in the middle too.
 /// Returns true if that succeeds.
 pub fn remove_second_half_of_file(rt: &HostRuntime, path: &str) -> bool {
     match fs::read(rt, path) {

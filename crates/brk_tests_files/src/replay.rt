@@ -31,8 +31,8 @@ fn is_output_line(line: &str) -> bool {
     line.starts_with("> ") || line.starts_with("! ") || line.starts_with("= ")
 }
 
-// Returns the command that a line begins, without input, or `None` if the line is a comment or
-// empty.
+// Returns the command that the line `line` begins, without input, or `None` if the line is a
+// comment, which begins with `#`, or empty.
 fn command_begun_by_line(alloc: Global, line: &str) -> Option<Due<'_>> {
     if line.is_empty() || line.starts_with('#') {
         return None;
@@ -57,10 +57,10 @@ fn add_input_to_pending_command<'a>(
     Ok(Some(due))
 }
 
-// Processes a line that is no output line: copies an input line and adds it to the pending command,
-// or executes the pending command and copies any other line, which begins the next command unless
-// it is a comment or empty. Returns the command that is pending after the line, or `None` if none
-// is. Fails only if memory runs out.
+// Processes a line that is no output line: copies an input line and adds it to the pending command;
+// at any other line executes the pending command and copies the line, which begins the next command
+// unless it is a comment or empty. Returns the command that is pending after the line, or `None` if
+// there is none. Fails only if memory runs out.
 fn process_transcript_line<'a>(
     rt: &HostRuntime,
     out: &mut String,
@@ -80,7 +80,7 @@ fn process_transcript_line<'a>(
     }
 }
 
-/// Executes the commands of a transcript, and returns the transcript with their output lines in
+/// Executes the commands of a transcript, and returns the transcript with their new output lines in
 /// place of the old ones. Fails only if memory runs out.
 pub fn replay_file_transcript(rt: &HostRuntime, text: &str) -> Result<String, Failed> {
     let mut out = String::new(rt.alloc());

@@ -88,8 +88,9 @@ impl Rows for Last {
       | asks.Break ↦ (Again (codes ""), base)
     ] };
 
-    // Returns the command for 3, 4, 5 or 6 fields. Refuses 7 fields with 8 (`BadQty`), fails at 9
-    // fields with `Memory`, and refuses any other number with 18 (`BadText`).
+    // Returns the command `Put`, `Repeat`, `Refuse` or `Break` for a row of 3, 4, 5 or 6 fields.
+    // Refuses 7 fields with 8 (`BadQty`), fails at 9 fields with `Memory`, and refuses any other
+    // number with 18 (`BadText`).
     fn parse(_alloc: Global, row: &[&[u8]]) -> Planned<Asked> {
         match row.len() {
             3 => Ok(Ok(Asked::Put)),
@@ -134,8 +135,8 @@ impl Rows for Last {
     }
 }
 
-// A reader that returns its text byte by byte, and fails once, with an error of the kind `kind`, in
-// place of the byte at the position `cut`.
+// A reader that returns its text byte by byte, and fails once, with an error of the kind `kind`,
+// before the byte at the position `cut`.
 #[derive(Drop)]
 struct Flaky<'a> {
     text: &'a [u8],
@@ -145,8 +146,9 @@ struct Flaky<'a> {
 }
 
 impl<'a> Read for Flaky<'a> {
-    // Returns the next byte of the text, fails once at the position `cut`, or returns no byte at
-    // the end.
+    // Copies the next byte of the text to the buffer and returns 1, or returns 0 if the text has no
+    // more bytes or the buffer is empty. Fails once, with an error of the kind `kind`, at the
+    // position `cut`.
     fn read(&mut self, buf: &mut [u8]) -> io::Result<usize> {
         if self.cut == self.at {
             self.cut = usize::MAX;
@@ -172,8 +174,8 @@ struct Long {
 }
 
 impl Long {
-    // Returns the byte at the position `at` of the input: of the header, of the empty lines, or of
-    // the tail.
+    // Returns the byte at the position `at` of the input: a byte of the header or of the tail, and
+    // a line feed at any other position.
     fn byte_at_position(&self, at: u64) -> u8 {
         let header = b"batch,A\n";
         if at < 8 {
@@ -191,8 +193,8 @@ impl Long {
 }
 
 impl Read for Long {
-    // Copies the next bytes to the buffer, at most up to the limit of an input, and returns their
-    // number. Fails if all bytes up to the limit were read before.
+    // Copies the next bytes to the buffer, up to its length and the limit of an input, and returns
+    // their number. Fails if all bytes up to the limit were read before.
     fn read(&mut self, buf: &mut [u8]) -> io::Result<usize> {
         if self.at >= MAXIMUM_INPUT_BYTES {
             return Err(io::Error::from(io::ErrorKind::Other));
@@ -211,7 +213,7 @@ impl Read for Long {
 }
 
 // A writer that accepts at most three bytes at a call, and `most` in total. Each later call fails
-// with `error`, or accepts no byte without `error`.
+// with `error`, or accepts no byte if `error` is `None`.
 #[derive(Drop)]
 struct Choppy {
     got: Vec<u8>,
@@ -220,8 +222,9 @@ struct Choppy {
 }
 
 impl Write for Choppy {
-    // Appends at most three bytes and returns their number. Without room, fails with `error`, or
-    // accepts no byte without `error`.
+    // Appends at most three bytes to `got`, up to `most` bytes in total, and returns their number.
+    // If `got` has `most` bytes, fails with `error`, or returns 0 if `error` is `None`. Fails also
+    // if memory runs out.
     fn write(&mut self, buf: &[u8]) -> io::Result<usize> {
         let room = self.most.saturating_sub(self.got.len());
         if room == 0 {
@@ -242,7 +245,8 @@ impl Write for Choppy {
 }
 
 // Executes a batch that `reader` returns on a new test desk, at the timestamp 7. Returns its
-// result, the counts or the fault, and the bytes that it wrote. Fails if memory runs out.
+// result, the counts or the fault, and the bytes that it wrote. Never fails, because 7 is a
+// timestamp.
 fn run_batch_on_new_desk<R: Read + Drop>(
     alloc: Global,
     reader: R,
@@ -313,7 +317,7 @@ fn an_empty_batch_gets_an_end_line(rt: HostRuntime) -> Result<(), Fail> {
 }
 
 // Checks that a row without a record after it is refused with 18, and that a batch without an end
-// record fails with `NoEnd` after the lines of its rows.
+// record fails with `NoEnd`, after the lines of its rows, if it has any.
 #[test]
 fn the_last_row_of_a_cut_input_is_refused(rt: HostRuntime) -> Result<(), Fail> {
     let cut = b"batch,C\nbroker,2,Cy\nbroker,3\nbroker,4,D".as_slice();
@@ -361,7 +365,8 @@ fn a_batch_with_a_wrong_header_is_refused(rt: HostRuntime) -> Result<(), Fail> {
     Ok(())
 }
 
-// Checks that a batch with a wrong end record fails with `BadEnd`, after the lines of its rows.
+// Checks that a batch whose end record is malformed or has a wrong count fails with `BadEnd`, after
+// the lines of its rows.
 #[test]
 fn a_wrong_end_record_is_a_fault(rt: HostRuntime) -> Result<(), Fail> {
     let bad: [&[u8]; 5] = [
@@ -379,8 +384,8 @@ fn a_wrong_end_record_is_a_fault(rt: HostRuntime) -> Result<(), Fail> {
     Ok(())
 }
 
-// Checks that a batch whose reader fails at several positions fails with `Read`, with the number of
-// decided rows, after exactly their lines.
+// Checks, for each of five positions at which a reader fails once, that the batch fails with `Read`
+// and the number of decided rows, and that exactly the lines of these rows are written.
 #[test]
 fn a_failed_read_ends_the_batch(rt: HostRuntime) -> Result<(), Fail> {
     let text = b"batch,A\nput,1,2\nput,3,4\nend,2\n".as_slice();
@@ -405,8 +410,9 @@ fn a_failed_read_ends_the_batch(rt: HostRuntime) -> Result<(), Fail> {
     Ok(())
 }
 
-// Checks that a batch whose writer fails at several positions fails with `Write`, with the number
-// of decided rows, and that exactly the bytes before are written.
+// Checks, for each of six numbers of bytes after which a writer fails, that the batch fails with
+// `Write` and the number of decided rows, and that exactly this number of bytes of its lines is
+// written.
 #[test]
 fn a_failed_write_ends_the_batch(rt: HostRuntime) -> Result<(), Fail> {
     let cuts: [(usize, u64, Option<io::ErrorKind>); 6] = [

@@ -27,7 +27,7 @@ impl rt::Clock for Stopped {
 // 2024-03-01 00:00 UTC, in milliseconds since 1970-01-01 UTC.
 const PAST: i64 = 1_709_251_200_000;
 
-// Checks that a clock with a fixed timestamp returns it at every reading.
+// Checks that a clock with a fixed timestamp returns it at the first and at the second reading.
 #[test]
 fn a_fixed_clock_returns_its_timestamp(rt: HostRuntime) {
     let mut clock = Moments::new(&rt, Some(Stamp::nearest(PAST)));

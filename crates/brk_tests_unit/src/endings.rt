@@ -10,13 +10,13 @@ use std::io::Write;
 use std::process::Abort;
 use std::test::Fail;
 
-// Returns the ending of the program after a batch that failed with this fault after 3 rows.
+// Returns the ending of the program after a batch that failed with this fault after 3 decided rows.
 fn ending_of_batch_fault(kind: FaultKind) -> Ending {
     Ending::Batch(BatchFault { rows: 3, kind })
 }
 
 // Checks that `end_with` returns the exit status `status` for an ending, and that it writes exactly
-// the text `text` to standard error.
+// the text `text` to its error stream.
 fn expect_status_and_line(rt: &impl Abort, alloc: Global, ending: &Ending, status: u8, text: &str) {
     let mut errors = Vec::new(alloc);
     assert!(rt; end_with(ending, &mut errors) == status, "{text}");
@@ -95,7 +95,7 @@ fn exit_status_and_line_of_usage_faults(rt: HostRuntime) -> Result<(), Fail> {
 }
 
 // Checks that the exit status is 0 without a line for a job that is done, and 3 with an error line
-// for output or a port that failed and for a stream that ended early.
+// if output cannot be written, no stream can be accepted, or memory runs out in a stream.
 #[test]
 fn exit_status_and_line_of_other_endings(rt: HostRuntime) {
     let unserved = ServeFault {

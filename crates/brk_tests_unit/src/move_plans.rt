@@ -33,8 +33,8 @@ fn movement_facts(case: Case) -> Result<MovementPlanFacts, Fail> {
     })
 }
 
-// Checks that the reply to the movement of a case, or `no,` and its refusal, is the text `wanted`,
-// if the last stamp is 1709251200021 ms.
+// Checks that the reply to the movement of a case after the last stamp 1709251200021, or `no,` and
+// the refusal of the movement, is the text `wanted`.
 fn expect_movement_reply(
     rt: &impl Abort,
     alloc: Global,
@@ -55,10 +55,10 @@ fn expect_movement_reply(
     Ok(())
 }
 
-// Checks the replies to a deposit and a withdrawal, with their number and the new balance, which
+// Checks the replies to a deposit and to a withdrawal, with their number and the new balance, which
 // may be below 0. Checks that a deposit beyond the limit of the balance is refused with 14,
-// `balance`, one without its account with 1, and one beyond the limit of movements with 14,
-// `moves`.
+// `balance`, a deposit to an account that does not exist with 1, and a deposit beyond the limit of
+// movements with 14, `moves`.
 #[test]
 fn movement_replies_and_refusals(rt: HostRuntime) -> Result<(), Fail> {
     let alloc = rt.alloc();
@@ -100,9 +100,9 @@ fn movement_replies_and_refusals(rt: HostRuntime) -> Result<(), Fail> {
     Ok(())
 }
 
-// Checks that the reply to setting the settlement day `days`, or `no,` and its refusal, is the text
-// `wanted`, at 2024-03-01 00:00 UTC, on a desk whose settlement day is `rule`, or that has none.
-// Both days are numbers of days since 1970-01-01.
+// Checks that the reply to the command that sets the settlement day `days`, or `no,` and the
+// refusal of the command, is the text `wanted`. The desk has the settlement day `rule`, or none,
+// and its last stamp is on 2024-03-01 UTC; both days are in days since 1970-01-01.
 fn expect_settlement_day_reply(
     rt: &impl Abort,
     alloc: Global,
@@ -123,8 +123,8 @@ fn expect_settlement_day_reply(
     Ok(())
 }
 
-// Checks that the settlement day is refused with 22 if it is not after the day of its stamp,
-// accepted if it is the next day, and refused with 15 if the desk has one already.
+// Checks that a settlement day is refused with 22 if it is the day of the command's stamp, accepted
+// if it is the next day, and refused with 15 if the desk has a settlement day already.
 #[test]
 fn a_settlement_day_must_be_in_the_future(rt: HostRuntime) -> Result<(), Fail> {
     let alloc = rt.alloc();

@@ -26,8 +26,9 @@ fn quote_with_100_shares_left(alloc: Global) -> Result<Vec<Quote>, Fail> {
     Ok(vec![in alloc; Quote { last, requests }]?)
 }
 
-// Returns the text of the reply to a feed of these ticks over `quote_with_100_shares_left`, or
-// `no,` and its refusal. Fails if the ticks are malformed or memory runs out.
+// Returns the text of the reply to a feed of these ticks on the quote of
+// `quote_with_100_shares_left`, or `no,` and the refusal of the feed. Fails if the ticks are
+// malformed or memory runs out.
 fn reply_to_feed(alloc: Global, ticks: &[&[u8]]) -> Result<String, Fail> {
     let now = Stamp::nearest(1_709_251_200_019);
     let quotes = quote_with_100_shares_left(alloc)?;
@@ -49,8 +50,9 @@ const FEEDS: [(&[&[u8]], &str); 4] = [
     (&[b"ABC", b"9.50", b"101", b"QQQ", b"1.00", b"1"], "no,4"),
 ];
 
-// Checks that a feed up to the limit of the volume is accepted, that one and two ticks beyond it
-// are refused with 14, `volume`, and that a feed with an unknown symbol is refused first, with 4.
+// Checks that a feed up to the limit of the volume is accepted, that feeds of one and of two ticks
+// beyond the limit are refused with 14, `volume`, and that a feed beyond the limit with an unknown
+// symbol is refused with 4.
 #[test]
 fn a_feed_beyond_volume_limit_is_refused(rt: HostRuntime) -> Result<(), Fail> {
     for (ticks, wanted) in FEEDS {
@@ -60,9 +62,10 @@ fn a_feed_beyond_volume_limit_is_refused(rt: HostRuntime) -> Result<(), Fail> {
     Ok(())
 }
 
-// Returns the facts of the tables on which the plan for a purchase of ABC depends, after `trades`
-// trades: a last price of 10.00, a commission rate of one percent, a charge of 5.00, and assets of
-// 10000.00. Fails if a value is out of range.
+// Returns the facts of the tables on which the plan for a purchase of ABC depends: `trades` as the
+// last trade id, none if it is out of range, a last price of 10.00, a commission rate of one
+// percent, a charge of 5.00, and assets of 10000.00. Never fails, because its constants are in
+// range.
 fn purchase_facts(trades: u64) -> Result<OrderPlanFacts, Fail> {
     let broker = Id::new(1).ok_or("broker")?;
     let rates = TaxRate::new(20_000).ok_or("rates")?;
@@ -89,7 +92,7 @@ const PURCHASE: [&[u8]; 10] = [
 ];
 
 // Returns the text of the reply to the order `PURCHASE` with these facts, on a position without
-// lots, or `no,` and its refusal. Fails if memory runs out.
+// lots, or `no,` and the refusal of the order. Fails if memory runs out.
 fn reply_to_purchase(alloc: Global, found: &OrderPlanFacts) -> Result<String, Fail> {
     let order = match parse_trade_order(alloc, &PURCHASE)? {
         Ok(order) => order,
@@ -102,8 +105,8 @@ fn reply_to_purchase(alloc: Global, found: &OrderPlanFacts) -> Result<String, Fa
     Ok(format_planned_reply(alloc, planned)?)
 }
 
-// Checks that the reply to the order `PURCHASE` after `trades` trades, or `no,` and its refusal, is
-// the text `wanted`.
+// Checks that the reply to the order `PURCHASE` after `trades` trades, or `no,` and the refusal of
+// the order, is the text `wanted`.
 fn expect_purchase_reply(
     rt: &impl Abort,
     alloc: Global,
@@ -116,8 +119,8 @@ fn expect_purchase_reply(
     Ok(())
 }
 
-// Checks that the last trade id is given to an order, and that the next order is refused with 14,
-// `trades`.
+// Checks that an order after 10^12 - 1 trades is accepted as the trade with the greatest id, 10^12,
+// and that an order after 10^12 trades is refused with 14, `trades`.
 #[test]
 fn an_order_beyond_last_trade_is_refused(rt: HostRuntime) -> Result<(), Fail> {
     let alloc = rt.alloc();
@@ -126,8 +129,9 @@ fn an_order_beyond_last_trade_is_refused(rt: HostRuntime) -> Result<(), Fail> {
     expect_purchase_reply(&rt, alloc, 1_000_000_000_000, "no,14,trades")
 }
 
-// Checks that a last price at or below its bid triggers a stop-loss and a limit buy, that one at or
-// above its bid triggers a limit sell, and that no price triggers a market order.
+// Checks, for a price below, at and above the bid, that exactly a price at or below it triggers a
+// stop-loss or a limit buy, that exactly a price at or above it triggers a limit sell, and that
+// none triggers a market order.
 #[test]
 fn prices_trigger_pending_trades(rt: HostRuntime) -> Result<(), Fail> {
     let below = Price::new(999).ok_or("price")?;

@@ -28,7 +28,7 @@ struct Case {
 }
 
 // Returns the case of a submitted cash purchase of 100 shares at a balance of 10000.00, with a
-// commission rate of one percent.
+// commission rate of one percent, without shares held and without earlier commissions.
 fn submitted_cash_purchase() -> Case {
     Case {
         kind: TradeType::MarketBuy,
@@ -43,8 +43,9 @@ fn submitted_cash_purchase() -> Case {
     }
 }
 
-// Returns the TRADE row of the trade of a case, with the id 1, the account 100, a bid of 10.00 and
-// a charge of 5.00. Fails if a value of the case is out of range or memory runs out.
+// Returns the TRADE row of the trade of a case, with the id 1, the account 100, a bid of 10.00, a
+// charge of 5.00 and a commission of 10.00. Fails if a value of the case is out of range or memory
+// runs out.
 fn trade_row_of_case(alloc: Global, case: Case) -> Result<TradeRow, Fail> {
     let id = Id::new(1).ok_or("trade")?;
     let qty = Qty::new(case.qty).ok_or("quantity")?;
@@ -115,9 +116,9 @@ fn result_facts(alloc: Global, case: Case) -> Result<ResultPlanFacts, Fail> {
     })
 }
 
-// Returns the text of the reply to a result at 10.10 with these facts, on a position without lots
-// and after the last stamp `last`, or `no,` and its refusal. Without `found` the trade does not
-// exist. Fails if memory runs out.
+// Returns the text of the reply to a result at 10.10 with the facts `found`, on a position without
+// lots and after the last stamp `last`, or `no,` and the refusal of the result. If `found` is
+// `None`, the trade does not exist. Fails if memory runs out.
 fn reply_to_result(
     alloc: Global,
     found: Option<&ResultPlanFacts>,
@@ -136,8 +137,8 @@ fn reply_to_result(
     Ok(format_planned_reply(alloc, planned)?)
 }
 
-// Checks that the reply to the result of the trade of a case, or `no,` and its refusal, is the text
-// `wanted`.
+// Checks that the reply to the result of the trade of a case, or `no,` and the refusal of the
+// result, is the text `wanted`.
 fn expect_result_reply(
     rt: &impl Abort,
     alloc: Global,
@@ -204,7 +205,7 @@ fn case_without_commission_band() -> Case {
     }
 }
 
-// Returns `case_without_commission_band` with this status of the trade.
+// Returns `case_without_commission_band` with the trade in the status `status`.
 fn case_of_wrong_status(status: Status) -> Case {
     Case {
         status,
@@ -238,8 +239,8 @@ fn results_are_refused_by_the_first_cause(rt: HostRuntime) -> Result<(), Fail> {
 }
 
 // Checks that a result is accepted up to the limit of the broker's commissions and refused beyond
-// it with 14, `broker`. A margin trade does not change the balance, so the limit of the balance
-// does not apply to it.
+// it with 14, `broker`, and that the result of a margin trade, which does not change the balance,
+// is accepted at the lower limit of the balance.
 #[test]
 fn broker_and_balance_limits_of_results(rt: HostRuntime) -> Result<(), Fail> {
     let last_cent = Case {

@@ -3,8 +3,8 @@ use brk_money::{Fault, Refusal};
 use brk_trade::Plan;
 use std::alloc::Global;
 
-/// Returns the text of the reply of a plan, its fields joined by commas, or `no,` and the refusal
-/// in its place. Fails with `Memory` only.
+/// Returns the reply of an accepted plan as text, its fields separated by commas, or `no,` and the
+/// text of the refusal. Fails with `Memory` only.
 pub fn format_planned_reply(
     alloc: Global,
     planned: Result<Plan, Refusal>,

@@ -31,7 +31,8 @@ fn append_words(mut text: String, words: &[String]) -> Result<String, AllocError
 }
 
 // Returns the name of a job and its values as text, separated by spaces: a path or `-`, timestamps
-// in milliseconds or -1, days since 1970-01-01. Fails only if memory runs out.
+// in milliseconds or -1, days since 1970-01-01, and flags as `true` or `false`. Fails only if
+// memory runs out.
 fn format_job(alloc: Global, job: &Job) -> Result<String, AllocError> {
     match job {
         Job::Batch { db, at } => format!(in alloc;
@@ -416,8 +417,8 @@ const WRONG_SERVES: [(&[&str], &str, &str); 6] = [
     ),
 ];
 
-// Checks that each of these arguments is reported as wrong, with the whole error text: the cause,
-// the usage, and a line about help.
+// Checks that each list of arguments in `faults` is reported as wrong, with the whole error text:
+// the cause, the usage, and a line about help.
 fn expect_usage_faults(
     rt: &impl Abort,
     alloc: Global,
@@ -496,8 +497,8 @@ const HELPS: [(&[&str], &str); 4] = [
     (&["--help"], HELP),
 ];
 
-// Checks that the help of the program and of `batch` are the wanted texts, and that arguments
-// without a subcommand have the help of the program as an error text.
+// Checks that the help of the program and of `batch` are the wanted texts, and that an empty list
+// of arguments is reported as wrong with the help of the program as the error text.
 #[test]
 fn prints_help_of_commands(rt: HostRuntime) -> Result<(), Fail> {
     for (words, text) in HELPS {

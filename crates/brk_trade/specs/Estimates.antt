@@ -22,8 +22,8 @@ use Rattle.brk_lots.specs.declared.values.Values.{Values}
 abbrev pub tax_on_gain_at_status : TaxStatus → ℕ → Values → ℕ
 tax_on_gain_at_status status rates values = if is_taxable_status status then tax (pos values.sell_value -ℤ pos values.buy_value) rates else 0
 
--- The commission of an order with the terms `terms`, in cents: the rate times the quantity times
--- the price.
+-- The commission of an order with the terms `terms`, in cents: the quantity times the price times
+-- the rate (hundredths of a percent), rounded to a whole cent (`commission`).
 abbrev pub commission_from_terms : Terms → ℕ
 commission_from_terms terms = commission terms.rate terms.qty terms.price
 
@@ -50,9 +50,10 @@ pub record AreOrderTermsInBase (base : Base) (o : Order) (terms : Terms) : Type 
 abbrev pub deal_from_terms : Terms → (trade stamp : ℕ) → Bool → Deal
 deal_from_terms terms trade stamp lifo = record { trade = trade; side = terms.side; qty = terms.qty; price = terms.price; stamp = stamp; is_lifo = lifo }
 
--- From `before` to `after`, the number of reads of the source grew by at most one more than the
--- number of lots that an order with the terms `terms` closes or reduces, for any lots that the
--- source may have (`given`), none of them opened by its trade. Vacuous if there are no such lots.
+-- For all lots that the source may return (`given`), none of them opened by the trade of the order:
+-- from `before` to `after`, the number of lots requested from the source grew by at most one more
+-- than the number of lots that an order with the terms `terms` closes or reduces. Vacuous if there
+-- are no such lots.
 abbrev pub OrderReadsAtMostOneLotMore : Terms → (List Lot → Type 0) → (before after : ℕ) → Type 0
 OrderReadsAtMostOneLotMore terms given before after =
     (ls : List Lot) (trade stamp : ℕ) (lifo : Bool) → YieldsPosition given lifo ls → AreOpenedByOtherTrades trade ls

@@ -37,8 +37,8 @@ use Rattle.brk_plans.specs.declared.reply.Reply.TheVariants.{Ordered}
 use Rattle.brk_changes.specs.declared.request_row.RequestRow.{RequestRow}
 use Rattle.brk_changes.specs.declared.trade_row.TradeRow.{TradeRow}
 
--- The checks of an order against the facts `found`: its account and its security exist
--- (`NoAccount`, `NoSecurity`), its executor is permitted (`NotPermitted`), and a charge and a
+-- The checks of an order against the facts `found`, in this order: its account and its security
+-- exist (`NoAccount`, `NoSecurity`), its executor is permitted (`NotPermitted`), and a charge and a
 -- commission rate apply (`NoCharge`, `NoRate`).
 abbrev pub order_checks : OrderPlanFacts → List RefusalCheck
 order_checks found =
@@ -71,23 +71,24 @@ pub record IsCheckedPlacement (order : Order) (found : OrderPlanFacts) (placemen
   pub terms : placement.terms ≡ terms_of_order order found
   pub broker : placement.broker ≡ option_map_or (λ a. a.broker) found.account 0
 
--- `estimate` equals the model's estimate of every order in every base that has the terms `terms`
--- and exactly the shares of lots `ls` that the source may have (`given`). Vacuous if the quantities
--- of these lots do not add up to the shares held.
+-- For every base and every order that has the terms `terms` in this base, `estimate` equals the
+-- model's estimate of the order, if the open shares of its account and symbol are those of lots
+-- `ls` that the source may return (`given`). Vacuous if the quantities of these lots do not add up
+-- to the shares held of `terms`.
 abbrev pub MatchesModelEstimate : Terms → (List Lot → Type 0) → Estimate → Type 0
 MatchesModelEstimate terms given estimate =
     (base : Base) (o : model.Order) (ls : List Lot) → AreOrderTermsInBase base o terms
     → shares_of_position (completed_trades base) o.account o.symbol ≡ shares_of_lots ls
     → YieldsPosition given o.is_lifo ls → terms.held ≡ lot_quantity_sum ls → estimate ≡ estimate_from_model (model_orders.estimate base o)
 
--- `order` passes its checks against the facts `found`, and `estimate` follows from its terms and
--- the lots that the source may have (`MatchesModelEstimate`).
+-- `order` passes its checks against the facts `found`, and `estimate` is the model's estimate for
+-- its terms and the lots that the source may return (`MatchesModelEstimate`).
 pub record EstimatesCheckedOrder (order : Order) (found : OrderPlanFacts) (given : List Lot → Type 0) (estimate : Estimate) : Type 0 where
   pub accepted : first_refusal (order_checks found) ≡ None
   pub estimated : MatchesModelEstimate (terms_of_order order found) given estimate
 
--- The check that an id is left for a new trade (`Range(Trades)`), where `last` is the greatest id
--- in use, or none if there are no trades. Trades are numbered from 1 without a gap.
+-- The check that a free id exists for a new trade (`Range(Trades)`), where `last` is the greatest
+-- id in use, or none if there are no trades. Trades are numbered from 1 without a gap.
 abbrev pub free_trade_id_check : Option ℕ → RefusalCheck
 free_trade_id_check last = (nat_le greatest_id (unwrap_or last 0), Range limit.Trades)
 
@@ -95,8 +96,9 @@ free_trade_id_check last = (nat_le greatest_id (unwrap_or last 0), Range limit.T
 abbrev pub next_trade_id : Option ℕ → ℕ
 next_trade_id last = unwrap_or last 0 + 1
 
--- The TRADE row of `order` with the terms `terms`, the id `trade`, the stamp, the symbol and the
--- executor's name that are passed. It has the first status of its type, no price, and tax 0.
+-- The TRADE row of `order` with the terms `terms`, the id `trade`, the stamp `stamp`, the symbol
+-- `symbol` and the executor's name `executor`. It has the first status of its type, no price, and
+-- tax 0.
 abbrev pub trade_row_with_texts : Order → Terms → (trade stamp : ℕ) → (symbol executor : Text) → tables.TradeRow
 trade_row_with_texts order terms trade stamp symbol executor = record {
   id = trade;
@@ -116,8 +118,8 @@ trade_row_with_texts order terms trade stamp symbol executor = record {
   is_lifo = order.is_lifo;
 }
 
--- The TRADE row of `order` with the terms `terms`, the id `trade` and the stamp that are passed,
--- the symbol of the order, and the name of its executor.
+-- The TRADE row of `order` with the terms `terms`, the id `trade`, the stamp `stamp`, the symbol of
+-- the order, and the name of its executor.
 abbrev pub trade_row_of_order : Order → Terms → (trade stamp : ℕ) → tables.TradeRow
 trade_row_of_order order terms trade stamp =
     trade_row_with_texts order terms trade stamp order.symbol (model_orders.executor_name (abstract_executor order.executor))
@@ -151,10 +153,10 @@ pub record AreOrderChanges (order : Order) (terms : Terms) (broker trade stamp :
   pub changed : changes ≡ row_changes_of_order row (request_row_of_order order terms broker trade)
 
 -- `plan` adds the trade of `order` at the stamp of the command, with the next id, where `found` are
--- the facts in the tables, `given` holds of the lists of lots that the source may have, `last` is
--- the last stamp, and `now` the clock reading. The order passes its checks, an id and a later stamp
--- are left, and the reply has the stamp, the id, the first status and the estimate from the lots of
--- the source (`MatchesModelEstimate`).
+-- the facts in the tables, `given` is true of each list of lots that the source may return, `last`
+-- is the last stamp, and `now` the clock reading. The order passes its checks, a free id and a
+-- later stamp exist, and the reply has the stamp, the id, the first status and the estimate from
+-- the lots of the source (`MatchesModelEstimate`).
 pub record IsOrderPlan (order : Order) (found : OrderPlanFacts) (given : List Lot → Type 0) (last : Option ℕ) (now : ℕ) (plan : Plan) : Type 0 where
   pub stamp : ℕ
   pub estimate : Estimate

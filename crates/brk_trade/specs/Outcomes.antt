@@ -28,12 +28,13 @@ abbrev pub deal_of_trade_row : TradeRow → (price stamp : ℕ) → Deal
 deal_of_trade_row t price stamp = record { trade = t.id; side = side_of_trade_type t.kind; qty = t.qty; price = price; stamp = stamp; is_lifo = t.is_lifo }
 
 -- The number of shares of the trade's security that its account holds after the trade, below 0 if
--- sold short: those in the summary, or 0 if there is none, plus or minus the quantity of the trade.
+-- sold short: those in the summary, or 0 if there is none, plus the quantity of a purchase or minus
+-- that of a sale.
 abbrev pub shares_held_after_trade : ResultPlanFacts → ℤ
 shares_held_after_trade found = unwrap_or found.summary (pos 0) +ℤ signed_by_side (side_of_trade_type found.trade.kind) found.trade.qty
 
--- The commission of the trade at `price`, in cents, at the rate of its band. The rate counts as 0
--- if there is no band.
+-- The commission of the trade at `price`, in cents, at the commission rate of its band. The rate
+-- counts as 0 if there is no band.
 abbrev pub commission_of_result : ResultPlanFacts → ℕ → ℕ
 commission_of_result found price = commission (unwrap_or found.rate 0) found.trade.qty price
 
@@ -47,43 +48,45 @@ tax_of_result found values = tax_on_gain_at_status found.account.tax_status foun
 abbrev pub withheld_tax_of_result : ResultPlanFacts → Values → ℕ
 withheld_tax_of_result found values = if is_withholding_status found.account.tax_status then tax_of_result found values else 0
 
--- The settlement amount of the trade at `price`, in cents, below 0 if the account pays: its signed
--- value minus the charge, the commission and the withheld tax.
+-- The settlement amount of the trade at `price`, in cents, below 0 if the account pays: the value
+-- of the trade, negated for a purchase, minus the charge, the commission and the withheld tax.
 abbrev pub settlement_amount_of_result : ResultPlanFacts → ℕ → Values → ℤ
 settlement_amount_of_result found price values =
     signed_proceeds (side_of_trade_type found.trade.kind) (found.trade.qty * price) -ℤ pos (found.trade.charge + commission_of_result found price
     + withheld_tax_of_result found values)
 
--- The balance of the account in cents: plus `amount` after a cash trade, and unchanged after a
--- margin trade.
+-- The balance of the account, in cents, after a settlement of `amount` cents: a cash trade adds
+-- `amount`, and a margin trade does not change the balance.
 abbrev pub balance_after_settlement_amount : ResultPlanFacts → ℤ → ℤ
 balance_after_settlement_amount found amount = if found.trade.is_cash then found.account.balance +ℤ amount else found.account.balance
 
--- The balance of the account after the trade, in cents: plus the settlement amount for a cash
--- trade, and unchanged for a margin trade.
+-- The balance of the account after the trade, in cents: a cash trade adds its settlement amount,
+-- and a margin trade does not change the balance.
 abbrev pub balance_after_result : ResultPlanFacts → ℕ → Values → ℤ
 balance_after_result found price values = balance_after_settlement_amount found (settlement_amount_of_result found price values)
 
--- The commissions of the account's broker after the trade, in cents: those before it plus its own
--- commission.
+-- The commissions of the account's broker after the trade, in cents: those before the trade plus
+-- the commission of the trade.
 abbrev pub broker_commissions_after_result : ResultPlanFacts → ℕ → ℕ
 broker_commissions_after_result found price = found.broker.commissions + commission_of_result found price
 
--- The checks of a result that need no lots: the trade is submitted (`WrongStatus`), a commission
--- rate applies (`NoRate`), and the shares held after it do not exceed the limit (`Range(Summary)`).
+-- The checks of a result that need no lots, in this order: the trade is submitted (`WrongStatus`),
+-- a commission rate applies (`NoRate`), and the shares held after the trade do not exceed the limit
+-- (`Range(Summary)`).
 abbrev pub checks_before_reading_lots : ResultPlanFacts → List RefusalCheck
 checks_before_reading_lots found =
     (not (is_same_trade_status found.trade.status Submitted), WrongStatus found.trade.status) ∷ (is_none found.rate, NoRate)
     ∷ (nat_lt greatest_summary (nat_abs (shares_held_after_trade found)), Range limit.Summary) ∷ []
 
--- The check that there is a stamp, `stamp`, and that the due day of a completion at it is not after
+-- The check that `stamp` is not `None` and that the due day of a completion at `stamp` is not after
 -- 9999-12-31 (`ClockEnd`). `rule` is the settlement day, if any.
 abbrev pub due_day_check : Option ℕ → Option ℕ → RefusalCheck
 due_day_check rule stamp = (option_map_or (λ s. nat_lt greatest_day (due_day_of_completion_stamp rule s)) stamp true, ClockEnd)
 
--- The checks of a result that need the values of the closed shares or the stamp: the balance after
--- a cash trade and the broker's commissions do not exceed their limits (`Range(Balance)`,
--- `Range(Broker)`), a stamp is left, and the due day is not after 9999-12-31 (`ClockEnd`).
+-- The checks of a result that need the values of the closed shares or the stamp, in this order: the
+-- balance after a cash trade and the broker's commissions do not exceed their limits
+-- (`Range(Balance)`, `Range(Broker)`), the stamp is not `None`, and the due day is not after
+-- 9999-12-31 (`ClockEnd`).
 abbrev pub checks_after_reading_lots : ResultPlanFacts → ℕ → Values → Option ℕ → List RefusalCheck
 checks_after_reading_lots found price values stamp =
     (found.trade.is_cash && nat_lt greatest_amount (nat_abs (balance_after_result found price values)), Range limit.Balance)

@@ -37,7 +37,7 @@ use Rattle.brk_plans.specs.declared.reply.Reply.TheVariants as reply
 use Rattle.brk_changes.specs.declared.trade_row.TradeRow.{TradeRow}
 
 -- The row change of the HOLDING row of the lot of `touch`: the lot is deleted if none of its shares
--- is left, and otherwise its quantity is set.
+-- remains, and otherwise its quantity is set.
 abbrev pub row_change_of_touched_holding : Touch → Change
 row_change_of_touched_holding touch = if is_zero touch.after then change.RemoveLot touch.lot else change.SetLot touch.lot touch.after
 
@@ -57,7 +57,7 @@ row_changes_of_opened_lot t lot =
     ∷ change.AddLotChange (record { lot = lot.trade; trade = lot.trade; before = pos 0; after = lot.qty }) ∷ []
 
 -- The row change of the HOLDING_SUMMARY row of the account and the symbol of `t`: the row is added
--- if there was none, deleted if `qty` is 0, and otherwise set to `qty`.
+-- with `qty` if there was none, and otherwise deleted if `qty` is 0 and set to `qty` if not.
 abbrev pub row_change_of_summary : Option ℤ → TradeRow → ℤ → Change
 row_change_of_summary None t qty = change.AddSummary (record { account = t.account; symbol = t.symbol; qty = qty })
 row_change_of_summary (Some held) t qty =
@@ -73,8 +73,8 @@ first_cash_type_of_trade is_cash = if is_cash then cash_type.CashAccount else ca
 abbrev pub quantity_in_cash_text : ℕ → Text
 quantity_in_cash_text qty = 32 ∷ decimal qty ++ codes " shares of "
 
--- The cash text of the trade `t`: the name of its type, its quantity, " shares of " and the name of
--- its security.
+-- The cash text of the trade `t`: the name of its type, a space, its quantity, " shares of " and
+-- the name of its security.
 abbrev pub cash_text_of_trade : TradeRow → Text → Text
 cash_text_of_trade t security = cash_row_name_from_parts (codes " shares of ") t.kind t.qty security
 
@@ -123,8 +123,8 @@ summary_broker_settlement_changes found outcome =
     ∷ row_change_adding_settlement found.trade outcome.completed ∷ []
 
 -- The row changes that complete the trade of `found`: of the trade itself, of the lots that it
--- touches and of the one that it opens, of the summary, the broker's totals and the settlement, of
--- its cash row, if any, and of the last stamp.
+-- closes or reduces and of the lot that it opens, of the summary, the broker's totals and the
+-- settlement, of its cash row, if any, and of the last stamp.
 abbrev pub row_changes_of_result : ResultPlanFacts → ℕ → ClosedLots → ResultFigures → Option MoveRow → List Change
 row_changes_of_result found price closed outcome cash =
     row_changes_of_completed_trade found.trade.id price outcome.completed
@@ -134,8 +134,8 @@ row_changes_of_result found price closed outcome cash =
     ++ flat_map (row_changes_of_cash_row found.trade.account outcome.completed.balance) (option_to_list cash)
     ++ change.SetLastStamp outcome.completed.stamp ∷ []
 
--- `changes` are the row changes that complete the trade of `found` at `price` with the touched lots
--- of `closed` and the figures `outcome`. They add a cash row if it is a cash trade.
+-- `changes` are the row changes that complete the trade of `found` at `price` with the lots of
+-- `closed` and the figures `outcome`. They add a cash row if it is a cash trade.
 pub record AreResultChanges (found : ResultPlanFacts) (price : ℕ) (closed : ClosedLots) (outcome : ResultFigures) (changes : List Change) : Type 0 where
   pub cash : Option MoveRow
   pub moved : option_map abstract_move_row cash ≡ cash_row_of_result found outcome.completed
@@ -146,8 +146,8 @@ pub record AreResultChanges (found : ResultPlanFacts) (price : ℕ) (closed : Cl
 abbrev pub shares_held_before_trade : ResultPlanFacts → ℤ
 shares_held_before_trade found = unwrap_or found.summary (pos 0)
 
--- `ls` are lots that the source may have (`given`), in the sequence in which the trade of `found`
--- closes lots; none of them was opened by this trade; and their quantities add up to the summary.
+-- The source may return the lots `ls` of a position (`given`), from the end that the trade of
+-- `found` closes first; this trade opened none of them; and their quantities add up to the summary.
 abbrev pub AreLotsBeforeTrade : (List Lot → Type 0) → ResultPlanFacts → List Lot → Type 0
 AreLotsBeforeTrade given found ls =
     YieldsPosition given found.trade.is_lifo ls × AreOpenedByOtherTrades found.trade.id ls × (shares_held_before_trade found ≡ lot_quantity_sum ls)
@@ -156,8 +156,8 @@ AreLotsBeforeTrade given found ls =
 abbrev pub ClosesNoHeldShares : ResultPlanFacts → Type 0
 ClosesNoHeldShares found = closes_lots (side_of_trade_type found.trade.kind) (shares_held_before_trade found) ≡ false
 
--- `plan` completes the trade of `found` at `price` and the stamp of the command, where `given`
--- holds of the lists of lots that the source may have, `last` is the last stamp, and `now` the
+-- `plan` completes the trade of `found` at `price` and the stamp of the command, where `given` is
+-- true of each list of lots that the source may return, `last` is the last stamp, and `now` the
 -- clock reading. The result passes all its checks, and the row changes and the reply follow from
 -- `closed`, the lots that the trade closes and opens. The clause `closes` is vacuous if no lots of
 -- the source match the summary (`AreLotsBeforeTrade`).
@@ -200,9 +200,10 @@ IsResultRefusal (Some found) price given last now refusal = IsRefusalOfExistingT
 abbrev pub stamp_or_clock_reading : Option ℕ → ℕ → ℕ
 stamp_or_clock_reading stamp now = unwrap_or stamp now
 
--- From `before` to `after`, the number of reads of the source grew by at most one more than the
--- number of lots that the trade closes or reduces, and not at all if there is no such trade.
--- Vacuous if no lots of the source match the summary (`AreLotsBeforeTrade`).
+-- From `before` to `after`, the number of lots requested from the source grew by at most one more
+-- than the number of lots that the trade closes or reduces, and not at all if there is no such
+-- trade. For an existing trade it is vacuous if no lots of the source match the summary
+-- (`AreLotsBeforeTrade`).
 abbrev pub ResultReadsAtMostOneLotMore : Option ResultPlanFacts → ℕ → ℕ → (List Lot → Type 0) → (before after : ℕ) → Type 0
 ResultReadsAtMostOneLotMore None price stamp given before after = after ≤ before
 ResultReadsAtMostOneLotMore (Some found) price stamp given before after =

@@ -45,7 +45,7 @@ fn append_completed_trade_changes(
 }
 
 // Returns the row change of the HOLDING row of a touched lot: the lot is deleted if none of its
-// shares is left, and otherwise its quantity is set.
+// shares remains, and otherwise its quantity is set.
 fn create_touched_lot_change(touch: &Touch) -> Change
     ensures { result ≡ spec.row_change_of_touched_holding touch.now }
 {
@@ -221,8 +221,8 @@ fn append_quantity_text(name: &mut String, qty: Qty) -> Result<(), AllocError>
     write!(name, " {} shares of ", qty.get())
 }
 
-// Returns the cash text of a trade: the name of its type, its quantity, " shares of " and the name
-// of its security. Fails if memory runs out.
+// Returns the cash text of a trade: the name of its type, a space, its quantity, " shares of " and
+// the name of its security. Fails if memory runs out.
 fn format_trade_cash_text(
     alloc: Global,
     trade: &TradeRow,

@@ -153,7 +153,7 @@ pub fn plan_estimate<L: LotSource>(
 }
 
 // Returns the id of the next trade: `last` plus 1, or 1 if there are no trades. Returns `None` if
-// no id is left.
+// no free id exists.
 fn next_free_trade_id(last: Option<Id>) -> Option<Id>
     ensures { MatchOption result
         (first_refusal (free_trade_id_check last ∷ []) ≡ Some (Range limit.Trades))
@@ -177,8 +177,8 @@ fn first_status(kind: TradeType) -> Status
     }
 }
 
-// Returns the executor's name as a trade stores it: the first name, a space, the last name. Fails
-// if memory runs out.
+// Returns the executor's name as a TRADE row stores it: the first name, a space, the last name.
+// Fails if memory runs out.
 fn executor_name(alloc: Global, executor: &Executor) -> Result<String, AllocError>
     ensures { IfOk result (λ name. string_bytes name ≡ model.executor_name (abstract_executor executor.now)) }
 {
@@ -188,9 +188,9 @@ fn executor_name(alloc: Global, executor: &Executor) -> Result<String, AllocErro
     Ok(name)
 }
 
-// Returns the TRADE row of a new order with the terms, the commission in cents, the id, the stamp,
-// the symbol and the executor's name that are passed: in its first status, without a price, with
-// tax 0.
+// Returns the TRADE row of a new order with the terms, their commission in cents, the id, the
+// stamp, the symbol and the executor's name that are passed: in its first status, without a price,
+// with tax 0.
 fn create_trade_row_with_texts(
     order: &Order,
     terms: &Terms,
@@ -222,7 +222,7 @@ fn create_trade_row_with_texts(
     }
 }
 
-// Returns the TRADE row of a new order with the terms, the commission in cents, the id and the
+// Returns the TRADE row of a new order with the terms, their commission in cents, the id and the
 // stamp that are passed: in its first status, without a price, with tax 0. Fails if memory runs
 // out.
 fn create_order_trade_row(
@@ -288,7 +288,7 @@ fn create_new_trade_changes(
     Ok(changes)
 }
 
-// Returns the row changes of an accepted order with the placement, the commission in cents, the id
+// Returns the row changes of an accepted order with the placement, its commission in cents, the id
 // and the stamp that are passed: its TRADE row, its first TRADE_HISTORY row and its request, if
 // any, are added, and the last stamp is set. Fails if memory runs out.
 fn create_order_changes(
@@ -317,7 +317,7 @@ fn create_order_changes(
 /// last stamp. Its reply has the stamp, the number, the status and the estimate.
 ///
 /// Refuses with the first that applies of `NoAccount`, `NoSecurity`, `NotPermitted`, `NoCharge`,
-/// `NoRate`; `Range(Trades)`, if no id is left; and `ClockEnd`, if no later stamp is left. Fails
+/// `NoRate`; `Range(Trades)`, if no free id exists; and `ClockEnd`, if no later stamp exists. Fails
 /// with `Memory` or a fault of the source. Reads no lot if it refuses, or if the account holds no
 /// shares that the order would close.
 pub fn plan_order<L: LotSource>(

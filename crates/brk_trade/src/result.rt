@@ -63,7 +63,7 @@ fn close_or_open_lots<L: LotSource>(
 ///
 /// Refuses with the first that applies of `NoTrade`; `WrongStatus`, if the trade is not submitted;
 /// `NoRate`; `Range(Summary)`; `Range(Balance)`, of a cash trade; `Range(Broker)`; and `ClockEnd`,
-/// if no later stamp is left or the due day is after 9999-12-31.
+/// if no later stamp exists or the due day is after 9999-12-31.
 ///
 /// Fails with `Memory` or a fault of the source. Reads no lot if the account holds no shares that
 /// the trade would close.

@@ -31,8 +31,8 @@ pub(crate) fn commission_at_price_and_rate(trade: &TradeRow, price: Price, rate:
 }
 
 // Returns the tax on the realised gain of the closed shares, in cents, which is at most the
-// greatest value of a trade. The sell value is at most the value of the trade's quantity at the
-// greatest price.
+// greatest value of a trade. The sell value must be at most the value of the trade's quantity at
+// the greatest price.
 #[tactic(auto, using(crate::proofs::Bounds::tax_at_high))]
 pub(crate) fn tax_on_closed_shares(found: &ResultPlanFacts, values: Values) -> Amount
     requires { values.sell_value ≤ found.now.trade.qty * greatest_price }
@@ -55,7 +55,8 @@ fn withheld_part_of_tax(status: TaxStatus, tax: Amount) -> u64
 }
 
 // Returns the proceeds of a trade minus the costs `taken_off`, in cents. The proceeds are `value`
-// for a sale, and `value` below 0 for a purchase.
+// for a sale, and `-value` for a purchase. `value` must be at most the greatest value of a trade,
+// and `taken_off` at most three times as much.
 fn proceeds_less_costs(side: Side, value: u64, taken_off: u64) -> Cents
     requires value { value ≤ greatest_trade_value }
     requires taken_off { taken_off ≤ 3 * greatest_trade_value }
@@ -68,8 +69,9 @@ fn proceeds_less_costs(side: Side, value: u64, taken_off: u64) -> Cents
     Cents::new(brought - taken_off as i64).unwrap()
 }
 
-// Returns the settlement amount of the trade, in cents, below 0 if the account pays: its signed
-// value minus the charge, the commission and the withheld tax.
+// Returns the settlement amount of the trade, in cents, below 0 if the account pays: the value of
+// the trade at `price`, negated for a purchase, minus the charge, the commission and the withheld
+// tax. `commission` and `tax` must each be at most the greatest value of a trade.
 pub(crate) fn settlement_amount_of_trade(
     found: &ResultPlanFacts,
     price: Price,
@@ -89,8 +91,9 @@ pub(crate) fn settlement_amount_of_trade(
     proceeds_less_costs(trade.kind.side(), value, taken_off)
 }
 
-// Returns the balance of the account, in cents: for a cash trade plus `amount`, or `None` if the
-// sum exceeds 10^17 cents either way; for a margin trade unchanged.
+// Returns the balance of the account, in cents, after a settlement of `amount`: for a cash trade
+// the sum of both, or `None` if its absolute value exceeds 10^17 cents; for a margin trade the
+// balance unchanged.
 pub(crate) fn balance_if_within_limit(found: &ResultPlanFacts, amount: Cents) -> Option<Cents>
     ensures { MatchOption result
         (found.now.trade.is_cash && nat_lt greatest_amount (nat_abs (spec.balance_after_settlement_amount found.now amount)) ≡ true)

@@ -38,7 +38,7 @@ PassesFirstOrderChecks n found = first_refusal (take n (order_checks found)) ≡
 -- its executor is permitted, the charge, the commission rate, the sum of the customer's tax rates,
 -- the assets and the summary. A clause is vacuous if one of the checks that it names fails, since
 -- the fact is not read then. A clause about the customer, the account or the security is also
--- vacuous if this does not exist.
+-- vacuous if no such row exists.
 pub record EstimateFactsMatchTables (t : Tables) (order : Order) (found : OrderPlanFacts) : Type 0 where
   pub account : found.account ≡ option_map order_account_of_row (account_row_with_id t order.account)
   pub last_price : PassesFirstOrderChecks 1 found → found.last_price ≡ last_price_of_symbol t order.symbol

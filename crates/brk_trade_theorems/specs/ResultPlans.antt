@@ -32,7 +32,7 @@ result_account_of_row r = record { broker = r.broker; tax_status = r.tax_status;
 -- summary, the account, the sum of the customer's tax rates, the broker totals, the security's
 -- name, the settlement day, and the number of the next cash row. A clause is vacuous if one of the
 -- checks that it names fails, since the fact is not read then. A clause about the customer, the
--- account, the broker or the security is also vacuous if this does not exist.
+-- account, the broker or the security is also vacuous if no such row exists.
 pub record ResultFactsMatchTables (t : Tables) (found : ResultPlanFacts) : Type 0 where
   -- The rate is that of the commission band that contains the quantity, by the customer's tier and
   -- the security's exchange.

@@ -67,7 +67,7 @@ HasDistinctQuoteSymbols [] = ⊤
 HasDistinctQuoteSymbols (quote ∷ quotes) = AllByRecursion (λ other. is_state_of_symbol quote.last.symbol other ≡ false) quotes × HasDistinctQuoteSymbols quotes
 
 -- If the symbol of the tick has a row of LAST_TRADE in the tables, one of `quotes` has this symbol.
--- Vacuous if it has no such row.
+-- Vacuous if the symbol has no such row.
 abbrev pub HasQuoteIfSymbolHasLastTrade : Tables → List SymbolState → Tick → Type 0
 HasQuoteIfSymbolHasLastTrade t quotes tick = is_some (last_trade_row_of_symbol t tick.symbol) ≡ true → list_any (is_state_of_symbol tick.symbol) quotes ≡ true
 

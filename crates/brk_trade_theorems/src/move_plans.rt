@@ -16,8 +16,9 @@ ghost use Rattle.brk_plans.specs.declared.plan.Plan.{Plan};
 ghost use Rattle.brk_trade_theorems.specs.MovePlans.{PlanMovementPrecondition, PlanSettlementDayPrecondition};
 ghost use Rattle.brk_trade_theorems.specs.Plans.{PlanImplementsCommand};
 
-/// Proves that the checks of a deposit or a withdrawal against facts that were read refuse it
-/// exactly as the model does, and that the plan of the movement implements the command.
+/// Proves, under `PlanMovementPrecondition`, that the checks of a deposit or a withdrawal against
+/// the facts refuse it exactly as the model does, and that the plan of the movement implements the
+/// command.
 pub fn movement_plans_implement_commands()
     ensures first { (base : Base) (m : Movement) (found : MovementPlanFacts) (last : Option ℕ) (now : ℕ) → PlanMovementPrecondition base m found last now
         → first_refusal (movement_checks m found ++ later_stamp_check last now ∷ []) ≡ refusal_of_command base now (movement_command m) }
@@ -29,8 +30,8 @@ pub fn movement_plans_implement_commands()
         → IsMovementPlan m found last now plan → PlanImplementsCommand base now (movement_command m) plan }
 {}
 
-/// Proves that the checks of a settlement day against facts that were read refuse it exactly as the
-/// model does, and that the plan of a settlement day implements the command.
+/// Proves, under `PlanSettlementDayPrecondition`, that the checks of a settlement day refuse it
+/// exactly as the model does, and that the plan of a settlement day implements the command.
 pub fn settlement_day_plans_implement_commands()
     ensures first { (base : Base) (day : ℕ) (rule last : Option ℕ) (now : ℕ) → PlanSettlementDayPrecondition base rule last now
         → first_refusal (settlement_day_checks day rule last now) ≡ refusal_of_command base now (SetOneDay day) }

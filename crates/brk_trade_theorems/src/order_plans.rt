@@ -35,8 +35,9 @@ pub fn terms_from_order_facts_match_the_base()
         → first_refusal (order_checks found) ≡ None → AreOrderTermsInBase base (abstract_order order) (terms_of_order order found) }
 {}
 
-/// Proves that the checks of an order against facts that were read refuse it exactly as the model
-/// does, and that the plan of an order implements the command.
+/// Proves, under `PlanOrderPrecondition`, that the checks of an order against the facts refuse it
+/// exactly as the model does, and that the plan of an order from the lots of its account and symbol
+/// implements the command.
 pub fn order_plans_implement_commands()
     ensures first { (base : Base) (order : Order) (found : OrderPlanFacts) (last : Option ℕ) (now : ℕ) → PlanOrderPrecondition base order found last now
         → first_refusal (order_checks found ++ free_trade_id_check found.last_trade ∷ later_stamp_check last now ∷ [])
@@ -51,9 +52,10 @@ pub fn order_plans_implement_commands()
         → PlanImplementsCommand base now (PlaceOrder (abstract_order order)) plan }
 {}
 
-/// Proves that the refusal of an estimate by the facts that were read is the refusal of its query
-/// in the model, and that an estimate equals the estimate of the model, so that its fields are the
-/// view of the query. The base satisfies the books invariant.
+/// Proves, for a base that satisfies the books invariant and facts that are true of its tables,
+/// that the refusal of an estimate by the checks of the order is the refusal of its query in the
+/// model. Proves also that an estimate from the lots of the order's account and symbol equals the
+/// estimate of the model, so that its fields are the view of the query.
 pub fn estimates_equal_model_estimates()
     ensures refused { (base : Base) (order : Order) (found : OrderPlanFacts) (refusal : Refusal) → BooksInvariant base
         → EstimateFactsMatchTables (sheets base) order found

@@ -12,8 +12,8 @@ ghost use Rattle.brk_plans.specs.declared.reference.Reference.{Reference};
 ghost use Rattle.brk_plans.specs.Commands.{command_adding_record};
 ghost use Rattle.brk_trade_theorems.specs.Plans.{PlanImplementsCommand, PlanReferencePrecondition};
 
-/// Proves that the checks of a record of reference data against facts that were read from the
-/// tables refuse it exactly as the model does.
+/// Proves, under `PlanReferencePrecondition`, that the checks of a record of reference data against
+/// the facts refuse it exactly as the model does.
 pub fn reference_checks_refuse_as_the_model_does()
     ensures first { (base : Base) (reference : Reference) (found : ReferenceFacts) (last : Option ℕ) (now : ℕ)
         → PlanReferencePrecondition base reference found last now
@@ -24,7 +24,7 @@ pub fn reference_checks_refuse_as_the_model_does()
         → step base now (command_adding_record reference) ≡ Err refusal }
 {}
 
-/// Proves that the plan that adds a record of reference data, made from facts that were read,
+/// Proves, under `PlanReferencePrecondition`, that the plan that adds a record of reference data
 /// implements its command.
 pub fn reference_plans_implement_commands()
     ensures { (base : Base) (reference : Reference) (found : ReferenceFacts) (last : Option ℕ) (now : ℕ) (plan : Plan)

@@ -25,8 +25,8 @@ ghost use Rattle.brk_trade_theorems.specs.ResultPlans.{PlanResultPrecondition};
 ghost use Rattle.brk_trade_theorems.specs.TradePlans.{AreQuotesOfTicks, IsQuoteOfTick, PlanCancelPrecondition, PlanFeedPrecondition};
 ghost use Rattle.brk_book_theorems.specs.TradeReads.{last_trade_row_of_symbol};
 
-/// Proves that the checks of a cancel against the status of its trade refuse it exactly as the
-/// model does, and that the plan of a cancel that they accept implements the command.
+/// Proves, under `PlanCancelPrecondition`, that the checks of a cancel against the status of its
+/// trade refuse it exactly as the model does, and that the plan of a cancel implements the command.
 pub fn cancel_plans_implement_commands()
     ensures first { (base : Base) (id : ℕ) (found : Option Status) (last : Option ℕ) (now : ℕ) → PlanCancelPrecondition base id found last now
         → first_refusal (cancel_checks found ++ later_stamp_check last now ∷ []) ≡ refusal_of_command base now (CancelTrade id) }
@@ -37,8 +37,9 @@ pub fn cancel_plans_implement_commands()
         → IsCancelPlan id found last now plan → PlanImplementsCommand base now (CancelTrade id) plan }
 {}
 
-/// Proves that the checks of a feed against the quotes of its symbols, at any stamp, refuse it
-/// exactly as the model does, and that the plan of a feed implements the command.
+/// Proves, under `PlanFeedPrecondition`, that the checks of a feed against the quotes of its
+/// symbols, at any stamp, refuse it exactly as the model does, and that the plan of a feed
+/// implements the command.
 pub fn feed_plans_implement_commands()
     ensures first { (base : Base) (stamp : ℕ) (ticks : List Tick) (quotes : List SymbolState) (last : Option ℕ) (now : ℕ)
         → PlanFeedPrecondition base ticks quotes last now
@@ -52,9 +53,10 @@ pub fn feed_plans_implement_commands()
         → IsFeedPlan ticks quotes last now plan → PlanImplementsCommand base now (FeedTicks (abstract_ticks ticks)) plan }
 {}
 
-/// Proves that the quotes that a feed needs (`AreQuotesOfTicks`) can be read tick by tick. No
-/// quotes suffice for no ticks. A further tick whose symbol has a quote, or has no row of
-/// LAST_TRADE, needs no further quote. Any other tick needs one more, that of its symbol.
+/// Proves that the quotes that a feed needs (`AreQuotesOfTicks`) can be read tick by tick. An empty
+/// list of ticks needs no quote. A further tick whose symbol has a quote, or has no row of
+/// LAST_TRADE, needs no further quote. Any other tick needs one more quote, that of its symbol
+/// (`IsQuoteOfTick`).
 pub fn quotes_are_read_tick_by_tick()
     ensures none { (t : Tables) (all : List Tick) → AreQuotesOfTicks t all [] [] }
     ensures again { (t : Tables) (all ticks : List Tick) (tick : Tick) (quotes : List Quote) → AreQuotesOfTicks t all ticks (states_of_quotes quotes)
@@ -67,8 +69,8 @@ pub fn quotes_are_read_tick_by_tick()
         → AreQuotesOfTicks t all (ticks ++ tick ∷ []) (states_of_quotes (quotes ++ quote ∷ [])) }
 {}
 
-/// Proves that the refusal of a result by the facts that were read is the refusal of the model, and
-/// that the plan of a result implements the command.
+/// Proves, under `PlanResultPrecondition`, that the refusal of a result by the facts and the lots
+/// is the refusal of the model, and that the plan of a result implements the command.
 pub fn result_plans_implement_commands()
     ensures refused { (base : Base) (id price : ℕ) (found : Option ResultPlanFacts) (lots : List Lot) (last : Option ℕ) (now : ℕ) (refusal : Refusal)
         → PlanResultPrecondition base id found (EqualsLots lots) last now → IsResultRefusal found price (EqualsLots lots) last now refusal

@@ -19,16 +19,17 @@ ghost use Rattle.brk_trade_theorems.specs.TradeTests.{cancel_checks_on_trade_row
 ghost use Rattle.brk_book_theorems.specs.Ticks.{tick_quantity_sum_of_symbol};
 ghost use Rattle.brk_book_theorems.specs.Trading.{tables_after_cancel, trade_ids_triggered_by_feed, tables_after_feed};
 
-/// Proves that the model's step of a command returns the refusal of the command's first failed
-/// check, if one fails.
+/// Proves that the model's step returns the refusal of the first check of the command that fails,
+/// if one fails.
 pub fn refused_commands_return_their_refusal()
     ensures { (base : Base) (now : ℕ) (command : Command) (refusal : Refusal) → refusal_of_command base now command ≡ Some refusal
         → step base now command ≡ Err refusal }
 {}
 
-/// Proves that the checks of a cancel against the row of its trade refuse it exactly as the model
-/// does. If they pass, the model accepts the cancel, and its row changes lead to the tables after
-/// it. The base satisfies the books invariant, and the clock reading is at most the greatest stamp.
+/// Proves, for a base that satisfies the books invariant and a clock reading of at most the
+/// greatest stamp, that the checks of a cancel against the row of its trade refuse it exactly as
+/// the model does. If they pass, the model accepts the cancel, and its row changes lead to the
+/// tables after it.
 pub fn cancel_row_changes_implement_commands()
     ensures first { (base : Base) (now id : ℕ) → BooksInvariant base → now ≤ greatest_stamp
         → first_refusal (cancel_checks_on_trade_row (trade_row_with_id (sheets base) id) (sheets base).last now)
@@ -39,10 +40,10 @@ pub fn cancel_row_changes_implement_commands()
         → IsAcceptedWithEffect base now (CancelTrade id) stamp (CanceledTrade stamp) (tables_after_cancel stamp id) }
 {}
 
-/// Proves that the checks of a feed against the last trades of its symbols refuse it exactly as the
-/// model does. If they pass, the model accepts the feed, its row changes lead to the tables after
-/// it, and the reply lists the trades that it triggers. The base satisfies the books invariant, and
-/// the clock reading is at most the greatest stamp.
+/// Proves, for a base that satisfies the books invariant and a clock reading of at most the
+/// greatest stamp, that the checks of a feed against the last trades of its symbols refuse it
+/// exactly as the model does. If they pass, the model accepts the feed, its row changes lead to the
+/// tables after it, and the reply lists the trades that it triggers.
 pub fn feed_row_changes_implement_commands()
     ensures first { (base : Base) (now : ℕ) (ticks : List Tick) → BooksInvariant base → now ≤ greatest_stamp
         → first_refusal (feed_checks_on_tables (sheets base) ticks (sheets base).last now) ≡ refusal_of_command base now (FeedTicks ticks) }
@@ -52,8 +53,8 @@ pub fn feed_row_changes_implement_commands()
         (tables_after_feed stamp ticks) }
 {}
 
-/// Proves that a feed adds the quantities of a symbol's ticks to the volume of that symbol, if the
-/// symbols of all its ticks exist and the base satisfies the books invariant.
+/// Proves that a feed adds the quantities of the ticks of a symbol to the volume of that symbol, if
+/// this symbol and the symbols of all ticks exist and the base satisfies the books invariant.
 pub fn feeds_add_tick_quantities_to_volumes()
     ensures { (base : Base) (stamp : ℕ) (ticks : List Tick) (symbol : Text) → BooksInvariant base
         → AllByRecursion (λ tick. is_some (security_with_symbol base tick.symbol) ≡ true) ticks → is_some (security_with_symbol base symbol) ≡ true

@@ -44,7 +44,7 @@ AreTradesWithIds t ids trades = map (λ r. Some (abstract_trade_row r)) trades �
 abbrev pub SettlementTextRow : Type 0
 SettlementTextRow = ℕ × Bool × Option Text
 
--- The trade, whether it is a cash trade, and its settlement text in the typed row `s`.
+-- The id of the trade, whether it is a cash trade, and its settlement text in the typed row `s`.
 abbrev pub settlement_text_row_of_typed_row : SettlementText → SettlementTextRow
 settlement_text_row_of_typed_row s = (s.trade, s.is_cash, Some (cash_type_text s.cash_type))
 
@@ -58,7 +58,7 @@ settlement_text_row_in_tables t r = (r.id, r.is_cash, option_map (λ s. s.cash_t
 abbrev pub CashTextRow : Type 0
 CashTextRow = ℕ × TradeType × ℕ × Option Text
 
--- The trade, its type, its quantity and its cash text in the typed row `p`.
+-- The id of the trade, its type, its quantity and its cash text in the typed row `p`.
 abbrev pub cash_text_row_of_typed_row : CashText → CashTextRow
 cash_text_row_of_typed_row p = (p.trade, p.kind, p.qty, Some (string_bytes p.name))
 
@@ -81,10 +81,11 @@ CashTextsMatchTables t trades paid = map cash_text_row_of_typed_row paid ≡ map
 abbrev pub SecurityHasName : Tables → Text → Text → Type 0
 SecurityHasName t symbol name = option_map (λ s. s.name) (security_row_with_symbol t symbol) ≡ Some name
 
--- The selection has exactly the trades that the update `u` selects in the tables: the trades with
--- its ids, or at most 20 completed trades of its account or symbol, the oldest first, with the
--- columns from which their new texts are formed. The account or the security of the update exists.
--- False if the selection belongs to another kind of update.
+-- The selection has exactly the trades that the update `u` selects in the tables, with the columns
+-- from which their new texts are formed: the trades with its ids, or the first 20, at most, of the
+-- completed trades of its account or of the completed cash trades of its symbol, within its span of
+-- stamps, the oldest first. The account or the security of the update exists. False if the
+-- selection belongs to another kind of update.
 abbrev pub SelectedTradesMatchTables : Tables → told.Update → TextUpdate → Type 0
 SelectedTradesMatchTables t (update.Executors ids) (corrected.Executors trades) = AreTradesWithIds t ids trades.items
 SelectedTradesMatchTables t (update.CashTypes account span) (corrected.CashTypes settled) =
@@ -116,11 +117,12 @@ pub record PlanUpdatePrecondition (base : Base) (u : told.Update) (found : Optio
 
 -- ---- unchanged rows and columns
 
--- The tables after the command, as if it is accepted from `base` at the clock reading `now`.
+-- The tables after the command, as if `base` accepted the command at the clock reading `now`,
+-- whether or not it does.
 abbrev pub tables_after_command : Base → ℕ → Command → Tables
 tables_after_command base now command = sheets (base_after_command base now command)
 
--- The row `r` of TRADE with an empty executor name.
+-- The row `r` of TRADE with its executor name replaced by the empty text.
 abbrev pub trade_row_without_executor_name : TradeRow → TradeRow
 trade_row_without_executor_name r = record r { executor = [] }
 
@@ -128,7 +130,7 @@ trade_row_without_executor_name r = record r { executor = [] }
 abbrev pub trade_rows_without_executor_names : List TradeRow → List TradeRow
 trade_rows_without_executor_names rows = map trade_row_without_executor_name rows
 
--- The row `r` of SETTLEMENT with an empty text.
+-- The row `r` of SETTLEMENT with its text (SE_CASH_TYPE) replaced by the empty text.
 abbrev pub settlement_row_without_text : SettlementRow → SettlementRow
 settlement_row_without_text r = record r { cash_type = [] }
 
@@ -136,7 +138,7 @@ settlement_row_without_text r = record r { cash_type = [] }
 abbrev pub settlement_rows_without_texts : List SettlementRow → List SettlementRow
 settlement_rows_without_texts rows = map settlement_row_without_text rows
 
--- The row `r` of CASH_MOVE with an empty text.
+-- The row `r` of CASH_MOVE with its text (CM_NAME) replaced by the empty text.
 abbrev pub cash_row_without_text : MoveRow → MoveRow
 cash_row_without_text r = record r { name = [] }
 
@@ -144,22 +146,22 @@ cash_row_without_text r = record r { name = [] }
 abbrev pub cash_rows_without_texts : List MoveRow → List MoveRow
 cash_rows_without_texts rows = map cash_row_without_text rows
 
--- The command, as if it is accepted at the clock reading `now`, changes only executor names in
+-- The command, as if `base` accepted it at the clock reading `now`, changes only executor names in
 -- TRADE and the last stamp. All other rows and columns are unchanged.
 pub record ChangesOnlyExecutorNames (base : Base) (now : ℕ) (command : Command) : Type 0 where
   pub others : tables_after_command base now command
       ≡ tables_with_last_stamp (stamp_of_next_command base now) (record (sheets base) { trades = (tables_after_command base now command).trades })
   pub rows : trade_rows_without_executor_names (tables_after_command base now command).trades ≡ trade_rows_without_executor_names (sheets base).trades
 
--- The command, as if it is accepted at the clock reading `now`, changes only texts in SETTLEMENT
--- and the last stamp. All other rows and columns are unchanged.
+-- The command, as if `base` accepted it at the clock reading `now`, changes only texts in
+-- SETTLEMENT and the last stamp. All other rows and columns are unchanged.
 pub record ChangesOnlySettlementTexts (base : Base) (now : ℕ) (command : Command) : Type 0 where
   pub others : tables_after_command base now command
       ≡ tables_with_last_stamp (stamp_of_next_command base now) (record (sheets base) { settlements = (tables_after_command base now command).settlements })
   pub rows : settlement_rows_without_texts (tables_after_command base now command).settlements ≡ settlement_rows_without_texts (sheets base).settlements
 
--- The command, as if it is accepted at the clock reading `now`, changes only texts in CASH_MOVE and
--- the last stamp. All other rows and columns are unchanged.
+-- The command, as if `base` accepted it at the clock reading `now`, changes only texts in CASH_MOVE
+-- and the last stamp. All other rows and columns are unchanged.
 pub record ChangesOnlyCashTexts (base : Base) (now : ℕ) (command : Command) : Type 0 where
   pub others : tables_after_command base now command
       ≡ tables_with_last_stamp (stamp_of_next_command base now) (record (sheets base) { moves = (tables_after_command base now command).moves })

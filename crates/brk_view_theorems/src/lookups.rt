@@ -43,9 +43,9 @@ pub fn rows_with_a_key_are_unique()
         → option_to_list (find (λ c. c.id == id) (sheets base).customers) ≡ filter (λ c. c.id == id) (sheets base).customers }
 {}
 
-/// Proves that the trades that are read by distinct ids, one by one, and then sorted with the
-/// oldest first are all trades with these ids, the oldest first, if the base satisfies the books
-/// invariant and the audit invariant.
+/// Proves that the trades that are looked up by each of some distinct ids, and then sorted by stamp
+/// and by id, ascending, equal all trades with these ids, sorted by stamp and by id, ascending, if
+/// the base satisfies the books invariant and the audit invariant.
 #[tactic(auto, using(crate::proofs::FoundRows::trades_by_id))]
 pub fn trades_read_by_ids_are_complete()
     ensures { (base : Base) (ids : List ℕ) → BooksInvariant base → AuditInvariant base → all_distinct ids ≡ true
@@ -53,9 +53,9 @@ pub fn trades_read_by_ids_are_complete()
         ≡ trade_rows_oldest_first (filter (λ t. contains_number t.id ids) (sheets base).trades) }
 {}
 
-/// Proves that the rows of HOLDING_HISTORY of the lots that a trade touched, read lot by lot, are
-/// all rows of these lots in the order of the table, if the base satisfies the books invariant and
-/// the audit invariant.
+/// Proves that the rows of HOLDING_HISTORY of the lots that a trade touched, read lot by lot, equal
+/// all rows of these lots in the order of the sorted table, if the base satisfies the books
+/// invariant and the audit invariant.
 #[tactic(auto, using(crate::proofs::TouchRows::touched_by_lot))]
 pub fn lot_changes_read_by_lot_are_complete()
     ensures { (base : Base) (trade : ℕ) → BooksInvariant base → AuditInvariant base

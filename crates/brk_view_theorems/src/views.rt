@@ -10,8 +10,8 @@ ghost use Rattle.brk_model.specs.Views.{view_of_tables};
 ghost use Rattle.brk_invariant_theorems.specs.Sound.{AuditInvariant};
 ghost use Rattle.brk_book_theorems.specs.Books.{BooksInvariant};
 
-/// Proves that the view of customers' positions over the sorted tables of a base equals that view
-/// over its unsorted tables, if the base satisfies the books invariant.
+/// Proves that the view of the positions of the customers that pass a test, over the sorted tables
+/// of a base, equals that view over its unsorted tables, if the base satisfies the books invariant.
 #[tactic(auto, using(crate::proofs::Worths::same_position))]
 pub fn sorting_tables_preserves_position_view()
     ensures { (base : Base) (test : Customer → Bool) → BooksInvariant base

@@ -10,8 +10,8 @@ use std::io::ErrorKind;
 use std::test::Fail;
 
 // Executes a batch on a new desk with a reader that fails once with the error `kind` after `len`
-// bytes, and then retries it. Checks that it fails with `Read` after the lines of the decided rows,
-// and that the retry completes: a row is decided if the record after it was read.
+// bytes, and then retries the batch. Checks that the first run fails with `Read` after the lines of
+// the decided rows, and that the retry completes: a row is decided if the record after it was read.
 fn expect_batch_read_fault(
     alloc: Global,
     batch: &str,
@@ -40,8 +40,8 @@ fn expect_batch_read_fault(
     expect_batch_fault(name.as_str(), ended, wanted, &told, lines.as_str())
 }
 
-// Checks, for each byte of a batch whose reader fails or is interrupted before this byte, that the
-// batch fails with `Read` after the lines of the decided rows, and that its retry completes.
+// Checks, for each byte of a batch before which the reader fails or is interrupted, that the batch
+// fails with `Read` after the lines of the decided rows, and that its retry completes.
 #[test]
 fn batch_readers_failing_at_each_byte(rt: HostRuntime) -> Result<(), Fail> {
     let batch = format_batch(rt.alloc(), &ROWS)?;

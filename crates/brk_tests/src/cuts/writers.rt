@@ -1,4 +1,5 @@
-//! Tests of a batch whose writer takes some bytes, and then none, fails, or is interrupted.
+//! Tests of a batch whose writer accepts some bytes, and then accepts none, fails, or is
+//! interrupted.
 
 use crate::cuts::batch::{ROWS, all_lines_of_retry, expect_batch_fault, expect_completed_batch};
 use crate::desks::{Still, desk_with_reference_data};
@@ -10,9 +11,9 @@ use std::io::ErrorKind;
 use std::test::Fail;
 
 // Executes a batch on a new desk with a writer that has room for `room` bytes, and then fails once
-// with the error `fault`, or accepts no byte without one, and then retries it. Checks that it fails
-// with `Write` after the first `room` bytes of `lines`, and that the retry completes: a row whose
-// line was not written remains committed.
+// with the error `fault`, or, if `fault` is `None`, once accepts no byte, and then retries the
+// batch. Checks that the first run fails with `Write` after the first `room` bytes of `lines`, and
+// that the retry completes: a row whose line was not written remains committed.
 fn expect_batch_write_fault(
     alloc: Global,
     batch: &str,
@@ -40,9 +41,9 @@ fn expect_batch_write_fault(
     expect_batch_fault(name.as_str(), ended, fault, &writer.taken, wanted)
 }
 
-// Checks, for each byte of the lines of a batch whose writer fails, is interrupted or accepts no
-// byte there, that the batch fails with `Write`, that exactly the bytes before are written, and
-// that its retry completes.
+// Checks, for each byte of the lines of a batch at which the writer fails, is interrupted or
+// accepts no byte, that the batch fails with `Write`, that exactly the bytes before are written,
+// and that its retry completes.
 #[test]
 fn batch_writers_failing_at_each_byte(rt: HostRuntime) -> Result<(), Fail> {
     let batch = format_batch(rt.alloc(), &ROWS)?;

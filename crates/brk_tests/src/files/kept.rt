@@ -31,8 +31,8 @@ fn expect_batch_in_files(
 }
 
 // Executes the rows as a batch on a desk in files, opens the files again and retries the batch.
-// Checks that the first run accepts all rows with these replies, that the retry repeats them, and
-// that an audit passes after each run. Fails with `name` if not.
+// Checks that the first run accepts all rows with the replies `lines`, that the retry returns these
+// as stored replies, and that an audit passes after each run. Fails with `name` if not.
 fn expect_trades_stored_and_repeated(
     alloc: Global,
     name: &str,
@@ -50,8 +50,8 @@ fn expect_trades_stored_and_repeated(
     Ok(())
 }
 
-// Checks that a desk that is opened again from its files repeats the replies of its trades, for
-// batches of one to six trades.
+// Checks that a desk that is opened again from its files returns the stored replies of its trades,
+// for batches of one to six trades.
 #[test]
 fn desks_in_files_can_be_reopened(rt: HostRuntime) -> Result<(), Fail> {
     for (name, count) in [

@@ -97,8 +97,8 @@ fn create_or_adopt_desk<S: Alter + Drop>(
     }
 }
 
-/// Creates a desk in these files or adopts the desk that they have. Returns `None` if the files
-/// cannot be opened, or the desk can be neither created nor adopted.
+/// Creates a desk in these files or adopts the desk that they have. Returns `None` if a sync of a
+/// file has failed, the files cannot be opened, or the desk can be neither created nor adopted.
 pub fn open_desk_in_files(
     alloc: Global,
     files: Files<Fuse<Memory>>,
@@ -147,8 +147,8 @@ pub fn run_batch_on_connection<S: Alter + Drop>(
 }
 
 // Opens these files, executes a batch on the desk in them, and closes them, as far as possible.
-// Records the observation in `seen`, and returns the files. Executes nothing if a file has failed
-// or the database cannot be opened.
+// Records the observation in `seen`, and returns the files. Executes nothing if a sync of a file
+// has failed or the database cannot be opened.
 fn run_batch_in_files(
     alloc: Global,
     files: Files<Fuse<Memory>>,
@@ -191,8 +191,8 @@ pub fn failing_files_with_bytes(
 }
 
 // Appends to `bytes` the bytes that a file has after the restart: without those that were not
-// synced if `loses` is true. Returns true if the file had failed, or would fail at its next call.
-// Fails only if memory runs out.
+// synced if `loses` is true. Returns true if a sync of the file had failed, or its next call would
+// fail. Fails only if memory runs out.
 fn append_bytes_after_crash(
     file: &mut Fuse<Memory>,
     loses: bool,
@@ -207,8 +207,8 @@ fn append_bytes_after_crash(
 }
 
 // Returns the bytes of the files after the restart, without those that were not synced if `loses`
-// is true, and true if one of the files had failed or would fail at its next call. Fails only if
-// memory runs out.
+// is true, and true if a sync of one of the files had failed or its next call would fail. Fails
+// only if memory runs out.
 fn files_after_crash(
     alloc: Global,
     files: Files<Fuse<Memory>>,
@@ -277,8 +277,8 @@ fn execute_sql<S: Alter + Drop>(
 }
 
 // Opens these files, executes SQL statements on the database in them, closes them, and returns
-// them. Stores in `is_done` whether the statements succeed; does not change it if the files cannot
-// be opened.
+// them. Stores in `is_done` whether all statements succeed; does not change `is_done` if the files
+// cannot be opened.
 fn execute_sql_in_files(
     alloc: Global,
     files: Files<Fuse<Memory>>,
@@ -297,8 +297,8 @@ fn execute_sql_in_files(
     }
 }
 
-/// Returns these files after SQL statements of another program were executed on them. Fails if the
-/// statements fail or memory runs out.
+/// Executes SQL statements on the database in these files, as another program would, and returns
+/// the files after them. Fails if the files cannot be opened, a statement fails or memory runs out.
 pub fn files_after_sql(alloc: Global, held: &Held, text: &str) -> Result<Held, Fail> {
     let mut is_done = false;
     let files = failing_files_with_bytes(alloc, held, u64::MAX, u64::MAX)?;

@@ -63,8 +63,8 @@ fn write_statement_over_failing_disk(
     Ok(Some(statement(alloc, &mut desk, account, from, to, text)))
 }
 
-// Returns true if a text consists of whole first lines of the statement, perhaps none, without the
-// last one.
+// Returns true if a text consists of the first whole lines of the statement, perhaps none, but not
+// all of them.
 fn is_proper_prefix_of_statement(text: &[u8]) -> bool {
     let is_whole = text.is_empty() || text.ends_with(b"\n");
     is_whole && text.len() < WANTED.len() && WANTED.starts_with(text)

@@ -56,7 +56,7 @@ const STOPS: [Stop; 4] = [
     },
 ];
 
-// Fails with the name of the crash, its call and `what` if `is_so` is false.
+// Fails, with the name of the crash, its number of calls and the text `what`, if `is_so` is false.
 fn fail_unless(is_so: bool, stop: Stop, what: &str) -> Result<(), Fail> {
     if is_so {
         Ok(())
@@ -66,8 +66,8 @@ fn fail_unless(is_so: bool, stop: Stop, what: &str) -> Result<(), Fail> {
     }
 }
 
-// Returns all tables of a desk in memory, as text, after the batch `SET` and the first `rows` of
-// the rows `ROWS`, at most six. Fails if the tables cannot be read.
+// Returns all tables of a desk in memory as text, after the batch `SET` and the first `rows` rows
+// of `ROWS`, at most six. Fails if the tables cannot be read or memory runs out.
 fn tables_after_rows(alloc: Global, rows: usize) -> Result<String, Fail> {
     let batch = format_batch(alloc, &ROWS[..rows.min(6)])?;
     let conn = desk_with_reference_data(alloc)?.into_store().into_conn();
@@ -80,15 +80,16 @@ fn tables_after_rows(alloc: Global, rows: usize) -> Result<String, Fail> {
     Ok(after)
 }
 
-// Returns true if a batch wrote exactly these lines, its desk passed the audit, and the tables
-// after it are these.
+// Returns true if a batch wrote exactly the lines `lines`, its desk passed the audit, and the
+// tables after it are `tables`.
 fn has_lines_audit_and_tables(seen: &Seen, lines: &str, tables: &str) -> bool {
     seen.is_sound && seen.lines.as_slice() == lines.as_bytes() && seen.after.as_str() == tables
 }
 
 // Creates a desk until the crash `stop`, and then executes the batch `SET` on the desk that is
-// opened or created from the files. Returns two flags: the batch has the lines `SET_LINES` and the
-// tables `tables` after it, and the audit passes; and there was a crash. Fails if memory runs out.
+// opened or created from the files. Returns two flags: true if the batch has the lines `SET_LINES`
+// and the tables `tables` after it, and the audit passes; and true if there was a crash. Fails if
+// memory runs out.
 fn set_up_desk_after_creation_crash(
     alloc: Global,
     stop: Stop,
@@ -133,9 +134,9 @@ fn crashes_while_a_store_is_created(rt: HostRuntime) -> Result<(), Fail> {
     Ok(())
 }
 
-// Returns the number of rows of the batch that are committed after a crash: the number of the
-// written lines `told`, or one more, by the tables `found`. `tables` are the tables after each
-// number of rows. Returns `None` if `found` are the tables of neither number.
+// Returns the number of rows of the batch, at most six, that are committed after a crash with the
+// tables `found`: the number of the written lines `told`, or one more. `tables` are the tables
+// after each number of rows. Returns `None` if `found` are the tables of neither number.
 fn committed_rows_after_crash(told: &[u8], found: &str, tables: &[String]) -> Option<usize> {
     let settled = told
         .split(|byte| *byte == b'\n')
@@ -159,9 +160,9 @@ struct Twice {
     again: Seen,
 }
 
-// Executes the batch on the desk in the files `start` until the crash `stop`, retries it on the
-// desk that is opened after the crash, and returns the observations of both runs and whether there
-// was a crash. Fails if memory runs out.
+// Executes the batch on the desk in the files `start` until the crash `stop`, and retries it on the
+// desk that is opened after the crash. Returns the observations of both runs, and true if there was
+// a crash. Fails if memory runs out.
 fn crash_and_retry_batch(
     alloc: Global,
     stop: Stop,
@@ -269,17 +270,17 @@ fn crashes_while_a_batch_is_executed(rt: HostRuntime) -> Result<(), Fail> {
     Ok(())
 }
 
-// Executes the first three trades of the worked rows on a desk in files after the batch `SET`.
-// Returns the observation of the batch and the files after it. Fails if memory runs out.
+// Executes the first three trades of `worked::ROWS` as a batch on a desk in files after the batch
+// `SET`. Returns the observation of the batch and the files after it. Fails if memory runs out.
 fn files_after_trades(alloc: Global) -> Result<Sent, Fail> {
     let batch = format_batch(alloc, &worked::ROWS[..6])?;
     let set = files_with_reference_data(alloc)?;
     run_batch_until_crash(alloc, &set, Stop::NEVER, batch.as_bytes())
 }
 
-// Returns the files of a desk that has three trades and that the SQL statements `change` convert to
-// an older schema, and the text of its tables in schema 3. Fails if the tables cannot be read or
-// the statements fail.
+// Returns the files of a desk of three trades after the SQL statements `change`, which convert it
+// to an older schema, and the text of its tables before, in schema 3. Fails if the tables cannot be
+// read, the statements fail or memory runs out.
 fn files_of_older_schema(alloc: Global, change: &str) -> Result<(Held, String), Fail> {
     let Sent { seen, held, .. } = files_after_trades(alloc)?;
     let Seen { after, .. } = seen;
@@ -300,10 +301,10 @@ struct MoveSeen {
     was_stopped: bool,
 }
 
-// Upgrades the desk of an older schema in the files `start` until the crash `stop`, and then again.
-// Returns whether the upgrade was not begun or was complete after the crash, whether it is complete
-// after the retry, and whether there was a crash. `tables` are its tables in schema 3. Fails if
-// memory runs out.
+// Upgrades the desk of an older schema in the files `start` until the crash `stop`, and then
+// retries the upgrade. Returns whether the upgrade was not begun or was complete after the crash,
+// whether it is complete after the retry, and whether there was a crash. `tables` are the tables of
+// the desk in schema 3. Fails if memory runs out.
 fn crash_and_retry_upgrade(
     alloc: Global,
     stop: Stop,
@@ -320,10 +321,10 @@ fn crash_and_retry_upgrade(
     })
 }
 
-// Upgrades the desk of an older schema in the files `start` until the crash `stop`, and then again.
-// Checks that the upgrade is atomic, that no batch is answered before its commit, and that the
-// retry completes it with the tables `tables`, those of schema 3. Returns true if there was a
-// crash.
+// Upgrades the desk of an older schema in the files `start` until the crash `stop`, and then
+// retries the upgrade. Checks that the upgrade is atomic, that no line of a batch is written before
+// the upgrade is committed, and that the retry completes the upgrade with the tables `tables`,
+// those of schema 3. Returns true if there was a crash.
 fn expect_upgrade_crash_recovered(
     alloc: Global,
     stop: Stop,
@@ -337,8 +338,8 @@ fn expect_upgrade_crash_recovered(
 }
 
 // Upgrades a desk that the SQL statements `change` convert to an older schema, with each crash of
-// `STOPS` at each call of its file, and checks each recovery. Returns true if, for each crash of
-// `STOPS`, a run without a crash was reached.
+// `STOPS` at each call of its file, until a run has no crash. Fails if a crash is not recovered.
+// Returns true if, for each crash of `STOPS`, a run without a crash was reached.
 fn upgrade_with_crash_at_each_call(alloc: Global, change: &str) -> Result<bool, Fail> {
     let (start, tables) = files_of_older_schema(alloc, change)?;
     let mut is_always = false;

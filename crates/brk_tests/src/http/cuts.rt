@@ -45,7 +45,7 @@ fn three_requests_with_ends(alloc: Global) -> Result<(String, [usize; 3]), Alloc
 }
 
 // Returns the replies to the three requests on a desk that has executed none of them: the row is
-// accepted, its stored reply is repeated, and the view has no trades. Fails only if memory runs
+// accepted, its stored reply is returned, and the view has no trades. Fails only if memory runs
 // out.
 fn replies_to_three_requests(alloc: Global) -> Result<[String; 3], AllocError> {
     let first = format_wanted_reply(alloc, Told::Open("200 OK", "{\"ok\":[\"1709251200016\"]}"))?;
@@ -89,8 +89,8 @@ fn replies_within_length(
     Ok((text, done, start < len))
 }
 
-// Checks the replies to a stream that ends at each of its bytes: each whole request has its reply,
-// and a request that is cut has the reply 400.
+// Checks, for a stream that is cut before each of its bytes and at its end, that each whole request
+// has its reply, and that a request that is cut has the reply 400.
 #[test]
 fn streams_cut_at_each_byte(rt: HostRuntime) -> Result<(), Fail> {
     let alloc = rt.alloc();
@@ -115,8 +115,9 @@ fn streams_cut_at_each_byte(rt: HostRuntime) -> Result<(), Fail> {
     Ok(())
 }
 
-// Returns the replies to all three requests on a desk that has executed the first one before, if
-// `executed` is true, so that its stored reply is repeated, or none. Fails only if memory runs out.
+// Returns the replies to all three requests as one text. If `executed` is true, the desk has
+// executed the first request before, so that the first reply is the stored one; otherwise it has
+// executed none. Fails only if memory runs out.
 fn all_replies_of_retry(alloc: Global, all: &Three, executed: bool) -> Result<String, AllocError> {
     let first = if executed { 1 } else { 0 };
     let mut wanted = String::from_str(alloc, all.replies[first].as_str())?;
@@ -125,9 +126,9 @@ fn all_replies_of_retry(alloc: Global, all: &Three, executed: bool) -> Result<St
     Ok(wanted)
 }
 
-// Serves the whole stream on a desk that has executed the first request before, if `executed` is
-// true, or none. Checks that all three requests have their replies, and that the tables are those
-// after one execution of the row. Fails with `name` if not.
+// Serves the whole stream on a desk, which has executed the first request before if `executed` is
+// true, and otherwise none. Checks that all three requests have their replies, and that the tables
+// are those after one execution of the row. Fails with `name` if not.
 fn expect_completed_stream(
     alloc: Global,
     mut desk: Desk<MemStore>,
@@ -144,8 +145,9 @@ fn expect_completed_stream(
 }
 
 // Serves the stream with a reader that fails once with the error `kind` after `len` bytes. Checks
-// that it fails with `Read` after the replies to the requests that were read whole, that only these
-// were executed, and that a retry completes.
+// that the stream fails with `Read` after the replies to the requests that were read whole, and
+// that a retry completes, with the stored reply to the first request if and only if this request
+// was read whole before.
 fn expect_stream_read_fault(
     alloc: Global,
     all: &Three,
@@ -171,9 +173,9 @@ fn expect_stream_read_fault(
     expect_completed_stream(alloc, desk, name.as_str(), all, done > 0)
 }
 
-// Checks, for each byte of a stream whose reader fails or is interrupted there, that the stream
-// fails with `Read` after the replies to the requests that were read whole, and that a retry
-// completes.
+// Checks, for each position of a stream, its end included, at which the reader fails or is
+// interrupted, that the stream fails with `Read` after the replies to the requests that were read
+// whole, and that a retry completes.
 #[test]
 fn stream_readers_failing_at_each_byte(rt: HostRuntime) -> Result<(), Fail> {
     let all = three_requests_and_replies(rt.alloc())?;
@@ -185,9 +187,9 @@ fn stream_readers_failing_at_each_byte(rt: HostRuntime) -> Result<(), Fail> {
 }
 
 // Serves the stream with a writer that has room for `room` bytes, and then fails once with the
-// error `fault`, or accepts no byte without one. Checks that it fails with `Write` after the first
-// `room` bytes of the replies, and that a retry completes: a request is executed before its reply
-// is written.
+// error `fault`, or, if `fault` is `None`, once accepts no byte. Checks that the stream fails with
+// `Write` after the first `room` bytes of the replies, and that a retry completes, with the stored
+// reply to the first request: a request is executed before its reply is written.
 fn expect_stream_write_fault(
     alloc: Global,
     all: &Three,
@@ -216,9 +218,9 @@ fn expect_stream_write_fault(
     expect_completed_stream(alloc, desk, name.as_str(), all, true)
 }
 
-// Checks, for each byte of the replies of a stream whose writer fails, is interrupted or accepts no
-// byte there, that the stream fails with `Write`, that exactly the bytes before are written, and
-// that a retry completes.
+// Checks, for each byte of the replies of a stream at which the writer fails, is interrupted or
+// accepts no byte, that the stream fails with `Write`, that exactly the bytes before are written,
+// and that a retry completes.
 #[test]
 fn stream_writers_failing_at_each_byte(rt: HostRuntime) -> Result<(), Fail> {
     let all = three_requests_and_replies(rt.alloc())?;

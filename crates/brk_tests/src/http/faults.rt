@@ -21,8 +21,8 @@ fn open_desk_with_failing_log(alloc: Global, calls: u64) -> Option<Desk<FileStor
 }
 
 // Checks, for a log that fails after 0, 1, 2 and more calls, that the reply to a row is 503 and the
-// last of its stream, until the row and the query after it both have their replies. Checks nothing
-// where the desk cannot be created.
+// last of its stream, until the row and the query after it both have their replies. Numbers of
+// calls with which the desk cannot be created are skipped.
 #[test]
 fn a_store_fault_is_the_last_reply(rt: HostRuntime) -> Result<(), Fail> {
     let alloc = rt.alloc();

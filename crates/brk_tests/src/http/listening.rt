@@ -47,9 +47,9 @@ const PEERS: [(&str, Option<&str>); 6] = [
     ),
 ];
 
-// Connects a peer to the listener, sends its bytes and returns its stream. If `waits` is true, the
-// peer then shuts down its writing side, and waits for replies. Fails if the peer cannot connect or
-// send.
+// Connects a peer to the listener, sends the bytes `input` and returns the stream of the peer. If
+// `waits` is true, shuts down the writing side of the stream after the bytes. Fails if the peer
+// cannot connect or send.
 fn connect_peer(
     rt: &HostRuntime,
     listener: &TcpListener,
@@ -64,8 +64,9 @@ fn connect_peer(
     Ok(peer)
 }
 
-// Connects all peers in order. Returns those that wait for replies, with the wanted replies; the
-// others break their streams off. Fails if a peer cannot connect or send.
+// Connects all peers of `PEERS` in order and sends their bytes. Returns the streams of the peers
+// that wait for replies, with the wanted replies, and closes the other streams. Fails if a peer
+// cannot connect or send.
 fn connect_all_peers(
     rt: &HostRuntime,
     listener: &TcpListener,
@@ -80,7 +81,8 @@ fn connect_all_peers(
     Ok(waiting)
 }
 
-// Checks that each peer that waits for replies receives exactly the wanted ones.
+// Checks that each peer in `waiting` receives exactly its wanted replies until the end of its
+// stream.
 fn expect_peer_replies(
     rt: &impl Abort,
     alloc: Global,

@@ -14,7 +14,7 @@ const CLOSED: Told = Told::Last("400 Bad Request", "{\"error\":\"bad request\"}"
 // The reply to a query for submitted trades on a desk without trades.
 const EMPTY: Told = Told::Open("200 OK", "{\"view\":[]}");
 
-// The reply to this query in a request of version 1.0, which ends its stream.
+// The reply to a query for submitted trades in a request of version 1.0, which ends its stream.
 const SAID: Told = Told::Last("200 OK", "{\"view\":[]}");
 
 // Streams, each with its replies. Bytes after a reply that ends its stream are not read.
@@ -65,8 +65,9 @@ fn streams_in_pieces_get_the_same_replies(rt: HostRuntime) -> Result<(), Fail> {
     Ok(())
 }
 
-// Returns a query for the submitted trades whose head has `len` bytes, because one field is long;
-// `len` must be at least the length of the other fields. Fails only if memory runs out.
+// Returns an HTTP request for the submitted trades with a head of `len` bytes: its last header
+// field is as long as needed. `len` must be at least the length of the head without the value of
+// this field. Fails only if memory runs out.
 fn request_with_head_of_length(alloc: Global, len: usize) -> Result<String, AllocError> {
     let front = "POST /ask/submitted HTTP/1.1\r\nContent-Length: 2\r\nX: ";
     let mut head = String::from_str(alloc, front)?;

@@ -63,9 +63,9 @@ pub fn format_post_request(alloc: Global, target: &str, body: &str) -> Result<St
     format!(in alloc; "POST {target} HTTP/1.1\r\nHost: desk\r\nContent-Length: {len}\r\n\r\n{body}")
 }
 
-/// Returns the text of a wanted reply: its status, type and content length, an `Allow: POST` line
-/// for the status 405, a `Connection: close` line if it ends the stream, and its body. Fails only
-/// if memory runs out.
+/// Returns the text of a wanted reply: its status line, content type and content length, an `Allow:
+/// POST` line for the status 405, a `Connection: close` line if it ends the stream, and its body.
+/// Fails only if memory runs out.
 pub fn format_wanted_reply(alloc: Global, wanted: Told) -> Result<String, AllocError> {
     let (status, body, close) = match wanted {
         Told::Open(status, body) => (status, body, ""),

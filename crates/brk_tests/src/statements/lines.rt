@@ -30,8 +30,8 @@ const AMOUNTS: [(&str, i128, &str); 6] = [
     ),
 ];
 
-// Checks that the words and the amounts of `AMOUNTS` have their lines, in which an amount wider
-// than its column is printed whole.
+// Checks that `amount_line` returns the wanted line of each word and amount of `AMOUNTS`, in which
+// an amount wider than its column is printed whole.
 #[test]
 fn wide_amounts_are_printed_whole(rt: HostRuntime) -> Result<(), Fail> {
     for (word, cents, wanted) in AMOUNTS {

@@ -44,7 +44,7 @@ enum Ended {
 }
 
 impl From<Fault> for Ended {
-    // Returns the error that the desk failed.
+    // Returns the error `Ended::Fault` with this fault of the desk.
     fn from(fault: Fault) -> Ended {
         Ended::Fault(fault)
     }
@@ -57,8 +57,8 @@ struct Seen {
     left: u64,
 }
 
-// Counts a row of the trade `trade` (0 for a movement), or fails with `At` if no more rows may be
-// passed, which stops the walk.
+// Subtracts 1 from the number of rows that the walk may still pass. Fails with `At` and the trade
+// `trade` (0 for a movement) if this number is 0, which stops the walk.
 fn count_row(seen: &mut Seen, trade: u64) -> Result<(), Ended> {
     if seen.left == 0 {
         return Err(Ended::At(trade));
@@ -68,8 +68,8 @@ fn count_row(seen: &mut Seen, trade: u64) -> Result<(), Ended> {
 }
 
 // Counts a cash row and appends its number, trade (0 for a movement), stamp, amount in cents and
-// text to the rows. Fails with `At` if no more rows may be passed, and with `Memory` if memory runs
-// out.
+// text to the rows as a line. Fails with `At` if no more rows may be passed, and with `Memory` if
+// memory runs out.
 fn record_cash_row(seen: &mut Seen, row: &MoveRow) -> Result<(), Ended> {
     let trade = row.trade.map_or(0, Id::get);
     count_row(seen, trade)?;
@@ -80,8 +80,8 @@ fn record_cash_row(seen: &mut Seen, row: &MoveRow) -> Result<(), Ended> {
     }
 }
 
-// Counts a lot and appends its trade, stamp, quantity, symbol and price in cents to the rows. Fails
-// with `At` if no more rows may be passed, and with `Memory` if memory runs out.
+// Counts a lot and appends its trade, stamp, quantity, symbol and price in cents to the rows as a
+// line. Fails with `At` if no more rows may be passed, and with `Memory` if memory runs out.
 fn record_lot(seen: &mut Seen, symbol: &str, lot: &Lot) -> Result<(), Ended> {
     count_row(seen, lot.trade.get())?;
     let (trade, stamp, price) = (lot.trade.get(), lot.stamp.get(), lot.price.get());
@@ -155,7 +155,7 @@ const CASH: [(i64, i64, u64, &str, Result<(), Ended>); 10] = [
 ];
 
 // Checks, for each walk of `CASH` over the cash rows of account 100, that it passes exactly the
-// wanted rows, sorted by stamp, and that it has the wanted result.
+// wanted rows, sorted by stamp, ascending, and that it has the wanted result.
 #[test]
 fn walks_cash_rows_in_order_of_stamps(rt: HostRuntime) -> Result<(), Fail> {
     let alloc = rt.alloc();
@@ -201,7 +201,7 @@ const LOTS: [(u64, u64, &str, Result<(), Ended>); 5] = [
 ];
 
 // Checks, for each walk of `LOTS` over the lots of an account, that it passes exactly the wanted
-// lots, sorted by symbol, and that it has the wanted result.
+// lots, sorted by symbol, ascending, and that it has the wanted result.
 #[test]
 fn walks_lots_in_order_of_symbols(rt: HostRuntime) -> Result<(), Fail> {
     let alloc = rt.alloc();

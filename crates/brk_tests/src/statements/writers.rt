@@ -55,8 +55,8 @@ fn write_error_for_room(room: usize) -> Option<ErrorKind> {
 }
 
 // Writes the statement of account 100 for March 2024 with a writer that has room for `room` bytes.
-// Checks that it fails with `Write`, or completes if there is room for all, and that exactly its
-// first `room` bytes are written.
+// Checks that the statement fails with `Write`, or completes if there is room for all its bytes,
+// and that exactly its first `room` bytes are written.
 fn expect_statement_write_fault(
     rt: &impl Abort,
     alloc: Global,
@@ -90,9 +90,9 @@ fn expect_statement_write_fault(
     Ok(())
 }
 
-// Checks, for each byte of a statement whose writer fails, is interrupted or accepts no byte there,
-// that the statement fails with `Write` and that exactly the bytes before are written, and that it
-// completes with room for all bytes.
+// Checks, for each byte of a statement at which the writer fails, is interrupted or accepts no
+// byte, that the statement fails with `Write` and that exactly the bytes before are written, and
+// that the statement completes with room for all bytes.
 #[test]
 fn statement_writers_failing_at_each_byte(rt: HostRuntime) -> Result<(), Fail> {
     let alloc = rt.alloc();
