@@ -27,7 +27,7 @@ use brk_ref::{
 use sqlite::{Alter, Transaction};
 use std::alloc::Global;
 
-/// The typed rows of DESK, BROKER and CUSTOMER, and the keys of KEPT.
+/// The typed rows of DESK, KEPT, BROKER and CUSTOMER.
 #[derive(Drop)]
 pub struct DeskAndCustomerSheets {
     last: Option<Stamp>,
