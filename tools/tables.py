@@ -1169,13 +1169,19 @@ def read_group(word, field, tables):
     types = ''.join(f'    {sheet_field(d)}: {VALUES[d[0]][0] if d[0] in VALUES else f"Vec<{sheet_type(d)}>"},\n' for d in tables)
     reads = ''.join(f'    let {sheet_field(d)} = {reading(d)};\n' for d in tables)
     fields = ''.join(f'        {sheet_field(d)},\n' for d in tables)
+    returned = {'DeskAndCustomer': 'Returns the last stamp in DESK and the decoded rows of KEPT (with empty texts), BROKER and CUSTOMER, each list sorted by key.',
+                'LaterSchema': 'Returns the decoded rows of CASH_MOVE, sorted by key, and the settlement day in SETTLE_RULE, or none of a table that `schema` lacks.'}
+    shown = returned.get(word, f'Returns the decoded rows of {named(tables)}, each list sorted by key.')
+    counted = {'DeskAndCustomer': ', or DESK not exactly one row,', 'LaterSchema': ', or SETTLE_RULE two rows or more,'}.get(word, ',')
+    what = 'value' if by_schema else 'rows'
+    malformed = f'If a table has a malformed row{counted} sets `are_well_formed` of the decoder to false and returns no {what} of this table.'
     return f"""
 {remark(f'The typed rows of {named(tables)}.', '///')}
 #[derive(Drop)]
 pub struct {word}Sheets {{
 {types}}}
 
-{remark(f'Reads and decodes all rows of {named(tables)}, each list sorted by key. If a row is malformed, sets `are_well_formed` of the decoder to false. Fails with `Memory` or `Store` only.', '//')}
+{remark(f'{shown} {malformed} Fails with `Memory` or `Store` only.', '//')}
 fn {group_function('read', word)}<S: Alter>(
     tx: &mut Transaction<'_, S>,
     alloc: Global,
@@ -1195,14 +1201,14 @@ def all_tables_code():
     """The reads of all tables in code"""
     types = lambda crate, *more: ', '.join(sorted([sheet_type(d) for d in records_of(crate)] + list(more)))
     reads = sorted(f'{rows_name(d)}_in_schema' if d[0] in LATER else rows_name(d) for d in DATA)
-    out = f"""//! The reads of all tables: each table is read and decoded, and its raw rows are dropped, before the
-//! next one is read.
+    out = f"""//! The reads of all tables: each table is read and decoded, and its raw rows are dropped, before
+//! the next is read.
 
 ghost use Rattle.std.specs.Prelude.{{◌≡◌, IfErr}};
 ghost use Rattle.brk_model.specs.Run.{{IsCallFault}};
 ghost use Rattle.brk_changes.specs.Schemas.{{abstract_schema}};
 ghost use Rattle.brk_sql.specs.Model.{{IsConnectionStep}};
-ghost use Rattle.brk_tables_scan.specs.Decoded.{{{', '.join(f'Reads{group[0]}Tables' for group in GROUPS)}, ReadsDeskTables}};
+ghost use Rattle.brk_tables_scan.specs.Decoded.{{{', '.join(f'Reads{group[0]}Tables' for group in GROUPS)}, ReadsAndDecodesDeskTables}};
 
 use crate::decoder::Decoder;
 use crate::rows::{{{', '.join(reads)}}};
@@ -1215,9 +1221,7 @@ use std::alloc::Global;
     out += ''.join(read_group(word, field, tables) for word, field, _, tables in groups())
     schema = lambda word: 'schema, ' if word in ('DeskAndCustomer', 'LaterSchema') else ''
     out += f"""
-/// Reads and decodes all rows of the tables of `schema`, each list sorted by key, ascending. The
-/// list of a table that `schema` lacks is empty. If a row is malformed, sets `are_well_formed` of
-/// the decoder to false. Fails with `Memory` or `Store` only.
+{remark('Returns the decoded rows of the tables of `schema`, each list sorted by key, ascending, and the rows of KEPT with empty texts. The list of a table that `schema` lacks is empty. If a table has a malformed row, DESK not exactly one row, or SETTLE_RULE two rows or more, sets `are_well_formed` of the decoder to false and returns no rows of this table. Fails with `Memory` or `Store` only.', '///')}
 pub(crate) fn read_all_tables<S: Alter>(
     tx: &mut Transaction<'_, S>,
     alloc: Global,
@@ -1226,7 +1230,7 @@ pub(crate) fn read_all_tables<S: Alter>(
 ) -> Result<Sheets, Fault>
     {SAME_REFERENCE}
     ensures step {{ IsConnectionStep S.Store tx.old tx.new result
-        (λ sheets. ReadsDeskTables (abstract_schema schema) decoder.old.are_well_formed decoder.new.are_well_formed sheets) }}
+        (λ sheets. ReadsAndDecodesDeskTables (abstract_schema schema) decoder.old.are_well_formed decoder.new.are_well_formed sheets) }}
     ensures fault {{ IfErr result IsCallFault }}
 {{
 {''.join(f'    let {field} = {group_function("read", word)}(tx, alloc, {schema(word)}decoder)?;{chr(10)}' for word, field, _ in GROUPS)}    Ok(Sheets {{
@@ -1298,7 +1302,7 @@ pub record ShowsLaterSchemaTables (desk : Schema) (raw : LaterSchemaRows) (old n
   pub same : new.now ≡ old.now
 {chr(10).join(f'  pub {raw_field(d)} : ShowsRowsIfPresent desk {d[2]} raw.{raw_field(d)} old.now' for d in groups()[-1][3])}
 
--- The raw rows of one table, among those of all tables.
+-- The raw rows of one table in `raw`, the raw rows of all tables.
 abbrev pub raw_rows_of_table : RawSheets → DeskTable → List Row
 {chr(10).join(f'raw_rows_of_table raw {d[2]} = raw.{field}.{raw_field(d)}' for _, field, _, tables in groups() for d in tables)}
 """
@@ -1316,8 +1320,9 @@ def decoded_group(word, field, tables):
     decodes = lambda d: f'AreKeysOfRawRows {of(d)} raw.{raw_field(d)}' if is_kept(d) else f'map {shown(d)} {of(d)} ≡ raw.{raw_field(d)}'
     fields = '\n'.join(f'  pub {raw_field(d)} : {decodes(d)}' for d in tables)
     but_texts = ', but for the texts of KEPT' if any(map(is_kept, tables)) else ''
+    number = ' The row of DESK has the number of `schema`.' if first else ''
     return f"""
-{remark(f'The raw rows of {named(tables)} are, in order, the encodings of the typed rows `sheets`{but_texts}.')}
+{remark(f'The raw rows of {named(tables)} are, in order, the encodings of the typed rows `sheets`{but_texts}.{number}')}
 pub record Decodes{word}Tables {'(schema : Schema) ' if first else ''}(sheets : {word}Sheets) (raw : {word}Rows) : Type 0 where
 {fields}
 
@@ -1331,7 +1336,11 @@ def reads_group(word, field, tables):
     desk = '(desk : Schema) ' if word in ('DeskAndCustomer', 'LaterSchema') else ''
     first, later = 'desk ' if word == 'DeskAndCustomer' else '', 'desk ' if word == 'LaterSchema' else ''
     but_texts = ', but for the texts of KEPT' if word == 'DeskAndCustomer' else ''
-    told = f'The reads return all rows of {named(tables)}, and change nothing. If the flag of the decoding, `old` before and `new` after it, is true after it, the typed rows `sheets` are the decoded rows{but_texts}. The clause on the rows of a table is vacuous if the database does not define it as a desk does.'
+    none = ', or none of a table that the schema `desk` does not have' if word == 'LaterSchema' else ''
+    counted = {'DeskAndCustomer': ', a row is malformed, or DESK does not have exactly one row', 'LaterSchema': ', a row is malformed, or SETTLE_RULE has two rows or more'}
+    false = f'If it is false, the flag `old` before the decoding was false{counted.get(word, " or a row is malformed")}.'
+    true = f'If the flag `new` after the decoding is true, the typed rows `sheets` are the decoded rows{but_texts}.'
+    told = f'The reads return all rows of {named(tables)}{none}, and change nothing. {true} {false} The clause on the rows of a table is vacuous if the database does not define it as a desk does.'
     return f"""
 {remark(told)}
 pub record Reads{word}Tables {desk}(old new : Bool) (sheets : {word}Sheets) (a b : State) : Type 0 where
@@ -1389,11 +1398,11 @@ pub record ContinuesDecoding (old new are_well_formed : Bool) (Decodes : Type 0)
   pub form : new ≡ false → (old ≡ false) ⊎ (are_well_formed ≡ false)
 {''.join(reads_group(word, field, tables) for word, field, _, tables in groups())}
 -- The reads return all rows of each table of the schema `desk`, and none of other tables. The
--- database was open, and the reads changed nothing. If the flag of the decoding, `old` before and
--- `new` after it, is true after it, the typed rows `sheets` are the decoded rows, but for the texts of
--- KEPT. The clause on the rows of a table is vacuous if the database does not define it as a desk
--- does.
-pub record ReadsDeskTables (desk : Schema) (old new : Bool) (sheets : Sheets) (a b : State) : Type 0 where
+-- database was open, and the reads changed nothing. If the flag `new` after the decoding is true,
+-- the typed rows `sheets` are the decoded rows, but for the texts of KEPT. If it is false, the flag
+-- `old` before the decoding was false or the rows are malformed (`are_raw_sheets_well_formed`). The
+-- clause on the rows of a table is vacuous if the database does not define it as a desk does.
+pub record ReadsAndDecodesDeskTables (desk : Schema) (old new : Bool) (sheets : Sheets) (a b : State) : Type 0 where
   pub raw : RawSheets
   pub stays : IsUnchangedAndOpen a b
   pub shown : (w : DeskTable) → ShowsRowsIfPresent desk w (raw_rows_of_table raw w) a.now

@@ -54,7 +54,7 @@ pub enum UsageFault {
     Words(String),
     /// Help or the version was requested; the text is what is printed.
     Help(String),
-    /// An argument that must be a day is none.
+    /// An argument that must be a day is not a day.
     Day,
     /// Out of memory.
     Memory,

@@ -104,7 +104,7 @@ fn view_name_argument<'a>(alloc: Global) -> Arg<'a> {
         .required(true)
 }
 
-// Returns the argument that takes the arguments of a view, any number of texts.
+// Returns the argument for the arguments of a view, which are any number of texts, perhaps none.
 fn repeated_view_argument<'a>(alloc: Global) -> Arg<'a> {
     Arg::new(alloc, "arguments")
         .value_name("ARGUMENT")
@@ -177,9 +177,9 @@ fn serve_command<'a>(alloc: Global) -> Result<Command<'a>, AllocError> {
         .arg(streams_argument(alloc))
 }
 
-// Adds the subcommand `added` to `command` and returns the command. Fails if one of the two failed,
-// or if memory runs out. It is a function of its own because a function that holds several
-// commands, at each place where it may return, takes the prover more than a minute.
+// Adds the subcommand `added` to `command` and returns the command. Fails if `command` or `added`
+// is an error, or if memory runs out. This is a separate function because the prover needs more
+// than a minute for a function that has several commands.
 fn add_subcommand<'a>(
     command: Result<Command<'a>, AllocError>,
     added: Result<Command<'a>, AllocError>,
@@ -187,7 +187,7 @@ fn add_subcommand<'a>(
     command?.subcommand(added?)
 }
 
-// Returns the command `brk` with its version and without its subcommands, one of which its
+// Returns the command `brk` with its version, not yet with its subcommands, one of which the
 // arguments must name. Fails only if memory runs out.
 fn program_command<'a>(alloc: Global) -> Result<Command<'a>, AllocError> {
     Command::new(alloc, "brk")
@@ -236,14 +236,14 @@ fn timestamp_of_matches(matches: &ArgMatches<'_>) -> Option<Stamp> {
 }
 
 // Returns the day that the argument `name` gives, such as 2024-03-01. Fails with `Day` if its text
-// is no day or the argument is missing.
+// is not a day or the argument is missing.
 fn parse_day_argument(matches: &ArgMatches<'_>, name: &str) -> Result<Day, UsageFault> {
     let text = matches.get_str(name).unwrap_or("");
     parse_day(text.as_bytes()).ok_or(UsageFault::Day)
 }
 
 // Returns the statement job that the arguments request. Fails with `Day` if the text of `--from` or
-// `--to` is no day, with `Memory`, or with `Words` and an empty text if there is no account.
+// `--to` is not a day, with `Memory`, or with `Words` and an empty text if there is no account.
 fn statement_job(alloc: Global, matches: &ArgMatches<'_>) -> Result<Job, UsageFault> {
     let Some(account) = matches.get_one::<u64>("account").and_then(Id::new) else {
         return Err(UsageFault::Words(String::new(alloc)));
@@ -359,8 +359,9 @@ pub fn non_utf8_argument_fault(alloc: Global) -> UsageFault {
 /// Parses the command-line arguments, the program's own name first, and returns the job that they
 /// request.
 ///
-/// Fails with `Help` and its text if help or the version was requested, with `Day` if the day of a
-/// statement is none, with `Words` and the error text if the arguments are wrong, or with `Memory`.
+/// Fails with `Help` and its text if help or the version was requested, with `Day` if a day of a
+/// statement is malformed, with `Words` and the error text if the arguments are wrong, or with
+/// `Memory`.
 pub fn read_words(words: Vec<String>) -> Result<Job, UsageFault> {
     let alloc = *words.allocator();
     let command = command_with_subcommands(alloc)?;

@@ -30,7 +30,7 @@ WritesTextOrFails text before after (Err (Refused refusal)) = ⊥
 WritesTextOrFails text before after (Err (Desk fault)) = (after ≡ before) × (fault ≡ Memory)
 WritesTextOrFails text before after (Err Write) = (k : ℕ) × Appends before after (take k text)
 
--- `result` is the result of writing the answer of the desk to the query `query`, in the form
+-- `result` is the result of writing the answer of the desk to the query `query`, in the format
 -- `form`. A view is written as `WritesTextOrFails` specifies; for a refusal or a fault of the desk,
 -- `result` is this refusal or this fault, and nothing is written.
 abbrev pub WritesViewOrFails : Form → Query → Result (Result View Refusal) Fault → Option Text → Option Text → Result (Unit {0}) ReportFault → Type 0
@@ -38,18 +38,18 @@ WritesViewOrFails form query (Ok (Ok view)) before after result = WritesTextOrFa
 WritesViewOrFails form query (Ok (Err refusal)) before after result = FailsWritingNothing before after result (Refused refusal)
 WritesViewOrFails form query (Err fault) before after result = FailsWritingNothing before after result (Desk fault)
 
--- The desk executed the parsed query and nothing else, and its view was written as
--- `WritesViewOrFails` specifies. If the query is malformed, the desk is unchanged, `result` is its
--- refusal, and nothing was written.
+-- The desk executed exactly the parsed query, and its view was written as `WritesViewOrFails`
+-- specifies. If the query is malformed, the desk is unchanged, `result` is the refusal of the
+-- query, and nothing was written.
 abbrev pub AsksQueryAndWritesView : {S : Type 0} → Ghosts S → Held S → Held S → Form → ReadResult Query → Option Text → Option Text
     → Result (Unit {0}) ReportFault → Type 0
 AsksQueryAndWritesView g old new form (Ok query) before after result =
     (seen : Result (Result View Refusal) Fault) × AskPost g old new query seen × WritesViewOrFails form query seen before after result
 AsksQueryAndWritesView g old new form (Err refusal) before after result = (new ≡ old) × FailsWritingNothing before after result (Refused refusal)
 
--- The postcondition of printing the view of a parsed query: the desk executed the query and its
--- view was written, with the result of `AsksQueryAndWritesView`; or memory ran out before that, and
--- the desk and the writer's content are unchanged.
+-- The postcondition of parsing a query and printing its view: the desk and the output are as
+-- `AsksQueryAndWritesView` specifies; or memory ran out before the query was executed, and the desk
+-- and the writer's content are unchanged.
 abbrev pub PrintViewPost : {S : Type 0} → Ghosts S → Held S → Held S → Form → ReadResult Query → Option Text → Option Text → Result (Unit {0}) ReportFault
     → Type 0
 PrintViewPost g old new form query before after result =

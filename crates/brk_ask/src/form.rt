@@ -1,10 +1,10 @@
-/// The form in which a view is written.
+/// The format in which a view is written.
 #[derive(Clone, Copy, Debug, PartialEq, Eq)]
 pub struct Form {
     /// If true, one line of JSON, `{"view":[["TEXT",..],..]}`; otherwise CSV rows, one for each
     /// record.
     pub json: bool,
-    /// If true, the first record is the names of the fields, where all records of the view have the
-    /// same fields.
+    /// If true, and if all records of the view have the same fields, the first record is the names
+    /// of the fields.
     pub heads: bool,
 }

@@ -43,7 +43,7 @@ IsFailedCallCrashSafe {S = S} honest stands leaves step old new now command key 
 -- Row `n` of `batch` has the answer `answer`, and the desk changed from `old` to `new`, the clock
 -- from `clock` to `later`. A malformed row is refused with its refusal, and desk and clock are
 -- unchanged. A well-formed row reads the clock once and is one call of the desk, under the key of
--- the row, which refines `step`.
+-- the row, which refines `step` for both flags of `stands`.
 abbrev pub RowHasAnswer : {D S X C : Type 0} → (D → Type 0) → (Bool → D → S → Type 0) → RowCallRelation D X → RowStep S X → (C → ℕ → C → Type 0) → ReadResult X
     → Text → ℕ → Answer → D → D → C → C → Type 0
 RowHasAnswer honest stands acts step gives (Err refusal) batch n answer old new clock later = (answer ≡ Refused refusal) × (new ≡ old) × (later ≡ clock)

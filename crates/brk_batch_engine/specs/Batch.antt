@@ -28,9 +28,9 @@ use Rattle.brk_io.specs.declared.batch_fault.FaultKind.{FaultKind}
 use Rattle.brk_io.specs.declared.batch_fault.FaultKind.TheVariants as kinds
 use Rattle.brk_batch_engine.specs.declared.counts.Counts.{Counts}
 
--- The batch ended with `ending` after `count` decided rows. The clock was read once for each of the
--- timestamps `moments`, and exactly the lines `lines` of the model's batch at these timestamps were
--- written, from the base before the batch to the base after it.
+-- The batch ended with `ending` after `count` decided rows. The clock was read exactly once for
+-- each of the timestamps `moments`; at these timestamps the batch of the model has the lines
+-- `lines` and leads from the base before to the base after; and exactly these lines were written.
 pub record BatchEndsWith {S X C : Type 0} (form : Fields → ReadResult X) (step : RowStep S X) (gives : C → ℕ → C → Type 0)
     (text : Option Text) (span : EnvironmentChange S C) (ending : model.BatchEnding) (count : ℕ) : Type 0 where
   pub moments : List ℕ
@@ -224,8 +224,8 @@ pub record CrashMayCommitFailedRow {D S X C : Type 0} (form : Fields → ReadRes
   pub failed : NextRowFails form step gives text span fault
   pub may : leaves last span.after (step span.after failed.moment failed.command (record { batch = failed.stopped.name; row = fault.rows + 1 })).1
 
--- A crash after the batch exposes only the base after it. After a fault a crash may instead also
--- expose the base after the row whose call failed (`CrashMayCommitFailedRow`).
+-- A crash after the batch exposes only the base after it; or, only if the batch ended with a fault,
+-- that base or the base after the row whose call failed (`CrashMayCommitFailedRow`).
 abbrev pub BoundsBatchCrashStates : {D S X C : Type 0} → (Fields → ReadResult X) → RowStep S X → (C → ℕ → C → Type 0) → (D → S → S → Type 0) → Option Text
     → EnvironmentChange S C → D → Result Counts BatchFault → Type 0
 BoundsBatchCrashStates form step gives leaves text span last (Ok counts) = leaves last span.after span.after
@@ -233,9 +233,10 @@ BoundsBatchCrashStates form step gives leaves text span last (Err fault) =
     leaves last span.after span.after ⊎ CrashMayCommitFailedRow form step gives leaves text span last fault
 
 -- Crash safety of a batch: for every base that the desk represented before, if a crash before the
--- batch exposed only this base, the batch is answered as by `step`, the desk represents the base
--- after the decided rows, and a crash exposes only this base, or after a fault also the base after
--- the row whose call failed. Vacuous if the disk assumption (`honest`) fails after the batch.
+-- batch exposed only this base, the batch is answered as by `step`, and the desk represents the
+-- base after the decided rows. A crash then exposes only the base after the decided rows, or after
+-- a fault also the base after the row whose call failed. Vacuous if the disk assumption (`honest`)
+-- fails after the batch.
 abbrev pub IsBatchCrashSafe : {D S X C : Type 0} → (D → Type 0) → (D → S → Type 0) → (D → S → S → Type 0) → (Fields → ReadResult X) → RowStep S X
     → (C → ℕ → C → Type 0) → Option Text → D → D → ClockAndWriterChange C → Result Counts BatchFault → Type 0
 IsBatchCrashSafe {S = S} honest stands leaves form step gives text first last outside result =

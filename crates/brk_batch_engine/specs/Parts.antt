@@ -34,9 +34,9 @@ EndRecordFailsWith old new row n counts kinds.Read = ⊥
 EndRecordFailsWith old new row n counts kinds.BadHeader = ⊥
 EndRecordFailsWith old new row n counts kinds.NoEnd = ⊥
 
--- A row without a record after it, with the line `text`, ended the batch with this fault. `NoEnd`:
--- the line was written. `Write`: the writer received a prefix of the line, perhaps all of it.
--- `Desk`: memory ran out, and nothing was written. No other fault is possible.
+-- A row without a record after it, which the line `text` refuses, ended the batch with this fault.
+-- `NoEnd`: the line was written. `Write`: the writer received a prefix of the line, perhaps all of
+-- it. `Desk`: memory ran out, and nothing was written. No other fault is possible.
 abbrev pub CutRowEndsBatchWith : Option Text → Option Text → Text → FaultKind → Type 0
 CutRowEndsBatchWith old new text kinds.NoEnd = Appends old new text
 CutRowEndsBatchWith old new text kinds.Write = (k : ℕ) × Appends old new (take k text)

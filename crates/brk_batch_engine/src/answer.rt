@@ -14,7 +14,8 @@ use brk_ref::{Answer, BatchName, Key, RowNumber};
 use csv::ByteRecord;
 use std::alloc::Global;
 
-// Returns the key of row `n` of a batch: the name of the batch and `n`. Fails with `Memory` only.
+// Returns the key of row `n` of a batch, the name of the batch and `n`, which must be from 1 to
+// 67,108,864. Fails with `Memory` only.
 fn row_key(batch: &BatchName, n: u64) -> Result<Key, Fault>
     requires first { 1 ≤ n }
     requires last { n ≤ 67108864 }
@@ -26,9 +27,9 @@ fn row_key(batch: &BatchName, n: u64) -> Result<Key, Fault>
     Ok(Key { batch, row })
 }
 
-/// Executes row `n` of `batch` on the desk and returns its answer. A well-formed row reads the
-/// clock once and is one call of the desk, under its key; a malformed one does neither and is
-/// refused.
+/// Executes row `n` of `batch` on the desk and returns its answer; `n` must be from 1 to
+/// 67,108,864. A well-formed row reads the clock once and is one call of the desk, under its key; a
+/// malformed one does neither and is refused.
 ///
 /// Fails with `Memory` or `Store`; the clock was then read at most once, for the call that failed.
 /// The desk then represents every base that it represented before, but a crash may expose the row

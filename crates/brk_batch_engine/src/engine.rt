@@ -50,8 +50,9 @@ fn write_answer_line<W: Write, D: Rows>(
     }
 }
 
-// Writes the line that refuses row `n`, after which the input has no record. Returns the fault that
-// ends the batch: `NoEnd`, or `Write` or `Desk(Memory)` if the line could not be written.
+// Writes the line that refuses row `n` with `BadText`, because the input has no record after it.
+// Returns the fault that ends the batch: `NoEnd`, or `Write` or `Desk(Memory)` if the line could
+// not be written.
 fn write_refusal_of_cut_row<W: Write, D: Rows>(alloc: Global, writer: &mut W, n: u64) -> FaultKind
     ensures { CutRowEndsBatchWith (W.contents writer.old) (W.contents writer.new) (answer_line n (Refused BadText)) result }
 {
@@ -92,7 +93,7 @@ fn check_end_record_and_write_end_line<W: Write>(
 // Reads the first record, the header `batch,NAME`, and returns the name of the batch.
 //
 // Fails with `BadHeader` if there is no record or it is no such header, with `Read` if the reader
-// fails, and with `Desk(Memory)`.
+// fails, and with `Desk(Memory)` if memory runs out.
 fn read_batch_name<R: Read>(alloc: Global, records: &mut Reader<R>) -> Result<BatchName, FaultKind>
     requires { IsBatchReader records.old }
     ensures setup { OnOk result (IsBatchReader records.new) }
@@ -195,7 +196,8 @@ fn execute_rows_and_write_lines<R: Read, W: Write, C: Clock, D: Rows>(
 }
 
 /// Reads a batch, executes its rows in order, and writes their lines and the end line. Returns the
-/// counts of the answers.
+/// counts of the answers. Only the first `MAXIMUM_INPUT_BYTES` bytes are read, and a row is
+/// executed only if a record follows it.
 ///
 /// At an error returns the fault with the number of decided rows, whose changes remain:
 /// `BadHeader`, `NoEnd` or `BadEnd` if the header or the end record is missing or wrong, `Read` or

@@ -35,7 +35,7 @@ pub fn new_record_reader<R: Read + Drop>(alloc: Global, reader: R) -> Reader<Tak
 
 /// Reads the next record into `row` and returns true, or returns false if no record is left.
 ///
-/// Fails with `Read` if the reader fails, or with `Desk(Memory)`.
+/// Fails with `Read` if the reader fails, or with `Desk(Memory)` if memory runs out.
 pub fn read_record<R: Read>(
     records: &mut Reader<R>,
     row: &mut ByteRecord,

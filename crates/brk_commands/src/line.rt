@@ -43,8 +43,8 @@ fn append_estimate_fields(line: &mut String, estimate: &Estimate) -> Result<(), 
     )
 }
 
-// Returns the stamp, the id and the status of a placed order, joined by commas. Fails if memory
-// runs out.
+// Returns the stamp, the id and the status code of a placed order, joined by commas. Fails if
+// memory runs out.
 fn placed_order_text(alloc: Global, ordered: &Ordered) -> Result<String, AllocError>
     ensures { IfOk result (λ line. string_bytes line
         ≡ model.comma_separated_text (decimal ordered.now.stamp ∷ decimal ordered.now.trade ∷ trade_status_code ordered.now.status ∷ [])) }
@@ -57,8 +57,8 @@ fn placed_order_text(alloc: Global, ordered: &Ordered) -> Result<String, AllocEr
     )
 }
 
-// Returns the line of an `Ordered` reply: the stamp, the id and the status of the trade, and the
-// seven fields of its estimate. Fails if memory runs out.
+// Returns the line of an `Ordered` reply: the stamp, the id and the status code of the trade, and
+// the seven fields of its estimate, joined by commas. Fails if memory runs out.
 fn ordered_reply_text(alloc: Global, ordered: &Ordered) -> Result<String, AllocError>
     ensures { IfOk result (λ line. string_bytes line
         ≡ model.line_text (replies.Ordered ordered.now.stamp ordered.now.trade ordered.now.status (abstract_estimate ordered.now.estimate))) }
@@ -75,8 +75,8 @@ fn append_trade_id_after_comma(line: &mut String, trade: Id) -> Result<(), Alloc
     write!(line, ",{}", trade.get())
 }
 
-// Returns the line of a `Ticked` reply: the stamp, and the ids of the triggered trades. Fails if
-// memory runs out.
+// Returns the line of a `Ticked` reply: the stamp and the ids of the triggered trades, joined by
+// commas. Fails if memory runs out.
 fn ticked_reply_text(alloc: Global, stamp: Stamp, triggered: &[Id]) -> Result<String, AllocError>
     ensures { IfOk result (λ line. string_bytes line ≡ model.line_text (replies.Ticked stamp triggered.now)) }
 {
@@ -87,8 +87,8 @@ fn ticked_reply_text(alloc: Global, stamp: Stamp, triggered: &[Id]) -> Result<St
     Ok(line)
 }
 
-// Returns the line of a `Canceled` reply: the stamp and the status code `CNCL`. Fails if memory
-// runs out.
+// Returns the line of a `Canceled` reply: the stamp and the status code `CNCL`, joined by a comma.
+// Fails if memory runs out.
 fn canceled_reply_text(alloc: Global, stamp: Stamp) -> Result<String, AllocError>
     ensures { IfOk result (λ line. string_bytes line ≡ model.line_text (replies.CanceledTrade stamp)) }
 {
@@ -148,7 +148,8 @@ fn append_values_and_balance(line: &mut String, completed: &Completed) -> Result
 }
 
 // Returns the line of a `Completed` reply: the stamp, the commission, the tax, the settlement
-// amount, the due day, the buy value, the sell value and the balance. Fails with `Memory` only.
+// amount, the due day, the buy value, the sell value and the balance, joined by commas. Fails with
+// `Memory` only.
 fn completed_reply_text(alloc: Global, completed: &Completed) -> Result<String, Fault>
     ensures line { IfOk result (λ line. string_bytes line ≡ model.line_text (replies.CompletedTrade completed.now.stamp (abstract_completion completed.now))) }
     ensures fault { OnErr result (result ≡ Err Memory) }
@@ -161,16 +162,16 @@ fn completed_reply_text(alloc: Global, completed: &Completed) -> Result<String, 
     Ok(line)
 }
 
-// Returns the line of a `Changed` reply: the stamp, and the number of trades. Fails if memory runs
-// out.
+// Returns the line of a `Changed` reply: the stamp and the number of updated trades, joined by a
+// comma. Fails if memory runs out.
 fn changed_reply_text(alloc: Global, stamp: Stamp, count: usize) -> Result<String, AllocError>
     ensures { IfOk result (λ line. string_bytes line ≡ model.line_text (replies.Changed stamp count)) }
 {
     format!(in alloc; "{},{count}", stamp.get().unsigned_abs())
 }
 
-// Returns the line of a `Moved` reply: the stamp, the id of the cash row, and the balance of the
-// account, such as `10.00`. Fails if memory runs out.
+// Returns the line of a `Moved` reply: the stamp, the number of the cash row and the balance of the
+// account, such as `10.00`, joined by commas. Fails if memory runs out.
 fn moved_reply_text(
     alloc: Global,
     stamp: Stamp,

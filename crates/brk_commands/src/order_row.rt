@@ -43,7 +43,7 @@ fn first_order_fields_text(alloc: Global, order: &Order) -> Result<String, Alloc
     )
 }
 
-// Appends byte 31 and the price that an order asks for, or byte 31 alone if it asks for none. Fails
+// Appends byte 31 and the price of `order_type`, or only byte 31 if this type has no price. Fails
 // if memory runs out.
 fn append_price_field(row: &mut String, order_type: OrderType) -> Result<(), AllocError>
     ensures { OnOk result (string_bytes row.new
@@ -73,8 +73,8 @@ fn append_last_order_fields(row: &mut String, order: &Order) -> Result<(), Alloc
 
 /// Returns the row of an order, as it is stored under a key: `order`, the account, the type, the
 /// symbol, the quantity, the price, `cash` or `margin`, `lifo` or `fifo`, and the names and the tax
-/// id of the executor, joined by byte 31. The price is empty if the order asks for none. Fails if
-/// memory runs out.
+/// id of the executor, joined by byte 31. The price is empty if the type has none. Fails if memory
+/// runs out.
 pub fn order_row_text(alloc: Global, order: &Order) -> Result<String, AllocError>
     ensures { IfOk result (λ row. string_bytes row ≡ model.row_text (PlaceOrder (abstract_order order.now))) }
 {
@@ -98,8 +98,8 @@ fn append_tick_fields(row: &mut String, tick: &Tick) -> Result<(), AllocError>
     )
 }
 
-/// Returns the row of a feed of these ticks, as it is stored under a key: `feed`, and the symbol,
-/// the price and the quantity of each tick, joined by byte 31. Fails if memory runs out.
+/// Returns the row of a feed with the ticks `ticks`, as it is stored under a key: `feed`, and the
+/// symbol, the price and the quantity of each tick, joined by byte 31. Fails if memory runs out.
 pub fn feed_row_text(alloc: Global, ticks: &[Tick]) -> Result<String, AllocError>
     ensures { IfOk result (λ row. string_bytes row ≡ model.row_text (FeedTicks (abstract_ticks ticks.now))) }
 {

@@ -17,8 +17,8 @@ use brk_ref::{
 };
 use std::alloc::Global;
 
-// Parses the command that adds a broker from the fields after its kind. Refuses malformed fields,
-// or a wrong number of them, with `BadText`. Fails with `Memory` only.
+// Parses the command that adds a broker from the fields ID and NAME of a row. Refuses malformed
+// fields, or a wrong number of them, with `BadText`. Fails with `Memory` only.
 fn parse_broker_command(alloc: Global, fields: &[&[u8]]) -> Planned<Command>
     ensures read { IfOk result (λ read. ParsesAs abstract_command read (read_and_wrap AddBroker read_broker (texts_of_fields fields.now))) }
     ensures fault { OnErr result (result ≡ Err Memory) }
@@ -29,8 +29,8 @@ fn parse_broker_command(alloc: Global, fields: &[&[u8]]) -> Planned<Command>
     }
 }
 
-// Parses the command that adds a customer from the fields after its kind. Refuses malformed fields,
-// or a wrong number of them, with `BadText`. Fails with `Memory` only.
+// Parses the command that adds a customer from the fields ID, TIER, TAXID, LAST and FIRST of a row.
+// Refuses malformed fields, or a wrong number of them, with `BadText`. Fails with `Memory` only.
 fn parse_customer_command(alloc: Global, fields: &[&[u8]]) -> Planned<Command>
     ensures read { IfOk result (λ read. ParsesAs abstract_command read (read_and_wrap AddCustomer read_customer (texts_of_fields fields.now))) }
     ensures fault { OnErr result (result ≡ Err Memory) }
@@ -41,8 +41,9 @@ fn parse_customer_command(alloc: Global, fields: &[&[u8]]) -> Planned<Command>
     }
 }
 
-// Parses the command that adds an account from the fields after its kind. Refuses malformed fields,
-// or a wrong number of them, with `BadText`. Fails with `Memory` only.
+// Parses the command that adds an account from the fields ID, CUSTOMER, BROKER, NAME, TAXST and
+// OPENING of a row. Refuses malformed fields, or a wrong number of them, with `BadText`. Fails with
+// `Memory` only.
 fn parse_account_command(alloc: Global, fields: &[&[u8]]) -> Planned<Command>
     ensures read { IfOk result (λ read. ParsesAs abstract_command read (read_and_wrap AddAccount read_account (texts_of_fields fields.now))) }
     ensures fault { OnErr result (result ≡ Err Memory) }
@@ -53,8 +54,9 @@ fn parse_account_command(alloc: Global, fields: &[&[u8]]) -> Planned<Command>
     }
 }
 
-// Parses the command that adds a permission from the fields after its kind. Refuses malformed
-// fields, or a wrong number of them, with `BadText`. Fails with `Memory` only.
+// Parses the command that adds a permission from the fields ACCOUNT, ACL, TAXID, LAST and FIRST of
+// a row. Refuses malformed fields, or a wrong number of them, with `BadText`. Fails with `Memory`
+// only.
 fn parse_permission_command(alloc: Global, fields: &[&[u8]]) -> Planned<Command>
     ensures read { IfOk result (λ read. ParsesAs abstract_command read (read_and_wrap AddPermission read_permission (texts_of_fields fields.now))) }
     ensures fault { OnErr result (result ≡ Err Memory) }
@@ -65,8 +67,9 @@ fn parse_permission_command(alloc: Global, fields: &[&[u8]]) -> Planned<Command>
     }
 }
 
-// Parses the command that lists a security from the fields after its kind. Refuses malformed
-// fields, or a wrong number of them, with `BadText` or `BadPrice`. Fails with `Memory` only.
+// Parses the command that lists a security from the fields SYMBOL, NAME, EXCHANGE, SECTOR and PRICE
+// of a row. Refuses a wrong number of fields, or a malformed text, with `BadText`, and otherwise a
+// malformed price with `BadPrice`. Fails with `Memory` only.
 fn parse_listing_command(alloc: Global, fields: &[&[u8]]) -> Planned<Command>
     ensures read { IfOk result (λ read. ParsesAs abstract_command read (read_and_wrap AddSecurity read_listing (texts_of_fields fields.now))) }
     ensures fault { OnErr result (result ≡ Err Memory) }
@@ -77,8 +80,9 @@ fn parse_listing_command(alloc: Global, fields: &[&[u8]]) -> Planned<Command>
     }
 }
 
-// Parses the command that adds a charge from the fields after its kind. Refuses malformed fields,
-// or a wrong number of them, with `BadText` or `BadType`.
+// Parses the command that adds a charge from the fields TYPE, TIER and AMOUNT of a row. Refuses a
+// wrong number of fields, or a malformed tier or amount, with `BadText`, and otherwise an unknown
+// type with `BadType`.
 fn parse_charge_command(fields: &[&[u8]]) -> Result<Command, Refusal>
     ensures { ParsesAs abstract_command result (read_and_wrap AddCharge read_charge (texts_of_fields fields.now)) }
 {
@@ -88,9 +92,9 @@ fn parse_charge_command(fields: &[&[u8]]) -> Result<Command, Refusal>
     }
 }
 
-// Parses the command that adds a commission band from the fields after its kind. Refuses malformed
-// fields, or a wrong number of them, with `BadText`, `BadQty` or `BadType`. Fails with `Memory`
-// only.
+// Parses the command that adds a commission band from the fields TIER, TYPE, EXCHANGE, FROM, TO and
+// RATE of a row. Refuses a wrong number of fields with `BadText`, and malformed fields with the
+// first that applies of `BadText`, `BadQty` and `BadType`. Fails with `Memory` only.
 fn parse_band_command(alloc: Global, fields: &[&[u8]]) -> Planned<Command>
     ensures read { IfOk result (λ read. ParsesAs abstract_command read (read_and_wrap AddBand read_commission_band (texts_of_fields fields.now))) }
     ensures fault { OnErr result (result ≡ Err Memory) }
@@ -101,8 +105,8 @@ fn parse_band_command(alloc: Global, fields: &[&[u8]]) -> Planned<Command>
     }
 }
 
-// Parses the command that adds a tax with its rate from the fields after its kind. Refuses
-// malformed fields, or a wrong number of them, with `BadText`. Fails with `Memory` only.
+// Parses the command that adds a tax with its rate from the fields ID, NAME and RATE of a row.
+// Refuses malformed fields, or a wrong number of them, with `BadText`. Fails with `Memory` only.
 fn parse_tax_rate_command(alloc: Global, fields: &[&[u8]]) -> Planned<Command>
     ensures read { IfOk result (λ read. ParsesAs abstract_command read (read_and_wrap AddTaxRate read_tax_rate (texts_of_fields fields.now))) }
     ensures fault { OnErr result (result ≡ Err Memory) }
@@ -113,8 +117,8 @@ fn parse_tax_rate_command(alloc: Global, fields: &[&[u8]]) -> Planned<Command>
     }
 }
 
-// Parses the command that adds a tax of a customer from the fields after its kind. Refuses
-// malformed fields, or a wrong number of them, with `BadText`.
+// Parses the command that adds a tax of a customer from the fields CUSTOMER and TAXRATE of a row.
+// Refuses malformed fields, or a wrong number of them, with `BadText`.
 fn parse_customer_tax_command(fields: &[&[u8]]) -> Result<Command, Refusal>
     ensures { ParsesAs abstract_command result (read_and_wrap AddCustomerTax read_customer_tax (texts_of_fields fields.now)) }
 {

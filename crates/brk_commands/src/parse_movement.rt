@@ -9,8 +9,8 @@ use crate::command::Command;
 use brk_money::Refusal;
 use brk_orders::{Direction, parse_cash_movement, parse_requested_settlement_day};
 
-// Parses the command of a deposit or a withdrawal, by `direction`, from the fields after its kind.
-// Refuses malformed fields, or a wrong number of them, with `BadText`.
+// Parses the command of a deposit or a withdrawal, by `direction`, from the fields ACCOUNT and
+// AMOUNT of a row. Refuses malformed fields, or a wrong number of them, with `BadText`.
 fn parse_movement_command(direction: Direction, fields: &[&[u8]]) -> Result<Command, Refusal>
     ensures { ParsesAs abstract_command result (read_movement_command (cash_movement_command direction) (texts_of_fields fields.now)) }
 {
@@ -20,8 +20,8 @@ fn parse_movement_command(direction: Direction, fields: &[&[u8]]) -> Result<Comm
     }
 }
 
-// Parses the command that sets the settlement day from the fields after its kind. Refuses malformed
-// fields, or a wrong number of them, with `BadText`.
+// Parses the command that sets the settlement day from the one field DAY of a row. Refuses a
+// malformed day, or a wrong number of fields, with `BadText`.
 fn parse_settlement_day_command(fields: &[&[u8]]) -> Result<Command, Refusal>
     ensures { ParsesAs abstract_command result (read_and_wrap SetOneDay read_settlement_day (texts_of_fields fields.now)) }
 {

@@ -12,9 +12,10 @@ use brk_money::{Planned, Refusal};
 use brk_orders::{parse_canceled_trade_id, parse_completion, parse_market_feed, parse_trade_order};
 use std::alloc::Global;
 
-// Parses the command of an order from the fields after its kind. Refuses malformed fields, or a
-// wrong number of them, with `BadText`, `BadQty`, `BadPrice` or `BadType`. Fails with `Memory`
-// only.
+// Parses the command of an order from the fields ACCOUNT, TYPE, SYMBOL, QTY, PRICE, CASH, END,
+// FIRST, LAST and TAXID of a row. Refuses a wrong number of fields with `BadText`, and malformed
+// fields with the first that applies of `BadText`, `BadQty`, `BadPrice` and `BadType`. Fails with
+// `Memory` only.
 fn parse_order_command(alloc: Global, fields: &[&[u8]]) -> Planned<Command>
     ensures read { IfOk result (λ read. ParsesAs abstract_command read (read_and_wrap PlaceOrder read_order (texts_of_fields fields.now))) }
     ensures fault { OnErr result (result ≡ Err Memory) }
@@ -25,9 +26,10 @@ fn parse_order_command(alloc: Global, fields: &[&[u8]]) -> Planned<Command>
     }
 }
 
-// Parses the command of a market feed from the fields after its kind. Refuses malformed fields, or
-// a wrong number of them, with `BadText`, `BadQty` or `BadPrice`, and more than 20 ticks with
-// `TooMany`. Fails with `Memory` only.
+// Parses the command of a market feed from the fields SYMBOL, PRICE and QTY of each of its ticks.
+// Refuses an incomplete tick, or no tick, with `BadText`, malformed fields with the first that
+// applies of `BadText`, `BadQty` and `BadPrice`, and otherwise more than 20 ticks with `TooMany`.
+// Fails with `Memory` only.
 fn parse_feed_command(alloc: Global, fields: &[&[u8]]) -> Planned<Command>
     ensures read { IfOk result (λ read. ParsesAs abstract_command read (read_and_wrap FeedTicks read_feed (texts_of_fields fields.now))) }
     ensures fault { OnErr result (result ≡ Err Memory) }
@@ -38,8 +40,8 @@ fn parse_feed_command(alloc: Global, fields: &[&[u8]]) -> Planned<Command>
     }
 }
 
-// Parses the command that cancels a trade from the fields after its kind. Refuses malformed fields,
-// or a wrong number of them, with `BadText`.
+// Parses the command that cancels a trade from the one field TRADE of a row. Refuses a malformed
+// id, or a wrong number of fields, with `BadText`.
 fn parse_cancel_command(fields: &[&[u8]]) -> Result<Command, Refusal>
     ensures { ParsesAs abstract_command result (read_and_wrap CancelTrade read_canceled_trade_id (texts_of_fields fields.now)) }
 {
@@ -49,8 +51,9 @@ fn parse_cancel_command(fields: &[&[u8]]) -> Result<Command, Refusal>
     }
 }
 
-// Parses the command that completes a trade from the fields after its kind. Refuses malformed
-// fields, or a wrong number of them, with `BadText` or `BadPrice`.
+// Parses the command that completes a trade from the fields TRADE and PRICE of a row. Refuses a
+// wrong number of fields, or a malformed id, with `BadText`, and otherwise a malformed price with
+// `BadPrice`.
 fn parse_completion_command(fields: &[&[u8]]) -> Result<Command, Refusal>
     ensures { ParsesAs abstract_command result (read_result_command (texts_of_fields fields.now)) }
 {

@@ -15,9 +15,9 @@ use brk_orders::{
 };
 use std::alloc::Global;
 
-// Parses the command that updates executors' names from the fields after its kind. Refuses
-// malformed fields, or a wrong number of them, with `BadText`, and more than 20 ids with `TooMany`.
-// Fails with `Memory` only.
+// Parses the command that updates executors' names from the ids of 1 to 20 different trades.
+// Refuses with `BadText` if an id is malformed or occurs twice, or if there are none, and otherwise
+// with `TooMany` if there are more than 20. Fails with `Memory` only.
 fn parse_executor_update_command(alloc: Global, fields: &[&[u8]]) -> Planned<Command>
     ensures read { IfOk result (λ read. ParsesAs abstract_command read (read_and_wrap ChangeExecutors read_distinct_ids (texts_of_fields fields.now))) }
     ensures fault { OnErr result (result ≡ Err Memory) }
@@ -28,8 +28,8 @@ fn parse_executor_update_command(alloc: Global, fields: &[&[u8]]) -> Planned<Com
     }
 }
 
-// Parses the command that updates settlement texts from the fields after its kind. Refuses
-// malformed fields, or a wrong number of them, with `BadText`.
+// Parses the command that updates settlement texts from the fields ACCOUNT, FROM and TO of a row.
+// Refuses malformed fields, or a wrong number of them, with `BadText`.
 fn parse_cash_type_update_command(fields: &[&[u8]]) -> Result<Command, Refusal>
     ensures { ParsesAs abstract_command result (read_cash_type_update (texts_of_fields fields.now)) }
 {
@@ -39,8 +39,8 @@ fn parse_cash_type_update_command(fields: &[&[u8]]) -> Result<Command, Refusal>
     }
 }
 
-// Parses the command that updates cash texts from the fields after its kind. Refuses malformed
-// fields, or a wrong number of them, with `BadText`. Fails with `Memory` only.
+// Parses the command that updates cash texts from the fields SYMBOL, FROM and TO of a row. Refuses
+// malformed fields, or a wrong number of them, with `BadText`. Fails with `Memory` only.
 fn parse_cash_text_update_command(alloc: Global, fields: &[&[u8]]) -> Planned<Command>
     ensures read { IfOk result (λ read. ParsesAs abstract_command read (read_cash_name_update (texts_of_fields fields.now))) }
     ensures fault { OnErr result (result ≡ Err Memory) }

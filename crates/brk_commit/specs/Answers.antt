@@ -9,7 +9,8 @@ use Rattle.brk_ref.specs.Answers.{abstract_answer}
 use Rattle.brk_ref.specs.declared.answer.Answer as code
 use Rattle.brk_ref.specs.declared.answer.Answer.TheVariants as given
 
--- The type of the answer to a command of a desk.
+-- The type of the answer to a command: `Done` with a reply, `Again` with a stored reply, or
+-- `Refused` with a refusal.
 abbrev pub CommandAnswer : Type 0
 CommandAnswer = code.Answer Reply
 
@@ -25,7 +26,7 @@ IsNotDoneResult (Ok (given.Again line)) = Unit {0}
 IsNotDoneResult (Ok (given.Refused refusal)) = Unit {0}
 IsNotDoneResult (Err fault) = Unit {0}
 
--- The result is `Done`: the call accepted the command and committed it.
+-- The result is `Done`: neither a refusal, nor a stored reply, nor a fault.
 abbrev pub IsDoneResult : Result CommandAnswer Fault → Type 0
 IsDoneResult (Ok (given.Done reply)) = Unit {0}
 IsDoneResult (Ok (given.Again line)) = ⊥

@@ -19,7 +19,7 @@ use brk_trade::Reply;
 use sqlite::Alter;
 use std::alloc::Global;
 
-/// The answer to a command of a desk.
+/// The answer to a command: `Done` with its reply, `Again` with the stored reply, or `Refused`.
 pub type CommandAnswer = Answer<Reply>;
 
 // Proves that a command is well-formed, and its key if it has one. Does nothing at run time.

@@ -34,7 +34,7 @@ pub record CustomerOrderFactsMatchTables (t : Tables) (order : Order) (customer 
       ≡ option_map (λ b. b.rate) (commission_band_of_quantity t customer.tier (trade_type_of_order order.order_type) s.exchange order.qty))
 
 -- The market value of a holding summary in cents: its number of shares times the last price of its
--- symbol. It is below 0 for shares that were sold short.
+-- symbol (0 if there is none). It is below 0 for shares that were sold short.
 abbrev pub market_value_of_summary : Tables → SummaryRow → ℤ
 market_value_of_summary t row = row.qty *ℤ pos (last_price_in_tables t row.symbol)
 
@@ -45,20 +45,22 @@ market_value_of_account t account = total_by (market_value_of_summary t) (filter
 
 -- The amounts for the estimate of an order of the account equal those of the tables `t`: the sum of
 -- the customer's tax rates in hundred-thousandths, the account's balance plus the market value of
--- its holdings in cents, and its number of shares of the order's security.
+-- its holdings in cents, and the number of shares in the holding summary of the order's account and
+-- symbol, or `None` if there is no summary.
 pub record EstimateAmountsMatchTables (t : Tables) (account : AccountRow) (order : Order) (amounts : Amounts) : Type 0 where
   pub rates : amounts.rates ≡ customer_tax_rate_sum t account.account.customer
   pub assets : amounts.assets ≡ account.balance +ℤ market_value_of_account t account.account.id
   pub summary : amounts.summary ≡ option_map (λ r. r.qty) (summary_row_of_position t order.account order.symbol)
 
--- The facts for the decision on an order whose account does not exist: no other fact is read.
+-- The facts for the decision on an order whose account does not exist: each is `None`, false or 0,
+-- because no other fact is read.
 abbrev pub order_facts_without_account : OrderPlanFacts
 order_facts_without_account =
     record { account = None; last_price = None; is_permitted = false; charge = None; rate = None; rates = 0; assets = pos 0; summary = None; last_trade = None }
 
 -- The facts for the decision on an order of the account `account`: its broker and its tax status,
--- the facts `tested`, the amounts `amounts`, and no greatest trade id, which an estimate does not
--- need.
+-- the facts `tested`, the amounts `amounts`, and `None` as the greatest trade id, which an estimate
+-- does not need.
 abbrev pub order_facts_with_account : AccountRow → OrderTestFacts → Amounts → OrderPlanFacts
 order_facts_with_account account tested amounts = record {
   account = Some (record { broker = account.account.broker; tax_status = account.account.tax_status });

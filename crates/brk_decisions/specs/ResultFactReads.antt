@@ -67,9 +67,9 @@ pub record AreResultFactsOfTradeWithId (t : Tables) (id : ℕ) (found : Option R
   pub trade : trade_row_with_id t id ≡ option_map (λ f. abstract_trade_row f.trade) found
   pub read : IfSome found (λ f. AreResultFactsOfTrade t f.trade f)
 
--- The list of lots to which it is applied equals the lots of the position of the trade in the
--- facts, in the order in which the trade closes them. Without facts, because the trade does not
--- exist, the list is empty.
+-- A list of lots equals the lots of the position of the trade in the facts, in the order in which
+-- the trade closes them. If there are no facts, because the trade does not exist, the list is
+-- empty.
 abbrev pub AreLotsOfTradedPosition : Tables → Option ResultPlanFacts → List Lot → Type 0
 AreLotsOfTradedPosition t None = EqualsLots []
 AreLotsOfTradedPosition t (Some f) = EqualsLots (list_in_closing_order f.trade.is_lifo (lots_of_position t f.trade.account f.trade.symbol))

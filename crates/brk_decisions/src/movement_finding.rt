@@ -11,10 +11,10 @@ use brk_store::Store;
 use brk_trade::MovementPlanFacts;
 use sqlite::Alter;
 
-/// Returns the facts that decide on a deposit or a withdrawal: the balance of the account, whether
-/// the greatest number of movements is reached, and the number of the next cash row. Changes
-/// nothing. Fails with `Memory` or `Store` only; with `Store` also if no number is left for a cash
-/// row.
+/// Returns the facts that decide on a deposit or a withdrawal: the balance of the account (`None`
+/// if the account does not exist), whether the greatest number of movements is reached, and the
+/// number of the next cash row. Changes nothing. Fails with `Memory` or `Store` only; with `Store`
+/// also if no number is left for a cash row.
 pub(crate) fn read_movement_facts<S: Alter>(
     store: &mut Store<S>,
     movement: &Movement,

@@ -17,7 +17,8 @@ use brk_trade::{OrderAccount, OrderPlanFacts};
 use sqlite::Alter;
 use std::alloc::Global;
 
-// Returns the facts for an order whose account does not exist: no other fact is read.
+// Returns the facts for an order whose account does not exist: each is `None`, false or 0, because
+// no other fact is read.
 fn facts_without_account() -> OrderPlanFacts
     ensures { result ≡ order_facts_without_account }
 {
@@ -79,8 +80,8 @@ fn read_order_account_facts<S: Alter>(
     Ok(order_facts_with_account(account, tested, amounts))
 }
 
-/// Returns the facts that decide on the estimate of an order: those of its account, or, if the
-/// account does not exist, only that. Changes nothing. Fails with `Memory` or `Store` only; with
+/// Returns the facts that decide on the estimate of an order. If the order's account does not
+/// exist, each is `None`, false or 0. Changes nothing. Fails with `Memory` or `Store` only; with
 /// `Store` also if the account's customer or one of the customer's taxes does not exist, the tax
 /// rates total more than the greatest rate, a held symbol has no last price, or a sum overflows.
 pub(crate) fn read_estimate_facts<S: Alter>(

@@ -25,9 +25,10 @@ use sqlite::Alter;
 use std::alloc::Global;
 
 // Plans the result of a trade, completed at `price`, from the facts `found` in the tables and from
-// `lots`, the lots of its position: returns its plan, or the refusal. The number of lots that it
-// reads exceeds the number that the trade touches by at most 16, also if it fails. Fails with
-// `Memory` or `Store` only; with `Store` also if one of the lots that it reads has no shares.
+// `lots`, the lots of its position: returns its plan, or the refusal. If these lots match the
+// account's holding summary, it reads at most 16 lots more than the trade closes or reduces, also
+// if it fails. It reads no lot if the trade closes no held shares. Fails with `Memory` or `Store`
+// only; with `Store` also if one of the lots that it reads has no shares.
 fn plan_result_over_lots<S: Alter>(
     alloc: Global,
     found: &ResultPlanFacts,

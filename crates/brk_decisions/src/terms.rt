@@ -92,7 +92,8 @@ fn read_rate_of_tax<S: Alter>(store: &mut Store<S>, tax: Id) -> Result<Option<Ta
     }
 }
 
-// Returns true if the customer pays the tax. Changes nothing. Fails with `Memory` or `Store` only.
+// Returns true if CUSTOMER_TAXRATE has a row of the customer and the tax: the customer pays the
+// tax. Changes nothing. Fails with `Memory` or `Store` only.
 fn customer_pays_tax<S: Alter>(store: &mut Store<S>, customer: Id, tax: Id) -> Result<bool, Fault>
     ensures read { ReadPost S.Store store.old store.new result (λ there t. there ≡ contains_customer_tax t customer tax) }
     ensures fault { IfErr result IsCallFault }
@@ -158,8 +159,8 @@ pub(crate) fn read_permission_facts<S: Alter>(
     })
 }
 
-// Returns the fact that decides on a new charge: whether one of its trade type and customer tier
-// exists. Changes nothing. Fails with `Memory` or `Store` only.
+// Returns the fact that decides on a new charge: whether a charge of its trade type and customer
+// tier exists. Changes nothing. Fails with `Memory` or `Store` only.
 pub(crate) fn read_charge_facts<S: Alter>(
     store: &mut Store<S>,
     charge: &Charge,

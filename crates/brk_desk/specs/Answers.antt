@@ -10,8 +10,9 @@ use Rattle.brk_commit.specs.Answers.{CommandAnswer, model_answer}
 use Rattle.brk_desk.specs.declared.call.Outcome.{Outcome}
 use Rattle.brk_desk.specs.declared.call.Outcome.TheVariants as came
 
--- The outcome of the model that the outcome of a desk's call represents. It has the answer of the
--- model for an answer, and the list of records of texts for a view.
+-- The outcome of the model that the outcome of a desk's call represents: an answer becomes the
+-- answer of the model, and a view its list of records of texts; a refusal and a fault are
+-- unchanged.
 abbrev pub model_outcome : Outcome → run.Outcome
 model_outcome (came.Did answer) = run.Did (model_answer answer)
 model_outcome (came.Saw view) = run.Saw (records_of_view view)

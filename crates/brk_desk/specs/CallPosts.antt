@@ -145,10 +145,9 @@ ReachesAuditedState g new base calls outcomes =
     (after : Base) × Represents g new after × PassesAudit third_schema (sheets after)
     × IsRunWithSumsAndTaxes base (map model_call calls) (map model_outcome outcomes) after
 
--- The guarantee of a run: what the postcondition of a run implies for the books. Under the disk
--- assumption the calls reach an audited state (`ReachesAuditedState`), from any base that the store
--- represented, from tables without rows, and from rows of any schema that pass their audit and were
--- upgraded to schema 3.
+-- The guarantee of a run for the books. Under the disk assumption the calls reach an audited state
+-- (`ReachesAuditedState`) from any base that the store represented, from tables without rows, and
+-- from rows in UTF-8 of any schema that pass their audit and were upgraded to schema 3.
 pub record RunGuarantee {S : Type 0} (g : Ghosts S) (old new : Held S) (calls : List (ℕ × Call)) (outcomes : List Outcome) : Type 0 where
   -- From any base that the store represented before the calls.
   pub from_represented_base : HasCleanDisk (state g new) → (base : Base) → Represents g old base → ReachesAuditedState g new base calls outcomes
@@ -161,7 +160,9 @@ pub record RunGuarantee {S : Type 0} (g : Ghosts S) (old new : Held S) (calls : 
       → HoldsRows g old (tables_upgraded_from_schema (abstract_schema schema) rows) → IsTrue (has_utf8_texts rows) → PassesAudit (abstract_schema schema) rows
       → ReachesAuditedState g new (base_of_tables rows) calls outcomes
 
--- The postcondition of an audit of the desk's store, which writes nothing.
+-- The postcondition of an audit of the desk's store, which writes nothing: that of an audit of a
+-- store (`AuditPost`); and if the store represents a base, it still does after the audit, and the
+-- result is not `Damaged`.
 pub record DeskAuditPost {S : Type 0} (g : Ghosts S) (old new : Held S) (result : Result (Unit {0}) Fault) : Type 0 where
   -- It satisfies the postcondition of an audit of a store.
   pub audited : AuditPost g old new result

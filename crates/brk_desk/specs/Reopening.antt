@@ -29,7 +29,7 @@ pub record IsNewConnectionToDiskContent {S : Type 0} (g : Ghosts S) (trees : Tre
   -- The connection is to a database with these disk contents.
   pub over : IsConnectionToDiskContent g trees conn
   -- Under the disk assumption it is open, in autocommit mode, without savepoints, with
-  -- `sqlite3_changes()` 0, and its current state is committed.
+  -- `sqlite3_changes()` and `sqlite3_last_insert_rowid()` 0, and its current state is committed.
   pub opens : HasCleanDisk (state g conn) → Opens (state g conn)
 
 -- `conn` is in the state of a new connection (`IsNewConnectionToDiskContent`) to disk contents that

@@ -1,4 +1,4 @@
--- Runs of a desk: sequences of its calls, and nothing else.
+-- Runs of a desk: sequences of its calls.
 use Rattle.std.specs.Prelude.{ℕ, List}
 use Rattle.sqlite_trees.specs.declared.store.Store.{Ghosts}
 use Rattle.sqlite.specs.Held.{Held}
@@ -20,8 +20,8 @@ pub record IsRunWithOutcomes {S : Type 0} (g : Ghosts S) (old new : Held S) (cal
   -- The guarantee of a run: sums, taxes and the audit (`RunGuarantee`).
   pub guarantee : RunGuarantee g old new calls outcomes
 
--- Exactly some calls of the desk were executed between the state `old` and the state `new`, in
--- order, with some outcomes (`IsRunWithOutcomes`), and nothing else.
+-- The desk changed from the state `old` to the state `new` only by some calls of the desk, executed
+-- in order, with some outcomes (`IsRunWithOutcomes`).
 pub record IsSomeDeskRun {S : Type 0} (g : Ghosts S) (old new : Held S) : Type 0 where
   pub calls : List (ℕ × Call)
   pub outcomes : List Outcome

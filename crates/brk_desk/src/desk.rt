@@ -126,9 +126,9 @@ impl<S: Alter> Desk<S> {
         answer_query(alloc, &mut self.store, query)
     }
 
-    /// Executes the calls in order, each at its clock reading, and nothing else, and appends one
-    /// outcome for each to `out`. A query, a refusal, a stored reply or a fault changes nothing in
-    /// the open store, and the next call is executed.
+    /// Executes exactly the calls in order, each at its clock reading, and appends one outcome for
+    /// each to `out`. A query, a refusal, a stored reply or a fault changes nothing in the open
+    /// store, and the next call is executed.
     ///
     /// Fails with `Memory` only. The desk and the outcomes in `out` are then unchanged. The fault
     /// of an outcome is `Memory` or `Store`.
@@ -136,7 +136,7 @@ impl<S: Alter> Desk<S> {
     /// A crash exposes a state that a crash before the run could expose, or tables with the changes
     /// of every acknowledged command, and of at most one more: one that returned a fault, and after
     /// which no command was acknowledged. If the run acknowledges a command, or if a crash before
-    /// the run exposed only the tables of the represented base, it exposes only such tables with
+    /// the run exposed only the tables of the represented base, a crash exposes only tables with
     /// these changes.
     pub fn run(
         &mut self,
@@ -160,8 +160,8 @@ impl<S: Alter> Desk<S> {
         Ok(())
     }
 
-    // Executes a call at the clock reading `now` and returns its outcome: the answer to a command
-    // or to a query, its refusal, or its fault.
+    // Executes a call at the clock reading `now` and returns its outcome: the answer to a command,
+    // the view or the refusal of a query, or the fault of the call.
     fn execute_call(&mut self, alloc: Global, now: Stamp, call: &Call) -> Outcome
         ensures executed { OutcomePost S.Store self.old self.new now call.now result }
     {
@@ -209,13 +209,14 @@ impl<S: Alter> Desk<S> {
         read_statement_head(alloc, &mut self.store, account)
     }
 
-    /// Returns the rows that the explanation of a trade needs, or `None` if the trade does not
-    /// exist.
+    /// Returns the facts that the explanation of a trade reads: the trade with its account,
+    /// security and status changes, and its results if it is completed. Returns `None` if the trade
+    /// does not exist.
     ///
-    /// Fails with `Memory` or `Store` only; `Store` may also mean that a row that the explanation
-    /// reads does not exist, that a completed trade has no price or no settlement, or that the
-    /// number or the sum of the cash rows before it overflows. If the database is still open, it is
-    /// unchanged, whatever the result.
+    /// Fails with `Memory` or `Store` only; `Store` may also mean that a row that another row
+    /// requires does not exist or, for a completed trade, that the trade or a trade that opened the
+    /// lot of a closing has no price, or that the number or the sum of the account's earlier cash
+    /// rows overflows. If the database is still open, it is unchanged, whatever the result.
     ///
     /// A crash exposes only states that a crash before the call could expose.
     pub fn trade_explanation_rows(
@@ -247,9 +248,10 @@ impl<S: Alter> Desk<S> {
         read_account_details(alloc, &mut self.store, account)
     }
 
-    /// Returns the rows and totals that the explanation of the holding of an account in a security
-    /// needs. Refuses with `NoAccount` if the account does not exist, and with `NoSecurity` if the
-    /// account exists and the security does not.
+    /// Returns the facts that the explanation of the holding of an account in a security reads:
+    /// both rows, the completed trades, the lots that they opened, the quantity and the last price.
+    /// Refuses with `NoAccount` if the account does not exist, and with `NoSecurity` if the account
+    /// exists and the security does not.
     ///
     /// Fails with `Memory` or `Store` only; `Store` may also mean that the security has no last
     /// price, or that a trade that changed a lot does not exist or has no price. If the database is
@@ -294,7 +296,7 @@ impl<S: Alter> Desk<S> {
     /// whatever the result.
     ///
     /// `ready`: the visitor must be ready to take records, and is so after the walk. `leads`: the
-    /// walk changes the visitor only by calls of `visit`, so far as the visitor's own `leads` says.
+    /// visitors before and after the walk satisfy the relation `leads` that the visitor defines.
     ///
     /// A crash exposes only states that a crash before the call could expose.
     pub fn visit_completed_trades<E, V: Visitor<TradeRow, E>>(
@@ -321,7 +323,7 @@ impl<S: Alter> Desk<S> {
     /// the result.
     ///
     /// `ready`: the visitor must be ready to take records, and is so after the walk. `leads`: the
-    /// walk changes the visitor only by calls of `visit`, so far as the visitor's own `leads` says.
+    /// visitors before and after the walk satisfy the relation `leads` that the visitor defines.
     ///
     /// A crash exposes only states that a crash before the call could expose.
     pub fn visit_cash_rows<E, V: Visitor<MoveRow, E>>(
@@ -341,15 +343,15 @@ impl<S: Alter> Desk<S> {
             .visit_cash_rows::<E, V>(account, from, to, visitor)
     }
 
-    /// Passes the lots of an account to a visitor, sorted by symbol, then by opening stamp. Returns
-    /// `Ok` only after the visitor has taken the last lot.
+    /// Passes the lots of an account to a visitor, sorted by symbol, then by opening stamp,
+    /// ascending. Returns `Ok` only after the visitor has taken the last lot.
     ///
     /// Fails with `Cause` and the visitor's error, or with `Failed` and the fault `Memory` or
     /// `Store` after a prefix of the lots. If the database is still open, it is unchanged, whatever
     /// the result.
     ///
     /// `ready`: the visitor must be ready to take records, and is so after the walk. `leads`: the
-    /// walk changes the visitor only by calls of `visit`, so far as the visitor's own `leads` says.
+    /// visitors before and after the walk satisfy the relation `leads` that the visitor defines.
     ///
     /// A crash exposes only states that a crash before the call could expose.
     pub fn visit_lots<E, V: Visitor<HoldingRow, E>>(
@@ -392,7 +394,7 @@ impl<S: Alter> Desk<S> {
     }
 
     /// Calls a closure with each lot of an account and its symbol, sorted by symbol, then by
-    /// opening stamp. Returns `Ok` only after the last lot.
+    /// opening stamp, ascending. Returns `Ok` only after the last lot.
     ///
     /// Fails with the closure's first error, or with a fault (`Memory` or `Store`) as an error of
     /// type `E`, after a prefix of the lots. If the database is still open, it is unchanged,

@@ -14,16 +14,15 @@ use Rattle.brk_explain_rows.specs.declared.broker_details.BrokerDetails.{BrokerD
 use Rattle.brk_report_lines.specs.Written.{FailsWithinFirstLines}
 use Rattle.brk_report_lines.specs.declared.fault.LinesFault.{LinesFault}
 
--- The result of writing `lines`, the first lines of a longer text, is as specified. `Ok`: the
--- writer got exactly `lines`, and the returned count is `n`. `Err`: the writer got whole lines from
--- the first on, perhaps none, and after `Write` also a part of the next one
--- (`FailsWithinFirstLines`).
+-- The result of writing `lines`, the first lines of a longer text. `Ok`: exactly `lines` were
+-- written, and the returned count is `n`. `Err`: writing them failed as `FailsWithinFirstLines`
+-- specifies.
 abbrev pub WritesCountedLines : List Text → ℕ → Option Text → Option Text → Result ℕ LinesFault → Type 0
 WritesCountedLines lines n old new (Ok count) = Appends old new (text_of_lines lines) × (count ≡ n)
 WritesCountedLines lines n old new (Err e) = FailsWithinFirstLines lines old new e
 
--- The lines of the cash rows of `account`, sorted by stamp, each with the balance after it, which
--- starts from the balance `opening`, in cents.
+-- The lines of the cash rows of `account`, sorted by stamp, ascending, each with the balance after
+-- it; the balance before the first one is `opening`, in cents.
 abbrev pub account_cash_lines : Tables → ℕ → ℤ → List Text
 account_cash_lines t account opening = cash_posting_lines opening (account_cash_rows_by_stamp t account)
 
@@ -42,8 +41,8 @@ all_account_lines t account details =
     ++ holding_and_total_lines (abstract_account_row details.account) (map abstract_priced_holding details.held.items)
     (length (account_cash_rows_by_stamp t account)) (length (holding_rows_of_account t account)))))
 
--- The lines of the completed trades of the accounts of `broker`, each with the running total of the
--- commissions.
+-- The lines of the completed trades of the accounts of `broker`, sorted by the stamp of completion,
+-- ascending, each with the running total of the commissions.
 abbrev pub broker_trade_lines : Tables → ℕ → List Text
 broker_trade_lines t broker = trade_commission_lines (completed_trades_of_broker t broker)
 

@@ -13,10 +13,11 @@ use Rattle.brk_report_lines.specs.Written.{WritesProperPrefixOfLines, WritesLine
 use Rattle.brk_report_lines.specs.declared.fault.ReportFault.{ReportFault}
 use Rattle.brk_report_lines.specs.declared.fault.ReportFault.TheVariants.{Refused, Desk, Write}
 
--- The result of writing `told`, which is lines or a refusal, is as specified. `Ok`: `told` is
--- lines, and the writer got exactly these. `Refused`: `told` is this refusal. `Desk`: the writer
--- got nothing, or, if `told` is lines, whole lines from the first on without the last one. `Write`:
--- `told` is lines, and the writer got whole lines from the first on and a part of the next one.
+-- The result of writing `told`, which is lines or a refusal. `Ok`: `told` is lines, and exactly
+-- these were written. `Refused`: `told` is this refusal. `Desk`: the fault is `Memory` or `Store`,
+-- and nothing was written, or, if `told` is lines, the first lines whole, without the last one.
+-- `Write`: `told` is lines, and the first lines were written whole, and then a prefix of the next
+-- one.
 abbrev pub WritesLinesOrRefuses : Result (List Text) Refusal → Option Text → Option Text → Result (Unit {0}) ReportFault → Type 0
 WritesLinesOrRefuses told old new (Ok u) = (lines : List Text) × (told ≡ Ok lines) × Appends old new (text_of_lines lines)
 WritesLinesOrRefuses told old new (Err (Refused refusal)) = told ≡ Err refusal
@@ -24,9 +25,9 @@ WritesLinesOrRefuses told old new (Err (Desk fault)) =
     IsCallFault fault × (Appends old new [] ⊎ ((lines : List Text) × (told ≡ Ok lines) × WritesProperPrefixOfLines lines old new))
 WritesLinesOrRefuses told old new (Err Write) = (lines : List Text) × (told ≡ Ok lines) × WritesLinesAndPartOfNext lines old new
 
--- The postcondition of writing the lines that `told` gives for the tables of a desk, or of
--- returning the refusal that it gives. The output is as specified (`WritesLinesOrRefuses`), the
--- desk is unchanged, and nothing is written at a refusal.
+-- The postcondition of writing the lines, or of returning the refusal, that `told` specifies for
+-- the tables of a desk: the output is as `WritesLinesOrRefuses` specifies, the desk is unchanged,
+-- and nothing is written at a refusal.
 pub record WriteLinesPost {S : Type 0} (g : Ghosts S) (old new : Held S) (told : Tables → Result (List Text) Refusal) (before after : Option Text)
     (result : Result (Unit {0}) ReportFault) : Type 0 where
   -- The output is as specified for the rows that the store holds, whatever they are.

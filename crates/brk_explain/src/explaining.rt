@@ -45,8 +45,9 @@ fn write_trade_explanation<W: Write, S: Alter>(
 }
 
 // Writes all lines of the explanation of an account, from its row and holdings in `details` and
-// from its cash rows and lots, which it reads. Fails with `Desk` if a read fails, memory runs out
-// or an amount overflows, and with `Write` if the writer fails. The open database is unchanged.
+// from its cash rows and lots, which the function reads. Fails with `Desk` if a read fails, memory
+// runs out or an amount overflows, and with `Write` if the writer fails. If the database is still
+// open, it is unchanged.
 fn write_account_lines<W: Write, S: Alter>(
     alloc: Global,
     desk: &mut Desk<S>,
@@ -115,9 +116,9 @@ fn write_holding_explanation<W: Write, S: Alter>(
 }
 
 // Writes all lines of the explanation of a broker, from its row and number of accounts in `details`
-// and from the completed trades of its accounts, which it reads. Fails with `Desk` if a read fails,
-// memory runs out or a sum overflows, and with `Write` if the writer fails. The open database is
-// unchanged.
+// and from the completed trades of its accounts, which the function reads. Fails with `Desk` if a
+// read fails, memory runs out or a sum overflows, and with `Write` if the writer fails. If the
+// database is still open, it is unchanged.
 fn write_broker_lines<W: Write, S: Alter>(
     alloc: Global,
     desk: &mut Desk<S>,
@@ -159,8 +160,8 @@ fn write_broker_explanation<W: Write, S: Alter>(
     Ok(())
 }
 
-/// Writes the explanation of a trade, of an account, of a holding or of a broker of the desk. The
-/// open database is unchanged, whatever the result.
+/// Writes the explanation of a trade, of an account, of a holding or of a broker of the desk. If
+/// the database is still open, it is unchanged, whatever the result.
 ///
 /// Fails with `Refused` and nothing written if a record does not exist: with refusal 5 (`NoTrade`)
 /// for the trade, 1 (`NoAccount`) for the account, also of a holding, 4 (`NoSecurity`) for the

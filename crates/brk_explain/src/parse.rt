@@ -22,8 +22,8 @@ pub enum ExplainRequest {
     Broker(Id),
 }
 
-// Returns the id that is the only one of `words`. Refuses another number of words or a malformed id
-// with `BadText`.
+// Parses `words` as exactly one id and returns the id. Refuses another number of words or a
+// malformed id with `BadText`.
 fn parse_single_id(words: &[&[u8]]) -> Result<Id, Refusal>
     ensures { ParsesAs (λ id. id) result (model.read_single_id (texts_of_fields words.now)) }
 {

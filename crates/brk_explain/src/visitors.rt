@@ -1,4 +1,4 @@
-//! Visitors that write a row for each record, and count the records.
+//! Visitors that write a line for each record, and count the records.
 
 ghost use Rattle.std.specs.Prelude.{◌≡◌, ◌+ℤ◌, Err, IfOk, OnErr, pos};
 ghost use Rattle.brk_money.specs.declared.fault.Fault.TheVariants as fault;

@@ -47,8 +47,8 @@ pub fn put_labeled_number(out: &mut Vec<u8>, label: &str, n: u64) -> Result<(), 
     put_labeled_value(out, label, buffer.format(n).as_bytes())
 }
 
-/// Appends to `out` a label, left-aligned in 15 places, a space, and an amount with two decimal
-/// places, right-aligned in 22 places. Fails with `Memory` only.
+/// Appends to `out` a label, left-aligned in 15 places, a space, and an amount in cents, written
+/// with two decimal places and right-aligned in 22 places. Fails with `Memory` only.
 #[tactic(auto, unfolding(brk_explain_model::specs::Texts::labeled_amount))]
 pub fn put_labeled_amount(
     alloc: Global,
@@ -64,8 +64,8 @@ pub fn put_labeled_amount(
     put_labeled_value(out, label, cents.as_slice())
 }
 
-/// Appends to `out` the line of a label, left-aligned in 15 places, and a text, with its line feed.
-/// Fails with `Memory` only.
+/// Appends to `out` the line of a label, left-aligned in 15 places, a space, and a text, with its
+/// line feed. Fails with `Memory` only.
 pub fn put_labeled_text_line(out: &mut Vec<u8>, label: &str, text: &[u8]) -> Result<(), Fault>
     ensures ok { OnOk result (out.new.items ≡ out.old.items ++ line_with_line_feed (texts.labeled_text label.now text.now)) }
     ensures fault { OnErr result (result ≡ Err Memory) }
@@ -75,7 +75,7 @@ pub fn put_labeled_text_line(out: &mut Vec<u8>, label: &str, text: &[u8]) -> Res
     Ok(())
 }
 
-/// Appends to `out` the line of a label, left-aligned in 15 places, and a text `value`,
+/// Appends to `out` the line of a label, left-aligned in 15 places, a space, and a text `value`,
 /// right-aligned in 22 places, with its line feed. Fails with `Memory` only.
 pub fn put_labeled_value_line(out: &mut Vec<u8>, label: &str, value: &[u8]) -> Result<(), Fault>
     ensures ok { OnOk result (out.new.items ≡ out.old.items ++ line_with_line_feed (texts.labeled_value label.now value.now)) }
@@ -86,8 +86,8 @@ pub fn put_labeled_value_line(out: &mut Vec<u8>, label: &str, value: &[u8]) -> R
     Ok(())
 }
 
-/// Appends to `out` the line of a label, left-aligned in 15 places, and a number, right-aligned in
-/// 22 places, with its line feed. Fails with `Memory` only.
+/// Appends to `out` the line of a label, left-aligned in 15 places, a space, and a number in
+/// decimal digits, right-aligned in 22 places, with its line feed. Fails with `Memory` only.
 pub fn put_labeled_number_line(out: &mut Vec<u8>, label: &str, n: u64) -> Result<(), Fault>
     ensures ok { OnOk result (out.new.items ≡ out.old.items ++ line_with_line_feed (texts.labeled_number label.now n)) }
     ensures fault { OnErr result (result ≡ Err Memory) }
@@ -97,8 +97,8 @@ pub fn put_labeled_number_line(out: &mut Vec<u8>, label: &str, n: u64) -> Result
     Ok(())
 }
 
-/// Appends to `out` the line of a label, left-aligned in 15 places, and a number that may be below
-/// 0, right-aligned in 22 places, with its line feed. Fails with `Memory` only.
+/// Appends to `out` the line of a label, left-aligned in 15 places, a space, and a number that may
+/// be below 0, right-aligned in 22 places, with its line feed. Fails with `Memory` only.
 pub fn put_labeled_integer_line(out: &mut Vec<u8>, label: &str, n: i64) -> Result<(), Fault>
     ensures ok { OnOk result (out.new.items ≡ out.old.items ++ line_with_line_feed (texts.labeled_value label.now (signed_decimal n))) }
     ensures fault { OnErr result (result ≡ Err Memory) }
@@ -107,8 +107,9 @@ pub fn put_labeled_integer_line(out: &mut Vec<u8>, label: &str, n: i64) -> Resul
     put_labeled_value_line(out, label, buffer.format(n).as_bytes())
 }
 
-/// Appends to `out` the line of a label, left-aligned in 15 places, and an amount with two decimal
-/// places, right-aligned in 22 places, with its line feed. Fails with `Memory` only.
+/// Appends to `out` the line of a label, left-aligned in 15 places, a space, and an amount in
+/// cents, written with two decimal places and right-aligned in 22 places, with its line feed. Fails
+/// with `Memory` only.
 pub fn put_labeled_amount_line(
     alloc: Global,
     out: &mut Vec<u8>,

@@ -1,4 +1,4 @@
-//! The text of a moment. The functions fail with `Memory` only.
+//! The texts of stamps as date and time. The functions fail with `Memory` only.
 
 ghost use Rattle.std.specs.Prelude.{◌≡◌, ◌++◌, ◌<◌, Err, IfOk, OnErr, OnOk};
 ghost use Rattle.brk_explain_model.specs.Texts.{time_of_day_text, timestamp_text};

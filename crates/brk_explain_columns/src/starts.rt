@@ -9,9 +9,10 @@ use brk_report_lines::{append_left_aligned, append_right_aligned};
 use itoa::Buffer;
 use std::alloc::Global;
 
-/// Appends to `out` the first columns of a row about a trade or a lot: a word in 6 places, the text
-/// of a timestamp, and, right-aligned, an id in 13, a number of shares in 11 and a price in 10
-/// places. Fails with `Memory` only.
+/// Appends to `out` the first columns of a row about a trade or a lot, separated by spaces: a word,
+/// left-aligned in 6 places, the text `moment` of a timestamp, and, right-aligned, an id in 13, a
+/// number of shares in 11 and a price with two decimal places in 10 places. Fails with `Memory`
+/// only.
 #[tactic(auto, unfolding(brk_explain_model::specs::Texts::leading_row_columns))]
 pub fn put_leading_row_columns(
     alloc: Global,
@@ -40,8 +41,8 @@ pub fn put_leading_row_columns(
     append_right_aligned(out, 10, cents.as_slice())
 }
 
-/// Appends to `out` a space, and an amount with two decimal places, right-aligned in 16 places.
-/// Fails with `Memory` only.
+/// Appends to `out` a space, and an amount in cents, written with two decimal places and
+/// right-aligned in 16 places. Fails with `Memory` only.
 #[tactic(auto, unfolding(brk_explain_model::specs::Texts::value_column))]
 pub fn put_value_column(alloc: Global, out: &mut Vec<u8>, amount: Wide) -> Result<(), Fault>
     ensures ok { OnOk result (out.new.items ≡ out.old.items ++ value_column amount) }
@@ -53,8 +54,8 @@ pub fn put_value_column(alloc: Global, out: &mut Vec<u8>, amount: Wide) -> Resul
     append_right_aligned(out, 16, cents.as_slice())
 }
 
-/// Appends to `out` a space, and an amount with two decimal places, right-aligned in 22 places.
-/// Fails with `Memory` only.
+/// Appends to `out` a space, and an amount in cents, written with two decimal places and
+/// right-aligned in 22 places. Fails with `Memory` only.
 #[tactic(auto, unfolding(brk_explain_model::specs::Texts::amount_column))]
 pub fn put_amount_column(alloc: Global, out: &mut Vec<u8>, amount: Wide) -> Result<(), Fault>
     ensures ok { OnOk result (out.new.items ≡ out.old.items ++ amount_column amount) }

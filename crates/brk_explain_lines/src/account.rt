@@ -63,8 +63,9 @@ fn put_trade_id_or_hyphen(out: &mut Vec<u8>, trade: Option<Id>) -> Result<(), Fa
     }
 }
 
-/// Returns the line of a cash row: its stamp, its number, its trade, its amount, the balance after
-/// it, and its text, with a line feed. Fails with `Memory` only.
+/// Returns the line of a cash row, with a line feed: the word `Posted`, its timestamp, its id, the
+/// id of its trade or a hyphen, its amount, `balance`, which is the balance after it, and its name.
+/// Fails with `Memory` only.
 #[tactic(auto, unfolding(brk_explain_model::specs::AccountLines::cash_posting_line))]
 pub fn cash_posting_text(alloc: Global, row: &MoveRow, balance: Wide) -> Result<Vec<u8>, Fault>
     ensures line { IfOk result (λ line. line.items ≡ line_with_line_feed (lines.cash_posting_line (abstract_move_row row.now) balance)) }
@@ -182,8 +183,8 @@ fn put_quantity_and_price(
     Ok(())
 }
 
-// Appends to `out` the line of a holding: its symbol, its quantity, its last price and its market
-// value. Fails with `Memory` or `Store`; with `Store` if the market value overflows.
+// Appends to `out` the line of a holding: the word `Held`, its symbol, its quantity, its last price
+// and its market value. Fails with `Memory` or `Store`; with `Store` if the market value overflows.
 #[tactic(auto, unfolding(brk_explain_model::specs::AccountLines::holding_line))]
 fn put_holding_line(alloc: Global, out: &mut Vec<u8>, held: &PricedHolding) -> Result<(), Fault>
     ensures ok { OnOk result (out.new.items ≡ out.old.items ++ line_with_line_feed (lines.holding_line (abstract_priced_holding held.now))) }
@@ -231,8 +232,8 @@ fn put_account_counts_line(
 }
 
 // Appends to `out` the lines of the market value of the holdings, of the assets, and of the numbers
-// of cash rows, lots and symbols. The assets are the balance plus that value, in cents. Fails with
-// `Memory` or `Store`; with `Store` if the assets overflows.
+// of cash rows, lots and symbols. The assets are the balance plus the market value, in cents. Fails
+// with `Memory` or `Store`; with `Store` if the assets overflow.
 #[tactic(auto, unfolding(brk_explain_model::specs::AccountLines::account_total_lines))]
 fn put_account_total_lines(
     alloc: Global,

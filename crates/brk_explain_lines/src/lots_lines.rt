@@ -41,9 +41,10 @@ fn put_price_and_lot_header_lines(
     )
 }
 
-// Appends to `out` the line of a closing by a trade on `side` at `price`: the lot's opening, the
-// closed shares, their buy value and sell value, and the lot's quantity after it. Fails with
-// `Memory` or `Store`; with `Store` if a value overflows.
+// Appends to `out` the line of a closing by a trade on `side` at `price`: the stamp and the id of
+// the trade that opened the lot, the number of closed shares, the lot's price, the buy value and
+// the sell value of these shares, and the lot's quantity after the closing. Fails with `Memory` or
+// `Store`; with `Store` if a value overflows.
 #[tactic(auto, unfolding(brk_explain_model::specs::TradeLines::closed_lot_line))]
 fn put_closed_lot_line(
     alloc: Global,
@@ -93,8 +94,8 @@ fn put_closed_lot_lines(
     Ok(())
 }
 
-// Appends to `out` the line of the lot that `trade` opened at `price`: its stamp, its id, its
-// quantity and the price. Fails with `Memory` only.
+// Appends to `out` the line of the lot that `trade` opened at `price`: the stamp and the id of the
+// trade, the quantity after the change `lot`, and the price. Fails with `Memory` only.
 #[tactic(auto, unfolding(brk_explain_model::specs::TradeLines::opened_lot_line))]
 fn put_opened_lot_line(
     alloc: Global,
@@ -185,9 +186,9 @@ fn put_realised_gain_lines(
     put_labeled_amount_line(alloc, out, "Realised gain", gain)
 }
 
-/// Appends to `out` the lines of the price of a completed trade, of the lots that it closed and
-/// opened, of the numbers of shares, and of the realised gain. Fails with `Memory` or `Store`; with
-/// `Store` if a number of shares or an amount overflows.
+/// Appends to `out` the lines of the price of a completed trade, of its closings, of the lot that
+/// it opened, of the numbers of shares, and of the realised gain. Fails with `Memory` or `Store`;
+/// with `Store` if a number of shares or an amount overflows.
 #[tactic(auto, unfolding(brk_explain_model::specs::TradeLines::lot_and_gain_lines, brk_explain_model::specs::TradeLines::closed_lot_lines))]
 pub(crate) fn put_lot_and_gain_lines(
     alloc: Global,

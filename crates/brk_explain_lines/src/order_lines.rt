@@ -165,8 +165,8 @@ fn put_order_terms_lines(
     Ok(())
 }
 
-/// Appends to `out` the title, the parties, the terms of the order, and the status changes of a
-/// trade. Fails with `Memory` only.
+/// Appends to `out` the lines of the title, of the parties, of the terms of the order, and of the
+/// status changes of a trade. Fails with `Memory` only.
 #[tactic(auto, unfolding(brk_explain_model::specs::TradeLines::order_and_status_lines))]
 pub(crate) fn put_order_lines(
     alloc: Global,

@@ -43,8 +43,8 @@ pub(crate) fn sell_value_of_closing(side: Side, price: Price, closing: &Closing)
     }
 }
 
-/// Returns the signed amount of `cents` cents. Fails with `Store` if `cents` exceeds the greatest
-/// `i128`.
+/// Returns `cents` as an amount of the signed type `Wide`. Fails with `Store` if `cents` exceeds
+/// the greatest value of `i128`.
 pub(crate) fn wide_amount_of_cents(cents: u128) -> Result<Wide, Fault>
     ensures amount { IfOk result (λ amount. amount ≡ pos cents) }
     ensures fault { IfErr result IsCallFault }

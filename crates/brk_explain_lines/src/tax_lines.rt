@@ -66,7 +66,7 @@ fn put_tax_status_line(out: &mut Vec<u8>, order: &OrderDetails) -> Result<(), Fa
 // Appends to `out` the lines of the sum of the customer's current tax rates, of the tax on the
 // trade's realised gain at this sum, and of the tax that the trade records. Fails with `Memory` or
 // `Store`; with `Store` if a sum overflows, if the tax rates total more than the greatest rate, or
-// if the account is taxable and the gain exceeds the greatest amount.
+// if the account is taxable and the absolute value of the gain exceeds the greatest amount.
 #[tactic(auto, unfolding(brk_explain_model::specs::TradeLines::current_and_recorded_tax_lines))]
 fn put_current_and_recorded_tax_lines(
     alloc: Global,
@@ -90,7 +90,7 @@ fn put_current_and_recorded_tax_lines(
 /// Appends to `out` the lines of the tax status of a trade's account, of each current tax rate of
 /// its customer, and of the current and the recorded tax. Fails with `Memory` or `Store`; with
 /// `Store` if a sum overflows, if the tax rates total more than the greatest rate, or if the
-/// account is taxable and the gain exceeds the greatest amount.
+/// account is taxable and the absolute value of the gain exceeds the greatest amount.
 #[tactic(auto, unfolding(brk_explain_model::specs::TradeLines::trade_tax_lines))]
 pub(crate) fn put_tax_lines(
     alloc: Global,
@@ -121,7 +121,8 @@ fn put_band_bounds(out: &mut Vec<u8>, band: &Band) -> Result<(), Fault>
     Ok(())
 }
 
-// Appends to `out` the tier and the exchange of a commission band. Fails with `Memory` only.
+// Appends to `out` the text after the bounds of a commission band: `, tier `, its tier, `, ` and
+// its exchange. Fails with `Memory` only.
 #[tactic(auto, unfolding(brk_explain_model::specs::TradeLines::band_tier_and_exchange_text))]
 fn put_band_tier_and_exchange(out: &mut Vec<u8>, band: &Band) -> Result<(), Fault>
     ensures ok { OnOk result (out.new.items ≡ out.old.items ++ lines.band_tier_and_exchange_text (abstract_band band.now)) }

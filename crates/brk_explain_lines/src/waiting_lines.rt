@@ -88,7 +88,8 @@ fn awaited_event_text(
     }
 }
 
-// Appends to `out` the line of a label, an amount and the text `words`. Fails with `Memory` only.
+// Appends to `out` the line of a label, an amount in cents, written with two decimal places and
+// right-aligned in 22 places, a space, and the text `words`. Fails with `Memory` only.
 fn put_amount_line_with_remark(
     alloc: Global,
     out: &mut Vec<u8>,
@@ -118,8 +119,8 @@ fn put_status_count_line(out: &mut Vec<u8>, count: usize) -> Result<(), Fault>
 }
 
 /// Appends to `out` those lines of a trade that is not completed that follow its status changes:
-/// charge and commission with remarks, the event for which it waits, no shares and no cash moved,
-/// and the number of its statuses. Fails with `Memory` only.
+/// charge and commission with remarks, the event for which it waits, 0 shares and 0.00 of cash
+/// moved, and the number of its status changes. Fails with `Memory` only.
 #[tactic(auto, unfolding(brk_explain_model::specs::TradeLines::uncompleted_trade_lines))]
 pub(crate) fn put_uncompleted_trade_lines(
     alloc: Global,

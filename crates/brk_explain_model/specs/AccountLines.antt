@@ -37,7 +37,7 @@ abbrev pub trade_id_or_hyphen : Option ℕ → Text
 trade_id_or_hyphen trade = option_map_or decimal trade (codes "-")
 
 -- The line of the cash row `row`: the word `Posted`, its timestamp, its id, the id of its trade or
--- a hyphen, its amount, `balance`, and its text.
+-- a hyphen, its amount, the balance `balance`, which is given in cents, and its name.
 unfoldable pub cash_posting_line : MoveRow → ℤ → Text
 cash_posting_line row balance =
     left_aligned_text 6 (codes "Posted") ++ 32 ∷ timestamp_text row.stamp ++ 32 ∷ right_aligned_text 13 (decimal row.id) ++ 32
@@ -82,7 +82,8 @@ holding_line_start symbol = left_aligned_text 6 (codes "Held") ++ 32 ∷ left_al
 unfoldable pub quantity_and_price_columns : ℤ → ℕ → Text
 quantity_and_price_columns qty price = 32 ∷ right_aligned_text 11 (signed_decimal qty) ++ 32 ∷ right_aligned_text 10 (nonnegative_cents_text price)
 
--- The line of the holding `held`: its symbol, quantity, last price and market value.
+-- The line of the holding `held`: the word `Held`, its symbol, an empty column, its quantity, the
+-- last price and its market value.
 unfoldable pub holding_line : PricedHolding → Text
 holding_line held =
     holding_line_start held.summary.symbol ++ quantity_and_price_columns held.summary.qty held.price ++ amount_column (market_value_of_holding held)
@@ -112,8 +113,8 @@ account_total_lines balance holdings cash lots symbols =
     ∷ account_counts_line cash lots symbols
     ∷ []
 
--- The lines of the holdings `held` of the account `a`, and the last lines. `cash` and `lots` are
--- the numbers of its cash rows and lots.
+-- The lines of the holdings `held` of the account `a`, and the last lines of its explanation.
+-- `cash` and `lots` are the numbers of its cash rows and lots.
 abbrev pub holding_and_total_lines : AccountRow → List PricedHolding → ℕ → ℕ → List Text
 holding_and_total_lines a held cash lots = map holding_line held ++ account_total_lines a.balance (market_value_of_holdings held) cash lots (length held)
 

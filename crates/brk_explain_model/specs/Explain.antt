@@ -47,7 +47,7 @@ explain_request_readers =
 unfoldable pub read_explain_request : List Text → ReadResult ExplainRequest
 read_explain_request words = parse_by_first_field explain_request_readers words
 
--- The lines that `lines` returns for the row, or the error `refusal` if there is no row.
+-- The lines that `lines` returns for the row, or the refusal `refusal` if there is no row.
 abbrev pub lines_or_refusal : {Row : Type 0} → Refusal → (Row → List Text) → Option Row → Result (List Text) Refusal
 lines_or_refusal refusal lines None = Err refusal
 lines_or_refusal refusal lines (Some row) = Ok (lines row)
@@ -59,8 +59,9 @@ abbrev pub holding_lines_or_refusal : Tables → Text → Option AccountRow → 
 holding_lines_or_refusal tables symbol None = Err NoAccount
 holding_lines_or_refusal tables symbol (Some a) = lines_or_refusal NoSecurity (holding_explanation_lines tables a) (security_row_with_symbol tables symbol)
 
--- The lines of the explanation that is requested. It is refused with `NoTrade`, `NoAccount`,
--- `NoSecurity` or `NoBroker` if there is no such trade, account, security or broker.
+-- The lines of the requested explanation. The request is refused with `NoTrade`, `NoAccount`,
+-- `NoSecurity` or `NoBroker` if there is no such trade, account, security or broker; for a holding,
+-- `NoAccount` is checked first.
 unfoldable pub explanation : Tables → ExplainRequest → Result (List Text) Refusal
 explanation tables (TradeOf trade) = lines_or_refusal NoTrade (λ u. trade_explanation_lines (details_of_trade tables u)) (trade_row_with_id tables trade)
 explanation tables (AccountOf account) = lines_or_refusal NoAccount (account_explanation_lines tables) (account_row_with_id tables account)

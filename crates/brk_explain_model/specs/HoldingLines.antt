@@ -36,27 +36,27 @@ holding_trade_line u held =
     ++ shares_column held ++ 32
     ∷ trade_type_code u.kind
 
--- The column headings of the lines of lots.
+-- The line of the column headings of lots.
 abbrev pub lot_columns_header : Text
 lot_columns_header = codes "#      opened or changed               trade      shares      price     cost or gain        left"
 
 -- The line of the opening of `lot`: the word `Lot`, the timestamp and the id of the trade that
--- opened it, the opened quantity, the price, and their product.
+-- opened it, the opened quantity, the price, and the product of both.
 unfoldable pub lot_opening_line : LotDetails → Text
 lot_opening_line lot =
     leading_row_columns (codes "Lot") (timestamp_text lot.trade.stamp) lot.trade.id lot.opened (completion_price_or_zero lot.trade)
     ++ value_column (lot.opened *ℤ pos (completion_price_or_zero lot.trade))
 
 -- The line of the change `c` of a lot that was opened at `price`: the word `Change`, the timestamp
--- and the id of the trade, the change of the quantity, the price of the trade, the realised gain,
--- and the quantity of the lot after it.
+-- and the id of the trade that changed it, the change of the quantity, the price of that trade, the
+-- realised gain, and the quantity of the lot after the change.
 unfoldable pub lot_change_line : ℕ → LotChange → Text
 lot_change_line price c =
     leading_row_columns (codes "Change") (timestamp_text c.stamp) c.trade (c.after -ℤ c.before) c.price ++ value_column (realised_gain_of_change price c)
     ++ shares_column c.after
 
--- The line of the remaining shares of `lot`: the word `Left`, the id of the trade that opened it,
--- the remaining quantity, the price, and their product.
+-- The line of the remaining shares of `lot`: the word `Left`, a blank timestamp, the id of the
+-- trade that opened it, the remaining quantity, the price, and the product of both.
 unfoldable pub lot_remainder_line : LotDetails → Text
 lot_remainder_line lot =
     leading_row_columns (codes "Left") blank_timestamp_text lot.trade.id (remaining_quantity_of_lot lot) (completion_price_or_zero lot.trade)
@@ -78,8 +78,8 @@ purchase_sale_and_cost_lines bought sold gain cost =
     ∷ labeled_amount (codes "Cost basis") cost ∷ []
 
 -- The lines of the quantity `shares` of a holding, of the last price `price`, of the market value,
--- which is their product, and of the unrealised gain, which is the market value minus the cost
--- basis `cost`.
+-- which is the product of both, and of the unrealised gain, which is the market value minus the
+-- cost basis `cost`. `price` and `cost` are given in cents.
 unfoldable pub holding_value_lines : ℤ → ℕ → ℤ → List Text
 holding_value_lines shares price cost =
     labeled_value (codes "Shares") (signed_decimal shares)
@@ -95,9 +95,9 @@ holding_counts_line trades lots open_count changes =
     codes "Trades " ++ decimal trades ++ codes ", lots " ++ decimal lots ++ codes ", open lots " ++ decimal open_count ++ codes ", changes " ++ decimal changes
 
 -- The last lines of the explanation of a holding, from its completed trades `done`, its `lots`, its
--- quantity `shares` and the last price `price`: the total purchases and sales, the realised gain,
--- the cost basis, the shares, the last price, the market value, the unrealised gain, and the
--- counts.
+-- quantity `shares` and the last price `price`, in cents: the total purchases and sales, the
+-- realised gain, the cost basis, the shares, the last price, the market value, the unrealised gain,
+-- and the counts.
 unfoldable pub holding_total_lines : List TradeRow → List LotDetails → ℤ → ℕ → List Text
 holding_total_lines done lots shares price =
     purchase_sale_and_cost_lines (total_purchase_value done) (total_sale_value done) (realised_gain_of_lots lots) (remaining_cost_of_lots lots)

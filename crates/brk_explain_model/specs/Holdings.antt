@@ -35,7 +35,7 @@ pub record LotChange : Type 0 where
   pub after : ℤ
 
 -- The change of a lot that the HOLDING_HISTORY row `row` records, with the stamp and the price of
--- the trade that made it; each is 0 if this trade does not exist.
+-- the trade that changed the lot; each is 0 if this trade does not exist.
 abbrev pub recorded_lot_change : Tables → HoldingHistoryRow → LotChange
 recorded_lot_change tables row = record {
   trade = row.trade;
@@ -54,9 +54,9 @@ is_later_change_of_lot lot row = (row.lot == lot) && not (row.trade == lot)
 abbrev pub later_changes_of_lot : Tables → ℕ → List LotChange
 later_changes_of_lot tables lot = sort_by_key (λ c. c.stamp) (map (recorded_lot_change tables) (filter (is_later_change_of_lot lot) tables.holding_history))
 
--- The realised gain of the change `c` of a lot that was opened at `price`, in cents: the reduction
--- of the quantity times the price of `c` minus `price`. The reduction of a lot that was sold short
--- is below 0, so the sign is right for both.
+-- The realised gain, in cents, of the change `c` of a lot that was opened at `price`: the product
+-- of the quantity before minus the quantity after the change, and of the price of `c` minus
+-- `price`. The first factor is below 0 if `c` closes shares that were sold short.
 abbrev pub realised_gain_of_change : ℕ → LotChange → ℤ
 realised_gain_of_change price c = (c.before -ℤ c.after) *ℤ (pos c.price -ℤ pos price)
 
@@ -71,7 +71,8 @@ pub record LotDetails : Type 0 where
 abbrev pub quantity_opened_by_trade : Tables → ℕ → ℤ
 quantity_opened_by_trade tables trade = option_map_or (λ row. row.after) (opened_lot_row tables trade) (pos 0)
 
--- The lot that the trade `u` opened: the trade, the opened quantity, and the later changes.
+-- The lot that the trade `u` opened: the trade, the opened quantity, and the changes by later
+-- trades.
 abbrev pub lot_with_later_changes : Tables → TradeRow → LotDetails
 lot_with_later_changes tables u = record { trade = u; opened = quantity_opened_by_trade tables u.id; changes = later_changes_of_lot tables u.id }
 
@@ -99,7 +100,8 @@ realised_gain_of_lot lot = total_by (realised_gain_of_change (completion_price_o
 abbrev pub realised_gain_of_lots : List LotDetails → ℤ
 realised_gain_of_lots lots = total_by realised_gain_of_lot lots
 
--- The sum of the realised gains of all lots that `account` opened in `symbol`, in cents.
+-- The sum of the realised gains of all lots that completed trades of `account` opened in `symbol`,
+-- in cents.
 abbrev pub realised_gain_in_symbol : Tables → ℕ → Text → ℤ
 realised_gain_in_symbol tables account symbol = realised_gain_of_lots (lots_opened_in_symbol tables account symbol)
 
@@ -120,7 +122,7 @@ lots_not_fully_closed lots = filter (λ lot. not (is_zero (remaining_quantity_of
 abbrev pub total_purchase_value : List TradeRow → ℤ
 total_purchase_value done = total_by signed_value_of_trade (filter (λ u. int_lt (pos 0) (signed_value_of_trade u)) done)
 
--- The sum of the negated values of the sales among the trades `done`, in cents.
+-- The sum of the negated values of the sales among the trades `done`, in cents; never above 0.
 abbrev pub total_sale_value : List TradeRow → ℤ
 total_sale_value done = total_by signed_value_of_trade (filter (λ u. int_lt (signed_value_of_trade u) (pos 0)) done)
 

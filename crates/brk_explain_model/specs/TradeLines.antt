@@ -33,7 +33,7 @@ unfoldable pub status_change_line : HistoryRow → Text
 status_change_line row =
     left_aligned_text 6 (codes "Status") ++ 32 ∷ timestamp_text row.stamp ++ 32 ∷ trade_status_code row.status ++ 32 ∷ trade_status_name row.status
 
--- The title of the explanation of a trade, with its id.
+-- The title of the explanation of a trade, with the id of the trade.
 abbrev pub trade_title_line : OrderDetails → Text
 trade_title_line o = codes "Trade " ++ decimal o.trade.id ++ codes ", times in UTC"
 
@@ -41,7 +41,7 @@ trade_title_line o = codes "Trade " ++ decimal o.trade.id ++ codes ", times in U
 abbrev pub trade_account_line : OrderDetails → Text
 trade_account_line o = labeled_number (codes "Account") o.trade.account ++ 32 ∷ o.account_name
 
--- The title, and the lines of the account, the customer, the broker and the executor of the trade.
+-- The lines of the title, the account, the customer, the broker and the executor of the trade.
 unfoldable pub title_and_party_lines : OrderDetails → List Text
 title_and_party_lines o =
     trade_title_line o
@@ -71,7 +71,7 @@ order_terms_lines o =
     ∷ labeled_text (codes "Closes") (closing_order_words o.trade.is_lifo)
     ∷ []
 
--- The title, the parties, the terms of the order, and the status changes of the trade.
+-- The lines of the title, the parties, the terms of the order, and each status change of the trade.
 unfoldable pub order_and_status_lines : OrderDetails → List Text
 order_and_status_lines o = title_and_party_lines o ++ order_terms_lines o ++ map status_change_line o.statuses
 
@@ -89,9 +89,9 @@ abbrev pub commission_remark : Status → Text
 commission_remark Canceled = codes "never charged"
 commission_remark _ = codes "estimated"
 
--- The event that a pending trade waits for, by its type: a tick at or below `price` for a stop loss
--- or a limit buy, a tick at or above it for a limit sell, and a cancel for a market type. `price`
--- is given in cents.
+-- The text of the event that a pending trade waits for, by its type: a tick at or below `price` for
+-- a stop loss or a limit buy, a tick at or above `price` for a limit sell, and a cancel for a
+-- market type. `price` is given in cents.
 abbrev pub trigger_condition_text : TradeType → ℕ → Text
 trigger_condition_text StopLoss price = codes "a tick at or below " ++ nonnegative_cents_text price
 trigger_condition_text LimitBuy price = codes "a tick at or below " ++ nonnegative_cents_text price
@@ -99,8 +99,8 @@ trigger_condition_text LimitSell price = codes "a tick at or above " ++ nonnegat
 trigger_condition_text MarketBuy price = codes "a cancel"
 trigger_condition_text MarketSell price = codes "a cancel"
 
--- The event that a trade waits for, by its status: its trigger if it is pending, a result if it is
--- submitted, and otherwise nothing.
+-- The text of the event that a trade waits for, by its status: its trigger if it is pending, a
+-- result if it is submitted, and otherwise `nothing`.
 abbrev pub awaited_event_text : Status → TradeType → ℕ → Text
 awaited_event_text Pending kind price = trigger_condition_text kind price
 awaited_event_text Submitted kind price = codes "a result"
@@ -123,7 +123,7 @@ uncompleted_trade_lines o =
 
 -- The line of the closing `c` by a trade on `side` at `price`: the word `Closed`, the timestamp and
 -- the id of the trade that opened the lot, the closed shares, the lot's price, the buy value and
--- the sell value of these shares, and the lot's quantity after it.
+-- the sell value of these shares, and the lot's quantity after the closing.
 unfoldable pub closed_lot_line : Side → ℕ → Closing → Text
 closed_lot_line side price c =
     leading_row_columns (codes "Closed") (timestamp_text c.stamp) c.lot (pos (shares_of_closing c)) c.price
@@ -135,7 +135,8 @@ closed_lot_line side price c =
 unfoldable pub opened_lot_line : TradeRow → ℕ → HoldingHistoryRow → Text
 opened_lot_line u price row = leading_row_columns (codes "Opened") (timestamp_text u.stamp) u.id row.after price
 
--- The line of the lot that the trade `u` opened at `price`, or no line if it opened none.
+-- The line of the lot that the trade `u` opened at `price`, as a list of one, or the empty list if
+-- the trade opened no lot.
 unfoldable pub opened_lot_lines : TradeRow → ℕ → Option HoldingHistoryRow → List Text
 opened_lot_lines u price None = []
 opened_lot_lines u price (Some row) = opened_lot_line u price row ∷ []
@@ -194,8 +195,8 @@ current_and_recorded_tax_lines o r =
 unfoldable pub trade_tax_lines : OrderDetails → ResultDetails → List Text
 trade_tax_lines o r = account_tax_status_lines o ++ map tax_rate_line r.rates ++ current_and_recorded_tax_lines o r
 
--- The text after the rate of the commission band `b`, such as ` of 10000 for 1 to 100`: the rate is
--- in ten-thousandths, and the band has this first and this last quantity.
+-- The text after the rate of the commission band `b`, such as ` of 10000 for 1 to 100`: the unit of
+-- the rate, ten-thousandths, and the least and the greatest quantity of the band.
 unfoldable pub band_bounds_text : Band → Text
 band_bounds_text b = codes " of 10000 for " ++ decimal b.from_qty ++ codes " to " ++ decimal b.to_qty
 
@@ -209,8 +210,8 @@ unfoldable pub commission_band_line : Option Band → Text
 commission_band_line None = labeled_value (codes "Band now") (codes "none")
 commission_band_line (Some b) = labeled_number (codes "Band now") b.rate ++ band_bounds_text b ++ band_tier_and_exchange_text b
 
--- The line of the commission at the rate of the current band, which is given in cents, or of `none`
--- if there is no band.
+-- The line of the commission at the rate of the current band, given in cents, or of `none` if there
+-- is no band.
 unfoldable pub current_commission_line : Option ℕ → Text
 current_commission_line None = labeled_value (codes "Commission now") (codes "none")
 current_commission_line (Some amount) = labeled_amount (codes "Commission now") (pos amount)
@@ -231,8 +232,8 @@ trade_settlement_lines o r =
     ∷ labeled_text (codes "Cash type") r.settlement.cash_type
     ∷ []
 
--- The lines of the day of completion, of the settlement day or `none`, of the number
--- of days to settle, and of the due day.
+-- The lines of the day of completion, of the settlement day or `none`, of the number of days to
+-- settle, and of the due day.
 unfoldable pub due_day_lines : OrderDetails → ResultDetails → List Text
 due_day_lines o r =
     labeled_text (codes "Completed on") (day_text (day_of o.trade.stamp))
@@ -241,8 +242,8 @@ due_day_lines o r =
     ∷ labeled_text (codes "Due on") (day_text r.settlement.due_day)
     ∷ []
 
--- The line of the cash row of the trade: its id and its text, or `none` if the trade
--- has no cash row.
+-- The line of the cash row of the trade: its id and its name, or `none` if the trade has no cash
+-- row.
 unfoldable pub trade_cash_row_line : Option MoveRow → Text
 trade_cash_row_line None = labeled_value (codes "Cash row") (codes "none")
 trade_cash_row_line (Some row) = labeled_number (codes "Cash row") row.id ++ 32 ∷ row.name
@@ -284,7 +285,7 @@ unfoldable pub lines_after_statuses : OrderDetails → Option ResultDetails → 
 lines_after_statuses o None = uncompleted_trade_lines o
 lines_after_statuses o (Some r) = completed_trade_lines o r
 
--- All lines of the explanation of a trade: those of the order and of the status changes, and those
--- after them.
+-- All lines of the explanation of a trade: those of the order and its status changes, and those
+-- after the status changes.
 unfoldable pub trade_explanation_lines : TradeDetails → List Text
 trade_explanation_lines details = order_and_status_lines details.order ++ lines_after_statuses details.order details.result

@@ -77,13 +77,13 @@ completion_price_or_zero u = unwrap_or u.price 0
 abbrev pub has_completed_status : TradeRow → Bool
 has_completed_status u = is_same_trade_status u.status Completed
 
--- The status changes of `trade`, sorted by stamp, ascending.
+-- The TRADE_HISTORY rows of the trade with the id `trade`, sorted by stamp, ascending.
 abbrev pub sorted_statuses_of_trade : Tables → ℕ → List HistoryRow
 sorted_statuses_of_trade tables trade = sort_by (λ a b. nat_lt a.stamp b.stamp) (history_rows_with_trade_id tables trade)
 
 -- The trade `u` as ordered, with the facts of its account and its security in `tables`, and its
--- status changes, the oldest first. If its account or its security does not exist, their names are
--- empty, their numbers are 0, and the tax status is `Untaxed`.
+-- status changes, the oldest first. If the account does not exist, its name is empty, its numbers
+-- are 0 and its tax status is `Untaxed`; if the security does not exist, its name is empty.
 abbrev pub order_details_of_trade : Tables → TradeRow → OrderDetails
 order_details_of_trade tables u = record {
   trade = u;
@@ -112,7 +112,7 @@ abbrev pub recorded_closing : Tables → HoldingHistoryRow → Closing
 recorded_closing tables row =
     record { lot = row.lot; stamp = trade_stamp_or_zero tables row.lot; price = trade_price_or_zero tables row.lot; before = row.before; after = row.after }
 
--- The list `xs`, reversed if `is_lifo`.
+-- The list `xs`, reversed if `is_lifo`, otherwise unchanged.
 abbrev pub reversed_if_lifo : {X : Type 0} → Bool → List X → List X
 reversed_if_lifo is_lifo xs = if is_lifo then reverse xs else xs
 
@@ -126,7 +126,8 @@ abbrev pub closings_of_trade : Tables → TradeRow → List Closing
 closings_of_trade tables u =
     reversed_if_lifo u.is_lifo (sort_by_key (λ c. c.stamp) (map (recorded_closing tables) (filter (is_closing_by u.id) tables.holding_history)))
 
--- The HOLDING_HISTORY row of the lot that `trade` opened, or none if it opened no lot.
+-- The HOLDING_HISTORY row that records the opening of a lot by `trade`, or none if `trade` opened
+-- no lot.
 abbrev pub opened_lot_row : Tables → ℕ → Option HoldingHistoryRow
 opened_lot_row tables trade = find (λ row. (row.trade == trade) && (row.lot == trade)) tables.holding_history
 
@@ -150,7 +151,8 @@ band_for_customer_and_security tables u None security = None
 band_for_customer_and_security tables u (Some c) None = None
 band_for_customer_and_security tables u (Some c) (Some s) = band_for_tier_and_exchange tables u c.tier s.exchange
 
--- The commission band of the trade `u` for its customer and its security, or none.
+-- The commission band of the trade `u` for its customer and its security, or none if the customer,
+-- the security or the band does not exist.
 abbrev pub band_of_trade : Tables → TradeRow → Option Band
 band_of_trade tables u =
     band_for_customer_and_security tables u (find (λ c. c.id == (order_details_of_trade tables u).customer) tables.customers)
@@ -160,16 +162,17 @@ band_of_trade tables u =
 abbrev pub zero_settlement_row : SettlementRow
 zero_settlement_row = record { trade = 0; cash_type = []; due_day = 0; amount = pos 0 }
 
--- The SETTLEMENT row of `trade`, or a row of zeros if it has none.
+-- The SETTLEMENT row of `trade`, or `zero_settlement_row` if it has none.
 abbrev pub settlement_of_trade_or_zeros : Tables → ℕ → SettlementRow
 settlement_of_trade_or_zeros tables trade = unwrap_or (find (λ s. s.trade == trade) tables.settlements) zero_settlement_row
 
--- The cash rows of the account of the trade `u` with stamps before the stamp of the trade.
+-- The cash rows of the account of the trade `u` with stamps before the stamp of the trade, sorted
+-- by stamp, ascending.
 abbrev pub cash_rows_before_completion : Tables → TradeRow → List MoveRow
 cash_rows_before_completion tables u = filter (λ row. nat_lt row.stamp u.stamp) (cash_move_rows_of_account tables u.account)
 
--- The results of the completed trade `u` that follow from `tables` (`ResultDetails`). Its price is
--- 0 if it has none, and its settlement a row of zeros if it has none.
+-- The results of the completed trade `u` that follow from `tables`. The price is 0 if the trade has
+-- none, and the settlement is `zero_settlement_row` if it has none.
 abbrev pub result_details_of_trade : Tables → TradeRow → ResultDetails
 result_details_of_trade tables u = record {
   price = completion_price_or_zero u;
@@ -196,14 +199,14 @@ details_of_trade tables u =
 abbrev pub shares_of_closing : Closing → ℕ
 shares_of_closing c = nat_abs (c.before -ℤ c.after)
 
--- The buy value of the closing `c` by a trade at `price`, in cents: the closed shares at the lot's
--- price if the trade is a sale, and at `price` if it is a purchase.
+-- The buy value of the closing `c` by a trade at `price`, in cents: the number of closed shares
+-- times the lot's price if the trade is a sale, and times `price` if it is a purchase.
 abbrev pub buy_value_of_closing : Side → ℕ → Closing → ℕ
 buy_value_of_closing Sell price c = shares_of_closing c * c.price
 buy_value_of_closing Buy price c = shares_of_closing c * price
 
--- The sell value of the closing `c` by a trade at `price`, in cents: the closed shares at `price`
--- if the trade is a sale, and at the lot's price if it is a purchase.
+-- The sell value of the closing `c` by a trade at `price`, in cents: the number of closed shares
+-- times `price` if the trade is a sale, and times the lot's price if it is a purchase.
 abbrev pub sell_value_of_closing : Side → ℕ → Closing → ℕ
 sell_value_of_closing Sell price c = shares_of_closing c * price
 sell_value_of_closing Buy price c = shares_of_closing c * c.price
@@ -249,8 +252,8 @@ commission_in_current_band o r = option_map (λ b. commission b.rate o.trade.qty
 abbrev pub signed_trade_value : OrderDetails → ResultDetails → ℤ
 signed_trade_value o r = signed_proceeds (side_of_trade_type o.trade.kind) (o.trade.qty * r.price)
 
--- The recorded tax of the trade, in cents, if the tax status of its account is that of withheld
--- tax; otherwise 0.
+-- The recorded tax of the trade, in cents, if the tax status of its account is `Withheld`;
+-- otherwise 0.
 abbrev pub withheld_tax_of_trade : OrderDetails → ℕ
 withheld_tax_of_trade o = if is_withholding_status o.tax_status then o.trade.tax else 0
 
@@ -266,7 +269,7 @@ balance_before_trade o r = o.opening +ℤ r.cash_before
 abbrev pub balance_after_trade : OrderDetails → ResultDetails → ℤ
 balance_after_trade o r = balance_before_trade o r +ℤ balance_change_of_trade r
 
--- The number of days after its completion on which the trade settles, by the settlement day as it
--- is now.
+-- The number of days from the completion of the trade to its settlement, by the settlement day as
+-- it is now.
 abbrev pub days_to_settle : OrderDetails → ResultDetails → ℕ
 days_to_settle o r = days_to_settlement r.rule (day_of o.trade.stamp)

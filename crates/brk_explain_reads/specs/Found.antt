@@ -17,7 +17,8 @@ use Rattle.brk_explain_reads.specs.declared.lots.TradeLots.{TradeLots}
 use Rattle.brk_explain_reads.specs.declared.settled.SettlementAndCash.{SettlementAndCash}
 use Rattle.brk_explain_reads.specs.declared.terms.TaxRatesAndBand.{TaxRatesAndBand}
 
--- The cash rows of `account` with stamps before `until`, sorted by stamp, ascending.
+-- The cash rows of `account` in the tables `t` with stamps before `until`, sorted by stamp,
+-- ascending.
 abbrev pub cash_rows_before_stamp : Tables → ℕ → ℕ → List MoveRow
 cash_rows_before_stamp t account until = filter (λ r. nat_lt r.stamp until) (cash_move_rows_of_account t account)
 
@@ -28,15 +29,15 @@ IsCashSumBeforeStamp t account until sum =
     (sum.rows ≡ length (cash_rows_before_stamp t account until)) × (sum.total ≡ cash_row_total (cash_rows_before_stamp t account until))
 
 -- `lots` has the closings by the trade with the id `trade`, in the order of the table
--- HOLDING_HISTORY, and the change of the lot that the trade opened, if any, as the tables `t`
--- record them.
+-- HOLDING_HISTORY, and the change with which this trade opened a lot, if it opened one, as the
+-- tables `t` record them.
 abbrev pub AreTradeLotsByKey : Tables → ℕ → TradeLots → Type 0
 AreTradeLotsByKey t trade lots =
     (map abstract_closing lots.closings.items ≡ map (recorded_closing t) (filter (is_closing_by trade) t.holding_history))
     × (option_map abstract_lot_change_row lots.own_lot ≡ opened_lot_row t trade)
 
--- `lots` has the closings by the trade `u`, in the order of closing, and the change of the lot that
--- the trade opened, if any, as the tables `t` record them.
+-- `lots` has the closings by the trade `u`, in the order of closing, and the change with which this
+-- trade opened a lot, if it opened one, as the tables `t` record them.
 abbrev pub AreTradeLotsInClosingOrder : Tables → TradeRow → TradeLots → Type 0
 AreTradeLotsInClosingOrder t u lots =
     (map abstract_closing lots.closings.items ≡ closings_of_trade t u) × (option_map abstract_lot_change_row lots.own_lot ≡ opened_lot_row t u.id)
@@ -49,8 +50,9 @@ pub record IsOrderOfTrade (row : trade.TradeRow) (order : OrderDetails) (t : Tab
   pub security : security_row_with_symbol t row.symbol ≡ Some (abstract_security_row order.security)
   pub statuses : map abstract_history_row order.statuses.items ≡ sorted_statuses_of_trade t row.id
 
--- `terms` has the tax rates of the customer of the order's account, and the commission band of its
--- trade for this customer and its security, as the tables `t` have them now.
+-- `terms` has, as the tables `t` record them, the tax rates of the customer of the account of
+-- `order`, and the commission band, if any, of the trade of `order` for this customer and for the
+-- security of `order`.
 abbrev pub AreTaxRatesAndBand : Tables → OrderDetails → TaxRatesAndBand → Type 0
 AreTaxRatesAndBand t order terms =
     (map abstract_tax_rate terms.rates.items ≡ tax_rates_of_customer t order.account.account.customer)
@@ -65,9 +67,9 @@ IsSettlementOfTrade t trade settled =
     (abstract_settlement_row settled.settlement ≡ settlement_of_trade_or_zeros t trade)
     × (option_map abstract_move_row settled.cash ≡ find (is_cash_row_of_trade trade) t.moves) × (settled.rule ≡ t.rule)
 
--- `details` has the results of the order's trade in the tables `t`: its price, closings, own lot,
--- settlement, cash row, earlier cash rows, current tax rates and band, and the settlement day.
--- Vacuous if `order` does not have the rows and status changes of its trade in these tables
--- (`IsOrderOfTrade`).
+-- `details` has the results of the trade of `order` in the tables `t`: the trade's price, closings,
+-- opened lot, settlement and cash row, the number and the sum of the account's earlier cash rows,
+-- the current tax rates and commission band, and the settlement day. Vacuous if `order` does not
+-- have the rows and status changes of its trade in these tables (`IsOrderOfTrade`).
 abbrev pub IsResultOfOrder : OrderDetails → ResultDetails → Tables → Type 0
 IsResultOfOrder order details t = IsOrderOfTrade order.trade order t → abstract_result_details details ≡ result_details_of_trade t (abstract_trade_row order.trade)

@@ -23,19 +23,20 @@ AreLotChangesByTradeId t lot all =
     ≡ map (recorded_lot_change t) (filter (λ h. not (h.trade == lot)) (filter (λ h. h.lot == lot) t.holding_history)))
 
 -- `all` has the change with which `lot` was opened, if any, and its changes by later trades, sorted
--- by the stamp of completion, as the tables `t` record them.
+-- by the stamps of these trades, ascending, as the tables `t` record them.
 abbrev pub AreLotChangesByCompletion : Tables → ℕ → OpeningAndLaterChanges → Type 0
 AreLotChangesByCompletion t lot all =
     (option_map rows.abstract_lot_change_row all.opening ≡ opened_lot_row t lot)
     × (map abstract_priced_lot_change all.later_changes.items ≡ later_changes_of_lot t lot)
 
--- The lot `lot` if there is a row that records an opening, otherwise `None`.
+-- `lot` if the first argument is a row, which then records the opening of the lot; `None` if the
+-- first argument is `None`.
 abbrev pub lot_if_opened : Option HoldingHistoryRow → Option LotDetails → Option LotDetails
 lot_if_opened None lot = None
 lot_if_opened (Some row) lot = lot
 
--- The lot that the trade with the id `trade` opened, with its later changes, or `None` if it opened
--- none or does not exist.
+-- The lot that the trade with the id `trade` opened, with its later changes, as the tables `t`
+-- record them, or `None` if the trade opened no lot or does not exist.
 abbrev pub lot_opened_by_trade : Tables → ℕ → Option LotDetails
 lot_opened_by_trade t trade = lot_if_opened (opened_lot_row t trade) (option_map (lot_with_later_changes t) (trade_row_with_id t trade))
 
@@ -45,14 +46,15 @@ IsTradeWithLot t trade one =
     (trade_row_with_id t trade ≡ Some (abstract_trade_row one.trade)) × (option_map abstract_lot_details one.lot ≡ lot_opened_by_trade t trade)
 
 -- `held` has the completed trades of `account` in the security `symbol`, and the lots that they
--- opened with their later changes, both sorted by the stamp of completion, as the tables `t` record
--- them.
+-- opened with their later changes, both sorted by the stamps at which the trades were completed,
+-- ascending, as the tables `t` record them.
 abbrev pub AreTradesAndLotsOfHolding : Tables → ℕ → Text → TradesAndLots → Type 0
 AreTradesAndLotsOfHolding t account symbol held =
     (map abstract_trade_row held.done.items ≡ completed_trades_in_symbol t account symbol)
     × (map abstract_lot_details held.lots.items ≡ lots_opened_in_symbol t account symbol)
 
 -- `held` has the quantity of the holding summary of `account` in the security `symbol` (0 if there
--- is none), and the last price of this security, as the tables `t` record them.
+-- is none), and the last price of this security, in cents (0 if there is none), as the tables `t`
+-- record them.
 abbrev pub AreQuantityAndPrice : Tables → ℕ → Text → QuantityAndPrice → Type 0
 AreQuantityAndPrice t account symbol held = (held.shares ≡ summary_quantity_in_symbol t account symbol) × (held.price ≡ last_price_in_tables t symbol)

@@ -1,4 +1,4 @@
-//! The facts that the explanation of an account reads beside the rows over which it walks.
+//! The facts that the explanation of an account reads, except for the rows that it walks.
 
 ghost use Rattle.std.specs.Prelude.{◌≡◌, IfErr, map};
 ghost use Rattle.brk_changes.specs.Rows.{abstract_summary_row};
@@ -53,11 +53,11 @@ fn read_priced_holdings<S: Alter>(
     Ok(held)
 }
 
-/// Returns the row of an account and its holding summaries with last prices, or `None` if the
-/// account does not exist.
+/// Returns the row of an account and its holding summaries with last prices, sorted by symbol,
+/// ascending, or `None` if the account does not exist.
 ///
-/// Fails with `Memory` or `Store` only; with `Store` also if a symbol has no last price. The open
-/// database is unchanged, whatever the result.
+/// Fails with `Memory` or `Store` only; with `Store` also if a symbol has no last price. If the
+/// database is still open, it is unchanged, whatever the result.
 pub fn read_account_details<S: Alter>(
     alloc: Global,
     store: &mut Store<S>,

@@ -68,8 +68,8 @@ impl<E, V: Visitor<TradeRow, E>> Visitor<TradeRow, E> for AccountFilter<'_, V> {
 
     ghost stops = { λ p r e q. (list_any (λ a. a == r.account) p.accounts.now ≡ true) × V.stops p.visitor.now r e q.visitor.now };
 
-    /// Passes the trade to the other visitor, and returns its result, if the account of the trade
-    /// is one of `accounts`. Otherwise does nothing and returns `Ok`.
+    /// Passes the trade to `visitor` and returns the result of `visitor`, if the account of the
+    /// trade is one of `accounts`. Otherwise does nothing and returns `Ok`.
     fn visit(&mut self, item: &TradeRow) -> Result<(), E> {
         if has_account(self.accounts, item.account) {
             return self.visitor.visit(item);

@@ -18,8 +18,8 @@ pub struct CashSum {
     pub total: Wide,
 }
 
-// Returns the sum with one cash row more, of this amount in cents. Fails with `Store` if the number
-// or the total overflows.
+// Returns `sum` with one more cash row, of `amount` cents. Fails with `Store` if the number or the
+// total overflows.
 fn cash_sum_with_row(sum: &CashSum, amount: Cents) -> Result<CashSum, Fault>
     ensures sum { IfOk result (λ more. (more.rows ≡ sum.now.rows + 1) × (more.total ≡ sum.now.total +ℤ amount)) }
     ensures fault { OnErr result (result ≡ Err fault.Store) }
@@ -56,8 +56,8 @@ impl Visitor<MoveRow, Fault> for EarlierCashSum {
 
     ghost stops = { λ _ _ e _. e ≡ Store };
 
-    /// Counts the cash row and adds its amount if its stamp is before `until`, otherwise does
-    /// nothing. Fails with `Store` if the number or the total overflows.
+    /// If the stamp of the cash row is before `until`, counts the row and adds its amount to the
+    /// total; otherwise does nothing. Fails with `Store` if the number or the total overflows.
     fn visit(&mut self, item: &MoveRow) -> Result<(), Fault> {
         if item.stamp.get() < self.until.get() {
             self.sum = cash_sum_with_row(&self.sum, item.amount)?;
@@ -70,7 +70,8 @@ impl Visitor<MoveRow, Fault> for EarlierCashSum {
     ghost transitive = { λ _ _ _ _ _. tt };
 }
 
-// Returns the fault of a walk that failed: `Memory` if the walk failed with it, otherwise `Store`.
+// Returns the fault for a failed walk: `Memory` if the walk ran out of memory, otherwise `Store`,
+// also if the visitor stopped the walk.
 fn fault_of_failed_walk(stop: WalkError<Fault>) -> Fault
     ensures { IsCallFault result }
 {

@@ -34,8 +34,8 @@ pub struct TradesAndLots {
     pub lots: Vec<LotDetails>,
 }
 
-// Returns the lot that `trade` opened, from the change that records its opening and its later
-// changes.
+// Returns the lot that `trade` opened with the change `opening`: its opened quantity is the
+// quantity after `opening`, and `changes` are its changes by later trades.
 fn lot_details_of_opening(
     trade: TradeRow,
     opening: &LotChange,
@@ -51,8 +51,8 @@ fn lot_details_of_opening(
 }
 
 // Returns the lot that the trade with the id opened, with its later changes, or `None` if the trade
-// opened none. Fails with `Memory` or `Store`; with `Store` also if the trade or a trade that
-// changed the lot does not exist, or if the latter has no price.
+// opened none. Fails with `Memory` or `Store`; with `Store` also if a later trade that changed the
+// lot does not exist or has no price, or if the trade that opened the lot does not exist.
 fn read_lot_of_trade<S: Alter>(
     alloc: Global,
     store: &mut Store<S>,
@@ -74,8 +74,8 @@ fn read_lot_of_trade<S: Alter>(
 }
 
 // Returns the trade with the id and the lot that it opened, if any. Fails with `Memory` or `Store`;
-// with `Store` also if the trade or a trade that changed the lot does not exist, or if the latter
-// has no price.
+// with `Store` also if the trade does not exist, or if a later trade that changed the lot does not
+// exist or has no price.
 fn read_trade_and_lot<S: Alter>(
     alloc: Global,
     store: &mut Store<S>,

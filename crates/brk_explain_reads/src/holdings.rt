@@ -44,7 +44,7 @@ fn quantity_and_price(shares: i64, price: Price) -> QuantityAndPrice
 }
 
 // Returns the last price of the security with the symbol. Fails with `Memory` or `Store`; with
-// `Store` also if it has none.
+// `Store` also if the security has no last price.
 fn read_last_price<S: Alter>(store: &mut Store<S>, symbol: &Symbol) -> Result<Price, Fault>
     ensures read { ReadPost S.Store store.old store.new result (λ price t. price ≡ last_price_in_tables t symbol.now) }
     ensures fault { IfErr result IsCallFault }

@@ -22,7 +22,7 @@ use std::alloc::Global;
 /// The changes of a lot: its opening, and the changes by later trades.
 #[derive(Drop)]
 pub struct OpeningAndLaterChanges {
-    /// The change with which its trade opened it, or `None` if the trade opened no lot.
+    /// The change with which the lot was opened, or `None` if there is none.
     pub opening: Option<LotChange>,
     /// The changes by later trades.
     pub later_changes: Vec<PricedLotChange>,
@@ -115,9 +115,9 @@ fn read_priced_lot_change<S: Alter>(
     Ok(priced_lot_change(change, trade.stamp, price))
 }
 
-// Returns the change with which a lot was opened, and its changes by later trades, sorted by trade,
-// ascending. Fails with `Memory` or `Store`; with `Store` also if a later trade does not exist or
-// has no price.
+// Returns the change with which a lot was opened, if any, and its changes by later trades, sorted
+// by trade id, ascending. Fails with `Memory` or `Store`; with `Store` also if a later trade does
+// not exist or has no price.
 fn read_lot_changes_by_trade_id<S: Alter>(
     alloc: Global,
     store: &mut Store<S>,
@@ -140,8 +140,8 @@ fn read_lot_changes_by_trade_id<S: Alter>(
     })
 }
 
-// Returns the changes of a lot, sorted by the stamps of the trades that made them, ascending. Fails
-// with `Memory` only.
+// Returns `later_changes`, sorted by the stamps of the trades that made them, ascending. Fails with
+// `Memory` only.
 fn sort_changes_by_stamp(
     alloc: Global,
     later_changes: Vec<PricedLotChange>,
@@ -154,9 +154,9 @@ fn sort_changes_by_stamp(
     Ok(sorted)
 }
 
-/// Returns the change with which a lot was opened, and its changes by later trades, sorted by the
-/// stamp of completion, ascending. Fails with `Memory` or `Store`; with `Store` also if a later
-/// trade does not exist or has no price.
+/// Returns the change with which a lot was opened, if any, and its changes by later trades, sorted
+/// by the stamps of these trades, ascending. Fails with `Memory` or `Store`; with `Store` also if a
+/// later trade does not exist or has no price.
 pub(crate) fn read_lot_changes_by_completion<S: Alter>(
     alloc: Global,
     store: &mut Store<S>,

@@ -16,7 +16,7 @@ use brk_store::Store;
 use sqlite::Alter;
 use std::alloc::Global;
 
-/// The tax rates of the customer of a trade, and the commission band of its quantity.
+/// The tax rates of the customer of a trade, and the commission band of the trade, if there is one.
 #[derive(Drop)]
 pub struct TaxRatesAndBand {
     pub rates: Vec<Tax>,
@@ -73,8 +73,9 @@ fn first_band_with_quantity(bands: Vec<Band>, qty: Qty) -> Option<Band>
     found
 }
 
-// Returns the commission band of the quantity of the order's trade for its type, its exchange and
-// the customer tier `tier`, or `None` if there is none. Fails with `Memory` or `Store`.
+// Returns the first commission band of the customer tier `tier`, of the type of the order's trade
+// and of the exchange of its security, whose bounds contain the quantity of the trade, or `None` if
+// there is none. Fails with `Memory` or `Store`.
 fn read_band_for_tier<S: Alter>(
     alloc: Global,
     store: &mut Store<S>,
@@ -89,9 +90,9 @@ fn read_band_for_tier<S: Alter>(
     Ok(first_band_with_quantity(bands, order.trade.qty))
 }
 
-// Returns the tax rates of the customer of the order's trade and the trade's commission band, as
-// the tables have them now. Fails with `Memory` or `Store`; with `Store` also if the customer or
-// one of the rates does not exist.
+// Returns the tax rates of the customer of the order's account, and the commission band of the
+// order's trade, if any, as the tables have them now. Fails with `Memory` or `Store`; with `Store`
+// also if the customer or one of the rates does not exist.
 pub(crate) fn read_tax_rates_and_band<S: Alter>(
     alloc: Global,
     store: &mut Store<S>,

@@ -27,10 +27,12 @@ fn is_completed(trade: &TradeRow) -> bool
 /// and status changes, and its results if it is completed. Returns `None` if the trade does not
 /// exist.
 ///
-/// Fails with `Memory` or `Store` only; with `Store` also if a row that another row names does not
-/// exist, if a completed trade has no price or no settlement, or if the number or the sum of the
-/// cash rows before it overflows. If the database is still open, it is unchanged, whatever the
-/// result.
+/// Fails with `Memory` or `Store` only; with `Store` also if a row that another row requires does
+/// not exist. For a completed trade it fails with `Store` also if the trade or a trade that opened
+/// the lot of a closing has no price, or if the number or the sum of the account's earlier cash
+/// rows overflows.
+///
+/// If the database is still open, it is unchanged, whatever the result.
 pub fn read_trade_details<S: Alter>(
     alloc: Global,
     store: &mut Store<S>,

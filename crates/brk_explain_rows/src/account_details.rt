@@ -13,6 +13,6 @@ pub struct PricedHolding {
 #[derive(Drop)]
 pub struct AccountDetails {
     pub account: AccountRow,
-    /// Its holding summaries, by symbol.
+    /// Its holding summaries, sorted by symbol, ascending.
     pub held: Vec<PricedHolding>,
 }

@@ -1,6 +1,6 @@
 use brk_ref::BrokerRow;
 
-/// The facts that the explanation of a broker reads beside the trades over which it walks.
+/// The facts that the explanation of a broker reads, except for the trades that it walks.
 #[derive(Drop)]
 pub struct BrokerDetails {
     pub broker: BrokerRow,

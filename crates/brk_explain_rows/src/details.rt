@@ -19,11 +19,11 @@ pub struct ResultDetails {
     pub price: Price,
     /// The lots of which it closed shares, in the order of closing.
     pub closings: Vec<Closing>,
-    /// The lot that it opened.
+    /// The change with which the trade opened a lot, or `None` if it opened none.
     pub own_lot: Option<LotChange>,
     /// The tax rates of its customer, as they are now.
     pub rates: Vec<Tax>,
-    /// The commission band of its quantity, as it is now.
+    /// The commission band of the trade, as it is now, if there is one.
     pub band: Option<Band>,
     pub settlement: SettlementRow,
     /// Its cash row, if it has one.

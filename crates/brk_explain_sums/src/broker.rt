@@ -37,9 +37,9 @@ pub fn broker_header_text(alloc: Global, row: &BrokerRow) -> Result<Vec<u8>, Fau
     Ok(text)
 }
 
-/// Returns the line of a completed trade in the explanation of a broker: its stamp, its id, its
-/// account, its commission, and the running total of the commissions, with a line feed. Fails with
-/// `Memory` only.
+/// Returns the line of a completed trade in the explanation of a broker, with a line feed: the word
+/// `Trade`, its timestamp, its id, its account, its commission, and `total`, which is the sum of
+/// the commissions up to and including it. Fails with `Memory` only.
 #[tactic(auto, unfolding(brk_explain_model::specs::BrokerLines::trade_commission_line))]
 pub fn trade_commission_text(alloc: Global, row: &TradeRow, total: Wide) -> Result<Vec<u8>, Fault>
     ensures line { IfOk result (λ line. line.items ≡ line_with_line_feed (lines.trade_commission_line (abstract_trade_row row.now) total)) }

@@ -20,9 +20,9 @@ use brk_explain_rows::{LotDetails, PricedLotChange};
 use brk_money::{Fault, Price};
 use std::alloc::Global;
 
-// Appends to `out` the line of the opening of a lot: its stamp, its trade, its quantity, its price
-// and its cost. Fails with `Memory` or `Store`; with `Store` if an amount overflows or the trade
-// that opened the lot has no price.
+// Appends to `out` the line of the opening of a lot: the timestamp and the id of the trade that
+// opened it, the opened quantity, the price, and their product. Fails with `Memory` or `Store`;
+// with `Store` if the product overflows or the trade that opened the lot has no price.
 #[tactic(auto, unfolding(brk_explain_model::specs::HoldingLines::lot_opening_line))]
 fn put_lot_opening_line(alloc: Global, out: &mut Vec<u8>, lot: &LotDetails) -> Result<(), Fault>
     ensures ok { OnOk result (out.new.items ≡ out.old.items ++ line_with_line_feed (lines.lot_opening_line (abstract_lot_details lot.now))) }
@@ -87,9 +87,9 @@ fn put_lot_change_lines(
     Ok(())
 }
 
-// Appends to `out` the line of the remaining shares of a lot: their number, the price of the lot,
-// and their cost. Fails with `Memory` or `Store`; with `Store` if an amount overflows or the trade
-// that opened the lot has no price.
+// Appends to `out` the line of the remaining shares of a lot: the id of the trade that opened it,
+// the remaining quantity, the price at which it was opened, and their product. Fails with `Memory`
+// or `Store`; with `Store` if the product overflows or the trade that opened the lot has no price.
 #[tactic(auto, unfolding(brk_explain_model::specs::HoldingLines::lot_remainder_line))]
 fn put_lot_remainder_line(alloc: Global, out: &mut Vec<u8>, lot: &LotDetails) -> Result<(), Fault>
     ensures ok { OnOk result (out.new.items ≡ out.old.items ++ line_with_line_feed (lines.lot_remainder_line (abstract_lot_details lot.now))) }

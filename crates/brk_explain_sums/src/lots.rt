@@ -70,8 +70,8 @@ pub(crate) fn remaining_quantity_of_lot(lot: &LotDetails) -> i64
 }
 
 /// Returns the remaining quantity of a lot times the price at which it was opened, in cents: below
-/// 0 if it was sold short. Fails with `Store` if it overflows, or if the trade that opened the lot
-/// has no price.
+/// 0 if it was sold short. Fails with `Store` if the product overflows, or if the trade that opened
+/// the lot has no price.
 pub(crate) fn remaining_cost_of_lot(lot: &LotDetails) -> Result<Wide, Fault>
     ensures cost { IfOk result (λ cost. cost ≡ holdings.remaining_cost_of_lot (abstract_lot_details lot.now)) }
     ensures fault { IfErr result IsCallFault }

@@ -27,8 +27,8 @@ pub record FollowsCreationOfDesk {D : Type 0} {g : Ghosts D} (conn : Held (FileS
   pub closed : HasLastCommitInFile desk
   pub opened : IsNewConnectionToFile conn
 
--- Creating a desk over a new connection failed with `NotEmpty`, because one of the tables of a desk
--- exists, and `conn` is the connection after it.
+-- The creation of a desk over a new connection failed with `Damaged(NotEmpty)`, the error for a
+-- database that has one of the tables of a desk, and `conn` is the connection after it.
 pub record FollowsRefusedCreation {D : Type 0} {g : Ghosts D} (conn : Held (FileStore D g)) : Type 0 where
   pub first : Held (FileStore D g)
   pub began : IsNewConnectionToFile first

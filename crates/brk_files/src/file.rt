@@ -15,11 +15,11 @@ use std::alloc::Global;
 use std::fs;
 use std::io::ErrorKind;
 
-/// A desk's store in a file, which its connection locks for this program alone.
+/// A desk's store in a file, which its connection locks for this program only.
 pub type FileDesk = Store<FileStore<File>>;
 
 // Closes the files of a connection. At `Ok` the database file contains the last commit even without
-// its log. Fails with `Store` only, and then drops the files.
+// its log. Fails with `Store` only; the files are then closed too.
 fn close_connection(conn: Connection<FileStore<File>>) -> Result<(), Fault>
     ensures closed { OnOk result (HasLastCommitInFile conn) }
     ensures fault { OnErr result (result ≡ Err fault.Store) }

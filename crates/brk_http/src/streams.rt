@@ -27,11 +27,12 @@ use std::io::{Read, Write};
 /// `POST /rows` and `POST /rows/BATCH/N` with a JSON list of texts execute a row, without a key or
 /// with the key (BATCH, N), under which it is accepted at most once. `POST /ask/VIEW` executes a
 /// query. The clock is read once for each well-formed row. A stream ends with its input, and after
-/// a reply with `Connection: close`. A fault of the desk is a reply, 503, and the last one.
+/// a reply with `Connection: close`. A fault of the desk is answered with status 503, and this
+/// reply is the last one.
 ///
-/// Fails with `Read`, `Write` or `Memory`. After `Read` nothing of the request was executed. After
-/// `Write` a part of its reply may have been written. After `Write` or `Memory` the request may
-/// have been executed: retry it under its key.
+/// Fails with `Read`, `Write` or `Memory` at the request after those that were answered. After
+/// `Read` that request was not executed. After `Write` a part of its reply may have been written.
+/// After `Write` or `Memory` it may have been executed: retry it under its key.
 ///
 /// For any reader the contract limits the number of requests and of calls. It specifies the
 /// requests and the replies only for a reader whose content is specified; the content of a socket

@@ -7,7 +7,7 @@ use Rattle.brk_http_engine.specs.declared.turning.FaultKind.TheVariants as kinds
 use Rattle.brk_http_engine.specs.declared.stream.ServeFault.{ServeFault}
 
 -- The greatest number of calls of the desk that the request at which this fault ended the stream
--- made: 0 if the request could not be read, otherwise 1.
+-- made: 0 if the reader failed, otherwise 1.
 abbrev pub call_limit_at_fault : FaultKind → ℕ
 call_limit_at_fault kinds.Read = 0
 call_limit_at_fault kinds.Write = 1

@@ -9,8 +9,8 @@ use Rattle.http.specs.StatusCode.{code_digits, reason_phrase}
 unfoldable pub status_text : ℕ → Text
 status_text code = code_digits code ++ 32 ∷ unwrap_or (reason_phrase code) []
 
--- The first three lines of a reply's head: the status line with the text `status`, the content type
--- `application/json`, and the content length `len` in bytes.
+-- The first three lines of a reply's head, each ended by CR LF: the status line with the text
+-- `status`, the content type `application/json`, and the content length `len` in bytes.
 unfoldable pub first_head_lines : Text → ℕ → Text
 first_head_lines status len =
     head_line (codes "HTTP/1.1 " ++ status) ++ head_line (codes "Content-Type: application/json") ++ head_line (codes "Content-Length: " ++ decimal len)

@@ -22,9 +22,9 @@ use Rattle.brk_http_engine.specs.declared.turning.FaultKind.{FaultKind}
 use Rattle.brk_http_engine.specs.declared.turning.FaultKind.TheVariants as kinds
 use Rattle.brk_http_engine.specs.declared.stream.ServeFault.{ServeFault}
 
--- After `n` replies the request at the front of `input` was executed, and `reply` is its reply.
--- After it the stream has the state `next`: it is finished, or it continues with the rest of the
--- input. The clock was read once for each of the timestamps `taken`.
+-- After `n` replies the request at the front of `input` was answered with `reply`: it was executed,
+-- or it could not be read. After the reply the stream has the state `next`: it is finished, or it
+-- continues with the rest of the input. The clock was read once for each of the timestamps `taken`.
 pub record ExchangeHasReply {B C : Type 0} (forms : RequestParsers) (does : CallRelation B) (gives : C → ℕ → C → Type 0) (n : ℕ) (input : Text)
     (span : EnvironmentChange B C) (reply : Text) (next : StreamState) : Type 0 where
   pub taken : List ℕ
@@ -61,7 +61,8 @@ ExchangeCompletesWith forms does gives n input span left turn.Open =
 
 -- The turn after `n` replies failed with this fault. `Read`: nothing changed and nothing was
 -- written. `Memory`: nothing was written, but the request may have been executed. `Write`: the
--- request was executed, and a prefix of its reply was written, perhaps all of it.
+-- request was executed or could not be read, and a prefix of its reply was written, perhaps all of
+-- it.
 abbrev pub ExchangeFailsWith : {B C : Type 0} → RequestParsers → CallRelation B → (C → ℕ → C → Type 0) → ℕ → Text → EnvironmentChange B C → FaultKind → Type 0
 ExchangeFailsWith forms does gives n input span kinds.Read = IsUnchangedEnvironment span
 ExchangeFailsWith forms does gives n input span kinds.Memory =

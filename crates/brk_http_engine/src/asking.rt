@@ -31,7 +31,8 @@ pub enum RequestedCall<X, Q> {
 }
 
 // Parses the texts of a body for a route: as a row or as the arguments of a view. Returns the call,
-// or the refusal if the row or the query is malformed. Fails if memory runs out.
+// or the refusal if the row or the query is malformed. Fails if memory runs out or the parser of
+// the desk fails.
 fn parse_call_of_route<D: Service>(
     alloc: Global,
     route: Route<D::ViewName>,
@@ -55,7 +56,7 @@ fn parse_call_of_route<D: Service>(
 
 /// Returns the call that a request makes, or the first reason why it makes none: its target has no
 /// route, its method is not POST, its body is not a JSON list of texts, or its row or query is
-/// malformed. Fails if memory runs out.
+/// malformed. Fails if memory runs out or a parser of the desk fails.
 #[tactic(auto, unfolding(brk_http_model::specs::Asked::demand_of_request), using(crate::proofs::AskLemmas::no_route, crate::proofs::AskLemmas::no_post, crate::proofs::AskLemmas::no_texts, crate::proofs::AskLemmas::all_there))]
 pub fn parse_call_of_request<D: Service>(
     alloc: Global,

@@ -102,7 +102,7 @@ pub fn fields_between_commas(alloc: Global, line: &str) -> Result<Vec<String>, A
 }
 
 // Returns the body of the reply to a refused row or query, `{"no":["NUMBER",..]}`: the number of
-// the refusal and its details. Fails only if memory runs out.
+// the refusal and, for a wrong status or a range, its detail. Fails only if memory runs out.
 #[tactic(auto, using(crate::proofs::PieceLemmas::refusal_parts))]
 fn refusal_body(alloc: Global, refusal: Refusal) -> Result<String, AllocError>
     ensures { IfOk result (λ s. string_bytes s ≡ response_body (FromOutcome (run.NoView refusal))) }
@@ -199,7 +199,8 @@ fn decimal_digits(alloc: Global, n: usize) -> Result<String, AllocError>
 }
 
 // Returns the first three lines of the head of a reply: the status line with the text `status`, the
-// content type, and the content length `len` in bytes. Fails only if memory runs out.
+// content type `application/json`, and the content length `len` in bytes. Fails only if memory runs
+// out.
 fn first_head_lines(alloc: Global, status: &str, len: usize) -> Result<String, AllocError>
     ensures { IfOk result (λ s. string_bytes s ≡ first_head_lines status.now len) }
 {
@@ -213,8 +214,9 @@ fn first_head_lines(alloc: Global, status: &str, len: usize) -> Result<String, A
     Ok(head)
 }
 
-// Returns the bytes of a reply with this status and body; with an `Allow: POST` line if `asks_post`
-// is true, and a `Connection: close` line if `closes` is true. Fails only if memory runs out.
+// Returns the bytes of a reply with this status and this JSON body; with an `Allow: POST` line if
+// `asks_post` is true, and a `Connection: close` line if `closes` is true. Fails only if memory
+// runs out.
 fn reply_bytes(
     alloc: Global,
     code: StatusCode,
@@ -233,8 +235,9 @@ fn reply_bytes(
     Ok(text)
 }
 
-/// Returns the bytes of the reply with this response, its status, head and JSON body, with a
-/// `Connection: close` line if `closes` is true. Fails only if memory runs out.
+/// Returns the bytes of the reply with this response: its status, head and JSON body. The head has
+/// an `Allow: POST` line if the method of the request is not POST, and a `Connection: close` line
+/// if `closes` is true. Fails only if memory runs out.
 pub fn reply_text<D: Service>(
     alloc: Global,
     told: &ServiceResponse<D::Reply, D::View>,
@@ -253,7 +256,8 @@ pub fn reply_text<D: Service>(
 }
 
 /// Returns the bytes of the reply to a request that could not be read, because of this problem,
-/// with a `Connection: close` line. Fails only if memory runs out.
+/// with a `Connection: close` line, and with an `Allow: POST` line if the problem is `NotAllowed`.
+/// Fails only if memory runs out.
 pub fn format_problem_reply(alloc: Global, problem: RequestProblem) -> Result<String, AllocError>
     ensures { IfOk result (λ s. string_bytes s ≡ reply_text (FromProblem problem) Bool.true) }
 {

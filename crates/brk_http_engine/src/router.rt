@@ -7,7 +7,7 @@ ghost use Rattle.brk_http_engine.specs.Rows.{all_router_rows};
 use matchit::{InsertError, Router};
 use std::alloc::Global;
 
-/// The kind of requests that the targets of a route make.
+/// The kind of the requests whose targets match a route.
 #[derive(Clone, Copy, Debug, PartialEq, Eq)]
 pub enum RouteKind {
     /// A row without a key: `/rows`.

@@ -24,8 +24,8 @@ pub enum Route<V> {
     ToView(V),
 }
 
-// Returns the key with the batch name and the row number that these bytes spell, or `None` if one
-// of them is malformed. Fails if memory runs out.
+// Parses `batch` as a batch name and `n` as a row number. Returns the key with both, or `None` if
+// one of them is malformed. Fails if memory runs out.
 fn key_of_batch_row(alloc: Global, batch: &[u8], n: &[u8]) -> Result<Option<Key>, Fault>
     ensures { IfOk result (λ key. option_map abstract_key key ≡ key_of_batch_row batch.now (read_id n.now)) }
 {
@@ -112,7 +112,8 @@ fn route_of_segments<D: Service>(
     }
 }
 
-/// Returns the route of a request target, or `None` if it has no route. Fails if memory runs out.
+/// Returns the route of a request target, or `None` if it is not UTF-8 or has no route. Fails if
+/// memory runs out.
 #[tactic(auto, unfolding(brk_http_model::specs::Routes::route_of_target))]
 pub fn route_of_target<D: Service>(
     alloc: Global,

@@ -73,7 +73,7 @@ enum OutOfMemoryPoint {
 }
 
 // Executes the request that has these positions in the buffer, after `done` replies, and returns
-// its reply.
+// its reply and whether it is the last of the stream.
 //
 // Fails with `Before` if memory ran out before the execution, and with `After` if it ran out after
 // it.
@@ -124,8 +124,8 @@ fn execute_and_format_reply<C: Clock, D: Service>(
 /// if no input is left, `Closed` if the reply is the last of the stream, otherwise `Open`. A
 /// request that cannot be read is not executed: the reply names its problem and is the last.
 ///
-/// Fails with `Read`, and no request is executed. After `Memory` or `Write` the request may have
-/// been executed.
+/// Fails with `Read`, and the request was then not executed, or with `Memory` or `Write`, and the
+/// request may then have been executed.
 pub fn serve_next_request<R: Read, W: Write, C: Clock, D: Service>(
     alloc: Global,
     router: &Router<RouteKind>,

@@ -23,8 +23,8 @@ get_request target = record { method = codes "GET"; target = target; closes = fa
 abbrev pub closing_request : Request → Request
 closing_request request = record request { closes = true }
 
--- The bytes of a reply: the status `status`, the further fields of the head `fields`, the length
--- `len` of the body in digits, and the body `body`.
+-- The bytes of a reply with a JSON body: the status `status`, the further fields of the head
+-- `fields`, the length `len` of the body in decimal digits, and the body `body`.
 abbrev pub expected_reply_bytes : Text → List Text → Text → Text → Text
 expected_reply_bytes status fields len body =
     codes "HTTP/1.1 " ++ status ++ codes "\r\nContent-Type: application/json\r\nContent-Length: " ++ len ++ codes "\r\n" ++ lines fields ++ codes "\r\n" ++ body
@@ -34,7 +34,7 @@ expected_reply_bytes status fields len body =
     lines [] = []
     lines (f ∷ fs) = f ++ codes "\r\n" ++ lines fs
 
--- The requests of one stream, executed in sequence from `setting_base` on, have exactly these
--- replies.
+-- The requests `requests` of one stream, executed in sequence from `setting_base` on with
+-- `twenty_http_clock_readings`, have exactly the replies `replies`.
 abbrev pub HasRepliesInSetting : List Request → List Text → Type 0
 HasRepliesInSetting requests replies = replies_to_requests 0 setting_base twenty_http_clock_readings requests ≡ replies

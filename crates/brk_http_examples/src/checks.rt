@@ -13,8 +13,8 @@ ghost use Rattle.brk_http_model.specs.declared.head_end.HeadEnd.TheVariants.{At,
 ghost use Rattle.brk_http_model.specs.declared.problem.RequestProblem.TheVariants.{BadRequest, NotAllowed, NotFound, NotImplemented, TooLarge};
 ghost use Rattle.brk_http_examples.specs.Streams.{get_request, post_request};
 
-/// Shows that a head ends with its first empty line, which must end within the limit, and the
-/// result for inputs without one.
+/// Shows that a head ends with its first empty line, which must end within the limit. For an input
+/// without such a line the result is `Nothing`, `Cut` or `TooLong`.
 pub fn head_ends_at_first_empty_line()
     ensures first { head_end (codes "GET / HTTP/1.1\r\n\r\nGET") ≡ At 18 }
     ensures line_feeds { head_end (codes "a\n\nb\r\n\r\n") ≡ At 3 }
@@ -26,8 +26,8 @@ pub fn head_ends_at_first_empty_line()
     ensures no_empty_line { head_end_within 4 (codes "\0\0\0\0") ≡ TooLong }
 {}
 
-/// Shows the length of a body by the fields of a head, or the problem of its length. Names of
-/// fields are compared in any case of letters, and a Transfer-Encoding is a problem whatever the
+/// Shows the length of a body by the fields of a head, or the problem of its length. The case of
+/// letters in the names of fields is ignored, and a Transfer-Encoding is a problem whatever the
 /// length.
 pub fn content_length_gives_body_length()
     ensures no_field { body_length_of_fields ((codes "Host", codes "x") ∷ []) ≡ Ok 0 }

@@ -41,7 +41,8 @@ pub fn stream_ends_after_close_request()
         (codes "{\"error\":\"method not allowed\"}") ∷ []) }
 {}
 
-/// Shows the replies to an order, to its retry, to a view of it, and to a refused cancel.
+/// Shows the replies to an order, to its retry, to the view `submitted`, and to a cancel of its
+/// trade, which is refused.
 pub fn replies_to_order_over_http()
     ensures { HasRepliesInSetting
         (post_request (codes "/rows/H/1") (codes "[\"order\",\"100\",\"TMB\",\"ABC\",\"100\",\"\",\"cash\",\"fifo\",\"Ann\",\"Lee\",\"T10\"]")

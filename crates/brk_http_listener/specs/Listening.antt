@@ -52,8 +52,8 @@ MayAcceptNextStream None = Unit {0}
 MayAcceptNextStream (Some (Ok count)) = Unit {0}
 MayAcceptNextStream (Some (Err fault)) = fault.kind ≢ Memory
 
--- The next streams of the listener have exactly these ends, in this order, and none of them ended
--- because memory ran out.
+-- From the state `old` to the state `new` exactly the next streams of the listener were handled,
+-- with these ends, in this order, and none of them ended because memory ran out.
 abbrev pub HandlesStreamsInOrder : {L C D X : Type 0} → AcceptRelation L X → ServeRelation C D X → ListenerClockAndDesk L C D → List StreamEnd
     → ListenerClockAndDesk L C D → Type 0
 HandlesStreamsInOrder accepts serves old [] new = new ≡ old

@@ -5,7 +5,7 @@ use brk_http_engine::ServeFault;
 pub enum AcceptFault {
     /// The peer broke its stream off before it was accepted.
     Aborted,
-    /// The listener accepts no more streams.
+    /// The accept failed for another reason.
     Failed,
 }
 

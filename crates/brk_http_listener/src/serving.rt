@@ -9,7 +9,8 @@ use std::alloc::Global;
 // Accepts the next stream of a listener and serves it to its end. A stream that its peer broke off
 // is not served. A fault of the stream's reader or writer is no failure here.
 //
-// Fails with `Stream` if memory ran out, and with `Net` if no stream could be accepted.
+// Fails with `Stream` if the stream ended because memory ran out, and with `Net` if no stream could
+// be accepted.
 fn serve_next_stream<L: Listener, H: StreamServer<Stream = L::Stream>>(
     alloc: Global,
     listener: &mut L,

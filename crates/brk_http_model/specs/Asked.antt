@@ -31,8 +31,8 @@ pub data RequestDemand : Type 0 where
   ResponseOnly : Response → RequestDemand
   DeskCall : Call → RequestDemand
 
--- The demand of the texts of a body by the route: the call of the row or of the query that they
--- parse as, or the response that the row or the query is refused.
+-- The demand of a request with the given route, from the texts of its body: the call of the command
+-- or the query that the texts parse as, or the response with the refusal of their parser.
 abbrev pub demand_of_texts : RequestParsers → Route → Fields → RequestDemand
 demand_of_texts forms (ToRow key) texts =
     elim (forms.row texts) [

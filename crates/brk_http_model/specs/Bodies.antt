@@ -17,7 +17,7 @@ text_of_json_string (number n) = None
 text_of_json_string (array items) = None
 text_of_json_string (object ms) = None
 
--- The texts of JSON values that are all strings; none if one of them is not.
+-- The texts of JSON values that are all strings, in sequence; none if one of them is no string.
 abbrev pub texts_of_json_items : Items → Option (List Text)
 texts_of_json_items no_items = Some []
 texts_of_json_items (item d ds) = option_and_then (λ t. option_map (λ ts. t ∷ ts) (texts_of_json_items ds)) (text_of_json_string d)
@@ -35,7 +35,7 @@ texts_of_json_array (object ms) = None
 unfoldable pub texts_of_body : Text → Option (List Text)
 texts_of_body body = if is_utf8 body then option_and_then texts_of_json_array (read body) else None
 
--- The JSON array of strings with these texts.
+-- The JSON value that is an array of the strings `texts`.
 abbrev pub json_array_of_texts : List Text → Data
 json_array_of_texts texts = array (items_of (map string texts))
 
@@ -44,12 +44,13 @@ json_array_of_texts texts = array (items_of (map string texts))
 abbrev pub json_object_text : Text → Data → Text
 json_object_text word value = compact_text (object (member word value no_members))
 
--- The JSON text of an object with one member, an array of strings: {"WORD":["TEXT",..]}.
+-- The JSON text of an object with one member, named `word`, the array of the strings `texts`:
+-- {"WORD":["TEXT",..]}.
 unfoldable pub json_texts_object : Text → List Text → Text
 json_texts_object word texts = json_object_text word (json_array_of_texts texts)
 
--- The JSON text of an object with one member, an array of arrays of strings:
--- {"WORD":[["TEXT",..],..]}.
+-- The JSON text of an object with one member, named `word`, the array with an array of strings for
+-- each of `records`: {"WORD":[["TEXT",..],..]}.
 unfoldable pub json_records_object : Text → List (List Text) → Text
 json_records_object word records = json_object_text word (array (items_of (map json_array_of_texts records)))
 

@@ -44,8 +44,9 @@ response_to_demand base [] (DeskCall (Do command key)) = record { response = Fro
 abbrev pub is_last_response : ℕ → Request → Response → Bool
 is_last_response n request response = (n + 1 == most_requests_per_stream) || request.closes || is_fault_response response
 
--- The reply to a request, followed by the replies that `more` returns for the base and the clock
--- readings after it, unless the reply ends the stream.
+-- The reply to a request after `n` earlier requests, followed by the replies that `more` returns
+-- for the base and the clock readings after the request, unless the reply is the last of the
+-- stream.
 abbrev pub reply_followed_by_more : ℕ → Request → ResponseAndBase → (Base → List ℕ → List Text) → List Text
 reply_followed_by_more n request r more =
     reply_text r.response (is_last_response n request r.response) ∷ (if is_last_response n request r.response then [] else more r.base r.moments)

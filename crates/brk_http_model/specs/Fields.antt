@@ -13,20 +13,22 @@ use Rattle.brk_http_model.specs.declared.problem.RequestProblem.TheVariants.{Too
 abbrev pub HeadField : Type 0
 HeadField = Text × Text
 
--- True if the texts are equal when ASCII capital letters count as small ones.
+-- True if the texts are equal when the case of ASCII letters is ignored.
 abbrev pub equals_ignoring_case : Text → Text → Bool
 equals_ignoring_case a b = pointwise nat_eq (map to_ascii_lowercase a) (map to_ascii_lowercase b)
 
--- The values of the fields whose name equals `name` in any case of letters, in the sequence of the
--- fields.
+-- The values of the fields whose name equals `name` when the case of ASCII letters is ignored, in
+-- the sequence of the fields.
 abbrev pub values_of_field : Text → List HeadField → List Text
 values_of_field name pairs = filter_map (λ p. if equals_ignoring_case p.0 name then Some p.1 else None) pairs
 
--- True if at least one field has a name that equals `name` in any case of letters.
+-- True if at least one field has a name that equals `name` when the case of ASCII letters is
+-- ignored.
 abbrev pub has_field_named : Text → List HeadField → Bool
 has_field_named name pairs = list_any (λ p. equals_ignoring_case p.0 name) pairs
 
--- True if a field with the name `Connection` has the value `close`, both in any case of letters.
+-- True if a field has the name `Connection` and the value `close`, when the case of ASCII letters
+-- is ignored in both.
 abbrev pub asks_to_close_stream : List HeadField → Bool
 asks_to_close_stream pairs = list_any (λ p. equals_ignoring_case p.0 (codes "connection") && equals_ignoring_case p.1 (codes "close")) pairs
 
@@ -43,8 +45,8 @@ abbrev pub body_length_within_limit : ℕ → Result ℕ RequestProblem
 body_length_within_limit n = if nat_lt most_body_bytes n then Err TooLarge else Ok n
 
 -- The length of a body, in bytes, that the value of a Content-Length states; the problem
--- `BadRequest` if the value is not all digits, and `TooLarge` if it has more than nine digits or is
--- above `most_body_bytes`.
+-- `BadRequest` if the value is empty or a byte of it is no ASCII digit, and otherwise `TooLarge` if
+-- it has more than nine digits or is above `most_body_bytes`.
 abbrev pub body_length_of_value : Text → Result ℕ RequestProblem
 body_length_of_value value =
     if has_only_digits value
@@ -59,8 +61,8 @@ body_length_of_values [] = Ok 0
 body_length_of_values (value ∷ []) = body_length_of_value value
 body_length_of_values (value ∷ other ∷ more) = Err BadRequest
 
--- The length of a body, in bytes, by the fields of its head. The problem `NotImplemented` if there
--- is a Transfer-Encoding, which is checked first; otherwise by the Content-Length fields.
+-- The length of a body, in bytes, by the fields of its head: the problem `NotImplemented` if there
+-- is a Transfer-Encoding, otherwise the length or the problem that the Content-Length fields state.
 abbrev pub body_length_of_fields : List HeadField → Result ℕ RequestProblem
 body_length_of_fields pairs =
     if has_field_named (codes "transfer-encoding") pairs then Err NotImplemented else body_length_of_values (values_of_field (codes "content-length") pairs)

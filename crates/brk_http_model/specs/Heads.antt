@@ -16,7 +16,7 @@ leading_line_end_length (b ∷ []) = if b == 10 then Some 1 else None
 leading_line_end_length (b ∷ c ∷ bytes) = if b == 10 then Some 1 else (if b == 13 && c == 10 then Some 2 else None)
 
 -- The length of the line end (LF or CR LF) with which `bytes` begin, if the byte `b` before them is
--- an LF; otherwise none.
+-- an LF; none if `b` is no LF or `bytes` begin with no line end.
 abbrev pub line_end_length_after_byte : ℕ → Text → Option ℕ
 line_end_length_after_byte b bytes = if b == 10 then leading_line_end_length bytes else None
 
@@ -31,9 +31,9 @@ unfoldable pub head_length : Text → Option ℕ
 head_length [] = None
 head_length (b ∷ bytes) = first_present_plus_one (line_end_length_after_byte b bytes) (head_length bytes)
 
--- The end of a head in an input of `len` bytes: after `n` bytes if the second parameter is
--- `Some n`, the end of the first empty line. Without an empty line it is `Nothing` for an empty
--- input, `TooLong` from `limit` bytes on, and `Cut` below.
+-- The end of the head of an input of `len` bytes: `At n` if the first empty line ends after `n`
+-- bytes (`Some n`). Without an empty line (`None`) it is `Nothing` for an empty input, `TooLong`
+-- for one of at least `limit` bytes, and otherwise `Cut`.
 abbrev pub head_end_by_length : ℕ → Option ℕ → ℕ → HeadEnd
 head_end_by_length limit (Some n) len = At n
 head_end_by_length limit None len = if len == 0 then Nothing else (if nat_le limit len then TooLong else Cut)

@@ -34,7 +34,7 @@ text_of_problem NotFound = codes "not found"
 text_of_problem NotAllowed = codes "method not allowed"
 
 -- The word of a fault in the body of a reply: `memory` or `store`. `Damaged`, which no call of a
--- desk returns, has the word of the store.
+-- desk returns, has the word `store`.
 abbrev pub fault_word : Fault → Text
 fault_word fault.Memory = codes "memory"
 fault_word fault.Store = codes "store"
@@ -79,7 +79,7 @@ abbrev pub response_body : Response → Text
 response_body (FromProblem problem) = json_error_object (text_of_problem problem)
 response_body (FromOutcome outcome) = outcome_body outcome
 
--- True if the response is the problem `NotAllowed`, whose reply alone has the field `Allow: POST`.
+-- True if the response is the problem `NotAllowed`: only its reply has the field `Allow: POST`.
 abbrev pub names_allowed_method : Response → Bool
 names_allowed_method (FromProblem NotAllowed) = true
 names_allowed_method (FromProblem TooLarge) = false

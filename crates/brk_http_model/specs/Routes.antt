@@ -6,7 +6,7 @@ use Rattle.brk_money.specs.Spelling.{Text}
 use Rattle.brk_model.specs.Records.{Key}
 use Rattle.brk_model.specs.Forms.{ReadResult, is_batch_name, read_id}
 
--- The parts into which the text is split at each byte equal to `cut`, which is in none of them.
+-- The parts into which the text is split at each byte equal to `cut`; no part contains this byte.
 unfoldable pub split_at_byte : ℕ → Text → List Text
 split_at_byte cut text = slice_split (λ b. eqb b cut) text
 

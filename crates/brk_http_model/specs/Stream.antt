@@ -23,8 +23,8 @@ TakesClockReadings (Do command key) now taken = taken ≡ now ∷ []
 TakesClockReadings (Ask query) now taken = taken ≡ []
 
 -- The demand on `base` has the response `response`, takes the clock readings `taken`, and the base
--- after it is `after`. A demand without a call takes no clock reading and leaves the base
--- unchanged.
+-- after it is `after`. The response to a call is an outcome that the relation `does` allows. A
+-- demand without a call takes no clock reading and leaves the base unchanged.
 abbrev pub IsResponseToDemand : {B : Type 0} → CallRelation B → RequestDemand → B → List ℕ → Response → B → Type 0
 IsResponseToDemand does (ResponseOnly said) base taken response after = (response ≡ said) × (taken ≡ []) × (after ≡ base)
 IsResponseToDemand does (DeskCall call) base taken response after =
@@ -50,9 +50,10 @@ pub record RequestEffect (B : Type 0) : Type 0 where
   pub next : StreamState
   pub after : B
 
--- The request `request` has the effect `effect`, after `n` earlier requests. The stream ends with
--- its reply if the request is number `most_requests_per_stream` or asks to close the stream, or if
--- the response is a fault; otherwise it continues with the bytes `rest`.
+-- With the parsers `forms` and the calls `does`, the request `request` has the effect `effect`,
+-- after `n` earlier requests. The stream ends with its reply if the request is number
+-- `most_requests_per_stream` or asks to close the stream, or if the response is a fault; otherwise
+-- it continues with the bytes `rest`.
 pub record IsEffectOfRequest {B : Type 0} (forms : RequestParsers) (does : CallRelation B) (n : ℕ) (request : Request) (rest : Text)
     (effect : RequestEffect B) : Type 0 where
   pub response : Response
@@ -71,7 +72,8 @@ IsEffectOfReading forms does n (Unreadable problem) effect =
     (effect.reply ≡ reply_text (FromProblem problem) true) × (effect.next ≡ Finished) × (effect.moments ≡ []) × (effect.after ≡ effect.base)
 IsEffectOfReading forms does n (CompleteRequest request rest) effect = IsEffectOfRequest forms does n request rest effect
 
--- The first request of `input` has the effect `effect`, after `n` earlier requests of the stream.
+-- The request at the front of `input`, or the problem for which it cannot be read, has the effect
+-- `effect`, after `n` earlier requests of the stream.
 pub record IsEffectOfFirstRequest {B : Type 0} (forms : RequestParsers) (does : CallRelation B) (n : ℕ) (input : Text)
     (effect : RequestEffect B) : Type 0 where
   pub found : RequestReading

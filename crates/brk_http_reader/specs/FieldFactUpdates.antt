@@ -5,10 +5,11 @@ use Rattle.brk_http_model.specs.Fields.{body_length_of_values, values_of_field, 
 use Rattle.brk_http_model.specs.declared.problem.RequestProblem.TheVariants.{BadRequest}
 use Rattle.brk_http_reader.specs.declared.fields.FieldFactsSoFar.{FieldFactsSoFar}
 
--- The facts of the head fields that were read so far, `s`, with those of one more field `p`, a name
--- and a value: whether there is a `Transfer-Encoding`, whether `Connection: close` asks to close
--- the stream, whether there is a `Content-Length`, and the body length that it gives, or
--- `BadRequest` if it is repeated or malformed.
+-- The facts `s` of the head fields that were read so far, updated for one more field `p`, a name
+-- and a value: whether there is a `Transfer-Encoding` (`chunked`), whether `Connection: close` asks
+-- to close the stream (`closes`), whether there is a `Content-Length` (`any_length`), and the body
+-- length in bytes that it gives, or the problem with it (`len`), which is `BadRequest` if it is
+-- repeated.
 abbrev pub facts_with_field : FieldFactsSoFar → HeadField → FieldFactsSoFar
 facts_with_field s p = record {
   chunked = s.chunked || equals_ignoring_case p.0 (codes "transfer-encoding");

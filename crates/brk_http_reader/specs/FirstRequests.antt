@@ -19,10 +19,10 @@ IsRequestWithin (Whole r) len = IsWithin len r.method × IsWithin len r.target �
 abbrev pub request_at_positions : List ℕ → RequestPositions → Request
 request_at_positions buffer r = record { method = span_bytes buffer r.method; target = span_bytes buffer r.target; closes = r.closes; body = span_bytes buffer r.body }
 
--- The result of reading is the next request `found` of the specification: no more input, an
--- unreadable request with a problem, or a whole request. After a whole request, the bytes of the
--- buffer after its body and the bytes `left` in the reader are together the rest of the input.
--- False after a whole request if `left` is unknown.
+-- The result of `read_next_request`, the first argument, represents `found`, the result of reading
+-- in the model: no byte left, a request that cannot be read because of the same problem, or a
+-- complete request. After a complete request, the bytes of `buffer` after its body and the bytes
+-- `left` in the reader are together the rest of the input; false if `left` is unknown.
 abbrev pub MatchesNextRequest : NextRequest → List ℕ → Option (List ℕ) → RequestReading → Type 0
 MatchesNextRequest Ended buffer left found = found ≡ NoBytesLeft
 MatchesNextRequest (Broken b) buffer left found = found ≡ Unreadable b

@@ -33,14 +33,15 @@ fn every_byte_is_digit(value: &[u8]) -> bool
     value.iter().all(|b| b.is_ascii_digit())
 }
 
-/// Returns true if `value` is one or more ASCII digits and nothing else.
+/// Returns true if `value` consists of one or more ASCII digits.
 fn has_only_digits(value: &[u8]) -> bool
     ensures { result ≡ spec.has_only_digits value.now }
 {
     value.len() > 0 && every_byte_is_digit(value)
 }
 
-/// Returns the number that at most nine ASCII digits spell in decimal; 0 for an empty text.
+/// Returns the number whose decimal digits are `value`, at most nine ASCII digits; 0 if `value` is
+/// empty.
 fn value_of_digits(value: &[u8]) -> usize
     requires few { length value.now ≤ 9 }
     requires digits { list_all is_ascii_digit value.now ≡ true }
@@ -89,7 +90,8 @@ struct FieldFactsSoFar {
 }
 
 /// Returns the facts `seen` of the fields that were read so far, updated for one more field with
-/// this name and value.
+/// this name and value. After a second `Content-Length` field the length is the problem
+/// `BadRequest`.
 fn facts_with_one_more_field(seen: FieldFactsSoFar, name: &[u8], value: &[u8]) -> FieldFactsSoFar
     ensures value { result ≡ facts_with_field seen (name.now, value.now) }
     ensures small { IfOk seen.len (λ n. n ≤ 65536) → IfOk result.len (λ n. n ≤ 65536) }
@@ -114,10 +116,10 @@ fn facts_with_one_more_field(seen: FieldFactsSoFar, name: &[u8], value: &[u8]) -
 
 /// Returns the body length and the close flag that the fields of a head give. `headers` are the
 /// positions of their names and values in `front`.
-///
-/// The length is at most 65,536 bytes, and 0 without a `Content-Length` field. It is
-/// `NotImplemented` with a `Transfer-Encoding` field, otherwise `BadRequest` if `Content-Length` is
-/// repeated or not digits, and `TooLarge` above the limit.
+/// The length is at most 65,536 bytes, and 0 without a `Content-Length` field. Instead of a length
+/// the result has the problem `NotImplemented` if there is a `Transfer-Encoding` field; otherwise
+/// `BadRequest` if `Content-Length` is repeated or not one or more digits, and `TooLarge` if it has
+/// more than nine digits or exceeds the limit.
 pub fn facts_from_fields(front: &[u8], headers: &[HeaderSpan]) -> FieldFacts
     requires { All (IsHeaderWithin (length front.now)) headers.now }
     ensures len { result.len ≡ spec.body_length_of_fields (map (header_bytes front.now) headers.now) }

@@ -56,8 +56,8 @@ fn line_end_length_after_byte(byte: u8, rest: &[u8]) -> Option<usize>
     }
 }
 
-/// Returns the number of bytes up to and including the first empty line, which ends a head, or
-/// `None` if there is no empty line.
+/// Returns the number of bytes up to and including the first empty line, an LF followed by a line
+/// end, which ends a head, or `None` if there is no empty line.
 pub fn head_length_in_bytes(bytes: &[u8]) -> Option<usize>
     ensures value { result ≡ spec.head_length bytes.now }
     ensures within { IfSome result (λ n. n ≤ length bytes.now) }

@@ -26,9 +26,8 @@ use std::io::{Read, Write};
 /// the counts of the answers.
 ///
 /// The input is comma-separated: `batch,NAME`, then the rows, then `end,N` with the number of rows.
-/// Only the first 67,108,864 bytes of an input count. A row is executed only if a record follows
-/// it. So if the input, or what counts of it, ends without an end record, its last row is not
-/// executed: it is refused with 18.
+/// Only its first 67,108,864 bytes are read. A row is executed only if a record follows it. If
+/// these bytes end without an end record, their last row is not executed: it is refused with 18.
 ///
 /// Row n of batch NAME has the key (NAME, n), under which it is accepted at most once. Each decided
 /// row that is well-formed and has a record after it is one call of the desk; one more call may

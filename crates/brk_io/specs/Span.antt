@@ -4,8 +4,8 @@ use Rattle.std.specs.Io.KnownBytes.{Appends}
 use Rattle.brk_money.specs.Spelling.{Text}
 
 -- A change of an engine's environment: the desk's base (`base`, `after`), the clock (`clock`,
--- `later`) and the writer's content (`old`, `new`), each before and after. A content is none if no
--- contract specifies it.
+-- `later`) and the writer's content (`old`, `new`), each before and after. A content is `None` if
+-- no contract specifies it.
 pub record EnvironmentChange (S C : Type 0) : Type 0 where
   pub base : S
   pub after : S
@@ -15,14 +15,14 @@ pub record EnvironmentChange (S C : Type 0) : Type 0 where
   pub new : Option Text
 
 -- The change `span` changes nothing: the desk's base and the clock are the same before and after,
--- and nothing was written. The last says nothing if the writer's content before is unknown.
+-- and nothing was written. The condition on the writer is vacuous if its content before is unknown.
 pub record IsUnchangedEnvironment {S C : Type 0} (span : EnvironmentChange S C) : Type 0 where
   pub base : span.after ≡ span.base
   pub clock : span.later ≡ span.clock
   pub written : Appends span.old span.new []
 
 -- A change of the clock (`clock`, `later`) and of the writer's content (`old`, `new`), each before
--- and after. A content is none if no contract specifies it.
+-- and after. A content is `None` if no contract specifies it.
 pub record ClockAndWriterChange (C : Type 0) : Type 0 where
   pub clock : C
   pub later : C

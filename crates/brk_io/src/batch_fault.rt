@@ -11,7 +11,7 @@ pub enum FaultKind {
     BadEnd,
     /// The reader failed; an interrupted read is a failure too.
     Read,
-    /// The writer failed, or took no byte.
+    /// The writer failed, or accepted no byte.
     Write,
     /// The desk failed, or memory ran out.
     Desk(Fault),

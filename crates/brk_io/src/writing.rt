@@ -3,11 +3,11 @@ ghost use Rattle.std.specs.Io.KnownBytes.{Appends};
 
 use std::io::Write;
 
-/// The error of `write_all_bytes`: a call of the writer returned an error or took no byte.
+/// The error of `write_all_bytes`: a call of the writer returned an error or accepted no byte.
 #[derive(Clone, Copy, Debug, PartialEq, Eq)]
 pub struct NotWritten;
 
-/// Writes all of `bytes` to `writer`, by as many calls of its `write` as it takes.
+/// Writes all of `bytes` to `writer`, by repeated calls of its `write`.
 ///
 /// Fails at the first call that returns an error or a count of 0; an interrupted write is an error
 /// too. A prefix of the bytes, perhaps all of them, is then written.

@@ -16,16 +16,18 @@ twenty_clock_readings = replicate 20 1709251200000
 abbrev pub text_with_line_ends : List Text → Text
 text_with_line_ends lines = flat_map (λ line. line ++ 10 ∷ []) lines
 
--- The bytes of a batch with the name `name` and these rows: header, rows and end record.
+-- The bytes of a batch with the name `name`: a line for its header, for each of `rows` and for its
+-- end record.
 abbrev pub bytes_of_batch : Text → List Text → Text
 bytes_of_batch name rows = text_with_line_ends ((codes "batch," ++ name) ∷ rows ++ (codes "end," ++ decimal (length rows)) ∷ [])
 
--- The base after the batch `T` of these rows, executed from `base` on at the start of 2024-03-01.
+-- The base after a batch with the name `T` and the rows `rows`, executed from `base` on with
+-- `twenty_clock_readings`.
 abbrev pub base_after_batch : Base → List Text → Base
 base_after_batch base rows = (batch_of_input base twenty_clock_readings (bytes_of_batch (codes "T") rows)).base
 
--- The batch `T` of these rows, executed from `base` on at the start of 2024-03-01, has exactly
--- these output lines.
+-- A batch with the name `T` and the rows `rows`, executed from `base` on with
+-- `twenty_clock_readings`, has exactly the output lines `lines`.
 abbrev pub BatchOutputsLines : Base → List Text → List Text → Type 0
 BatchOutputsLines base rows lines = (batch_of_input base twenty_clock_readings (bytes_of_batch (codes "T") rows)).text ≡ text_with_line_ends lines
 
@@ -33,7 +35,7 @@ BatchOutputsLines base rows lines = (batch_of_input base twenty_clock_readings (
 abbrev pub base_without_stored_replies : Base → Base
 base_without_stored_replies base = record base { kept = [] }
 
--- The view of the query with this name and these arguments on `base`, or the refusal of the query
--- or of its malformed arguments.
+-- The view of the query with the name `name` and the arguments `arguments` on `base`, or the
+-- refusal of the query or of its malformed arguments.
 abbrev pub view_by_name_and_arguments : Base → Text → List Text → Result View Refusal
 view_by_name_and_arguments base name arguments = check_read_value (ask base) (parse_query name arguments)

@@ -31,8 +31,8 @@ pending_limit_sale n = record {
   cash_name = [];
 }
 
--- The base `setting_base` with fifty-one pending limit sells, numbered from 1, and the last stamp
--- of these.
+-- The base `setting_base` with fifty-one pending limit sells, numbered from 1; its last stamp is
+-- the stamp of the last of them.
 unfoldable pub setting_with_fifty_one_pending_trades : Base
 setting_with_fifty_one_pending_trades = record setting_base { trades = map pending_limit_sale (range_with_len 1 51); last = Some 1709251200066 }
 
@@ -58,7 +58,7 @@ margin_purchase n = record {
 }
 
 -- The base `setting_base` with twenty-one completed purchases of one share on margin, numbered from
--- 1, and the last stamp of these.
+-- 1; its last stamp is the completion stamp of the last of them.
 unfoldable pub setting_with_twenty_one_margin_purchases : Base
 setting_with_twenty_one_margin_purchases = record setting_base { trades = map margin_purchase (range_with_len 1 21); last = Some 1709251200057 }
 
@@ -77,13 +77,14 @@ setting_with_misleading_security_name = record setting_base {
       } ∷ [];
 }
 
--- The id in a record of a view, as a list of one, if it is the record of a trade; otherwise the
--- empty list.
+-- The second field of a record of a view, as a list of one, if the first field is the word `trade`;
+-- otherwise, or without a second field, the empty list.
 abbrev pub trade_ids_of_record : List Text → List Text
 trade_ids_of_record (word ∷ id ∷ fields) = if bytes_eq word (codes "trade") then id ∷ [] else []
 trade_ids_of_record _ = []
 
--- The ids of the trades in a view; none if the query is refused.
+-- The second fields of those records of a view whose first field is the word `trade`, in sequence;
+-- the empty list if the query is refused.
 abbrev pub trade_ids_of_view : Result View Refusal → List Text
 trade_ids_of_view (Ok view) = flat_map trade_ids_of_record view
 trade_ids_of_view (Err refusal) = []
@@ -93,7 +94,7 @@ abbrev pub first_field_of_record : List Text → Text
 first_field_of_record [] = []
 first_field_of_record (field ∷ fields) = field
 
--- The first fields of the records of a view; none if the query is refused.
+-- The first fields of the records of a view, in sequence; the empty list if the query is refused.
 abbrev pub first_fields_of_view : Result View Refusal → List Text
 first_fields_of_view (Ok view) = map first_field_of_record view
 first_fields_of_view (Err refusal) = []

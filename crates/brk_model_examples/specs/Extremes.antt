@@ -37,7 +37,8 @@ setting_with_volume_near_limit = record setting_base {
       } ∷ [];
 }
 
--- A completed margin trade of another security, with the commission `commission`, in cents.
+-- A completed margin trade of a security that `setting_base` does not have, with the commission
+-- `commission`, in cents.
 abbrev pub trade_with_commission : ℕ → Trade
 trade_with_commission commission = record {
   id = 1;
@@ -58,7 +59,7 @@ trade_with_commission commission = record {
   cash_name = [];
 }
 
--- The base `setting_base` with one completed trade of the commission `commission`, in cents, which
--- is then the commission total of its broker.
+-- The base `setting_base` with one completed trade, whose commission, and so the commission total
+-- of its broker, is `commission`, in cents.
 abbrev pub setting_with_commission_total : ℕ → Base
 setting_with_commission_total commission = record setting_base { trades = trade_with_commission commission ∷ [] }

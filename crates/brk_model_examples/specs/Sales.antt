@@ -11,7 +11,7 @@ two_purchase_deals =
     ∷ record { trade = 2; side = Buy; qty = 200; price = 1200; stamp = 2; is_lifo = Bool.false } ∷ []
 
 -- A deal of `qty` shares at 13.00 on the side `side`, after the deals of `two_purchase_deals`; it
--- closes the last shares first if `is_lifo`.
+-- closes the last shares first if `is_lifo`, otherwise the first ones.
 abbrev pub deal_against_two_lots : Side → ℕ → Bool → Deal
 deal_against_two_lots side qty is_lifo = record { trade = 9; side = side; qty = qty; price = 1300; stamp = 3; is_lifo = is_lifo }
 

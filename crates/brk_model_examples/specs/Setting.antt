@@ -6,7 +6,7 @@ use Rattle.brk_money.specs.declared.tax_status.TaxStatus.TheVariants.{Withheld}
 use Rattle.brk_model.specs.Base.{Base}
 
 -- The sixteen rows after which most examples begin: a broker, a customer, an account, a security,
--- and the charges, commission bands and taxes of its trades.
+-- five charges, five commission bands, a tax rate and a tax of the customer.
 abbrev pub setting_rows : List Text
 setting_rows =
     codes "broker,1,Bo"

@@ -167,26 +167,26 @@ base_after_first_purchase = setting_with_trades (first_purchase ∷ []) 17092512
 unfoldable pub base_after_two_purchases : Base
 base_after_two_purchases = setting_with_trades (first_purchase ∷ second_purchase ∷ []) 1709251200019
 
--- The base after both purchases and the sale, first in first out.
+-- The base `setting_base` after the trades `first_purchase`, `second_purchase` and
+-- `sale_first_in_first_out`.
 unfoldable pub base_after_fifo_sale : Base
 base_after_fifo_sale = setting_with_trades (first_purchase ∷ second_purchase ∷ sale_first_in_first_out ∷ []) 1709251200021
 
--- The base after both purchases and the sale, last in first out.
+-- The base `setting_base` after the trades `first_purchase`, `second_purchase` and
+-- `sale_last_in_first_out`.
 unfoldable pub base_after_lifo_sale : Base
 base_after_lifo_sale = setting_with_trades (first_purchase ∷ second_purchase ∷ sale_last_in_first_out ∷ []) 1709251200021
 
--- The base after both purchases, the sale, first in first out, and the sale that turns the position
--- short.
+-- The base `base_after_fifo_sale` after the trade `short_sale`.
 unfoldable pub base_after_short_sale : Base
 base_after_short_sale = setting_with_trades (first_purchase ∷ second_purchase ∷ sale_first_in_first_out ∷ short_sale ∷ []) 1709251200023
 
--- The base `base_after_short_sale` after the purchase that closes the short position and opens a
--- long one.
+-- The base `base_after_short_sale` after the trade `short_covering_purchase`.
 unfoldable pub base_after_covering_purchase : Base
 base_after_covering_purchase =
     setting_with_trades (first_purchase ∷ second_purchase ∷ sale_first_in_first_out ∷ short_sale ∷ short_covering_purchase ∷ []) 1709251200025
 
--- The base `base_after_covering_purchase` after the sale of all shares.
+-- The base `base_after_covering_purchase` after the trade `sale_of_all_shares`.
 unfoldable pub base_after_sale_of_all : Base
 base_after_sale_of_all =
     setting_with_trades (first_purchase ∷ second_purchase ∷ sale_first_in_first_out ∷ short_sale ∷ short_covering_purchase ∷ sale_of_all_shares ∷ []) 1709251200027

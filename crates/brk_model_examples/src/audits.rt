@@ -28,8 +28,8 @@ pub fn tables_of_a_base_pass_audit()
     ensures withdrawal { IsAuditResult second_schema (tables_with_movement 1709251200018 (negsuc 9999) (codes "Withdrawal")) None }
 {}
 
-/// Shows for each changed table which condition the audit returns, and that it returns the first
-/// one if two conditions fail.
+/// Shows the condition that an audit returns for each change of the tables after the first
+/// purchase. If two conditions fail, the audit returns the first.
 pub fn audit_returns_first_failed_condition()
     ensures no_quantity { IsAuditResult third_schema tables_with_zero_trade_quantity (Some condition.Form) }
     ensures no_last_trade { IsAuditResult third_schema tables_without_last_trade (Some condition.Form) }
@@ -54,8 +54,9 @@ pub fn audit_returns_first_failed_condition()
     ensures two_changes { IsAuditResult third_schema tables_without_lots_and_summaries (Some condition.Lots) }
 {}
 
-/// Shows that an audit checks of a movement that its name fits its sign, that its stamp is not
-/// after the last stamp and not that of a completion, and that its number follows its stamp.
+/// Shows that tables fail an audit if the name of a movement is unknown or does not fit the sign of
+/// its amount, if its stamp is after the last stamp or equals that of a completion, or if a cash
+/// row with a smaller number has a later stamp.
 pub fn audit_checks_movement_rows()
     ensures other_sign { IsAuditResult third_schema (tables_with_movement 1709251200018 (negsuc 9999) (codes "Deposit")) (Some condition.Form) }
     ensures nothing_moved { IsAuditResult third_schema (tables_with_movement 1709251200018 (pos 0) (codes "Deposit")) (Some condition.Form) }
@@ -65,8 +66,8 @@ pub fn audit_checks_movement_rows()
     ensures before_it { IsAuditResult third_schema (tables_with_movement 1709251200005 (pos 10000) (codes "Deposit")) (Some condition.Cash) }
 {}
 
-/// Shows that an audit applies the limits and the tables of the given schema: larger quantities,
-/// the settlement day and the table of cash rows.
+/// Shows that an audit applies the limits of quantities of the given schema, and that tables fail
+/// if they have a settlement day, or cash rows in a table, that this schema does not have.
 pub fn audit_applies_limits_of_schema()
     ensures quantity { IsAuditResult second_schema tables_with_trade_above_older_limit (Some condition.Form) }
     ensures band { IsAuditResult second_schema tables_with_band_above_older_limit (Some condition.Form) }

@@ -1,4 +1,4 @@
-//! More trades than a view or an update takes.
+//! More trades than a view returns or an update changes.
 #![tactic(auto, unfolding(crate::proofs::OnLiterals::model_on_literals))]
 
 ghost use Rattle.std.specs.Prelude.{◌≡◌, ◌∷◌, ◌++◌, [], Ok, codes, decimal, map, replicate};
@@ -28,8 +28,8 @@ pub fn lookups_return_first_twenty_trades()
         ≡ map (λ n. decimal n) (range_with_len 1 20) }
 {}
 
-/// Shows that `upcash` updates the first twenty of twenty-one completed trades, and answers with
-/// this number.
+/// Shows that `upcash` updates the first twenty of twenty-one completed trades, and replies with
+/// the number 20.
 pub fn update_changes_first_twenty_trades()
     ensures reply { BatchOutputsLines setting_with_twenty_one_margin_purchases (codes "upcash,100,0,253402300799999" ∷ [])
         (codes "1,ok,1709251200058,20"

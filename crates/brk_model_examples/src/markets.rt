@@ -43,8 +43,9 @@ pub fn feed_triggers_pending_trades()
         (codes "feed,ABC,10.01,100,ABC,9.50,200" ∷ []))).history) ≡ 1 ∷ 2 ∷ [] }
 {}
 
-/// Shows that a cancel is refused unless the trade is pending, and a feed unless its securities
-/// exist. Shows also the submitted trades and an estimate after a cancel and a feed.
+/// Shows that a cancel is refused unless its trade is pending, and a feed if a security does not
+/// exist or a tick is incomplete. Shows also the submitted trades and an estimate after a cancel
+/// and a feed.
 pub fn cancel_needs_pending_trade()
     ensures lines { BatchOutputsLines base_with_pending_orders
         (codes "cancel,1"
@@ -75,8 +76,8 @@ pub fn cancel_needs_pending_trade()
         ∷ []) }
 {}
 
-/// Shows that a feed is refused if the volume of a security would exceed its limit after one tick,
-/// or after two ticks together.
+/// Shows that a feed may raise the volume of a security to its limit, and is refused if one tick,
+/// or two ticks together, would raise it above the limit.
 pub fn volume_limit_is_checked()
     ensures at_limit { BatchOutputsLines setting_with_volume_near_limit
         (codes "feed,ABC,10.00,100" ∷ [])

@@ -35,7 +35,8 @@ pub fn movements_respect_balance_limit()
 {}
 
 /// Shows that the cash rows of later movements follow those of trades, in CASH_MOVE and in the
-/// statement. The lookup of a trade has only its own cash row, and `uptext` changes no movement.
+/// statement. The lookup of a trade returns only the cash row of the trade, and `uptext` changes no
+/// cash row of a movement.
 pub fn cash_rows_of_movements()
     ensures numbers { map {B = ℕ} (λ row. row.id) (tables_of_base base_after_sale_and_movements).moves ≡ 1 ∷ 2 ∷ 3 ∷ 4 ∷ 5 ∷ [] }
     ensures amounts { map {B = ℤ} (λ row. row.amount) (tables_of_base base_after_sale_and_movements).moves
@@ -84,7 +85,8 @@ pub fn retried_deposit_is_not_booked_again()
         (codes "deposit,100,100.00" ∷ []))).accounts ≡ pos 1010000 ∷ [] }
 {}
 
-/// Shows that movements with a malformed amount or account are refused.
+/// Shows that a movement is refused with 18 if its amount is malformed, out of range or missing, or
+/// if its account is 0.
 pub fn malformed_movements_are_refused()
     ensures { BatchOutputsLines setting_base
         (codes "deposit,100,1000000000000000.01"

@@ -26,8 +26,8 @@ pub fn order_needs_permission_of_executor()
         ∷ codes "end,1,0,1" ∷ []) }
 {}
 
-/// Shows that an order for a customer of another tier is refused without a charge, and then without
-/// a commission band.
+/// Shows that an order is refused with 10 if there is no charge for its type and the tier of its
+/// customer, and otherwise with 11 if there is no commission band.
 pub fn order_needs_charge_and_commission_band()
     ensures { BatchOutputsLines setting_base
         (codes "customer,11,2,T11,Kay,Kim"

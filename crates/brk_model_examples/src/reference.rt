@@ -9,7 +9,7 @@ ghost use Rattle.brk_model_examples.specs.Extremes.{setting_with_ten_accounts};
 
 /// Shows the answers to a broker, a customer and two accounts. The second account is refused,
 /// because its customer does not exist, and its key is not recorded. The output of a batch without
-/// rows is its end line alone.
+/// rows is only its end line.
 pub fn refused_reference_row_records_no_key()
     ensures rows { BatchOutputsLines empty_base
         (codes "broker,1,Bo"
@@ -55,8 +55,8 @@ pub fn setting_rows_result_in_setting()
     ensures base { base_without_stored_replies (base_after_batch empty_base setting_rows) ≡ setting_base }
 {}
 
-/// Shows eleven reference rows: ten are malformed or inconsistent and are refused, and one tax rate
-/// is accepted.
+/// Shows that ten reference rows that are malformed or fail a check against the base are refused,
+/// and that one tax rate is accepted.
 pub fn invalid_reference_rows_are_refused()
     ensures { BatchOutputsLines setting_base
         (codes "band,1,TMB,NYSE,999999,999999,50"
@@ -84,8 +84,8 @@ pub fn invalid_reference_rows_are_refused()
         ∷ codes "end,1,0,10" ∷ []) }
 {}
 
-/// Shows that an eleventh account of a customer is refused, and that an account whose broker does
-/// not exist is refused for this reason first.
+/// Shows that an eleventh account of a customer is refused with 14, or with 3 if its broker does
+/// not exist.
 pub fn eleventh_account_is_refused()
     ensures { BatchOutputsLines setting_with_ten_accounts
         (codes "account,110,10,1,Main,1,0.00"

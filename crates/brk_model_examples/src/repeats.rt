@@ -167,8 +167,9 @@ pub fn last_row_of_cut_input_is_refused()
     ensures header_alone { (batch_of_input setting_base twenty_clock_readings (codes "batch,C\n")).ending ≡ NoEnd }
 {}
 
-/// Shows malformed headers and wrong end records. The row before a wrong end record is executed,
-/// and records after a correct end record are ignored.
+/// Shows that a batch with a malformed header ends with `BadHeader`, and one with a wrong end
+/// record with `BadEnd`. The row before a wrong end record is executed, and records after a correct
+/// end record are ignored.
 pub fn headers_and_end_records_are_checked()
     ensures empty_input { (batch_of_input setting_base twenty_clock_readings []).ending ≡ BadHeader }
     ensures no_name { (batch_of_input setting_base twenty_clock_readings (codes "batch,\nend,0\n")).ending ≡ BadHeader }

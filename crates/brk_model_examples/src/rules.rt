@@ -50,7 +50,8 @@ pub fn only_cash_trades_change_balance()
         ≡ pos 1000000 }
 {}
 
-/// Shows that a completion settles after two days, and from the settlement day on after one.
+/// Shows that a completion settles after two days, or after one day if it is on the settlement day
+/// or later.
 pub fn settlement_takes_one_or_two_days()
     ensures no_settlement_day { due_day_of_completion_stamp None 1709251200000 ≡ 19785 }
     ensures before_settlement_day { due_day_of_completion_stamp (Some 19784) 1709337599999 ≡ 19785 }

@@ -9,7 +9,7 @@ ghost use Rattle.brk_model_examples.specs.Moving.{base_after_purchase_with_settl
 ghost use Rattle.brk_model_examples.specs.Setting.{setting_base};
 
 /// Shows that the settlement day must be after the day of its command, and can be set only once. A
-/// trade that is completed before it settles after two days.
+/// trade that is completed before the settlement day settles after two days.
 pub fn settlement_day_is_set_once()
     ensures lines { BatchOutputsLines setting_base
         (codes "oneday,2024-03-01"
@@ -45,7 +45,8 @@ pub fn settlement_after_one_day()
         ∷ codes "result,2,12.00" ∷ []))).base).settlements ≡ 19785 ∷ 19786 ∷ [] }
 {}
 
-/// Shows that 9999-12-30 is the last day for a completion that settles after one day.
+/// Shows that 9999-12-30 is the last day for a completion that settles after one day; a completion
+/// one millisecond later is refused with 21.
 pub fn last_day_for_one_day_settlement()
     ensures accepted { (batch_of_input base_after_purchase_with_settlement_day (253402214399998 ∷ 253402214399999 ∷ []) (bytes_of_batch (codes "Y")
         (codes "order,100,TMB,ABC,100,,cash,fifo,Ann,Lee,T10"
@@ -80,8 +81,8 @@ pub fn malformed_days_are_refused()
         ∷ codes "end,1,0,5" ∷ []) }
 {}
 
-/// Shows that an order of 1,000,000 shares is accepted once a commission band covers it, and that
-/// 10,000,000 is malformed.
+/// Shows that an order of 1,000,000 shares is refused with 11 until a commission band has this
+/// quantity, and that an order of 10,000,000 shares is refused with 8.
 pub fn large_quantities_need_a_commission_band()
     ensures { BatchOutputsLines setting_base
         (codes "order,100,TMB,ABC,1000000,,cash,fifo,Ann,Lee,T10"

@@ -10,8 +10,9 @@ ghost use Rattle.brk_model.specs.Statement.{amount_line, statement};
 ghost use Rattle.brk_model_examples.specs.Batches.{text_with_line_ends};
 ghost use Rattle.brk_model_examples.specs.Trading.{base_after_fifo_sale};
 
-/// Shows the statement after a sale, over its month and over the days after it, and its two
-/// refusals.
+/// Shows the statement of an account over the month of its trades, and over the days after them. A
+/// statement is refused with `BadText` if its last day is before its first, and otherwise with
+/// `NoAccount` if the account does not exist.
 pub fn statement_after_a_sale()
     ensures month { statement (tables_of_base base_after_fifo_sale) 100 19783 19813 ≡ Ok (text_with_line_ends (codes "Statement of account 100"
         ∷ codes "Main"
@@ -44,8 +45,8 @@ pub fn wide_amounts_are_not_cut()
     ensures wider { amount_line (codes "Holdings") (pos 1000000000000000000000) ≡ codes "Holdings   10000000000000000000.00" }
 {}
 
-/// Shows the texts of some days and their numbers since 1970-01-01, and that a date that the
-/// calendar does not have, or a text that is not canonical, is no day.
+/// Shows the texts of some days with their numbers, in days since 1970-01-01. A date that the
+/// calendar does not have, and a text that is not canonical, parse as no day.
 pub fn day_texts_match_day_numbers()
     ensures march { day_of_text (codes "2024-03-01") ≡ Some 19783 }
     ensures leap { day_of_text (codes "2024-02-29") ≡ Some 19782 }

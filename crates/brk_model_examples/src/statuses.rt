@@ -10,7 +10,8 @@ ghost use Rattle.brk_model_examples.specs.Trading.{base_after_first_purchase, ba
 ghost use Rattle.brk_model_examples.specs.Waiting.{base_with_pending_orders};
 ghost use Rattle.brk_model_examples.specs.Extremes.{base_at_greatest_stamp, setting_with_commission_total};
 
-/// Shows that a result is refused if its trade is completed, pending or missing.
+/// Shows that a result is refused with 13 if its trade is completed or pending, and with 5 if its
+/// trade does not exist.
 pub fn result_needs_submitted_trade()
     ensures completed { BatchOutputsLines base_after_first_purchase
         (codes "result,1,11.00"
@@ -24,7 +25,7 @@ pub fn result_needs_submitted_trade()
         ∷ codes "end,0,0,1" ∷ []) }
 {}
 
-/// Shows that a result is refused if it takes the balance above its limit: the trade remains
+/// Shows that a result is refused if it would raise the balance above its limit: the trade remains
 /// submitted, and no lot is opened.
 pub fn balance_limit_is_checked()
     ensures lines { BatchOutputsLines setting_base
@@ -47,8 +48,8 @@ pub fn balance_limit_is_checked()
         ∷ []) }
 {}
 
-/// Shows that a result may take the commission total of a broker to its limit, and is refused if it
-/// takes it above.
+/// Shows that a result may raise the commission total of a broker to its limit, and is refused if
+/// it would raise the total above the limit.
 pub fn broker_commission_limit_is_checked()
     ensures at_limit { BatchOutputsLines (setting_with_commission_total 99999999999998990)
         (codes "order,100,TMB,ABC,100,,cash,fifo,Ann,Lee,T10"
@@ -72,7 +73,8 @@ pub fn stamps_continue_if_clock_goes_back()
         ∷ codes "end,1,0,0" ∷ []) }
 {}
 
-/// Shows that after the greatest stamp a command that passes all other checks is refused with 21.
+/// Shows that, if the last stamp is the greatest stamp, a command that passes all other checks is
+/// refused with 21.
 pub fn commands_at_greatest_stamp_are_refused()
     ensures { BatchOutputsLines base_at_greatest_stamp
         (codes "broker,7,Cy"

@@ -5,8 +5,9 @@ ghost use Rattle.std.specs.Prelude.{◌≡◌, ◌∷◌, [], Ok, codes};
 ghost use Rattle.brk_model_examples.specs.Batches.{base_after_batch, view_by_name_and_arguments};
 ghost use Rattle.brk_model_examples.specs.Waiting.{base_with_pending_orders};
 
-/// Shows the views of two trades with one stamp: sorted by id, descending where the most recent
-/// trade is first, and ascending where the oldest is.
+/// Shows that views sort two trades with one stamp by id: descending in `recent` and `status`,
+/// which have the most recent trade first, and ascending in `accounttrades`, `trades` and
+/// `symboltrades`, which have the oldest trade first.
 pub fn equal_stamps_are_sorted_by_id()
     ensures recent { view_by_name_and_arguments (base_after_batch base_with_pending_orders (codes "feed,ABC,10.01,100,ABC,9.50,200" ∷ [])) (codes "recent")
         (codes "100" ∷ [])

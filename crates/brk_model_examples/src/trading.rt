@@ -31,7 +31,7 @@ pub fn market_purchase_and_result()
     } }
 {}
 
-/// Shows that a second purchase opens a lot of its own.
+/// Shows that a second purchase opens a second lot, and does not change the first.
 pub fn second_purchase_opens_second_lot()
     ensures lines { BatchOutputsLines base_after_first_purchase
         (codes "order,100,TMB,ABC,200,,cash,fifo,Ann,Lee,T10"

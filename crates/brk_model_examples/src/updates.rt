@@ -9,9 +9,9 @@ ghost use Rattle.brk_model_examples.specs.Crowds.{setting_with_misleading_securi
 ghost use Rattle.brk_model_examples.specs.Setting.{setting_base};
 ghost use Rattle.brk_model_examples.specs.Trading.{base_after_fifo_sale};
 
-/// Shows that `upname`, `upcash` and `uptext` answer with the number of trades that they select,
-/// that a repeated id is refused with 18 and an unknown id with 5, and the texts of the trades
-/// after the updates.
+/// Shows that `upname`, `upcash` and `uptext` reply with the number of trades that they select, and
+/// that `upname` is refused with 18 for a repeated id and with 5 for an unknown id. Shows also the
+/// updated texts.
 pub fn text_updates_after_sale()
     ensures lines { BatchOutputsLines base_after_fifo_sale
         (codes "upname,1"
@@ -50,8 +50,8 @@ pub fn text_updates_after_sale()
         ∷ codes "upcash,100,5,4" ∷ []))).settlements ≡ codes "Cash" ∷ codes "Cash" ∷ codes "Cash" ∷ [] }
 {}
 
-/// Shows that `upname` replaces spaces by ` X ` in an executor's name, and the other way round if
-/// it contains ` X `.
+/// Shows that `upname` replaces each ` X ` in an executor's name, from the left without overlap, by
+/// a space if the name contains one, and otherwise each space by ` X `.
 pub fn update_toggles_executor_name()
     ensures inserted { map (λ t. t.executor) (base_after_batch base_after_fifo_sale
         (codes "upname,1" ∷ [])).trades ≡ codes "Ann X Lee" ∷ codes "Ann Lee" ∷ codes "Ann Lee" ∷ [] }
@@ -65,8 +65,8 @@ pub fn update_toggles_executor_name()
     ensures removed_at_start { updated_executor_name (codes "X X Lee") ≡ codes "X Lee" }
 {}
 
-/// Shows a security whose own name contains ` shares of `: `uptext` searches the whole text, so
-/// that every update writes ` Shares of `.
+/// Shows that `uptext` searches the whole text of a cash row, also the name of the security: if
+/// that name contains ` shares of `, every update writes ` Shares of `.
 pub fn cash_name_update_searches_whole_text()
     ensures lines { BatchOutputsLines setting_with_misleading_security_name
         (codes "order,100,TMB,ABC,100,,cash,fifo,Ann,Lee,T10"

@@ -6,7 +6,8 @@ ghost use Rattle.brk_money.specs.declared.refusal.Refusal.TheVariants.{BadText, 
 ghost use Rattle.brk_model_examples.specs.Batches.{view_by_name_and_arguments};
 ghost use Rattle.brk_model_examples.specs.Trading.{base_after_first_purchase, base_after_two_purchases, base_after_fifo_sale};
 
-/// Shows the position of a customer, by id and by tax id, and the refusal of an unknown id.
+/// Shows the views `customer` and `taxid` of a customer with one account: the id, the balance and
+/// the market value of the account. An unknown customer is refused with `NoCustomer`.
 pub fn position_view_of_customer()
     ensures by_id { view_by_name_and_arguments base_after_fifo_sale (codes "customer") (codes "10" ∷ [])
         ≡ Ok ((codes "100" ∷ codes "8403.40" ∷ codes "1500.00" ∷ [])
@@ -41,8 +42,9 @@ pub fn status_view_of_account()
         ∷ []) }
 {}
 
-/// Shows the lookup of a trade by its id, by its account and by its symbol, and the refusal of an
-/// unknown id and of a repeated id.
+/// Shows that the views `trades`, `accounttrades` and `symboltrades` return one trade with its
+/// settlement, its cash row and its status changes. An unknown id is refused with `NoTrade`, and a
+/// repeated id with `BadText`.
 pub fn lookup_views_of_trade()
     ensures by_id { view_by_name_and_arguments base_after_fifo_sale (codes "trades") (codes "3" ∷ [])
         ≡ Ok ((codes "trade" ∷ codes "3" ∷ codes "1709251200021" ∷ codes "CMPT" ∷ codes "TMS" ∷ codes "ABC" ∷ codes "150" ∷ codes "10.00" ∷ codes "Ann Lee"
@@ -76,8 +78,8 @@ pub fn lookup_views_of_trade()
         ≡ Err BadText }
 {}
 
-/// Shows the changes of all lots that the oldest trade from a stamp on touched; the view is empty
-/// if there is no such trade.
+/// Shows the view `lots`: the id of the oldest trade from a stamp on, and all changes of the lots
+/// that the trade touched. The view is empty if there is no such trade.
 pub fn lots_view_of_oldest_trade()
     ensures last { view_by_name_and_arguments base_after_fifo_sale (codes "lots") (codes "100" ∷ codes "1709251200021" ∷ [])
         ≡ Ok ((codes "3" ∷ [])
@@ -95,8 +97,8 @@ pub fn lots_view_of_oldest_trade()
         ≡ Ok ([]) }
 {}
 
-/// Shows that an estimate returns the figures of an order, and is refused for the executor of whom
-/// the order would be refused.
+/// Shows the figures of the estimate of a sale, and that an estimate is refused with `NotPermitted`
+/// if the executor has another tax id than the customer and no permission.
 pub fn estimate_returns_order_figures()
     ensures numbers { view_by_name_and_arguments base_after_two_purchases (codes "estimate")
         (codes "100" ∷ codes "TMS" ∷ codes "ABC" ∷ codes "150" ∷ [] ∷ codes "cash" ∷ codes "fifo" ∷ codes "Ann" ∷ codes "Lee" ∷ codes "T10" ∷ [])

@@ -17,7 +17,7 @@ use Rattle.brk_model.specs.Keys.{kept_key, broker_key, customer_key, account_key
 use Rattle.brk_model.specs.Keys.{tax_rate_key, customer_tax_key, trade_key, history_key, request_key, holding_key, summary_key, holding_history_key}
 use Rattle.brk_model.specs.Keys.{settlement_key, cash_key, move_key}
 
--- The tables satisfy every part of the audit's condition `Form`, by the limits of `schema`.
+-- The tables `t` satisfy each part of the audit condition `Form` in the schema `schema`.
 pub record SatisfiesFormParts (schema : Schema) (t : Tables) : Type 0 where
   pub clock : is_last_stamp_in_calendar t.last ≡ true
   pub keys : tables_are_sorted_by_unique_key t ≡ true
@@ -50,7 +50,8 @@ pub record SatisfiesFormParts (schema : Schema) (t : Tables) : Type 0 where
   pub rule : is_settlement_day_in_calendar t.rule ≡ true
   pub fits : lacks_rows_of_later_schemas schema t ≡ true
 
--- Every table that has a key is sorted by it, strictly ascending. DESK and SETTLE_RULE have none.
+-- Each table of `t` that has a key is sorted by its key, strictly ascending. DESK and SETTLE_RULE
+-- have no key.
 pub record HasSortedTables (t : Tables) : Type 0 where
   pub kept : is_sorted_by_unique_key kept_key t.kept ≡ true
   pub brokers : is_sorted_by_unique_key broker_key t.brokers ≡ true

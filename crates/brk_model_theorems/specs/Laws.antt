@@ -47,16 +47,16 @@ abbrev pub StampsAscendFrom : Option ℕ → List ℕ → Type 0
 StampsAscendFrom last [] = ⊤
 StampsAscendFrom last (stamp ∷ stamps) = IfSome last (λ l. l < stamp) × StampsAscendFrom (Some stamp) stamps
 
--- The base after the call at the clock reading `now`: that of the keyed step if the answer is
--- `Done`, otherwise `base`.
+-- The base after the call at the clock reading `now`: that of the keyed step if the call is a
+-- command and the answer is `Done`, otherwise `base`.
 abbrev pub base_after_answer : Base → ℕ → Call → Answer → Base
 base_after_answer base now (Do command key) (Done reply) = (keyed_step base now command key).1
 base_after_answer base now (Do command key) (Again line) = base
 base_after_answer base now (Do command key) (Refused refusal) = base
 base_after_answer base now (Ask query) answer = base
 
--- The base after the call at the clock reading `now`: that of the keyed step if the outcome accepts
--- a command, otherwise `base`.
+-- The base after the call at the clock reading `now`: that of the keyed step if the call is a
+-- command that the outcome accepts, otherwise `base`.
 abbrev pub base_after_outcome : Base → ℕ → Call → Outcome → Base
 base_after_outcome base now call (Did answer) = base_after_answer base now call answer
 base_after_outcome base now call (Saw view) = base
@@ -71,7 +71,7 @@ base_after_accepted_commands base (call ∷ calls) [] = base
 base_after_accepted_commands base (call ∷ calls) (outcome ∷ outcomes) =
     base_after_accepted_commands (base_after_outcome base call.0 call.1 outcome) calls outcomes
 
--- The call of a row of a batch, with its clock reading and its key.
+-- The clock reading of the row call `call`, and the call of its command under its key.
 abbrev pub call_of_batch_row : RowCall Command → ℕ × Call
 call_of_batch_row call = (call.now, Do call.command (Some call.key))
 
@@ -95,8 +95,8 @@ abbrev pub IsReachableFromEmptyBase : Base → Type 0
 IsReachableFromEmptyBase base = SomeRunLeadsTo empty_base base
 
 -- The batch `batch` is the result of `input`, executed from `base` on with the clock readings
--- `moments` and the format check `form`. It is complete, its rows have the answers `answers`, and
--- none of them is a refusal.
+-- `moments` and the format check `form`. The batch is complete, its rows have the answers
+-- `answers`, and no answer is a refusal.
 pub record IsBatchWithoutRefusals (form : Fields → ReadResult Command) (base : Base) (moments : List ℕ) (input : Text) (answers : List Answer)
     (batch : BatchResult Base) : Type 0 where
   pub answered : IsResultOfTextWithHeader form step_of_row base moments (Some (input_text input)) batch
@@ -104,8 +104,8 @@ pub record IsBatchWithoutRefusals (form : Fields → ReadResult Command) (base :
   pub these : answered.answers ≡ answers
   pub none_refused : refused_answer_count answers ≡ 0
 
--- The answer to a retry of a row with this answer: the stored line if the row was accepted,
--- otherwise the same answer.
+-- The answer to a retry of a row that had the given answer: `Again` with the line of the reply if
+-- the answer was `Done`, otherwise the same answer.
 abbrev pub answer_to_retry : Answer → Answer
 answer_to_retry (Done reply) = Again (line_text reply)
 answer_to_retry (Again line) = Again line
@@ -113,7 +113,7 @@ answer_to_retry (Refused refusal) = Refused refusal
 
 -- ---- rows of which some have their keys in a base
 
--- The calls whose keys are not stored in the base.
+-- The calls whose keys are not stored in the base, in sequence.
 abbrev pub calls_with_new_keys : Base → List (RowCall Command) → List (RowCall Command)
 calls_with_new_keys base calls = filter (λ call. is_none (stored_row_with_key base call.key)) calls
 
@@ -124,8 +124,8 @@ answers_for_new_keys base (call ∷ calls) (answer ∷ answers) =
     if is_none (stored_row_with_key base call.key) then answer ∷ answers_for_new_keys base calls answers else answers_for_new_keys base calls answers
 answers_for_new_keys base calls answers = []
 
--- If `k` is stored under the key of the call, the answer is the answer to a repeated key: the
--- stored line if the row texts are equal, otherwise a refusal. Vacuous if nothing is stored.
+-- The answer to the call is that to a repeated row: the line of the stored row `k` if the row texts
+-- are equal, otherwise the refusal `KeyReused`. Vacuous if there is no stored row.
 abbrev pub AnswerMatchesStoredReply : Base → Option Kept → RowCall Command → Answer → Type 0
 AnswerMatchesStoredReply base None call answer = ⊤
 AnswerMatchesStoredReply base (Some k) call answer = answer ≡ (answer_to_repeated_row base call.command k).0
@@ -139,14 +139,14 @@ AnswersMatchStoredReplies base calls answers = ⊤
 
 -- ---- rows that were accepted
 
--- The calls that were accepted: those whose answer is `Done`.
+-- The calls that were accepted, in sequence: those whose answer is `Done`.
 abbrev pub accepted_calls : List (RowCall Command) → List Answer → List (RowCall Command)
 accepted_calls (call ∷ calls) (Done reply ∷ answers) = call ∷ accepted_calls calls answers
 accepted_calls (call ∷ calls) (Again line ∷ answers) = accepted_calls calls answers
 accepted_calls (call ∷ calls) (Refused refusal ∷ answers) = accepted_calls calls answers
 accepted_calls calls answers = []
 
--- The answers that are `Done`.
+-- The answers that are `Done`, in sequence.
 abbrev pub accepted_answers : List Answer → List Answer
 accepted_answers [] = []
 accepted_answers (Done reply ∷ answers) = Done reply ∷ accepted_answers answers
@@ -169,8 +169,9 @@ AcceptedCallsAreStored base calls answers = ⊤
 
 -- ---- rows of a batch that was interrupted
 
--- The row after the rows `front` of the batch `name` is well-formed. Executed from `mid` at the
--- clock reading `moment` under its key, it has the answer `answer` and leads to the base `stood`.
+-- The first row of `more`, which follows the rows `front` in the batch `name`, is well-formed.
+-- Executed from `mid` at the clock reading `moment` under its key, it has the answer `answer` and
+-- leads to the base `stood`.
 pub record NextRowLeadsTo (form : Fields → ReadResult Command) (name : Text) (mid : Base) (front more : List Fields) (moment : ℕ) (answer : Answer)
     (stood : Base) : Type 0 where
   pub row : Fields
@@ -182,15 +183,16 @@ pub record NextRowLeadsTo (form : Fields → ReadResult Command) (name : Text) (
   pub booked : step_of_row mid moment command (record { batch = name; row = length front + 1 }) ≡ (answer, stood)
 
 -- The base `stood` is `mid`, the base after the rows `front` of the batch `name`, or the base after
--- the next row, the first of `more`, was executed too.
+-- the next row, the first of `more`, was executed from `mid` too.
 abbrev pub IsBaseAfterInterruption : (Fields → ReadResult Command) → Text → Base → List Fields → List Fields → Base → Type 0
 IsBaseAfterInterruption form name mid front more stood =
     (stood ≡ mid) ⊎ ((moment : ℕ) × (answer : Answer) × NextRowLeadsTo form name mid front more moment answer stood)
 
--- After a retry, the rows of the batch `name` are decided as by one uninterrupted run from `base`
--- to `last`. The first rows have `answers`, at the clock readings `earlier`, and their retry has
--- the answers that `answer_to_retry` returns. The other rows have the answers in `told`, at the
--- clock readings `later`.
+-- The rows `rows` of the batch `name` are decided as by one uninterrupted run from `base` to
+-- `last`. The rows of a first attempt have its answers `answers` at its clock readings `earlier`;
+-- the retry, with the answers `told` and the clock readings `later`, answers them as
+-- `answer_to_retry` returns. The other rows have the remaining answers and clock readings of the
+-- retry.
 pub record IsCompletedByRetry (form : Fields → ReadResult Command) (name : Text) (base : Base) (earlier later : List ℕ) (rows : List Fields)
     (answers told : List Answer) (last : Base) : Type 0 where
   pub again : take (length answers) told ≡ map answer_to_retry answers

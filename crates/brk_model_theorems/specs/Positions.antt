@@ -14,6 +14,6 @@ AllSharesHaveSide side shares = AllByRecursion (λ share. share.side ≡ side) s
 abbrev pub AllSharesHaveSameSide : List Share → Type 0
 AllSharesHaveSameSide shares = (side : Side) × AllSharesHaveSide side shares
 
--- True if the row of HOLDING belongs to the account and the symbol.
+-- True if the HOLDING row `row` has the account `account` and the symbol `symbol`.
 abbrev pub is_row_of_position : ℕ → Text → HoldingRow → Bool
 is_row_of_position account symbol row = (row.account == account) && bytes_eq row.symbol symbol

@@ -27,7 +27,7 @@ CallsHaveAnswers step base (call ∷ calls) (answer ∷ answers) after =
 CallsHaveAnswers step base [] (answer ∷ answers) after = ⊥
 CallsHaveAnswers step base (call ∷ calls) [] after = ⊥
 
--- The list `rest` with the row number `n` and the command in front; `rest` alone if the row was
+-- The list `rest` with the row number `n` and the command in front; `rest` unchanged if the row was
 -- refused.
 abbrev pub with_well_formed_row : {C : Type 0} → ReadResult C → ℕ → List (ℕ × C) → List (ℕ × C)
 with_well_formed_row (Ok command) n rest = (n, command) ∷ rest
@@ -38,29 +38,31 @@ abbrev pub well_formed_rows_from : {C : Type 0} → (Fields → ReadResult C) �
 well_formed_rows_from form n [] = []
 well_formed_rows_from form n (row ∷ rows) = with_well_formed_row (form row) n (well_formed_rows_from form (n + 1) rows)
 
--- The calls of the well-formed rows of a batch, one clock reading each; surplus readings or rows
--- are dropped.
+-- The calls of the well-formed rows of the batch `batch`, which are given as row numbers with
+-- commands; each call has the next clock reading. Surplus clock readings or rows are dropped.
 abbrev pub calls_of_rows : {C : Type 0} → Text → List ℕ → List (ℕ × C) → List (RowCall C)
 calls_of_rows batch (moment ∷ moments) (row ∷ rows) =
     record { key = record { batch = batch; row = row.0 }; now = moment; command = row.1 } ∷ calls_of_rows batch moments rows
 calls_of_rows batch [] rows = []
 calls_of_rows batch (moment ∷ moments) [] = []
 
--- The answers to a row and those after it: its refusal if the row is malformed, otherwise the next
--- of `answers` if there is one, followed by what `more` returns for the remaining answers.
+-- The answers to a row and to the rows after it: its refusal if the row is malformed, otherwise the
+-- next of `answers` if there is one, followed by the answers that `more` returns for the remaining
+-- ones.
 abbrev pub answers_to_row_and_rest : {C : Type 0} → ReadResult C → (List Answer → List Answer) → List Answer → List Answer
 answers_to_row_and_rest (Err refusal) more answers = Refused refusal ∷ more answers
 answers_to_row_and_rest (Ok command) more (answer ∷ answers) = answer ∷ more answers
 answers_to_row_and_rest (Ok command) more [] = more []
 
--- The answers to the rows in sequence: the refusal of a malformed row, otherwise the next of
--- `answers`.
+-- The answers to the rows, in sequence: the refusal of each malformed row, and for each other row
+-- the next of `answers`, if there is one.
 abbrev pub answers_interleaved_with_refusals : {C : Type 0} → (Fields → ReadResult C) → List Fields → List Answer → List Answer
 answers_interleaved_with_refusals form [] answers = []
 answers_interleaved_with_refusals form (row ∷ rows) answers = answers_to_row_and_rest (form row) (answers_interleaved_with_refusals form rows) answers
 
--- The rows of the batch have exactly these answers and lead from `base` to `after`. Malformed rows
--- are refused; the others are executed in sequence by `step`, with one clock reading each.
+-- The rows of the batch `batch` have exactly the answers `answers` and lead from `base` to `after`.
+-- Malformed rows are refused; the others are executed in sequence by `step`, with one of the clock
+-- readings `moments` each.
 pub record RowsAreAnsweredByCalls {B C : Type 0} (form : Fields → ReadResult C) (step : RowStep B C) (batch : Text) (base : B) (moments : List ℕ)
     (rows : List Fields) (answers : List Answer) (after : B) : Type 0 where
   pub replies : List Answer

@@ -17,9 +17,9 @@ ghost use Rattle.brk_model_theorems.specs.Laws.{AnswersMatchStoredReplies, Accep
 ghost use Rattle.brk_model_theorems.specs.Laws.{IsBaseAfterInterruption, IsBatchWithoutRefusals, answer_to_retry, answers_for_new_keys, call_of_batch_row};
 ghost use Rattle.brk_model_theorems.specs.Laws.{calls_with_new_keys, accepted_answers, accepted_calls};
 
-/// Proves that the rows of a batch have these answers, one each, if and only if their calls have: a
-/// malformed row is answered with its refusal, and the well-formed rows are called in order, each
-/// with its key and one clock reading.
+/// Proves that the rows of a batch have given answers, one each, if and only if their calls have:
+/// each malformed row is answered with its refusal, and the well-formed rows are called in
+/// sequence, each with its key and one clock reading.
 pub fn rows_are_answered_by_their_calls()
     ensures called { (form : Fields → ReadResult Command) (name : List ℕ) (base after : Base) (moments : List ℕ) (rows : List Fields) (answers : List Answer)
         → RowsAreAnswered form step_of_row name base moments rows answers after → length answers ≡ length rows
@@ -29,16 +29,16 @@ pub fn rows_are_answered_by_their_calls()
         → RowsAreAnswered form step_of_row name base moments rows answers after × (length answers ≡ length rows) }
 {}
 
-/// Proves that the function `batch_of_input` computes the specified result of the input. It uses
-/// the first `n` clock readings, for some `n`. There must be at least as many clock readings as the
-/// input has records.
+/// Proves that `batch_of_input` computes the specified result of an input with the first `n` clock
+/// readings, for some `n`, if there are at least as many clock readings as the input has records.
 pub fn batch_computes_the_specified_result()
     ensures { (base : Base) (moments : List ℕ) (input : List ℕ) → length (records default_config (input_text input)) ≤ length moments
         → (n : ℕ) × IsResultOfBatch parse_row step_of_row base (take n moments) input (batch_of_input base moments input) }
 {}
 
-/// Proves that the rows of a batch that are executed in order form a run of calls, each with its
-/// key, with the same answers.
+/// Proves that, if calls of batch rows, executed in sequence, have given answers and lead from one
+/// base to another, these calls, each with its key, are a run with the same answers between the
+/// same bases.
 pub fn batch_rows_form_a_run()
     ensures { (base after : Base) (calls : List (RowCall Command)) (answers : List Answer) → CallsHaveAnswers step_of_row base calls answers after
         → Run base (map call_of_batch_row calls) (map Did answers) after }
@@ -67,9 +67,9 @@ pub fn retried_rows_change_nothing()
         → (told ≡ map answer_to_retry (take (length rows) answers)) × (last ≡ later) }
 {}
 
-/// Proves that rows whose keys a base stores change nothing. The other rows alone, in order, have
-/// the same answers and lead to the same base. A stored row is answered with its line, and another
-/// row under its key is refused.
+/// Proves that rows whose keys a base stores change nothing: executed without them, in sequence,
+/// the other rows have the same answers and lead to the same base. A row that equals the stored row
+/// of its key is answered with the stored line, and any other row under this key is refused.
 pub fn rows_with_stored_keys_change_nothing()
     ensures { (base after : Base) (calls : List (RowCall Command)) (answers : List Answer) → CallsHaveAnswers step_of_row base calls answers after
         → CallsHaveAnswers step_of_row base (calls_with_new_keys base calls) (answers_for_new_keys base calls answers) after
@@ -104,9 +104,9 @@ pub fn partial_batch_is_completed_by_retry()
 {}
 
 /// Proves that an interrupted batch, whose first rows were decided without a refusal, equals one
-/// uninterrupted run after a retry has decided all rows. The row after them may have been executed
-/// without being acknowledged. The run has that row at the clock reading of its execution, or at
-/// the clock reading of the retry.
+/// uninterrupted run after a retry has decided all rows. The row after the first rows may have been
+/// executed without being acknowledged; the run has this row at the clock reading of that
+/// execution, or at the clock reading of the retry.
 pub fn interrupted_batch_is_completed_by_retry()
     ensures { (form : Fields → ReadResult Command) (name : List ℕ) (base mid stood last : Base) (moments others : List ℕ) (front more : List Fields)
         (answers told : List Answer) → refused_answer_count answers ≡ 0 → BatchRowsAreDecided form step_of_row name base moments front answers mid

@@ -6,15 +6,15 @@ ghost use Rattle.brk_model.specs.Schemas.{Schema};
 ghost use Rattle.brk_model.specs.Tables.{Tables};
 ghost use Rattle.brk_model_theorems.specs.FormParts.{SatisfiesFormParts, HasSortedTables};
 
-/// Proves that tables satisfy the condition `Form`, by the limits of a schema, if and only if they
-/// satisfy every part of it.
+/// Proves that tables satisfy the audit condition `Form` in a schema if and only if they satisfy
+/// each of its parts (`SatisfiesFormParts`).
 pub fn form_condition_holds_iff_all_parts_hold()
     ensures parts { (schema : Schema) (t : Tables) → satisfies_form_condition schema t ≡ true → SatisfiesFormParts schema t }
     ensures whole { (schema : Schema) (t : Tables) → SatisfiesFormParts schema t → satisfies_form_condition schema t ≡ true }
 {}
 
-/// Proves that tables satisfy `tables_are_sorted_by_unique_key` if and only if every table is
-/// sorted by its key, strictly ascending.
+/// Proves that tables satisfy `tables_are_sorted_by_unique_key` if and only if every table that has
+/// a key is sorted by it, strictly ascending.
 pub fn tables_are_sorted_iff_each_table_is_sorted()
     ensures parts { (t : Tables) → tables_are_sorted_by_unique_key t ≡ true → HasSortedTables t }
     ensures whole { (t : Tables) → HasSortedTables t → tables_are_sorted_by_unique_key t ≡ true }

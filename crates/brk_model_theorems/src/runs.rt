@@ -9,7 +9,8 @@ ghost use Rattle.brk_model.specs.Keyed.{keyed_step};
 ghost use Rattle.brk_model.specs.Run.{Call, Outcome, Run};
 ghost use Rattle.brk_model_theorems.specs.Laws.{StampsAscendFrom, base_after_accepted_commands, accepted_stamps};
 
-/// Proves that a command that is refused, or answered with a stored line, does not change the base.
+/// Proves that a command that is refused, or answered with a stored line, leaves the base
+/// unchanged.
 pub fn refusals_and_retries_change_nothing()
     ensures refused { (base after : Base) (now : ℕ) (command : Command) (key : Option Key) (refusal : Refusal)
         → keyed_step base now command key ≡ (Refused refusal, after) → after ≡ base }
@@ -17,7 +18,7 @@ pub fn refusals_and_retries_change_nothing()
         → after ≡ base }
 {}
 
-/// Proves that the base after a run of calls equals the base after its accepted commands alone.
+/// Proves that the base after a run of calls equals the base after exactly its accepted commands.
 pub fn accepted_commands_determine_the_base()
     ensures { (base after : Base) (calls : List (ℕ × Call)) (outcomes : List Outcome) → Run base calls outcomes after
         → after ≡ base_after_accepted_commands base calls outcomes }

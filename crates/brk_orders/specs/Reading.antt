@@ -9,7 +9,7 @@ abbrev pub abstract_parse_result : {A B : Type 0} → (A → B) → Result A Ref
 abstract_parse_result view (Ok x) = Ok (view x)
 abstract_parse_result view (Err refusal) = Err refusal
 
--- The parsed list `front` followed by the parsed list `last`. If one of the two is a refusal, the
--- value is that refusal, and if both are, that of the earlier format check.
+-- The parsed list `front` followed by the parsed list `last`. If exactly one of the two is a
+-- refusal, the value is this refusal; if both are, it is that of the earlier format check.
 abbrev pub appended_parse_results : {X : Type 0} → ReadResult (List X) → ReadResult (List X) → ReadResult (List X)
 appended_parse_results front last = Ok (λ xs ys. xs ++ ys) ⊛ front ⊛ last

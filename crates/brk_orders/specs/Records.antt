@@ -35,7 +35,7 @@ texts_of_order_fields t =
 abbrev pub abstract_tick : tick.Tick → Tick
 abstract_tick t = record { symbol = t.symbol; price = t.price; qty = t.qty }
 
--- The list with one element: the model's tick with the values of the typed tick `t`.
+-- A list of one element: the model's tick with the values of the typed tick `t`.
 abbrev pub abstract_tick_as_list : tick.Tick → List Tick
 abstract_tick_as_list t = abstract_tick t ∷ []
 
@@ -47,7 +47,8 @@ abstract_ticks ticks = map abstract_tick ticks
 abbrev pub abstract_ticks_of_vector : Vec tick.Tick → List Tick
 abstract_ticks_of_vector ticks = abstract_ticks ticks.items
 
--- The model's command that completes the trade of the typed completion `c` at its price.
+-- The model's command that completes a trade, with the trade and the price of the typed completion
+-- `c`.
 abbrev pub completion_command : completion.Completion → Command
 completion_command c = CompleteTrade c.trade c.price
 
@@ -55,7 +56,8 @@ completion_command c = CompleteTrade c.trade c.price
 abbrev pub ids_of_vector : Vec ℕ → List ℕ
 ids_of_vector ids = ids.items
 
--- The model's command with the values of a typed text update, by its kind.
+-- The model's command with the values of a typed text update: `ChangeExecutors`, `ChangeCashTypes`
+-- or `ChangeCashNames`, by its kind.
 abbrev pub text_update_command : told_update.Update → Command
 text_update_command (update.Executors trades) = ChangeExecutors trades
 text_update_command (update.CashTypes account span) = ChangeCashTypes account span.first span.last
@@ -67,6 +69,6 @@ abbrev pub cash_movement_command : Direction → (account amount : ℕ) → Comm
 cash_movement_command Deposit account amount = DepositCash account amount
 cash_movement_command Withdrawal account amount = WithdrawCash account amount
 
--- The model's command of the typed deposit or withdrawal `m`.
+-- The model's command with the direction, the account and the amount of the typed movement `m`.
 abbrev pub movement_command : Movement → Command
 movement_command m = cash_movement_command m.direction m.account m.amount

@@ -6,8 +6,8 @@ use brk_ref::parse_id;
 
 /// Parses the id of the trade to cancel from the field TRADE.
 ///
-/// Refuses with `BadText` (18) if there is not exactly one field, or if it is not an id. Never
-/// allocates.
+/// Refuses with `BadText` (18) if there is not exactly one field, or if the field is not an id.
+/// Never allocates.
 pub fn parse_canceled_trade_id(fields: &[&[u8]]) -> Result<Id, Refusal>
     ensures { ParsesAs (λ trade. trade) result (read_canceled_trade_id (texts_of_fields fields.now)) }
 {

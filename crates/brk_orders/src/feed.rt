@@ -33,8 +33,8 @@ impl Feed {
     /// The greatest number of ticks of a feed.
     pub const MOST: usize = 20;
 
-    /// Creates the feed of these ticks. Refuses with `BadText` (18) if there are none, and with
-    /// `TooMany` (20) if there are more than 20. Never allocates.
+    /// Creates a feed of `ticks`. Refuses with `BadText` (18) if `ticks` is empty, and with
+    /// `TooMany` (20) if it has more than 20 elements. Never allocates.
     pub fn new(ticks: Vec<Tick>) -> Result<Feed, Refusal>
         ensures { ParsesAs abstract_ticks result (one_to_twenty_elements (abstract_ticks ticks.items)) }
     {
@@ -55,8 +55,8 @@ impl Feed {
     }
 }
 
-// Returns the rank of a refusal in the sequence of the format checks: 0 for a text, 1 for a
-// quantity, 2 for a price, 3 for a type, and 4 for all other refusals.
+// Returns the rank of a refusal in the sequence of the format checks: 0 for `BadText`, 1 for
+// `BadQty`, 2 for `BadPrice`, 3 for `BadType`, and 4 for any other refusal.
 fn rank_of_format_refusal(refusal: Refusal) -> u8
     ensures { result ≡ forms.format_refusal_rank refusal }
 {
@@ -69,8 +69,8 @@ fn rank_of_format_refusal(refusal: Refusal) -> u8
     }
 }
 
-// Returns the one of two refusals whose format check is earlier, and `one` if both have equal
-// ranks.
+// Returns the refusal with the lower rank in the sequence of the format checks, or `one` if both
+// ranks are equal.
 fn refusal_of_earlier_check(one: Refusal, other: Refusal) -> Refusal
     ensures { result ≡ (if nat_le (forms.format_refusal_rank one) (forms.format_refusal_rank other) then one else other) }
 {
@@ -81,8 +81,9 @@ fn refusal_of_earlier_check(one: Refusal, other: Refusal) -> Refusal
     }
 }
 
-// Appends a parsed tick to the ticks parsed before it. If one of the two is a refusal, returns it.
-// If both are, returns that of the earlier format check. Fails with `Memory` only.
+// Appends the parsed tick `tick` to `ticks` and returns the list. If exactly one of the two is a
+// refusal, returns this refusal; if both are, returns that of the earlier format check. Fails with
+// `Memory` only.
 fn append_parsed_tick(
     ticks: Result<Vec<Tick>, Refusal>,
     tick: Result<Tick, Refusal>,
@@ -102,10 +103,9 @@ fn append_parsed_tick(
     }
 }
 
-// Parses ticks from their fields, three for each: SYMBOL, PRICE and QTY. Checks all fields, and
-// refuses with the earliest failing format check of any tick: `BadText`, `BadQty` or `BadPrice`.
-// Refuses a number of fields that is not a multiple of three with `BadText`. Fails with `Memory`
-// only.
+// Parses ticks from their fields, three for each: SYMBOL, PRICE and QTY. Refuses with `BadText` if
+// the number of fields is not a multiple of three, otherwise with the refusal of the earliest
+// format check that any tick fails: `BadText`, `BadQty` or `BadPrice`. Fails with `Memory` only.
 fn parse_ticks(alloc: Global, fields: &[&[u8]]) -> Planned<Vec<Tick>>
     ensures read { IfOk result (λ read. ParsesAs abstract_ticks_of_vector read (read_ticks (texts_of_fields fields.now))) }
     ensures fault { OnErr result (result ≡ Err Memory) }
@@ -125,10 +125,10 @@ fn parse_ticks(alloc: Global, fields: &[&[u8]]) -> Planned<Vec<Tick>>
 
 /// Parses a feed from the fields SYMBOL, PRICE and QTY of each tick. Fails with `Memory` only.
 ///
-/// Refuses with `BadText` (18) for a malformed symbol or an incomplete tick, otherwise with
-/// `BadQty` (8) for a quantity, otherwise with `BadPrice` (9) for a price. All fields are checked
-/// before the number of ticks: no tick at all is refused with `BadText`, and more than 20 with
-/// `TooMany` (20).
+/// Refuses with `BadText` (18) if there is no tick, a tick is incomplete or a symbol is malformed;
+/// otherwise with `BadQty` (8) if a quantity is malformed or out of range; otherwise with
+/// `BadPrice` (9) if a price is malformed or out of range; otherwise with `TooMany` (20) if there
+/// are more than 20 ticks.
 pub fn parse_market_feed(alloc: Global, fields: &[&[u8]]) -> Planned<Feed>
     ensures read { IfOk result (λ read. ParsesAs abstract_ticks read (read_feed (texts_of_fields fields.now))) }
     ensures fault { OnErr result (result ≡ Err Memory) }

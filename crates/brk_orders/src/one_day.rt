@@ -23,8 +23,8 @@ fn parse_calendar_day(bytes: &[u8]) -> Option<Day>
 /// Parses the settlement day, the first day whose completions settle after one day, from the field
 /// DAY.
 ///
-/// Refuses with `BadText` (18) if there is not exactly one field, or if it is not a day within
-/// 1970-01-01 to 9999-12-31. Never allocates.
+/// Refuses with `BadText` (18) if there is not exactly one field, or if the field is not a day
+/// within 1970-01-01 to 9999-12-31. Never allocates.
 pub fn parse_requested_settlement_day(fields: &[&[u8]]) -> Result<Day, Refusal>
     ensures { ParsesAs (λ day. day) result (read_settlement_day (texts_of_fields fields.now)) }
 {

@@ -46,8 +46,8 @@ struct UnparsedOrder<'a> {
     tax_id: &'a [u8],
 }
 
-// Parses one of two words. Returns true if the bytes are the word `yes`, false if they are the word
-// `no`, and otherwise `None`.
+// Returns `Some(true)` if the bytes are the word `yes`, otherwise `Some(false)` if they are the
+// word `no`, otherwise `None`.
 fn parse_word_as_boolean(yes: &str, no: &str, bytes: &[u8]) -> Option<bool>
     ensures { ok_or result BadText ≡ read_word_as_boolean yes.now no.now bytes.now }
 {
@@ -87,8 +87,8 @@ fn parse_executor(
     }))
 }
 
-// Returns `order_type`, a market type, which has no price. Refuses with `BadPrice` if the text of
-// the price is not empty.
+// Returns the market type `order_type` if the text of the price is empty. Otherwise refuses with
+// `BadPrice`.
 fn order_type_without_price(order_type: OrderType, price: &[u8]) -> Result<OrderType, Refusal>
     ensures { result ≡ forms.market_type_if_price_is_empty order_type price.now }
 {
@@ -107,8 +107,8 @@ fn parse_order_price(price: &[u8]) -> Result<Price, Refusal>
     parse_price(price).ok_or(Refusal::BadPrice)
 }
 
-// Returns the refusal of an order with an unknown type: `BadPrice` if the text of the price is
-// malformed and not empty, otherwise `BadType`.
+// Returns the refusal of an order with an unknown type: `BadType` if the text of the price is empty
+// or a price, otherwise `BadPrice`.
 fn refusal_of_unknown_type(price: &[u8]) -> Refusal
     ensures { forms.refusal_of_unknown_type_by_price_text price.now ≡ Err result }
 {
@@ -121,10 +121,10 @@ fn refusal_of_unknown_type(price: &[u8]) -> Refusal
     }
 }
 
-// Returns the order type of `kind`, which is `None` if the type is unknown, with its price. Refuses
-// with `BadPrice` if the text of the price is malformed, or not empty for a market type, and
-// otherwise with `BadType` if the type is unknown. With an unknown type, an empty text is not
-// malformed.
+// Returns the order type of the trade type `kind` with the price that `price` parses as. Refuses
+// with `BadPrice` if `kind` is a market type and `price` is not empty, or if `kind` is another type
+// and `price` is not a price. If `kind` is `None`, as for an unknown type, refuses with the result
+// of `refusal_of_unknown_type`.
 fn order_type_with_price(kind: Option<TradeType>, price: &[u8]) -> Result<OrderType, Refusal>
     ensures { result ≡ forms.order_type_with_price kind price.now }
 {
@@ -138,9 +138,10 @@ fn order_type_with_price(kind: Option<TradeType>, price: &[u8]) -> Result<OrderT
     }
 }
 
-// Parses the ten fields of an order. Refuses with `BadText` if a text, an id or a word is
-// malformed, otherwise with `BadQty` for the quantity, otherwise with `BadPrice` for the price,
-// otherwise with `BadType` for the type. Fails with `Memory` only.
+// Parses an order from its ten fields. Refuses with `BadText` if the account, the symbol, CASH, END
+// or a field of the executor is malformed; otherwise with `BadQty` if the quantity is malformed or
+// out of range; otherwise with the refusal of `order_type_with_price`, if any. Fails with `Memory`
+// only.
 fn parse_order_fields(alloc: Global, told: UnparsedOrder<'_>) -> Planned<Order>
     ensures read { IfOk result (λ read. ParsesAs abstract_order read (read_order (texts_of_order_fields told.entry))) }
     ensures fault { OnErr result (result ≡ Err Memory) }
@@ -179,12 +180,13 @@ fn parse_order_fields(alloc: Global, told: UnparsedOrder<'_>) -> Planned<Order>
 }
 
 /// Parses an order from the fields ACCOUNT, TYPE, SYMBOL, QTY, PRICE, CASH, END, FIRST, LAST and
-/// TAXID. PRICE is empty for a market type, a price for the other types, and either of them for an
-/// unknown type. Fails with `Memory` only.
+/// TAXID. PRICE must be empty for a market type, a price for the other types, and either of them
+/// for an unknown type. Fails with `Memory` only.
 ///
-/// Refuses with `BadText` (18) for a malformed text or another number of fields, otherwise with
-/// `BadQty` (8) for the quantity, with `BadPrice` (9) for the price, and with `BadType` (7) for the
-/// type.
+/// Refuses with `BadText` (18) if there are not exactly ten fields, or if one of them except TYPE,
+/// QTY and PRICE is malformed; otherwise with `BadQty` (8) if QTY is malformed or out of range;
+/// otherwise with `BadPrice` (9) if PRICE is malformed, out of range or does not fit TYPE;
+/// otherwise with `BadType` (7) if TYPE is unknown.
 pub fn parse_trade_order(alloc: Global, fields: &[&[u8]]) -> Planned<Order>
     ensures read { IfOk result (λ read. ParsesAs abstract_order read (read_order (texts_of_fields fields.now))) }
     ensures fault { OnErr result (result ≡ Err Memory) }

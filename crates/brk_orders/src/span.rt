@@ -5,8 +5,7 @@ ghost use Rattle.brk_money.specs.declared.refusal.Refusal.TheVariants.{BadText};
 
 use brk_money::{Stamp, parse_whole_number};
 
-/// The stamps from `first` to `last`, both included. It has no stamp if `first` is later than
-/// `last`.
+/// The stamps from `first` to `last`, both included; none if `first` is later than `last`.
 #[derive(Clone, Copy)]
 pub struct Span {
     pub first: Stamp,

@@ -18,9 +18,9 @@ pub struct Tick {
     pub qty: Qty,
 }
 
-// Parses the three fields of a tick. Refuses with `BadText` if the symbol is malformed, otherwise
-// with `BadQty` for the quantity, otherwise with `BadPrice` for the price. Fails with `Memory`
-// only.
+// Parses a tick from its three fields. Refuses with `BadText` if the symbol is malformed; otherwise
+// with `BadQty` if the quantity is malformed or out of range; otherwise with `BadPrice` if the
+// price is malformed or out of range. Fails with `Memory` only.
 pub(crate) fn parse_tick_fields(
     alloc: Global,
     symbol: &[u8],

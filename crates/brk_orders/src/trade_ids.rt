@@ -31,8 +31,8 @@ impl TradeIds {
     /// The greatest number of trades that one row names.
     pub const MOST: usize = 20;
 
-    /// Creates the list of these ids. Refuses with `BadText` (18) if there are none or one occurs
-    /// twice, and otherwise with `TooMany` (20) if there are more than 20. Never allocates.
+    /// Creates a list of the ids `ids`. Refuses with `BadText` (18) if `ids` is empty or an id
+    /// occurs twice, otherwise with `TooMany` (20) if there are more than 20. Never allocates.
     pub fn new(ids: Vec<Id>) -> Result<TradeIds, Refusal>
         ensures { ParsesAs (λ trades. trades) result (one_to_twenty_distinct_ids ids.items) }
     {
@@ -63,7 +63,7 @@ fn is_among_ids(id: Id, ids: &[Id]) -> bool
     ids.iter().any(|other| *other == id)
 }
 
-// Returns true if no id occurs twice in the list.
+// Returns true if no id occurs twice in `ids`.
 fn are_distinct(ids: &[Id]) -> bool
     ensures { result ≡ all_distinct ids.now }
 {
@@ -93,8 +93,8 @@ fn parse_ids(alloc: Global, fields: &[&[u8]]) -> Planned<Vec<Id>>
 
 /// Parses 1 to 20 different ids of trades, one from each field. Fails with `Memory` only.
 ///
-/// Refuses with `BadText` (18) if a field is malformed, if an id occurs twice, or if there are
-/// none. Otherwise refuses with `TooMany` (20) if there are more than 20.
+/// Refuses with `BadText` (18) if there is no field, if a field is not an id, or if an id occurs
+/// twice. Otherwise refuses with `TooMany` (20) if there are more than 20 fields.
 pub fn parse_trade_ids(alloc: Global, fields: &[&[u8]]) -> Planned<TradeIds>
     ensures read { IfOk result (λ read. ParsesAs (λ trades. trades) read (read_distinct_ids (texts_of_fields fields.now))) }
     ensures fault { OnErr result (result ≡ Err Memory) }

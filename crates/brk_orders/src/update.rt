@@ -12,7 +12,8 @@ use brk_money::{Id, Planned, Refusal};
 use brk_ref::{Symbol, parse_id};
 use std::alloc::Global;
 
-/// A requested text update (Trade-Update): which text of which trades it replaces.
+/// A requested text update (Trade-Update): the text that it replaces, and the trades that it
+/// selects.
 #[derive(Drop)]
 pub enum Update {
     /// Updates the executors' names of the trades with these ids.
@@ -25,11 +26,11 @@ pub enum Update {
     CashNames { symbol: Symbol, span: Span },
 }
 
-/// Parses an update of executors' names from the ids of its trades, 1 to 20 different ones. Fails
-/// with `Memory` only.
+/// Parses an update of executors' names from the ids of its trades, 1 to 20 different ones, one
+/// from each field. Fails with `Memory` only.
 ///
-/// Refuses with `BadText` (18) if a field is malformed, if an id occurs twice, or if there are
-/// none. Otherwise refuses with `TooMany` (20) if there are more than 20.
+/// Refuses with `BadText` (18) if there is no field, if a field is not an id, or if an id occurs
+/// twice. Otherwise refuses with `TooMany` (20) if there are more than 20 fields.
 pub fn parse_update_of_executor_names(alloc: Global, fields: &[&[u8]]) -> Planned<Update>
     ensures read { IfOk result (λ read. ParsesAs text_update_command read (read_and_wrap ChangeExecutors read_distinct_ids (texts_of_fields fields.now))) }
     ensures fault { OnErr result (result ≡ Err Memory) }

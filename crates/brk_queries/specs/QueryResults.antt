@@ -19,20 +19,22 @@ abbrev pub model_query_result : Result View Refusal → Result model.View Refusa
 model_query_result (Ok view) = Ok (records_of_view view)
 model_query_result (Err refusal) = Err refusal
 
--- The result `seen` of `query` equals the result of the model: the view as records of texts, or the
--- refusal. Vacuous if `t` are not the tables of a base that satisfies the books invariant and the
--- audit invariant.
+-- The result `seen`, a view as records of texts or a refusal, equals the result of the model for
+-- `query` on the base with the tables `t`. Vacuous if `t` are not the tables of a base that
+-- satisfies the books invariant and the audit invariant.
 abbrev pub EqualsModelQueryResult : Query → Result View Refusal → Tables → Type 0
 EqualsModelQueryResult query seen t = (base : Base) → BooksInvariant base → AuditInvariant base → t ≡ sheets base → ask base query ≡ model_query_result seen
 
--- The view that `seen` contains has the variant of `query` and the rows that the query selects from
--- the tables `t` (`HasRowsOfQuery`). Vacuous if `seen` is a refusal, and if `t` are not the tables
--- of a base that satisfies the books invariant and the audit invariant.
+-- The view that `seen` contains is of the kind of `query`, and its rows of trades and of lot
+-- changes are those that the query selects from the tables `t` (`HasRowsOfQuery`). Vacuous if
+-- `seen` is a refusal, and if `t` are not the tables of a base that satisfies the books invariant
+-- and the audit invariant.
 abbrev pub ViewHasSelectedRows : Query → Result View Refusal → Tables → Type 0
 ViewHasSelectedRows query seen t = IfOk seen (λ view. (base : Base) → BooksInvariant base → AuditInvariant base → t ≡ sheets base → HasRowsOfQuery query view t)
 
 -- The result `seen` of `query` equals the result of the model, as records of texts or a refusal,
--- and a view has the rows that the query selects from the tables `t`. Vacuous if `t` are not the
--- tables of a base that satisfies the books invariant and the audit invariant.
+-- and a view is of the kind of `query` and has the rows of trades and of lot changes that the query
+-- selects from the tables `t`. Vacuous if `t` are not the tables of a base that satisfies the books
+-- invariant and the audit invariant.
 abbrev pub AnswersQueryAsModel : Query → Result View Refusal → Tables → Type 0
 AnswersQueryAsModel query seen t = EqualsModelQueryResult query seen t × ViewHasSelectedRows query seen t

@@ -26,9 +26,9 @@ fn require_last_status_stamp<S: Alter>(store: &mut Store<S>, trade: Id) -> Resul
     }
 }
 
-// Returns all changes of a lot, sorted by trade, ascending, each with the stamp of the last status
-// of the trade that made it. Changes nothing. Fails with `Memory` or `Store` only; with `Store`
-// also if one of these trades does not exist.
+// Returns all changes of a lot, sorted by trade id, ascending, each with the stamp of the last
+// status of the trade that made it. Changes nothing. Fails with `Memory` or `Store` only; with
+// `Store` also if one of these trades does not exist.
 fn read_stamped_changes_of_lot<S: Alter>(
     alloc: Global,
     store: &mut Store<S>,
@@ -50,9 +50,9 @@ fn read_stamped_changes_of_lot<S: Alter>(
     Ok(touches)
 }
 
-// Returns the id of a trade and the first 20 changes of all lots that it touched, sorted by stamp,
-// then by lot, ascending. Changes nothing. Fails with `Memory` or `Store` only; with `Store` also
-// if a trade that made one of the changes does not exist.
+// Returns the id of a trade and the first 20 of all changes of the lots that it touched, sorted by
+// stamp, then by lot, ascending. Changes nothing. Fails with `Memory` or `Store` only; with `Store`
+// also if a trade that made one of the changes does not exist.
 fn read_changes_of_touched_lots<S: Alter>(
     alloc: Global,
     store: &mut Store<S>,
@@ -73,11 +73,11 @@ fn read_changes_of_touched_lots<S: Alter>(
     })
 }
 
-// Returns the view of the changes of the lots that one trade touched: the oldest trade of the
-// account whose last status has the stamp `first` or a later one. Without such a trade the view has
-// no record. Refuses with `NoAccount` if the account does not exist. Changes nothing. Fails with
-// `Memory` or `Store` only; with `Store` also if a trade that made one of the changes does not
-// exist.
+// Returns the view of the lots that one trade touched, the oldest trade of the account whose last
+// status has the stamp `first` or a later one: the first 20 changes of these lots, sorted by stamp,
+// then by lot, ascending. Without such a trade the view has no record. Refuses with `NoAccount` if
+// the account does not exist. Changes nothing. Fails with `Memory` or `Store` only; with `Store`
+// also if a trade that made one of the changes does not exist.
 pub(crate) fn view_of_touched_lots<S: Alter>(
     alloc: Global,
     store: &mut Store<S>,

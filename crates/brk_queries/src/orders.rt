@@ -29,11 +29,12 @@ pub(crate) fn view_of_submitted_trades<S: Alter>(
     Ok(Ok(view))
 }
 
-// Returns the view of the estimate of an order, with its price, tax, commission and charge, or the
-// refusal of the order, which is not accepted here. Changes nothing. Fails with `Memory` or `Store`
-// only; with `Store` also if the account's customer or one of the customer's taxes does not exist,
-// the tax rates total more than the greatest rate, a held symbol has no last price, a sum
-// overflows, or one of the lots that it reads has no shares.
+// Returns the view of the estimated figures of an order: its price, the buy and the sell value of
+// the shares that it would close, the tax, the commission, the charge and the assets of the
+// account; or the refusal of the order. Accepts no order and changes nothing. Fails with `Memory`
+// or `Store` only; with `Store` also if the account's customer or one of the customer's taxes does
+// not exist, the tax rates total more than the greatest rate, a held symbol has no last price, a
+// sum overflows, or a lot that was read has no shares.
 pub(crate) fn view_of_estimate<S: Alter>(
     alloc: Global,
     store: &mut Store<S>,

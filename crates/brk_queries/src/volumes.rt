@@ -66,8 +66,8 @@ fn append_request_if_of_broker_in_sector<S: Alter>(
     Ok(())
 }
 
-// Returns those of the requests `requests` that are of a broker and in a sector, in order. Changes
-// nothing. Fails with `Memory` or `Store` only.
+// Returns those of `requests` that are of the broker and for a security in the sector, in the order
+// of `requests`. Changes nothing. Fails with `Memory` or `Store` only.
 fn read_sector_requests_of_broker<S: Alter>(
     alloc: Global,
     store: &mut Store<S>,
@@ -86,9 +86,9 @@ fn read_sector_requests_of_broker<S: Alter>(
     Ok(found)
 }
 
-// Appends the volume of a broker in the sector, in cents, to `found`, if one of `requests`, which
-// are all pending requests, is the broker's and for a security in it. Changes no table. Fails with
-// `Memory` or `Store` only.
+// Appends to `found` the id and the name of a broker and its volume in the sector, in cents, if at
+// least one of `requests`, which are all pending requests, is of this broker and for a security in
+// the sector. Changes no table. Fails with `Memory` or `Store` only.
 fn append_broker_volume<S: Alter>(
     alloc: Global,
     store: &mut Store<S>,

@@ -9,7 +9,7 @@ use crate::numbers::{parse_id, parse_opening_balance, parse_tax_status};
 use brk_money::{Cents, Id, Planned, Refusal, TaxStatus};
 use std::alloc::Global;
 
-/// An account of a customer, in the care of a broker.
+/// An account: its id, customer, broker, name, tax status and opening balance.
 #[derive(Clone, Drop)]
 pub struct Account {
     pub id: Id,
@@ -28,8 +28,8 @@ pub struct AccountRow {
     pub balance: Cents,
 }
 
-// Parses the six fields of an account. Refuses with `BadText` if one is malformed or out of range.
-// Fails with `Memory` only.
+// Parses an account from its six fields. Refuses with `BadText` if one is malformed or out of
+// range. Fails with `Memory` only.
 fn parse_account_fields(
     alloc: Global,
     id: &[u8],
@@ -71,9 +71,9 @@ fn parse_account_fields(
     }))
 }
 
-// Parses the six fields of an account, of which `terms` has the last three: NAME, TAXST and
-// OPENING. Refuses with `BadText` if a field is malformed or out of range, or if `terms` has
-// another number of fields. Fails with `Memory` only.
+// Parses an account from its six fields, of which `terms` has the last three: NAME, TAXST and
+// OPENING. Refuses with `BadText` if `terms` does not have exactly three fields, or if a field is
+// malformed or out of range. Fails with `Memory` only.
 fn parse_account_with_last_fields(
     alloc: Global,
     id: &[u8],

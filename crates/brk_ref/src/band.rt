@@ -45,9 +45,10 @@ fn parse_quantity_bounds(low: &[u8], high: &[u8]) -> Option<(Qty, Qty)>
     }
 }
 
-// Parses the six fields of a band. Refuses with `BadText` if the tier, the exchange or the rate is
-// malformed, otherwise with `BadQty` if a bound is malformed or the bounds are reversed, otherwise
-// with `BadType` if the type is unknown. Fails with `Memory` only.
+// Parses a commission band from its six fields. Refuses with `BadText` if the tier, the exchange or
+// the rate is malformed or out of range; otherwise with `BadQty` if a bound is malformed or out of
+// range, or if `low` exceeds `high`; otherwise with `BadType` if the type is unknown. Fails with
+// `Memory` only.
 fn parse_band_fields(
     alloc: Global,
     tier: &[u8],
@@ -86,9 +87,9 @@ fn parse_band_fields(
     }))
 }
 
-// Parses the six fields of a band, of which `terms` has the last three: FROM, TO and RATE. Refuses
-// with `BadText`, `BadQty` or `BadType` if a field is malformed, and with `BadText` if `terms` has
-// another number of fields. Fails with `Memory` only.
+// Parses a commission band from its six fields, of which `terms` has the last three: FROM, TO and
+// RATE. Refuses with `BadText` if `terms` does not have exactly three fields, otherwise with the
+// refusal of `parse_band_fields`, if any. Fails with `Memory` only.
 fn parse_band_with_last_fields(
     alloc: Global,
     tier: &[u8],
@@ -108,8 +109,9 @@ fn parse_band_with_last_fields(
 /// Parses a commission band from the fields TIER, TYPE, EXCHANGE, FROM, TO and RATE.
 ///
 /// Refuses with `BadText` (18) if there are not exactly six fields, or if the tier, the exchange or
-/// the rate is malformed; otherwise with `BadQty` (8) if a bound is malformed or FROM exceeds TO;
-/// otherwise with `BadType` (7) if the type is unknown. Fails with `Memory` only.
+/// the rate is malformed or out of range; otherwise with `BadQty` (8) if a bound is malformed or
+/// out of range, or if FROM exceeds TO; otherwise with `BadType` (7) if the type is unknown. Fails
+/// with `Memory` only.
 pub fn check_band(alloc: Global, fields: &[&[u8]]) -> Planned<Band>
     ensures read { IfOk result (λ read. ParsesAs abstract_band read (read_commission_band (texts_of_fields fields.now))) }
     ensures fault { OnErr result (result ≡ Err Memory) }
@@ -120,15 +122,16 @@ pub fn check_band(alloc: Global, fields: &[&[u8]]) -> Planned<Band>
     parse_band_with_last_fields(alloc, tier, kind, exchange, terms)
 }
 
-// Returns true if the quantity is within the bounds of the band, both included.
+// Returns true if `qty` is within the bounds of `band`, both included.
 fn bounds_contain_quantity(band: &Band, qty: Qty) -> bool
     ensures { result ≡ nat_le band.now.from_qty qty && nat_le qty band.now.to_qty }
 {
     band.from_qty.get() <= qty.get() && qty.get() <= band.to_qty.get()
 }
 
-/// Returns true if two bands have the same tier, the same type and the same exchange, and some
-/// quantity is within the bounds of both.
+/// Returns true if two bands have the same tier, the same type and the same exchange, and the lower
+/// bound of each is at most the upper bound of the other. If neither has reversed bounds, some
+/// quantity is then within the bounds of both.
 pub fn bands_share_quantity(one: &Band, other: &Band) -> bool
     ensures { result ≡ bands_overlap (abstract_band one.now) (abstract_band other.now) }
 {
@@ -152,8 +155,8 @@ pub fn band_for(bands: &[Band], qty: Qty) -> Option<Rate>
     Some(band.rate)
 }
 
-/// Returns true if one of `bands` has the tier, the type and the exchange of `band`, and some
-/// quantity is within the bounds of both.
+/// Returns true if one of `bands` has the tier, the type and the exchange of `band`, and the lower
+/// bound of each is at most the upper bound of the other.
 pub fn overlaps(bands: &[Band], band: &Band) -> bool
     ensures { result ≡ list_any (bands_overlap (abstract_band band.now)) (map abstract_band bands.now) }
 {

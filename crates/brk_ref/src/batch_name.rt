@@ -9,7 +9,8 @@ use crate::text::{Form, Text};
 /// The name of a batch (K_BATCH): 1 to 40 ASCII letters, digits, points, hyphens and underscores.
 pub type BatchName = Text<BatchNameForm>;
 
-// Returns true if every byte is an ASCII letter, a digit, a point, a hyphen or an underscore.
+// Returns true if every byte of `text` is an ASCII letter, a digit, a point, a hyphen or an
+// underscore.
 fn has_batch_name_bytes_only(text: &[u8]) -> bool
     ensures { result ≡ list_all (λ c. is_ascii_alphanumeric c || (c == 46) || (c == 45) || (c == 95)) text.now }
 {

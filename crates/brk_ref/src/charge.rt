@@ -17,7 +17,7 @@ pub struct Charge {
     pub amount: ChargeAmount,
 }
 
-// Parses the three fields of a charge. Refuses with `BadText` if the tier or the amount is
+// Parses a charge from its three fields. Refuses with `BadText` if the tier or the amount is
 // malformed or out of range, otherwise with `BadType` if the type is unknown. Never allocates.
 fn parse_charge_fields(kind: &[u8], tier: &[u8], amount: &[u8]) -> Result<Charge, Refusal>
     ensures { ParsesAs abstract_charge result (read_charge (kind.now ∷ tier.now ∷ amount.now ∷ [])) }

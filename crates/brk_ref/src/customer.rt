@@ -21,8 +21,8 @@ pub struct Customer {
     pub first_name: Name,
 }
 
-// Parses the five fields of a customer. Refuses with `BadText` if one is malformed or out of range.
-// Fails with `Memory` only.
+// Parses a customer from its five fields. Refuses with `BadText` if one is malformed or out of
+// range. Fails with `Memory` only.
 fn parse_customer_fields(
     alloc: Global,
     id: &[u8],

@@ -12,7 +12,8 @@ pub struct CustomerTax {
     pub tax: Id,
 }
 
-/// Parses a tax of a customer from the fields CUSTOMER and TAXRATE, the ids of the two.
+/// Parses a tax of a customer from the fields CUSTOMER and TAXRATE, the ids of the customer and of
+/// the tax.
 ///
 /// Refuses with `BadText` (18) if there are not exactly two fields, or if one is not an id. Never
 /// allocates.

@@ -6,10 +6,10 @@ ghost use Rattle.brk_ref.specs.Utf8.{exchange_is_utf8};
 
 use crate::text::{Form, Text};
 
-/// An exchange (S_EX_ID): 1 to 6 capital letters.
+/// An exchange (S_EX_ID): 1 to 6 ASCII capital letters.
 pub type Exchange = Text<ExchangeForm>;
 
-// Returns true if every byte is an ASCII capital letter.
+// Returns true if every byte of `text` is an ASCII capital letter.
 fn has_capital_letters_only(text: &[u8]) -> bool
     ensures { result ≡ list_all (λ c. is_ascii_uppercase c) text.now }
 {

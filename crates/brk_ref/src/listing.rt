@@ -12,14 +12,14 @@ use crate::symbol::Symbol;
 use brk_money::{Planned, Price, Refusal};
 use std::alloc::Global;
 
-/// A security to list, with its first price of a share, in cents.
+/// A security to list, with its first price per share, in cents.
 #[derive(Drop)]
 pub struct Listing {
     pub security: Security,
     pub price: Price,
 }
 
-// Parses the five fields of a listing. Refuses with `BadText` if a text is malformed, otherwise
+// Parses a listing from its five fields. Refuses with `BadText` if a text is malformed, otherwise
 // with `BadPrice` if the price is malformed or out of range. Fails with `Memory` only.
 fn parse_listing_fields(
     alloc: Global,

@@ -21,8 +21,8 @@ pub fn parse_id(bytes: &[u8]) -> Option<Id>
     Id::new(number)
 }
 
-/// Parses a tax status from its number, 0 to 2. Returns `None` if the bytes are malformed or the
-/// number is out of range.
+/// Parses a tax status from its number, 0 to 2 in decimal digits. Returns `None` if the bytes are
+/// malformed or the number is out of range.
 pub fn parse_tax_status(bytes: &[u8]) -> Option<TaxStatus>
     ensures { ok_or result BadText ≡ read_tax_status bytes.now }
 {
@@ -51,8 +51,8 @@ pub fn parse_qty(bytes: &[u8]) -> Option<Qty>
     Qty::new(number as u32)
 }
 
-/// Parses a commission rate, 0 to 10,000 hundredths of a percent. Returns `None` if the bytes are
-/// malformed or the number is out of range.
+/// Parses a commission rate, 0 to 10,000 hundredths of a percent in decimal digits. Returns `None`
+/// if the bytes are malformed or the number is out of range.
 pub fn parse_commission_rate(bytes: &[u8]) -> Option<Rate>
     ensures { ok_or result BadText ≡ read_commission_rate bytes.now }
 {
@@ -62,8 +62,8 @@ pub fn parse_commission_rate(bytes: &[u8]) -> Option<Rate>
     Rate::new(number as u32)
 }
 
-/// Parses a tax rate, 0 to 100,000 hundred-thousandths. Returns `None` if the bytes are malformed
-/// or the number is out of range.
+/// Parses a tax rate, 0 to 100,000 hundred-thousandths in decimal digits. Returns `None` if the
+/// bytes are malformed or the number is out of range.
 pub fn parse_tax_rate(bytes: &[u8]) -> Option<TaxRate>
     ensures { ok_or result BadText ≡ read_tax_rate_number bytes.now }
 {

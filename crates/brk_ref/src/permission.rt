@@ -22,7 +22,7 @@ pub struct Permission {
     pub first_name: Name,
 }
 
-// Parses the five fields of a permission. Refuses with `BadText` if one is malformed or out of
+// Parses a permission from its five fields. Refuses with `BadText` if one is malformed or out of
 // range. Fails with `Memory` only.
 fn parse_permission_fields(
     alloc: Global,

@@ -6,10 +6,10 @@ ghost use Rattle.brk_ref.specs.Utf8.{symbol_is_utf8};
 
 use crate::text::{Form, Text};
 
-/// The symbol of a security (S_SYMB): 1 to 15 capital letters, digits, points and hyphens.
+/// The symbol of a security (S_SYMB): 1 to 15 ASCII capital letters, digits, points and hyphens.
 pub type Symbol = Text<SymbolForm>;
 
-// Returns true if every byte is an ASCII capital letter, a digit, a point or a hyphen.
+// Returns true if every byte of `text` is an ASCII capital letter, a digit, a point or a hyphen.
 fn has_symbol_bytes_only(text: &[u8]) -> bool
     ensures { result ≡ list_all (λ c. is_ascii_uppercase c || is_ascii_digit c || (c == 46) || (c == 45)) text.now }
 {

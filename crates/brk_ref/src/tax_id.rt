@@ -9,7 +9,7 @@ use crate::text::{Form, Text};
 /// A tax id (C_TAX_ID): 1 to 20 ASCII letters, digits and hyphens.
 pub type TaxId = Text<TaxIdForm>;
 
-// Returns true if every byte is an ASCII letter, a digit or a hyphen.
+// Returns true if every byte of `text` is an ASCII letter, a digit or a hyphen.
 fn has_tax_id_bytes_only(text: &[u8]) -> bool
     ensures { result ≡ list_all (λ c. is_ascii_alphanumeric c || (c == 45)) text.now }
 {

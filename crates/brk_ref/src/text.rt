@@ -78,7 +78,7 @@ impl<F: Form> Text<F> {
         self.text.as_str()
     }
 
-    /// Does nothing. A caller uses it for its contract, which states that the text has its format.
+    /// Proves that the text has the format `F`. Does nothing at run time.
     pub fn prove_text_has_its_format(&self)
         ensures { F.form self.now ≡ true }
     {

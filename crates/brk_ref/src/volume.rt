@@ -19,7 +19,7 @@ impl Model for Volume {
 }
 
 impl Volume {
-    /// The greatest volume.
+    /// The greatest volume, in shares.
     pub const GREATEST: u64 = Cents::GREATEST;
 
     /// Returns the volume of `shares` shares, or `None` if it exceeds `GREATEST`.

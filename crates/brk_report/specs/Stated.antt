@@ -79,8 +79,9 @@ AreStatementLines t account from to lines =
 
 -- The result of writing the statement of `account` from the day `from` to the day `to`. `Ok`:
 -- exactly the text of the model's statement was written. `Refused`: the model refuses the statement
--- with this refusal. `Desk`: nothing was written, or the first lines whole, without the last one.
--- `Write`: the first lines were written whole, and then a prefix of the next one.
+-- with this refusal. `Desk`: the fault is `Memory` or `Store`, and nothing was written, or the
+-- first lines whole, without the last one. `Write`: the first lines were written whole, and then a
+-- prefix of the next one.
 abbrev pub WritesStatement : Tables → ℕ → ℕ → ℕ → Option Text → Option Text → Result (Unit {0}) ReportFault → Type 0
 WritesStatement t account from to old new (Ok u) = (text : Text) × (statement t account from to ≡ Ok text) × Appends old new text
 WritesStatement t account from to old new (Err (Refused refusal)) = statement t account from to ≡ Err refusal

@@ -37,10 +37,10 @@ pub(crate) fn write_header_lines<W: Write>(
 }
 
 /// Writes a line for each cash row of an account from the day `from` to the day `to`, both
-/// included, and the line of the closing amount, which is `opening` plus these rows, in cents.
-/// Returns the number of these cash rows. If the database is still open, it is unchanged. Fails
-/// with `Desk` if a read fails, memory runs out, or the amount or the number overflows, or with
-/// `Write`.
+/// included, and the line of the closing amount, which is `opening` plus the amounts of these rows,
+/// in cents. Returns the number of these cash rows. If the database is still open, it is unchanged.
+/// Fails with `Desk` if a read fails, memory runs out, or the amount or the number overflows, or
+/// with `Write`.
 pub(crate) fn write_cash_and_closing_lines<W: Write, S: Alter>(
     alloc: Global,
     desk: &mut Desk<S>,

@@ -16,9 +16,9 @@ use std::io::Write;
 pub type StatementFault = ReportFault;
 
 // Writes all lines of the statement of an account that exists, from the day `from` to the day `to`,
-// both included. `head` has its name, its opening balance and its market value. If the database is
-// still open, it is unchanged. Fails with `Desk` if a read fails, memory runs out or a sum
-// overflows, or with `Write`.
+// both included. `head` has the name, the opening balance and the market value of the account. If
+// the database is still open, it is unchanged. Fails with `Desk` if a read fails, memory runs out
+// or a sum overflows, or with `Write`.
 fn write_statement_lines<W: Write, S: Alter>(
     alloc: Global,
     desk: &mut Desk<S>,
@@ -39,10 +39,11 @@ fn write_statement_lines<W: Write, S: Alter>(
     write_lot_and_total_lines(alloc, desk, account, head.holdings, cash, writer)
 }
 
-/// Writes the statement of an account for the days `from` to `to`, both included: the opening
-/// amount after the cash rows of earlier days, each cash row of the days, the closing amount, each
-/// lot that it holds now, and their market value at last prices. If the database is still open, it
-/// is unchanged, whatever the result.
+/// Writes the statement of an account for the days `from` to `to`, both included: its name, the
+/// opening amount after the cash rows of earlier days, each cash row of the days, the closing
+/// amount, each lot that the account holds now, the market value of its holdings at last prices,
+/// and the numbers of these cash rows and lots. If the database is still open, it is unchanged,
+/// whatever the result.
 ///
 /// Fails with `Refused` 18 if `from` is after `to`, otherwise with `Refused` 1 if the account does
 /// not exist; nothing is then written. Fails with `Desk(Memory)` or `Desk(Store)`; `Desk(Store)`

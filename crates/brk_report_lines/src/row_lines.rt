@@ -12,8 +12,8 @@ use brk_money::{Fault, Wide, day_of, write_cents, write_day};
 use itoa::Buffer;
 use std::alloc::Global;
 
-/// Returns the line of a cash row, with its line feed: its day, its amount, right-aligned in 22
-/// bytes, and its text. Fails with `Memory` only.
+/// Returns the line of a cash row, with its line feed: its day, its amount with two decimal places,
+/// right-aligned in 22 bytes, and its name, separated by spaces. Fails with `Memory` only.
 pub fn cash_row_line(alloc: Global, row: &MoveRow) -> Result<Vec<u8>, Fault>
     ensures line { IfOk result (λ line. line.items ≡ line_with_line_feed (statement.cash_row_line (abstract_move_row row.now))) }
     ensures fault { OnErr result (result ≡ Err Memory) }
@@ -30,8 +30,9 @@ pub fn cash_row_line(alloc: Global, row: &MoveRow) -> Result<Vec<u8>, Fault>
     Ok(line)
 }
 
-/// Returns the line of a lot, with its line feed: its symbol, the trade that opened it, its
-/// quantity (below 0 if it was sold short), and its price, in columns. Fails with `Memory` only.
+/// Returns the line of a lot, with its line feed: its symbol in 15 bytes, left-aligned, and,
+/// right-aligned, the trade that opened it in 13, its quantity (below 0 if it was sold short) in 11
+/// and its price in 10 bytes, separated by spaces. Fails with `Memory` only.
 pub fn lot_line(alloc: Global, row: &HoldingRow) -> Result<Vec<u8>, Fault>
     ensures line { IfOk result (λ line. line.items ≡ line_with_line_feed (statement.lot_line (abstract_holding_row row.now))) }
     ensures fault { OnErr result (result ≡ Err Memory) }

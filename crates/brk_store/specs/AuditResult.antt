@@ -7,10 +7,10 @@ use Rattle.brk_store.specs.Audited.{StoresRowsWithAuditResult, IsDatabaseAuditRe
 use Rattle.brk_store.specs.declared.examining.AuditResult.{AuditResult}
 use Rattle.brk_store.specs.declared.examining.AuditResult.TheVariants.{Passes, Fails}
 
--- The result is the result of an audit of the database `db` by the conditions of its own schema.
--- `Passes schema`: the database contains the tables of `schema` with some rows whose texts are
--- UTF-8, and these rows pass the audit by the conditions of `schema`. `Fails failing`: an audit of
--- the database returns the condition `failing` (`IsDatabaseAuditResult`).
+-- The audit result is true of the database `db`. `Passes schema`: the database contains the tables
+-- of `schema` with some rows whose texts are UTF-8, and these rows pass the audit by the conditions
+-- of `schema`. `Fails failing`: an audit of the database returns the condition `failing`
+-- (`IsDatabaseAuditResult`).
 abbrev pub IsTrueAuditResult : AuditResult → Database → Type 0
 IsTrueAuditResult (Passes schema) db = (t : Tables) × StoresRowsWithAuditResult (abstract_schema schema) t db None
 IsTrueAuditResult (Fails failing) db = IsDatabaseAuditResult db (Some failing)

@@ -55,7 +55,7 @@ IsDatabaseAuditResultBySchema schema db (Some condition.Form) =
 -- Any other result, `None` included, is that of the audit of the rows that the database contains.
 IsDatabaseAuditResultBySchema schema db answer = (t : Tables) × StoresRowsWithAuditResult schema t db answer
 
--- `Some schema`: the database has this schema (`DatabaseHasSchema`). `None`: the database has none of
+-- `Some schema`: the database `db` has this schema (`DatabaseHasSchema`). `None`: it has none of
 -- the three schemas.
 abbrev pub IsSchemaOfDatabase : Option known.Schema → Database → Type 0
 IsSchemaOfDatabase (Some schema) db = DatabaseHasSchema (abstract_schema schema) db
@@ -63,7 +63,7 @@ IsSchemaOfDatabase None db = (schema : known.Schema) → ¬ DatabaseHasSchema (a
 
 -- `answer` is the result of an audit of the database `db` by the conditions of the schema that it
 -- has: the first condition that it fails, or `None` if it passes. The result is never `NotEmpty`,
--- and it is `Schema` if the database has none of the three schemas.
+-- and it is `Schema` if and only if the database has none of the three schemas.
 abbrev pub IsDatabaseAuditResult : Database → Option Condition → Type 0
 IsDatabaseAuditResult db (Some condition.NotEmpty) = ⊥
 IsDatabaseAuditResult db (Some condition.Schema) = IsSchemaOfDatabase None db
@@ -80,18 +80,17 @@ AuditAnswerSatisfies (Err Store) P = ⊤
 
 -- ---- premises on the database
 
--- No table of another program passes for a desk's: for each schema, if the current database of the
--- connection `held` has all tables of the schema, by name and with exactly their columns, these are
--- defined as a desk defines them, with its types, keys and foreign keys
--- (`NamedTablesMatchDeskDefinitions`). So a database without these tables, for example an empty
--- one, satisfies it. Vacuous if the disk assumption fails, or once the database is closed.
+-- For each schema: if the current database of the connection `held` has all tables of the schema,
+-- by name and with exactly their columns, they are defined as a desk defines them, with its types,
+-- keys and foreign keys (`NamedTablesMatchDeskDefinitions`). A database without these tables, for
+-- example an empty one, satisfies this premise. Vacuous if the disk assumption fails, or once the
+-- database is closed.
 abbrev pub StoreNamedTablesMatchDeskDefinitions : {S : Type 0} → Ghosts S → Held S → Type 0
 StoreNamedTablesMatchDeskDefinitions g held = HasCleanDisk (state g held) → IsTrue (state g held).is_open → NamedTablesMatchDeskDefinitions (state g held).now
 
--- No table of another program passes for a desk's in schema 3: if the current database of the
--- connection `held` has all tables of schema 3, by name and with exactly their columns, these are
--- defined as a desk defines them, with its types, keys and foreign keys. Vacuous if the disk
--- assumption fails, or once the database is closed.
+-- If the current database of the connection `held` has all tables of schema 3, by name and with
+-- exactly their columns, they are defined as a desk defines them, with its types, keys and foreign
+-- keys. Vacuous if the disk assumption fails, or once the database is closed.
 abbrev pub StoreNamedTablesMatchThirdSchema : {S : Type 0} → Ghosts S → Held S → Type 0
 StoreNamedTablesMatchThirdSchema g held =
     HasCleanDisk (state g held) → IsTrue (state g held).is_open → NamedTablesMatchSchemaDefinitions third_schema (state g held).now

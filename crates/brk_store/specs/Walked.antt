@@ -20,7 +20,7 @@ use Rattle.brk_tables_walks.specs.declared.walking.WalkError.TheVariants.{Failed
 use Rattle.brk_store.specs.Holds.{HoldsRows, WasOpenAndIsUnchanged}
 
 -- The cash rows of `account` whose stamps are from `from` to `to`, both included, sorted by stamp,
--- ascending. Rows with equal stamps are in the order of their numbers.
+-- ascending. Rows with equal stamps are in the order of the table CASH_MOVE.
 abbrev pub cash_rows_in_span : ℕ → ℕ → ℕ → Tables → List MoveRow
 cash_rows_in_span account from to t = filter (λ r. is_in_range from to r.stamp) (cash_move_rows_of_account t account)
 
@@ -31,13 +31,13 @@ completed_trades_by_stamp t = sort_by_key (λ r. r.stamp) (filter (λ r. is_same
 
 -- The records `all` equal the whole list that `list` selects from the rows that the store holds.
 -- Vacuous if the store is open and has no tables of a desk. If the store is closed, or the disk
--- assumption fails, it states this for all rows `t`.
+-- assumption fails, `all` has to equal `list t` for all rows `t`.
 abbrev pub EqualsStoredList : {S M : Type 0} → Ghosts S → Held S → (Tables → List M) → List M → Type 0
 EqualsStoredList g store list all = (t : Tables) → HoldsRows g store t → all ≡ list t
 
 -- The records `first` are a prefix of the list that `list` selects from the rows that the store
 -- holds, possibly empty. Vacuous if the store is open and has no tables of a desk. If the store is
--- closed, or the disk assumption fails, it states this for all rows `t`.
+-- closed, or the disk assumption fails, `first` has to be a prefix of `list t` for all rows `t`.
 abbrev pub IsPrefixOfStoredList : {S M : Type 0} → Ghosts S → Held S → (Tables → List M) → List M → Type 0
 IsPrefixOfStoredList {S} {M} g store list first = (t : Tables) → HoldsRows g store t → (rest : List M) × (first ++ rest ≡ list t)
 
@@ -66,9 +66,9 @@ pub record WalkPost {S X M V E : Type 0} (g : Ghosts S) (old new : Held S) (of :
   -- A crash exposes only states that a crash before the call could expose.
   pub survives : Survives (state g old) (state g new) (λ _. ⊥)
 
--- The result of a walk that calls a closure, for the outcome of the walk with a visitor: `Ok` for
--- `Ok`, the closure's own error for `Cause`, and for `Failed` an error that `gives` relates to the
--- fault.
+-- `result` is the result of a walk that calls a closure, if the walk with the closure as its
+-- visitor has the given outcome: `Ok` for `Ok`, the closure's error for `Cause`, and for `Failed`
+-- an error that `gives` relates to the fault.
 abbrev pub MatchesWalkResult : {E : Type 0} → (Fault → E → Type 0) → Result (Unit {0}) (WalkError E) → Result (Unit {0}) E → Type 0
 MatchesWalkResult {E} gives (Ok u) result = result ≡ Ok tt
 MatchesWalkResult {E} gives (Err (Cause e)) result = result ≡ Err e

@@ -53,9 +53,9 @@ impl<S: Alter> Store<S> {
         brk_tables_cash::cash_row_with_greatest_number(&mut tx)
     }
 
-    // Returns true if there are at least `GREATEST_MOVEMENT_COUNT` deposits and withdrawals, which
-    // it counts: its time grows with the number of cash rows. If the database is still open, it is
-    // unchanged. Fails with `Store` only.
+    // Counts the deposits and withdrawals, and returns true if there are at least
+    // `GREATEST_MOVEMENT_COUNT`. The time of the call grows with the number of cash rows. If the
+    // database is still open, it is unchanged. Fails with `Store` only.
     fn has_maximum_movements_by_count(&mut self) -> Result<bool, Fault>
         ensures read { ReadPost S.Store self.old self.new result (λ all t. all ≡ nat_le greatest_id (length (filter (λ r. is_none r.trade) t.moves))) }
         ensures fault { OnErr result (result ≡ Err fault.Store) }
@@ -81,10 +81,10 @@ impl<S: Alter> Store<S> {
         }
     }
 
-    /// Returns the number of the next cash row, as `next_cash_row_number` does, and true if there are
-    /// at least `Id::GREATEST` (1,000,000,000,000) deposits and withdrawals together. If the database
-    /// is still open, it is unchanged. Fails with `Store` only, also if the greatest `MoveId` is in
-    /// use.
+    /// Returns the number of the next cash row, as `next_cash_row_number` does, and whether there
+    /// are at least `Id::GREATEST` (1,000,000,000,000) deposits and withdrawals together. If the
+    /// database is still open, it is unchanged. Fails with `Store` only, also if the greatest
+    /// `MoveId` is in use.
     pub fn next_movement_number(&mut self) -> Result<(MoveId, bool), Fault>
         ensures read { ReadPost S.Store self.old self.new result (λ number t. (number.0 ≡ last_cash_row_number_or_zero t + 1)
             × (number.1 ≡ nat_le greatest_id (length (filter (λ r. is_none r.trade) t.moves)))) }

@@ -92,8 +92,8 @@ fn apply_change<S: Alter>(tx: &mut Transaction<'_, S>, change: &Change) -> Resul
     }
 }
 
-// Applies the changes in order within the transaction. Fails with `Store` only, at the first change
-// that fails; the changes before it are then applied within the transaction.
+// Applies the changes in order within the transaction, up to the first that fails. Fails with
+// `Store` only. What is applied within the transaction at a failure is then not specified.
 fn apply_each_change<S: Alter>(tx: &mut Transaction<'_, S>, changes: &[Change]) -> Result<(), Fault>
     ensures same_reference { tx.new.conn.ghost_name ≡ tx.old.conn.ghost_name }
     ensures step { IsTransactionStep (state S.Store tx.old.conn.now) (state S.Store tx.new.conn.now) result

@@ -301,7 +301,7 @@ impl<S: Alter> LotSource for Pages<'_, S, Page> {
     /// Returns the next lot, or `None` if no lot remains. Fails with `Memory` or `Store` only;
     /// `Store` may also mean that the next page has a lot without shares, or that the number of
     /// rows read exceeds 32 bits. The remaining lots are then unchanged. If the database is still
-    /// open, it is unchanged. `rows_read` limits the number of rows that are read.
+    /// open, it is unchanged. At most 15 rows more are read than lots are returned (`rows_read`).
     fn next(&mut self) -> Result<Option<Lot>, Fault> {
         match self.page.rows.get(self.page.returned) {
             Some(row) => {

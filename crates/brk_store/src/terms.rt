@@ -81,8 +81,8 @@ impl<S: Alter> Store<S> {
         brk_tables_reference::tax_rate_by_id(&mut tx, id)
     }
 
-    /// Returns the row by which a customer pays a tax, or `None` if the customer does not pay the
-    /// tax. If the database is still open, it is unchanged. Fails with `Store` only.
+    /// Returns the row of CUSTOMER_TAXRATE of a customer and a tax, or `None` if the customer does
+    /// not pay the tax. If the database is still open, it is unchanged. Fails with `Store` only.
     pub fn customer_tax(&mut self, customer: Id, tax: Id) -> Result<Option<CustomerTax>, Fault>
         ensures read { ReadPost S.Store self.old self.new result (IsFirstMatch CustomerTaxes abstract_customer_tax (λ r. (r.customer == customer)
             && (r.tax == tax))) }
@@ -92,8 +92,9 @@ impl<S: Alter> Store<S> {
         brk_tables_reference::customer_tax_by_customer_and_tax(&mut tx, customer, tax)
     }
 
-    /// Returns the rows by which a customer pays taxes, sorted by the id of the tax, ascending. If
-    /// the database is still open, it is unchanged. Fails with `Memory` or `Store`.
+    /// Returns the rows of CUSTOMER_TAXRATE of a customer, one for each tax that the customer pays,
+    /// sorted by the id of the tax, ascending. If the database is still open, it is unchanged.
+    /// Fails with `Memory` or `Store`.
     pub fn taxes_of_customer(
         &mut self,
         alloc: Global,

@@ -135,9 +135,9 @@ impl<S: Alter> Store<S> {
         brk_tables_trading::page_of_lots_newest_first(&mut tx, alloc, account, symbol, skipped)
     }
 
-    /// Returns the holding summaries of an account, one for each security that it holds, sorted by
-    /// symbol, ascending. If the database is still open, it is unchanged. Fails with `Memory` or
-    /// `Store`.
+    /// Returns the rows of HOLDING_SUMMARY of an account (its number of shares in each security),
+    /// sorted by symbol, ascending. If the database is still open, it is unchanged. Fails with
+    /// `Memory` or `Store`.
     pub fn summaries_of_account(
         &mut self,
         alloc: Global,
@@ -150,9 +150,9 @@ impl<S: Alter> Store<S> {
         brk_tables_trading::holding_summaries_of_account(&mut tx, alloc, account)
     }
 
-    /// Returns the holding summary of an account in a security, its number of shares in total, or
-    /// `None` if there is none. If the database is still open, it is unchanged. Fails with `Store`
-    /// only.
+    /// Returns the row of HOLDING_SUMMARY of an account and a security (its number of shares in
+    /// total), or `None` if there is none. If the database is still open, it is unchanged. Fails
+    /// with `Store` only.
     pub fn summary_of_position(
         &mut self,
         account: Id,

@@ -25,7 +25,7 @@ impl<S: Alter> Store<S> {
     /// the result.
     ///
     /// `ready`: the visitor must be ready to take records, and is so after the walk. `leads`: the
-    /// walk changes the visitor only by calls of `visit`, so far as the visitor's own `leads` says.
+    /// visitor's `leads` relates the visitor before the walk to the visitor after it.
     ///
     /// A crash exposes only states that a crash before the call could expose.
     pub fn visit_cash_rows<E, V: Visitor<MoveRow, E>>(
@@ -58,7 +58,7 @@ impl<S: Alter> Store<S> {
     /// the result.
     ///
     /// `ready`: the visitor must be ready to take records, and is so after the walk. `leads`: the
-    /// walk changes the visitor only by calls of `visit`, so far as the visitor's own `leads` says.
+    /// visitor's `leads` relates the visitor before the walk to the visitor after it.
     ///
     /// A crash exposes only states that a crash before the call could expose.
     pub fn visit_lots<E, V: Visitor<HoldingRow, E>>(
@@ -83,7 +83,7 @@ impl<S: Alter> Store<S> {
     /// whatever the result.
     ///
     /// `ready`: the visitor must be ready to take records, and is so after the walk. `leads`: the
-    /// walk changes the visitor only by calls of `visit`, so far as the visitor's own `leads` says.
+    /// visitor's `leads` relates the visitor before the walk to the visitor after it.
     ///
     /// A crash exposes only states that a crash before the call could expose.
     pub fn visit_completed_trades<E, V: Visitor<TradeRow, E>>(

@@ -1,4 +1,4 @@
--- The effect of those statements on the tables that only an upgrade executes.
+-- The effect on the tables of the statements that only an upgrade executes.
 use Rattle.std.specs.Prelude.{ℕ, []}
 use Rattle.sqlite.specs.Effect.{Database}
 use Rattle.brk_model.specs.Schemas.{Schema}

@@ -57,8 +57,9 @@ pub fn cash_row_with_greatest_number<S: Alter>(
     decode_first_row(&rows)
 }
 
-/// Returns true if there are at least 10^12 deposits and withdrawals. The query steps over all of
-/// their rows, so its time grows with their number. Changes nothing. Fails with `Store` only.
+/// Returns true if CASH_MOVE has at least 10^12 rows without a trade, which are the deposits and
+/// withdrawals. The query steps over these rows, so its time grows with their number. Changes
+/// nothing. Fails with `Store` only.
 pub fn has_maximum_movements<S: Alter>(tx: &mut Transaction<'_, S>) -> Result<bool, Fault>
     ensures same_reference { tx.new.conn.ghost_name ≡ tx.old.conn.ghost_name }
     ensures step { ReadsDeskTables S.Store tx.old tx.new result (λ all t. all ≡ nat_le greatest_id (length (filter (λ r. is_none r.trade) t.moves))) }

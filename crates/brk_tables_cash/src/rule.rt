@@ -28,7 +28,8 @@ pub fn set_settlement_day<S: Alter>(tx: &mut Transaction<'_, S>, day: Day) -> Re
 }
 
 // Decodes the settlement day from all rows of SETTLE_RULE, or returns `None` if there is no row.
-// Fails with `Store` only, if there are two rows or more, or a malformed one, or memory runs out.
+// Fails with `Store` only, if there are two rows or more, if a row is malformed, or if memory runs
+// out.
 fn settlement_day_in_rows(rows: &[Row]) -> Result<Option<Day>, Fault>
     ensures value { IfOk result (λ day. map rule_cells (rule_rows day) ≡ rows.now) }
     ensures fault { OnErr result (result ≡ Err Store) }

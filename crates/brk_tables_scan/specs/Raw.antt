@@ -110,7 +110,7 @@ pub record ShowsLaterSchemaTables (desk : Schema) (raw : LaterSchemaRows) (old n
   pub moves : ShowsRowsIfPresent desk CashMoves raw.moves old.now
   pub rule : ShowsRowsIfPresent desk SettleRules raw.rule old.now
 
--- The raw rows of one table, among those of all tables.
+-- The raw rows of one table in `raw`, the raw rows of all tables.
 abbrev pub raw_rows_of_table : RawSheets → DeskTable → List Row
 raw_rows_of_table raw TheDesk = raw.first.desk
 raw_rows_of_table raw KeptRows = raw.first.kept

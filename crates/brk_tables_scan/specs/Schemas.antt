@@ -31,14 +31,14 @@ pub record TableAndColumnNames : Type 0 where
 abbrev pub table_and_column_names : Table → TableAndColumnNames
 table_and_column_names table = record { name = table.name; columns = map (λ c. c.name) table.columns }
 
--- The table `table` is at the index `at` of the database's list of tables, and has this name and
--- exactly these columns, in order.
+-- The table `table` is at the index `at` of `schema`, the list of the tables of the database. It
+-- has the name and exactly the columns of `names`, in order.
 pub record IsTableWithNames (schema : database.Schema) (names : TableAndColumnNames) (at : ℕ) (table : Table) : Type 0 where
   pub named : table_named schema names.name ≡ Some at
   pub found : slice_get schema.tables at ≡ Some table
   pub columns : map (λ c. c.name) table.columns ≡ names.columns
 
--- The database has a table with this name and exactly these columns, in order.
+-- The database has a table with the name and exactly the columns of `names`, in order.
 abbrev pub HasTableWithNames : database.Schema → TableAndColumnNames → Type 0
 HasTableWithNames schema names = (at : ℕ) × (table : Table) × IsTableWithNames schema names at table
 
@@ -63,8 +63,9 @@ abbrev pub IsOneDeskRowOfSchema : Schema → List Row → Type 0
 IsOneDeskRowOfSchema desk rows = (last : Value) × (rows ≡ (natural_as_value 1 ∷ natural_as_value desk.number ∷ last ∷ []) ∷ [])
 
 -- The database has the schema `desk`: each table of the schema, by its name and with exactly its
--- columns; no table that a later schema adds; and exactly one row of DESK, with the number of the
--- schema. The clause on the row is vacuous if DESK is not defined as a desk defines it.
+-- columns; no table that a later schema adds; and exactly one row of DESK, with the id 1 and the
+-- number of the schema. The clause on the row is vacuous if DESK is not defined as a desk defines
+-- it.
 pub record DatabaseHasSchema (desk : Schema) (db : Database) : Type 0 where
   pub tables : HasTablesOfSchema desk db.schema
   pub later : LacksTablesOfLaterSchemas desk db.schema
@@ -76,9 +77,10 @@ pub record HasDistinctRowids (rows : List Row) : Type 0 where
   pub keyed : AllByRecursion (λ r. IsTrue (is_int (rowid r))) rows
   pub apart : IsDistinct has_same_rowid rows
 
--- The tables of the database with the names of the tables of the schema `desk` are defined as a
--- desk defines them, in what the names of tables and columns do not determine: types, keys, foreign
--- keys, and distinct rowids. No foreign key of a table changes or deletes their rows.
+-- Each table of the database with the name of a table of the schema `desk` is defined as a desk
+-- defines it, with the same columns, keys and foreign keys. These tables have distinct trees, their
+-- rows have distinct rowids, and no foreign key of a table changes or deletes their rows. The
+-- database is well-formed (`IsDatabase`).
 pub record HasDeskDefinitions (desk : Schema) (db : Database) : Type 0 where
   pub sound : IsDatabase db
   -- The column types, keys and foreign keys equal those that the desk defines for this name.

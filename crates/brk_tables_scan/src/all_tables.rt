@@ -1,12 +1,12 @@
-//! The reads of all tables: each table is read and decoded, and its raw rows are dropped, before the
-//! next one is read.
+//! The reads of all tables: each table is read and decoded, and its raw rows are dropped, before
+//! the next is read.
 
 ghost use Rattle.std.specs.Prelude.{◌≡◌, IfErr};
 ghost use Rattle.brk_model.specs.Run.{IsCallFault};
 ghost use Rattle.brk_changes.specs.Schemas.{abstract_schema};
 ghost use Rattle.brk_sql.specs.Model.{IsConnectionStep};
 ghost use Rattle.brk_tables_scan.specs.Decoded.{ReadsDeskAndCustomerTables, ReadsAccountAndSecurityTables, ReadsChargeAndRateTables};
-ghost use Rattle.brk_tables_scan.specs.Decoded.{ReadsTradeAndHoldingTables, ReadsSummaryAndSettlementTables, ReadsLaterSchemaTables, ReadsDeskTables};
+ghost use Rattle.brk_tables_scan.specs.Decoded.{ReadsTradeAndHoldingTables, ReadsSummaryAndSettlementTables, ReadsLaterSchemaTables, ReadsAndDecodesDeskTables};
 
 use crate::decoder::Decoder;
 use crate::rows::{
@@ -36,9 +36,10 @@ pub struct DeskAndCustomerSheets {
     customers: Vec<Customer>,
 }
 
-// Reads and decodes all rows of DESK, KEPT, BROKER and CUSTOMER, each list sorted by key. If a row
-// is malformed, sets `are_well_formed` of the decoder to false. Fails with `Memory` or `Store`
-// only.
+// Returns the last stamp in DESK and the decoded rows of KEPT (with empty texts), BROKER and
+// CUSTOMER, each list sorted by key. If a table has a malformed row, or DESK not exactly one row,
+// sets `are_well_formed` of the decoder to false and returns no value of this table. Fails with
+// `Memory` or `Store` only.
 fn read_desk_and_customer_tables<S: Alter>(
     tx: &mut Transaction<'_, S>,
     alloc: Global,
@@ -71,9 +72,9 @@ pub struct AccountAndSecuritySheets {
     last_trades: Vec<LastTrade>,
 }
 
-// Reads and decodes all rows of CUSTOMER_ACCOUNT, ACCOUNT_PERMISSION, SECURITY and LAST_TRADE, each
-// list sorted by key. If a row is malformed, sets `are_well_formed` of the decoder to false. Fails
-// with `Memory` or `Store` only.
+// Returns the decoded rows of CUSTOMER_ACCOUNT, ACCOUNT_PERMISSION, SECURITY and LAST_TRADE, each
+// list sorted by key. If a table has a malformed row, sets `are_well_formed` of the decoder to
+// false and returns no rows of this table. Fails with `Memory` or `Store` only.
 fn read_account_and_security_tables<S: Alter>(
     tx: &mut Transaction<'_, S>,
     alloc: Global,
@@ -105,9 +106,9 @@ pub struct ChargeAndRateSheets {
     customer_taxes: Vec<CustomerTax>,
 }
 
-// Reads and decodes all rows of CHARGE, COMMISSION_RATE, TAXRATE and CUSTOMER_TAXRATE, each list
-// sorted by key. If a row is malformed, sets `are_well_formed` of the decoder to false. Fails with
-// `Memory` or `Store` only.
+// Returns the decoded rows of CHARGE, COMMISSION_RATE, TAXRATE and CUSTOMER_TAXRATE, each list
+// sorted by key. If a table has a malformed row, sets `are_well_formed` of the decoder to false and
+// returns no rows of this table. Fails with `Memory` or `Store` only.
 fn read_charge_and_rate_tables<S: Alter>(
     tx: &mut Transaction<'_, S>,
     alloc: Global,
@@ -139,9 +140,9 @@ pub struct TradeAndHoldingSheets {
     holdings: Vec<HoldingRow>,
 }
 
-// Reads and decodes all rows of TRADE, TRADE_HISTORY, TRADE_REQUEST and HOLDING, each list sorted
-// by key. If a row is malformed, sets `are_well_formed` of the decoder to false. Fails with
-// `Memory` or `Store` only.
+// Returns the decoded rows of TRADE, TRADE_HISTORY, TRADE_REQUEST and HOLDING, each list sorted by
+// key. If a table has a malformed row, sets `are_well_formed` of the decoder to false and returns
+// no rows of this table. Fails with `Memory` or `Store` only.
 fn read_trade_and_holding_tables<S: Alter>(
     tx: &mut Transaction<'_, S>,
     alloc: Global,
@@ -173,9 +174,9 @@ pub struct SummaryAndSettlementSheets {
     cash: Vec<CashRow>,
 }
 
-// Reads and decodes all rows of HOLDING_SUMMARY, HOLDING_HISTORY, SETTLEMENT and CASH_TRANSACTION,
-// each list sorted by key. If a row is malformed, sets `are_well_formed` of the decoder to false.
-// Fails with `Memory` or `Store` only.
+// Returns the decoded rows of HOLDING_SUMMARY, HOLDING_HISTORY, SETTLEMENT and CASH_TRANSACTION,
+// each list sorted by key. If a table has a malformed row, sets `are_well_formed` of the decoder to
+// false and returns no rows of this table. Fails with `Memory` or `Store` only.
 fn read_summary_and_settlement_tables<S: Alter>(
     tx: &mut Transaction<'_, S>,
     alloc: Global,
@@ -205,8 +206,10 @@ pub struct LaterSchemaSheets {
     rule: Option<Day>,
 }
 
-// Reads and decodes all rows of CASH_MOVE and SETTLE_RULE, each list sorted by key. If a row is
-// malformed, sets `are_well_formed` of the decoder to false. Fails with `Memory` or `Store` only.
+// Returns the decoded rows of CASH_MOVE, sorted by key, and the settlement day in SETTLE_RULE, or
+// none of a table that `schema` lacks. If a table has a malformed row, or SETTLE_RULE two rows or
+// more, sets `are_well_formed` of the decoder to false and returns no value of this table. Fails
+// with `Memory` or `Store` only.
 fn read_later_schema_tables<S: Alter>(
     tx: &mut Transaction<'_, S>,
     alloc: Global,
@@ -223,9 +226,11 @@ fn read_later_schema_tables<S: Alter>(
     Ok(LaterSchemaSheets { moves, rule })
 }
 
-/// Reads and decodes all rows of the tables of `schema`, each list sorted by key, ascending. The
-/// list of a table that `schema` lacks is empty. If a row is malformed, sets `are_well_formed` of
-/// the decoder to false. Fails with `Memory` or `Store` only.
+/// Returns the decoded rows of the tables of `schema`, each list sorted by key, ascending, and the
+/// rows of KEPT with empty texts. The list of a table that `schema` lacks is empty. If a table has
+/// a malformed row, DESK not exactly one row, or SETTLE_RULE two rows or more, sets
+/// `are_well_formed` of the decoder to false and returns no rows of this table. Fails with `Memory`
+/// or `Store` only.
 pub(crate) fn read_all_tables<S: Alter>(
     tx: &mut Transaction<'_, S>,
     alloc: Global,
@@ -234,7 +239,7 @@ pub(crate) fn read_all_tables<S: Alter>(
 ) -> Result<Sheets, Fault>
     ensures same_reference { tx.new.conn.ghost_name ≡ tx.old.conn.ghost_name }
     ensures step { IsConnectionStep S.Store tx.old tx.new result
-        (λ sheets. ReadsDeskTables (abstract_schema schema) decoder.old.are_well_formed decoder.new.are_well_formed sheets) }
+        (λ sheets. ReadsAndDecodesDeskTables (abstract_schema schema) decoder.old.are_well_formed decoder.new.are_well_formed sheets) }
     ensures fault { IfErr result IsCallFault }
 {
     let first = read_desk_and_customer_tables(tx, alloc, schema, decoder)?;

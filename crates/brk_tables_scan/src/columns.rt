@@ -15,8 +15,9 @@ use brk_tables_create::has_exact_tables_by_name;
 use brk_tables_schema::calls::statement_has_columns;
 use sqlite::{Alter, Transaction};
 
-// Returns true if the result of each statement has exactly the column names beside it, in order.
-// Changes nothing. Fails with `Store` only, also if a statement names a table that does not exist.
+// Returns true if the result of the statement of each heading has exactly the column names of the
+// heading, in order. Checks the headings in order until one does not match. Changes nothing. Fails
+// with `Store` only, also if a checked statement names a table that does not exist.
 fn each_heading_matches<S: Alter>(
     tx: &mut Transaction<'_, S>,
     headings: &[(&str, &[&str])],
@@ -34,8 +35,9 @@ fn each_heading_matches<S: Alter>(
     Ok(true)
 }
 
-// Returns true if each table of `schema` has exactly its columns, in order. Changes nothing. Fails
-// with `Store` only, also if one of these tables does not exist.
+// Returns true if each table of `schema` has exactly its columns, in order. Checks the tables in
+// order until one differs. Changes nothing. Fails with `Store` only, also if a checked table does
+// not exist.
 fn tables_have_columns<S: Alter>(tx: &mut Transaction<'_, S>, schema: Schema) -> Result<bool, Fault>
     ensures same_reference { tx.new.conn.ghost_name ≡ tx.old.conn.ghost_name }
     ensures step { IsConnectionStep S.Store tx.old tx.new result (λ has a b. (b.now ≡ a.now)
@@ -50,8 +52,8 @@ fn tables_have_columns<S: Alter>(tx: &mut Transaction<'_, S>, schema: Schema) ->
 }
 
 /// Returns true if each table of `schema` exists by name, with exactly its columns, in order, and
-/// no table that a later schema adds. Other properties of the tables are not checked. If it returns
-/// a value, the database was open and is unchanged. Fails with `Store` only.
+/// no table exists that a later schema adds. Other properties of the tables are not checked. If it
+/// returns a value, the database was open and is unchanged. Fails with `Store` only.
 pub fn has_exact_tables_and_columns<S: Alter>(
     tx: &mut Transaction<'_, S>,
     schema: Schema,

@@ -21,7 +21,7 @@ use brk_tables_schema::rule_row::settlement_day_in_rule_rows;
 use sqlite::Row;
 use std::alloc::Global;
 
-// Decodes all rows, in order, and drops each row once it is decoded. Fails with `Form` only if one
+// Decodes all rows, in order, and drops each row once it is decoded. Fails with `Form`, only if one
 // of them is malformed, or with `Memory`.
 fn decode_and_drop_rows<R: Record>(alloc: Global, rows: Vec<Row>) -> Result<Vec<R>, DecodeError>
     ensures value { IfOk result (λ all. map R.cells all.items ≡ rows.items) }
@@ -34,7 +34,7 @@ fn decode_and_drop_rows<R: Record>(alloc: Global, rows: Vec<Row>) -> Result<Vec<
     Ok(all)
 }
 
-// Decodes a row of KEPT, drops its texts and returns its key. Fails with `Form` only if the row is
+// Decodes a row of KEPT, drops its texts and returns its key. Fails with `Form`, only if the row is
 // malformed, or with `Memory`.
 fn decode_kept_key(row: &Row) -> Result<Key, DecodeError>
     ensures value { IfOk result (λ key. IsKeyOfRawRow key row.now) }
@@ -45,7 +45,7 @@ fn decode_kept_key(row: &Row) -> Result<Key, DecodeError>
 }
 
 // Decodes all rows of KEPT, drops each row, with its texts, once it is decoded, and returns their
-// keys, in order. Fails with `Form` only if one of the rows is malformed, or with `Memory`.
+// keys, in order. Fails with `Form`, only if one of the rows is malformed, or with `Memory`.
 fn decode_kept_keys(alloc: Global, rows: Vec<Row>) -> Result<Vec<Key>, DecodeError>
     ensures value { IfOk result (λ all. AreKeysOfRawRows all.items rows.items) }
     ensures form { result ≡ Err Formless → list_all (passes_all_cell_checks kept_column_cell_checks) rows.items ≡ false }
@@ -57,8 +57,8 @@ fn decode_kept_keys(alloc: Global, rows: Vec<Row>) -> Result<Vec<Key>, DecodeErr
     Ok(all)
 }
 
-/// Decodes the rows of one table after the other. It goes on after a malformed row, so that all
-/// tables are read before it is known that one has such a row.
+/// A decoder of the rows of one table after the other. After a malformed row it continues with the
+/// next table, and `are_well_formed` is false.
 #[derive(Clone, Copy)]
 pub(crate) struct Decoder {
     /// True if all rows so far are well-formed.
@@ -118,9 +118,9 @@ impl Decoder {
         }
     }
 
-    /// Decodes the stamp of the last accepted command from all rows of DESK, with the number of
-    /// `schema`; it is `None` if none is stored. If there is not exactly one well-formed row, sets
-    /// `are_well_formed` to false and returns `None`. Fails with `Memory` only.
+    /// Decodes the stamp of the last accepted command from all rows of DESK, or returns `None` if
+    /// none is stored. If there is not exactly one row, well-formed and with the number of
+    /// `schema`, sets `are_well_formed` to false and returns `None`. Fails with `Memory` only.
     pub(crate) fn decode_last_stamp(
         &mut self,
         schema: Schema,

@@ -1,5 +1,5 @@
 //! The reads of all rows of a desk's tables: the check that the tables exist, and the decoding of
-//! their rows, or the answer that they are malformed.
+//! their rows, which reports malformed rows.
 //!
 //! The raw rows of one table at a time are in memory, beside the typed rows of all.
 //!

@@ -8,7 +8,7 @@ use Rattle.brk_changes.specs.Rows.{lots_oldest_first}
 abbrev pub page_size : ℕ
 page_size = 16
 
--- The elements of a list after the first `skipped`, at most `page_size` of them.
+-- The elements of `xs` after its first `skipped`, but only the first `page_size` of these.
 abbrev pub page_after_skipped : {X : Type 0} → ℕ → List X → List X
 page_after_skipped skipped xs = take page_size (drop skipped xs)
 

@@ -82,8 +82,8 @@ pub fn page_of_lots_newest_first<S: Alter>(
     decode_rows(alloc, &rows)
 }
 
-/// Returns the holding summaries of an account, one for each security that it holds, sorted by
-/// symbol, ascending. Changes nothing. Fails with `Memory` or `Store` only.
+/// Returns the rows of HOLDING_SUMMARY of an account (its number of shares in each security),
+/// sorted by symbol, ascending. Changes nothing. Fails with `Memory` or `Store` only.
 pub fn holding_summaries_of_account<S: Alter>(
     tx: &mut Transaction<'_, S>,
     alloc: Global,
@@ -101,8 +101,8 @@ pub fn holding_summaries_of_account<S: Alter>(
     decode_rows(alloc, &rows)
 }
 
-/// Returns the holding summary of an account in a security, its number of shares in total, or
-/// `None` if there is none. Changes nothing. Fails with `Store` only.
+/// Returns the row of HOLDING_SUMMARY of an account and a security (its number of shares in total),
+/// or `None` if there is none. Changes nothing. Fails with `Store` only.
 pub fn holding_summary_by_account_and_symbol<S: Alter>(
     tx: &mut Transaction<'_, S>,
     account: Id,

@@ -40,7 +40,8 @@ pub fn add_request<S: Alter>(tx: &mut Transaction<'_, S>, request: &RequestRow) 
     )
 }
 
-/// Deletes the request of a trade. Changes nothing if it has none. Fails with `Store` only.
+/// Deletes the request of a trade. Changes nothing if the trade has no request. Fails with `Store`
+/// only.
 pub fn remove_request<S: Alter>(tx: &mut Transaction<'_, S>, trade: Id) -> Result<(), Fault>
     ensures same_reference { tx.new.conn.ghost_name ≡ tx.old.conn.ghost_name }
     ensures step { WritesDeskTables S.Store tx.old tx.new result (tables_without_request trade) }

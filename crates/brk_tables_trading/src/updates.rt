@@ -21,9 +21,9 @@ use brk_tables_schema::values::{
 use sqlite::{Alter, Transaction};
 use std::alloc::Global;
 
-/// Returns the first trades of an account, at most twenty, that were completed from the stamp
-/// `first` to `last`, both included, the oldest first. Changes nothing. Fails with `Memory` or
-/// `Store`.
+/// Of the trades of an account that were completed from the stamp `first` to `last`, both included,
+/// returns the twenty oldest, or all if there are fewer, sorted by stamp and then by id, ascending.
+/// Changes nothing. Fails with `Memory` or `Store`.
 pub fn first_twenty_completed_trades_of_account<S: Alter>(
     tx: &mut Transaction<'_, S>,
     alloc: Global,
@@ -49,9 +49,9 @@ pub fn first_twenty_completed_trades_of_account<S: Alter>(
     decode_rows(alloc, &rows)
 }
 
-/// Returns the first cash trades of a symbol, at most twenty, that were completed from the stamp
-/// `first` to `last`, both included, the oldest first. Changes nothing. Fails with `Memory` or
-/// `Store`.
+/// Of the cash trades of a symbol that were completed from the stamp `first` to `last`, both
+/// included, returns the twenty oldest, or all if there are fewer, sorted by stamp and then by id,
+/// ascending. Changes nothing. Fails with `Memory` or `Store`.
 pub fn first_twenty_completed_cash_trades_of_symbol<S: Alter>(
     tx: &mut Transaction<'_, S>,
     alloc: Global,

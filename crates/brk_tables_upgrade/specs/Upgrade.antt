@@ -20,7 +20,7 @@ abbrev pub cash_transactions_by_stamp : Tables → List CashRow
 cash_transactions_by_stamp t = sort_by_key (λ r. r.stamp) t.cash
 
 -- The tables `t` with the row `c` of CASH_TRANSACTION inserted into CASH_MOVE under the number
--- `id`.
+-- `id`, with the account of its trade (0 if the trade does not exist).
 abbrev pub tables_with_numbered_cash_row : ℕ → CashRow → Tables → Tables
 tables_with_numbered_cash_row id c t = tables_with_cash_row (cash_move_row id (posting_of_cash_row t c)) t
 
@@ -44,9 +44,9 @@ pub record PreservesTablesOutside (In : DeskTable → Type 0) (tree : DeskTable 
   pub rows : AllByRecursion (λ k. ((w : DeskTable) → In w → k.tree ≢ tree w) → HasNoWritingForeignKeysAt old.schema k.tree
       → new.trees k.tree ≡ old.trees k.tree) old.schema.tables
 
--- The database `new` contains the tables of schema 3 with the rows `t`. Other tables of `old` than
--- those of the schema `desk_before`, whose trees in `old` are `before`, are unchanged
--- (`PreservesTablesOutside`).
+-- The database `new` contains the tables of schema 3 with the rows `t`. Each table of `old` that is
+-- at no tree `before w` of a table `w` of the schema `desk_before` is unchanged, unless a foreign
+-- key of this table changes or deletes its rows (`PreservesTablesOutside`).
 pub record HasUpgradedTables (desk_before : Schema) (before : DeskTable → ℕ) (t : Tables) (old new : Database) : Type 0 where
   pub tree : DeskTable → ℕ
   pub rows : HasTables desk_tables t tree new
@@ -57,8 +57,9 @@ pub record HasUpgradedTables (desk_before : Schema) (before : DeskTable → ℕ)
   pub calm : (tree : ℕ) → HasNoWritingForeignKeysAt old.schema tree → HasNoWritingForeignKeysAt new.schema tree
 
 -- If the database `old` contains the tables of `schema` with the rows `t`, and no table that a
--- later schema adds, `new` contains the tables of schema 3 with the rows `t`, and other tables are
--- unchanged (`HasUpgradedTables`). Vacuous otherwise.
+-- later schema adds, `new` contains the tables of schema 3 with the rows `t`. Other tables are
+-- unchanged, unless a foreign key of their own writes their rows (`HasUpgradedTables`). Vacuous
+-- otherwise.
 abbrev pub AddsTablesOfLaterSchemas : Schema → Database → Database → Type 0
 AddsTablesOfLaterSchemas schema old new =
     (t : Tables) (tree : DeskTable → ℕ) → HasSelectedTables (desk_tables_of_schema schema) (IsTableOfSchema schema) t tree old
@@ -66,8 +67,8 @@ AddsTablesOfLaterSchemas schema old new =
 
 -- If the database `old` contains the tables of `schema` with the rows `t`, and no table that a
 -- later schema adds, `new` contains the tables of schema 3 with the upgraded rows
--- (`tables_upgraded_from_schema`), and other tables are unchanged (`HasUpgradedTables`). Vacuous
--- otherwise.
+-- (`tables_upgraded_from_schema`). Other tables are unchanged, unless a foreign key of their own
+-- writes their rows (`HasUpgradedTables`). Vacuous otherwise.
 abbrev pub UpgradesTables : Schema → Database → Database → Type 0
 UpgradesTables schema old new =
     (t : Tables) (tree : DeskTable → ℕ) → HasSelectedTables (desk_tables_of_schema schema) (IsTableOfSchema schema) t tree old

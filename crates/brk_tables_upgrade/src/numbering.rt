@@ -14,7 +14,7 @@ use sqlite::{Alter, Transaction};
 
 // Inserts the cash row of a trade (a row of CASH_TRANSACTION) into CASH_MOVE under the number `id`,
 // with the account of the trade. Fails with `Memory` or `Store` only; with `Store` also if the
-// number exists or the trade does not.
+// number or a cash row of the trade exists, or if the trade does not exist.
 fn add_numbered_cash_row<S: Alter>(
     tx: &mut Transaction<'_, S>,
     id: MoveId,
@@ -40,7 +40,8 @@ fn add_numbered_cash_row<S: Alter>(
 
 /// Inserts rows of CASH_TRANSACTION into CASH_MOVE, in order, numbered from 1, with the accounts of
 /// their trades. Fails with `Memory` or `Store` only; with `Store` also if one of the numbers
-/// exists or exceeds the greatest, or if one of the trades does not exist.
+/// exists or exceeds the greatest `MoveId`, or if one of the trades does not exist or has a cash
+/// row.
 pub fn add_numbered_cash_rows<S: Alter>(
     tx: &mut Transaction<'_, S>,
     rows: &[CashRow],

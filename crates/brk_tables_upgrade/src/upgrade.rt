@@ -35,7 +35,8 @@ fn add_tables_of_later_schemas<S: Alter>(
 
 // Inserts the rows of CASH_TRANSACTION into CASH_MOVE, numbered from 1 by ascending stamp, and
 // deletes them from CASH_TRANSACTION. Fails with `Memory` or `Store` only; with `Store` also if one
-// of the numbers exists or exceeds the greatest, or if the trade of a row does not exist.
+// of the numbers exists or exceeds the greatest `MoveId`, or if the trade of a row does not exist
+// or has a cash row.
 fn move_cash_transactions_to_cash_moves<S: Alter>(
     tx: &mut Transaction<'_, S>,
     alloc: Global,
@@ -53,8 +54,9 @@ fn move_cash_transactions_to_cash_moves<S: Alter>(
 /// Upgrades the tables of `schema`, with any rows, to schema 3: creates the tables that are
 /// missing, sets the number of the schema, and moves the cash rows of schema 1 to CASH_MOVE,
 /// numbered from 1 by ascending stamp. Fails with `Memory` or `Store`; with `Store` also if the
-/// trade of one of these rows does not exist, or if their number exceeds the greatest. The effect
-/// is specified only if the tables of `schema` exist, and none that a later schema adds.
+/// trade of one of these rows does not exist, or if there are more of these rows than `MoveId` has
+/// numbers. The effect is specified only if the tables of `schema` exist, and none that a later
+/// schema adds.
 pub fn upgrade_tables<S: Alter>(
     tx: &mut Transaction<'_, S>,
     alloc: Global,

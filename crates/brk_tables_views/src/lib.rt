@@ -1,5 +1,5 @@
 //! The SQL statements that only views execute, one function for each: trades of any status by
-//! stamp, the completed trades of a holding, lot changes, brokers by name, and the requests and
+//! stamp, the completed trades of a holding, lot changes, brokers by name, all requests, and the
 //! accounts of a broker.
 //!
 //! Each function is called within an open transaction. An error of the `sqlite` crate and a

@@ -17,9 +17,9 @@ use brk_tables_schema::values::{id_as_parameter, stamp_as_parameter, text_as_par
 use sqlite::{Alter, Transaction};
 use std::alloc::Global;
 
-/// Returns the first trades of an account, at most twenty, whose last status change has a stamp
-/// from `first` to `last`, both included, the oldest first. Changes nothing. Fails with `Memory` or
-/// `Store`.
+/// Of the trades of an account whose last status change has a stamp from `first` to `last`, both
+/// included, returns the twenty oldest, or all if there are fewer, sorted by this stamp and then by
+/// id, ascending. Changes nothing. Fails with `Memory` or `Store`.
 pub fn first_twenty_trades_of_account<S: Alter>(
     tx: &mut Transaction<'_, S>,
     alloc: Global,
@@ -44,9 +44,9 @@ pub fn first_twenty_trades_of_account<S: Alter>(
     decode_rows(alloc, &rows)
 }
 
-/// Returns the first trades in a security, at most twenty, whose last status change has a stamp
-/// from `first` to `last`, both included, the oldest first. Changes nothing. Fails with `Memory` or
-/// `Store`.
+/// Of the trades in a security whose last status change has a stamp from `first` to `last`, both
+/// included, returns the twenty oldest, or all if there are fewer, sorted by this stamp and then by
+/// id, ascending. Changes nothing. Fails with `Memory` or `Store`.
 pub fn first_twenty_trades_of_symbol<S: Alter>(
     tx: &mut Transaction<'_, S>,
     alloc: Global,
@@ -71,8 +71,9 @@ pub fn first_twenty_trades_of_symbol<S: Alter>(
     decode_rows(alloc, &rows)
 }
 
-/// Returns the oldest trade of an account whose last status change has a stamp of at least `first`,
-/// or `None` if there is none. Changes nothing. Fails with `Store` only.
+/// Of the trades of an account whose last status change has a stamp of at least `first`, returns
+/// the oldest, and of several with this stamp the one with the least id, or `None` if there is
+/// none. Changes nothing. Fails with `Store` only.
 pub fn first_trade_of_account_from_stamp<S: Alter>(
     tx: &mut Transaction<'_, S>,
     account: Id,

@@ -17,7 +17,8 @@ pub trait Visitor<R, E> {
     /// visitor after it.
     ghost stops: { Self → R → E → Self → Type 0 };
 
-    /// Takes a record, or returns the error with which it stops the walk.
+    /// Passes a record to the visitor. Returns `Ok` if the visitor takes the record, and otherwise
+    /// the error with which the visitor stops the walk.
     fn visit(&mut self, item: &R) -> Result<(), E>
         requires ready { ready self.old }
         ensures ready { ready self.new }

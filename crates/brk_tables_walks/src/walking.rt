@@ -35,9 +35,9 @@ fn decode_record<R: Record>(row: &Row) -> Result<R, Fault>
 }
 
 /// Passes the records in the rows of the query `sql` with the parameters `params` to the visitor,
-/// in the order of its result, until all are passed or an error occurs. Fails with `Failed` and the
-/// fault `Memory` or `Store`, `Store` also if a row is malformed, or with `Cause` and the visitor's
-/// error.
+/// in the order of the query's result, until all are passed or an error occurs. Fails with `Failed`
+/// and the fault `Memory` or `Store` (`Store` also if a row is malformed), or with `Cause` and the
+/// visitor's error.
 pub fn walk_query_rows<S: Alter, R: Record, E, V: Visitor<R, E>>(
     conn: &mut Connection<S>,
     sql: &str,
@@ -48,11 +48,11 @@ pub fn walk_query_rows<S: Alter, R: Record, E, V: Visitor<R, E>>(
     requires ready { V.ready visitor.old }
     ensures ready { V.ready visitor.new }
     ensures leads { V.leads visitor.old visitor.new }
-    // If it returns `Ok`, the visitor took all records of the result, in order.
+    // If the walk returns `Ok`, the visitor took all records of the result, in order.
     ensures all { HasCleanDisk (state S.Store conn.new)
         → OnOk result (TakesAllRecords R.cells V.takes sql.now (bound params.now) (state S.Store conn.old) visitor.old visitor.new) }
-    // At its own error, the visitor took the records before the one at which it stopped. At a fault
-    // it took a prefix of the records, possibly none.
+    // At the visitor's error, the visitor took the records before the one at which it stopped. At a
+    // fault it took a prefix of the records, possibly none.
     ensures early { HasCleanDisk (state S.Store conn.new)
         → IfErr result (WalkEndsEarly R.cells V.takes V.stops sql.now (bound params.now) (state S.Store conn.old) visitor.old visitor.new) }
     // The error is `Memory` or `Store`, or that of the visitor, whether or not the disk assumption

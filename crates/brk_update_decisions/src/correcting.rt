@@ -20,8 +20,9 @@ use sqlite::Alter;
 use std::alloc::Global;
 
 // Returns the trades that the update selects, with their texts, or `None` if a trade, account or
-// security that it names does not exist. Changes nothing. Fails with `Memory` or `Store` only; with
-// `Store` also if a completed trade has no settlement, or a completed cash trade no cash row.
+// security that the update names does not exist. Changes nothing. Fails with `Memory` or `Store`
+// only; with `Store` also if a selected trade has no settlement, in an update of cash types, or no
+// cash row, in an update of cash names.
 fn read_trades_of_update<S: Alter>(
     alloc: Global,
     store: &mut Store<S>,
@@ -44,8 +45,8 @@ fn read_trades_of_update<S: Alter>(
 /// Decides on a text update at the clock reading `now` (Trade-Update): returns its plan, or the
 /// refusal. Changes nothing.
 ///
-/// Fails with `Memory` or `Store` only; with `Store` also if a completed trade has no settlement,
-/// or a completed cash trade no cash row.
+/// Fails with `Memory` or `Store` only; with `Store` also if a selected trade has no settlement, in
+/// an update of cash types, or no cash row, in an update of cash names.
 pub fn decide_update<S: Alter>(
     alloc: Global,
     store: &mut Store<S>,

@@ -20,8 +20,8 @@ use sqlite::Alter;
 use std::alloc::Global;
 
 // Returns the trades of an account that an update of cash types selects, the first twenty that were
-// completed in the span, each with the cash type of its settlement. Changes nothing. Fails with
-// `Memory` or `Store` only; with `Store` also if one of them has no settlement.
+// completed in the span, the oldest first, each with the cash type of its settlement. Changes
+// nothing. Fails with `Memory` or `Store` only; with `Store` also if one of them has no settlement.
 fn read_trades_with_cash_types<S: Alter>(
     alloc: Global,
     store: &mut Store<S>,
@@ -46,8 +46,8 @@ fn read_trades_with_cash_types<S: Alter>(
 }
 
 // Returns the cash trades of a symbol that an update of cash names selects, the first twenty that
-// were completed in the span, each with the name of its cash row. Changes nothing. Fails with
-// `Memory` or `Store` only; with `Store` also if one of them has no cash row.
+// were completed in the span, the oldest first, each with the name of its cash row. Changes
+// nothing. Fails with `Memory` or `Store` only; with `Store` also if one of them has no cash row.
 fn read_cash_trades_with_names<S: Alter>(
     alloc: Global,
     store: &mut Store<S>,
@@ -72,8 +72,8 @@ fn read_cash_trades_with_names<S: Alter>(
     Ok(paid)
 }
 
-// Returns the trades with these ids, for an update of the names of their executors, or `None` if
-// one of them does not exist. Changes nothing. Fails with `Memory` or `Store` only.
+// Returns the trades with the ids `trades`, for an update of the names of their executors, or
+// `None` if one of them does not exist. Changes nothing. Fails with `Memory` or `Store` only.
 pub(crate) fn read_trades_of_executor_update<S: Alter>(
     alloc: Global,
     store: &mut Store<S>,

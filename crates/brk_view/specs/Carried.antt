@@ -14,13 +14,13 @@ use Rattle.brk_view.specs.Status.{rows_of_trade_status, trade_row_with_security}
 use Rattle.brk_view.specs.declared.view.View.{View}
 use Rattle.brk_view.specs.declared.view.View.TheVariants as view
 
--- The first twenty trades of the tables `t` that pass `test`, the oldest first, each with its
--- settlement, its cash row and its statuses.
+-- The first twenty trades of the tables `t` that pass `test`, sorted by stamp, then by id,
+-- ascending, each with its settlements, its cash rows and its statuses.
 abbrev pub first_twenty_trades_with_rows : Tables → (TradeRow → Bool) → List LookedUpRows
 first_twenty_trades_with_rows t test = map (table_rows_of_trade t) (take 20 (trade_rows_oldest_first (filter test t.trades)))
 
--- The last fifty trades of `account` in the tables `t`, the most recent first, each with its
--- security.
+-- The last fifty trades of `account` in the tables `t`, sorted by stamp, then by id, descending,
+-- each with its security.
 abbrev pub last_fifty_trades_with_security : Tables → ℕ → List (TradeRow × Option SecurityRow)
 last_fifty_trades_with_security t account = map (trade_row_with_security t) (take 50 (trade_rows_recent_first (trade_rows_of_account t account)))
 

@@ -34,8 +34,8 @@ status_of_typed_history_row r = record { stamp = r.stamp; status = r.status }
 abbrev pub history_status_record : StatusMoment → List Text
 history_status_record m = codes "history" ∷ decimal m.stamp ∷ trade_status_code m.status ∷ []
 
--- The first five of the fifteen fields of the trade `t`: the word `trade`, its id, stamp, status
--- and type.
+-- The first five of the fifteen fields of the trade `t`: the word `trade`, its id, its stamp, and
+-- the codes of its status and type.
 abbrev pub first_five_trade_fields : tables.TradeRow → List Text
 first_five_trade_fields t = codes "trade" ∷ decimal t.id ∷ decimal t.stamp ∷ trade_status_code t.status ∷ trade_type_code t.kind ∷ []
 
@@ -43,8 +43,8 @@ first_five_trade_fields t = codes "trade" ∷ decimal t.id ∷ decimal t.stamp �
 abbrev pub order_fields_of_trade : tables.TradeRow → List Text
 order_fields_of_trade t = t.symbol ∷ decimal t.qty ∷ nonnegative_cents_text t.bid ∷ t.executor ∷ []
 
--- The fields 10 to 13 of the trade `t`: its price, which is empty if it is not completed, charge,
--- commission and tax.
+-- The fields 10 to 13 of the trade `t`: its price, which is empty if the trade has none, its
+-- charge, commission and tax.
 abbrev pub price_and_cost_fields : tables.TradeRow → List Text
 price_and_cost_fields t =
     option_map_or nonnegative_cents_text t.price [] ∷ nonnegative_cents_text t.charge ∷ nonnegative_cents_text t.commission ∷ nonnegative_cents_text t.tax ∷ []
@@ -53,8 +53,8 @@ price_and_cost_fields t =
 abbrev pub cash_and_lot_end_fields : tables.TradeRow → List Text
 cash_and_lot_end_fields t = cash_or_margin_word t.is_cash ∷ lifo_or_fifo_word t.is_lifo ∷ []
 
--- The records of the looked-up trade `l`: one of the trade, one of its settlement and one of its
--- cash row, if any, and one of each of its statuses.
+-- The records of the looked-up trade `l`: one for the trade, one for its settlement and one for its
+-- cash row, if they exist, and one for each of its statuses.
 abbrev pub records_of_looked_up_trade : LookedUp → View
 records_of_looked_up_trade l =
     model.trade_record (abstract_trade_row l.trade)
@@ -93,8 +93,9 @@ table_rows_of_trade t row = record {
   history = map status_of_history_row (sort_by (λ a b. nat_lt a.stamp b.stamp) (history_rows_with_trade_id t row.id));
 }
 
--- `settlement` and `cash` are all SETTLEMENT and all CASH_MOVE rows that the tables `t` have of
--- `trade`, and `history` are its TRADE_HISTORY rows.
+-- `settlement`, `cash` and `history` are exactly the SETTLEMENT, the CASH_MOVE and the
+-- TRADE_HISTORY rows of `trade` in the tables `t`. So `trade` has at most one settlement and at
+-- most one cash row.
 pub record AreRowsOfTrade (t : Tables) (trade : TradeRow) (settlement : Option SettlementRow) (cash : Option MoveRow) (history : List HistoryRow) : Type 0 where
   pub settlement_rows : option_to_list (option_map abstract_settlement_row settlement) ≡ filter (λ s. s.trade == trade.id) t.settlements
   pub cash_rows : option_to_list (option_map abstract_move_row cash) ≡ filter (model.is_cash_row_of_trade trade.id) t.moves

@@ -19,8 +19,8 @@ is_earlier_lot_change a b = is_pair_less a.stamp b.stamp a.change.lot b.change.l
 abbrev pub lot_change_record : LotTouch → List Text
 lot_change_record touch = decimal touch.change.lot ∷ decimal touch.change.trade ∷ signed_decimal touch.change.before ∷ signed_decimal touch.change.after ∷ []
 
--- The records of a trade's touched lots: one with its id, then one for each change. There is no
--- record if there is no trade.
+-- The records of the touched lots of a trade: one with the id of the trade, then one for each lot
+-- change. There is no record for `None`.
 abbrev pub touched_lot_records : Option TouchedLots → model.View
 touched_lot_records None = []
 touched_lot_records (Some lots) = (decimal lots.trade ∷ []) ∷ map lot_change_record lots.changes.items
@@ -42,8 +42,8 @@ abbrev pub first_trade_since_stamp : Tables → ℕ → ℕ → List TradeRow
 first_trade_since_stamp t account first = take 1 (trade_rows_oldest_first (filter (λ row. nat_le first row.stamp) (trade_rows_of_account t account)))
 
 -- `lots` has the oldest trade of `account` with a stamp of at least `first`, and the first twenty
--- changes of the lots that it touched, sorted by stamp, then by lot, in the tables `t`. It is none
--- exactly if there is no such trade.
+-- changes of the lots that it touched, sorted by stamp, then by lot, in the tables `t`. `lots` is
+-- `None` if and only if there is no such trade.
 pub record AreTouchedLots (t : Tables) (account first : ℕ) (lots : Option TouchedLots) : Type 0 where
   pub found : map (λ row. row.id) (first_trade_since_stamp t account first) ≡ option_to_list (option_map (λ l. l.trade) lots)
   pub changes : IfSome lots (λ l. l.changes.items ≡ take 20 (sort_by is_earlier_lot_change (changes_of_touched_lots t l.trade)))

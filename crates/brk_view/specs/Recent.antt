@@ -22,6 +22,7 @@ recent_trade_record t = codes "trade" ∷ decimal t.id ∷ t.symbol ∷ decimal 
 abbrev pub recent_status_record : HistoryRow → List Text
 recent_status_record h = codes "history" ∷ decimal h.trade ∷ trade_status_name h.status ∷ decimal h.stamp ∷ []
 
--- The records of `r`: one of each of its trades, followed by one of each of their statuses.
+-- The records of the last trades `r` of an account: one for each trade, followed by one for each
+-- status of these trades.
 abbrev pub records_of_activity : Activity → model.View
 records_of_activity r = map recent_trade_record (map abstract_trade_row r.trades.items) ++ map recent_status_record r.history.items

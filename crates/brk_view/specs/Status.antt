@@ -18,7 +18,8 @@ use Rattle.brk_view.specs.declared.statuses.TradeStatus.{TradeStatus}
 abbrev pub party_names_record : AccountStatus → List Text
 party_names_record a = a.last_name ∷ a.first_name ∷ a.broker ∷ []
 
--- The first five of the ten fields of the trade `t`: its id, stamp, status, type and symbol.
+-- The first five of the ten fields of the trade `t`: its id, its stamp, the names of its status and
+-- type, and its symbol.
 abbrev pub first_five_status_fields : TradeRow → List Text
 first_five_status_fields t = decimal t.id ∷ decimal t.stamp ∷ trade_status_name t.status ∷ trade_type_name t.kind ∷ t.symbol ∷ []
 
@@ -28,8 +29,9 @@ abbrev pub last_five_status_fields : TradeStatus → List Text
 last_five_status_fields s =
     decimal s.trade.qty ∷ string_bytes s.trade.executor ∷ nonnegative_cents_text s.trade.charge ∷ s.security.name ∷ s.security.exchange ∷ []
 
--- The record of a trade with its security, in ten fields: the id, stamp, status, type, symbol,
--- quantity, executor and charge of the trade, and the name and the exchange of its security.
+-- The record of a trade with its security, in ten fields: the id, the stamp, the names of the
+-- status and type, the symbol, quantity, executor and charge of the trade, and the name and the
+-- exchange of its security.
 abbrev pub trade_status_record : TradeStatus → List Text
 trade_status_record s = first_five_status_fields s.trade ++ last_five_status_fields s
 
@@ -42,7 +44,7 @@ rows_of_trade_status s = (abstract_trade_row s.trade, Some (abstract_security_ro
 abbrev pub trade_row_with_security : Tables → tables.TradeRow → tables.TradeRow × Option SecurityRow
 trade_row_with_security t row = (row, security_row_with_symbol t row.symbol)
 
--- The records of the account `a`: one of the names of its customer and its broker, followed by one
--- of each of its trades.
+-- The records of the account status `a`: one with the names of the account's customer and broker,
+-- followed by one for each trade in `a`, in its order (the account's last trades, not all).
 abbrev pub records_of_account_status : AccountStatus → model.View
 records_of_account_status a = party_names_record a ∷ map trade_status_record a.trades.items

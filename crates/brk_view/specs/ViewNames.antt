@@ -5,7 +5,7 @@ use Rattle.brk_model.specs.Ask.{view_parsers}
 use Rattle.brk_view.specs.declared.view_name.ViewName.{ViewName}
 use Rattle.brk_view.specs.declared.view_name.ViewName.TheVariants.{Submitted, Estimate, Customer, TaxId, Recent, Status, Trades, AccountTrades, SymbolTrades, Lots, Volume}
 
--- The text of the name of a view.
+-- The text of a view name, such as `accounttrades` for `AccountTrades`.
 abbrev pub text_of_view_name : ViewName → Text
 text_of_view_name Submitted = codes "submitted"
 text_of_view_name Estimate = codes "estimate"
@@ -19,6 +19,6 @@ text_of_view_name SymbolTrades = codes "symboltrades"
 text_of_view_name Lots = codes "lots"
 text_of_view_name Volume = codes "volume"
 
--- The texts of the names of the model's views.
+-- The texts of the names of all views of the model, in the sequence of `view_parsers`.
 abbrev pub texts_of_view_names : List Text
 texts_of_view_names = map (λ parser. parser.0) view_parsers

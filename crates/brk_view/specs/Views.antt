@@ -53,6 +53,6 @@ records_of_view (view.Estimate estimate) = estimate_record estimate ∷ []
 abbrev pub texts_of_record : Vec (String Global) → List Text
 texts_of_record texts = map string_bytes texts.items
 
--- The bytes of the strings of each of `records`.
+-- For each record of `records`, in sequence, the bytes of its strings.
 abbrev pub texts_of_records : Vec (Vec (String Global)) → model.View
 texts_of_records records = map texts_of_record records.items

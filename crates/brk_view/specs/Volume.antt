@@ -25,7 +25,7 @@ abbrev pub request_value_at_bid : RequestRow → ℕ
 request_value_at_bid r = r.qty * r.bid
 
 -- The broker `b` with its volume in `sector`, in cents: the value at bid prices of its pending
--- requests in that sector.
+-- requests in this sector in the tables `t`.
 abbrev pub volume_of_broker_in_sector : Tables → Text → BrokerRow → BrokerVolume
 volume_of_broker_in_sector t sector b = record { broker = b.id; name = b.name; volume = pos (sector_volume_of_broker t sector b.id) }
 

@@ -32,8 +32,8 @@ impl BrokerNames {
     /// The greatest number of names.
     pub const MOST: usize = 20;
 
-    // Creates the list of these names, which must be different. Refuses with `BadText` (18) if
-    // there are none, and with `TooMany` (20) if there are more than 20. Never allocates.
+    // Creates the list of the names `names`, which must be different. Refuses with `BadText` (18)
+    // if there are none, and with `TooMany` (20) if there are more than 20. Never allocates.
     fn from_distinct_names(names: Vec<Name>) -> Result<BrokerNames, Refusal>
         requires { distinct_texts names.items ≡ names.items }
         ensures { ParsesAs (λ told. told) result (one_to_twenty_elements names.items) }

@@ -13,8 +13,9 @@ ghost use Rattle.brk_model.specs.Tables.{Tables};
 ghost use Rattle.brk_view.specs.Views.{records_of_view, has_submitted_status, record_of_submitted_row};
 ghost use Rattle.brk_view.specs.declared.view.View.TheVariants as views;
 
-/// Proves that the records of those TRADE rows that are submitted equal the view of the submitted
-/// trades, if the rows are sorted by id, ascending.
+/// Proves that the records of the submitted TRADE rows equal the view of the submitted trades: of
+/// tables whose rows are sorted by id, ascending (`sorted`), and of any tables after they are
+/// sorted by key (`stored`).
 pub fn submitted_rows_are_the_view()
     // For tables whose TRADE rows are sorted by id, ascending.
     ensures sorted { (t : Tables) → is_sorted_by_unique_key trade_key t.trades ≡ true

@@ -17,8 +17,9 @@ pub struct NamedTrades {
 }
 
 impl NamedTrades {
-    /// Creates the list of these ids. Refuses with `BadText` (18) if an id occurs twice or there
-    /// are none, and otherwise with `TooMany` (20) if there are more than 20. Never allocates.
+    /// Creates the list of the ids `ids`. Refuses with `BadText` (18) if an id occurs twice or
+    /// there are none, and otherwise with `TooMany` (20) if there are more than 20. Never
+    /// allocates.
     pub fn new(ids: Vec<Id>) -> Result<NamedTrades, Refusal>
         ensures { ParsesAs (λ named. named.trades) result (one_to_twenty_distinct_ids ids.items) }
     {

@@ -34,8 +34,8 @@ fn parse_submitted_trades_query(arguments: &[&[u8]]) -> Result<Query, Refusal>
 }
 
 // Parses the query of an order's estimate, whose arguments are the ten fields of the order. Refuses
-// malformed arguments, or a wrong number of them, with `BadText`, `BadQty`, `BadPrice` or
-// `BadType`. Fails with `Memory` only.
+// a wrong number of arguments with `BadText`, and malformed ones with the first that applies of
+// `BadText`, `BadQty`, `BadPrice` and `BadType`. Fails with `Memory` only.
 fn parse_estimate_query(alloc: Global, arguments: &[&[u8]]) -> Planned<Query>
     ensures read { IfOk result (λ read. ParsesAs abstract_query read (read_and_wrap EstimateOf read_order (texts_of_fields arguments.now))) }
     ensures fault { OnErr result (result ≡ Err Memory) }
@@ -54,8 +54,9 @@ fn parse_estimate_query(alloc: Global, arguments: &[&[u8]]) -> Planned<Query>
 /// `SymbolTrades` a symbol and two stamps, `Lots` an account and a stamp. `Volume` has a sector and
 /// 1 to 20 broker names, each counted once.
 ///
-/// Refuses a wrong number of arguments or a malformed argument with `BadText` (18), and more than
-/// 20 ids or names with `TooMany` (20) if the arguments are otherwise well-formed.
+/// Refuses a wrong number of arguments, a malformed argument or a repeated trade id with `BadText`
+/// (18), and more than 20 ids or names with `TooMany` (20) if the arguments are otherwise
+/// well-formed.
 #[tactic(auto, unfolding(brk_model::specs::Ask::parse_query))]
 pub fn parse_query_of_view(alloc: Global, view: ViewName, arguments: &[&[u8]]) -> Planned<Query>
     ensures read { IfOk result (λ read. ParsesAs abstract_query read (model.parse_query (text_of_view_name view) (texts_of_fields arguments.now))) }

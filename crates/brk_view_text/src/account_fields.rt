@@ -104,8 +104,8 @@ fn append_recent_status_records(
     Ok(())
 }
 
-// Returns the records of the last trades of an account, then those of their statuses. Fails with
-// `Memory` only.
+// Returns a record for each of the last trades of an account, followed by one for each status of
+// these trades. Fails with `Memory` only.
 pub(crate) fn activity_records(alloc: Global, recent: &Activity) -> Result<Vec<Vec<String>>, Fault>
     ensures records { IfOk result (λ records. texts_of_records records ≡ recents.records_of_activity recent.now) }
     ensures fault { OnErr result (result ≡ Err Memory) }
@@ -129,7 +129,7 @@ fn party_name_texts(alloc: Global, account: &AccountStatus) -> Result<Vec<String
 }
 
 // Returns the first five of the ten fields of a trade in the view of an account's status: its id,
-// stamp, status, type and symbol. Fails with `Memory` only.
+// its stamp, the names of its status and type, and its symbol. Fails with `Memory` only.
 fn first_five_status_texts(alloc: Global, trade: &TradeRow) -> Result<Vec<String>, Fault>
     ensures texts { IfOk result (λ texts. texts_of_record texts ≡ statuses.first_five_status_fields trade.now) }
     ensures fault { OnErr result (result ≡ Err Memory) }
@@ -191,8 +191,8 @@ fn append_trade_status_records(
     Ok(())
 }
 
-// Returns the record of the names of an account's customer and broker, followed by one of each of
-// its trades. Fails with `Memory` only.
+// Returns the record of the names of an account's customer and broker, followed by one record for
+// each trade in `account`. Fails with `Memory` only.
 pub(crate) fn account_status_records(
     alloc: Global,
     account: &AccountStatus,

@@ -15,8 +15,8 @@ use brk_money::{Fault, Wide};
 use brk_view::lookups::{LookedUp, StatusMoment};
 use std::alloc::Global;
 
-// Returns the first five of the fifteen fields of a trade: the word `trade`, its id, stamp, status
-// and type. Fails with `Memory` only.
+// Returns the first five of the fifteen fields of a trade: the word `trade`, its id, its stamp, and
+// the codes of its status and type. Fails with `Memory` only.
 fn first_five_trade_texts(alloc: Global, trade: &TradeRow) -> Result<Vec<String>, Fault>
     ensures texts { IfOk result (λ texts. texts_of_record texts ≡ first_five_trade_fields (abstract_trade_row trade.now)) }
     ensures fault { OnErr result (result ≡ Err Memory) }
@@ -44,7 +44,7 @@ fn append_order_texts(alloc: Global, texts: &mut Vec<String>, trade: &TradeRow) 
 }
 
 // Appends to `texts` the fields 10 to 13 of the fifteen fields of a trade: its price, which is
-// empty if it is not completed, charge, commission and tax. Fails with `Memory` only.
+// empty if the trade has none, its charge, commission and tax. Fails with `Memory` only.
 fn append_price_and_cost_texts(
     alloc: Global,
     texts: &mut Vec<String>,
@@ -118,8 +118,8 @@ fn cash_row_texts(alloc: Global, row: &MoveRow) -> Result<Vec<String>, Fault>
     Ok(texts)
 }
 
-// Returns the record of a status of a trade: the word `history`, its stamp and its code. Fails with
-// `Memory` only.
+// Returns the record of a status of a trade: the word `history`, the stamp of the status and its
+// code. Fails with `Memory` only.
 fn history_status_texts(alloc: Global, moment: StatusMoment) -> Result<Vec<String>, Fault>
     ensures texts { IfOk result (λ texts. texts_of_record texts ≡ history_status_record moment) }
     ensures fault { OnErr result (result ≡ Err Memory) }
@@ -131,8 +131,8 @@ fn history_status_texts(alloc: Global, moment: StatusMoment) -> Result<Vec<Strin
     Ok(texts)
 }
 
-// Appends to `records` the record of the settlement, or nothing if `row` is `None`. Fails with
-// `Memory` only.
+// Appends to `records` the record of the settlement `row`, or nothing if `row` is `None`. Fails
+// with `Memory` only.
 fn append_settlement_record(
     alloc: Global,
     records: &mut Vec<Vec<String>>,
@@ -149,7 +149,7 @@ fn append_settlement_record(
     Ok(())
 }
 
-// Appends to `records` the record of the cash row, or nothing if `row` is `None`. Fails with
+// Appends to `records` the record of the cash row `row`, or nothing if `row` is `None`. Fails with
 // `Memory` only.
 fn append_cash_record(
     alloc: Global,
@@ -183,7 +183,8 @@ fn append_history_records(
     Ok(())
 }
 
-// Appends to `records` the record of the trade itself, in fifteen fields. Fails with `Memory` only.
+// Appends to `records` the record of a trade, in fifteen fields (`looked_up_trade_texts`). Fails
+// with `Memory` only.
 fn append_trade_record(
     alloc: Global,
     records: &mut Vec<Vec<String>>,
@@ -197,8 +198,9 @@ fn append_trade_record(
     Ok(())
 }
 
-// Appends to `records` the records of a looked-up trade: of the trade, its settlement and its cash
-// row, if any, and its statuses. Fails with `Memory` only.
+// Appends to `records` the records of a looked-up trade: one for the trade, one for its settlement
+// and one for its cash row, if they exist, and one for each of its statuses. Fails with `Memory`
+// only.
 fn append_looked_up_records(
     alloc: Global,
     records: &mut Vec<Vec<String>>,
@@ -214,8 +216,9 @@ fn append_looked_up_records(
     Ok(())
 }
 
-// Returns the records of looked-up trades, trade by trade: of the trade, its settlement and its
-// cash row, if any, and its statuses. Fails with `Memory` only.
+// Returns the records of looked-up trades, in sequence. The records of a trade are one for the
+// trade, one for its settlement and one for its cash row, if they exist, and one for each of its
+// statuses. Fails with `Memory` only.
 pub(crate) fn looked_up_trade_records(
     alloc: Global,
     trades: &[LookedUp],

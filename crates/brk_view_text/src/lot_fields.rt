@@ -11,8 +11,8 @@ use brk_money::Fault;
 use brk_view::lots::{LotTouch, TouchedLots};
 use std::alloc::Global;
 
-// Returns the text of a number of shares in decimal digits, with a minus sign if they were sold
-// short. Fails with `Memory` only.
+// Returns the text of a number of shares in decimal digits, with a minus sign if it is below 0
+// (shares that were sold short). Fails with `Memory` only.
 fn signed_shares_text(alloc: Global, shares: i64) -> Result<String, Fault>
     ensures text { IfOk result (λ text. string_bytes text ≡ signed_decimal shares) }
     ensures fault { OnErr result (result ≡ Err Memory) }
@@ -62,8 +62,8 @@ fn touching_trade_texts(alloc: Global, lots: &TouchedLots) -> Result<Vec<String>
     Ok(texts)
 }
 
-// Returns the record of the trade that touched the lots, followed by one of each lot change, or no
-// record if `lots` is `None`. Fails with `Memory` only.
+// Returns the record of the trade that touched the lots, followed by one record for each lot
+// change, or no record if `lots` is `None`. Fails with `Memory` only.
 pub(crate) fn records_of_touched_lots(
     alloc: Global,
     lots: &Option<TouchedLots>,

@@ -113,10 +113,10 @@ pub fn open_desk_in_files(
     create_or_adopt_desk(alloc, conn).ok()
 }
 
-/// Creates or adopts a desk in the database of a connection, executes a batch on it, as far as
-/// possible, and audits it. Records the tables before and after it, the lines and the result of the
-/// audit in `seen`, and returns the connection. Executes nothing if the desk is neither created nor
-/// adopted.
+/// Reads the tables in the database of a connection, creates or adopts a desk there, executes a
+/// batch on the desk, as far as possible, and audits the desk. Records in `seen` the tables before
+/// the creation or adoption and after the batch, the lines, and the result of the audit, and returns
+/// the connection. Executes nothing if the desk is neither created nor adopted.
 pub fn run_batch_on_connection<S: Alter + Drop>(
     alloc: Global,
     mut conn: Connection<S>,
