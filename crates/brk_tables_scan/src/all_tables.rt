@@ -6,7 +6,8 @@ ghost use Rattle.brk_model.specs.Run.{IsCallFault};
 ghost use Rattle.brk_changes.specs.Schemas.{abstract_schema};
 ghost use Rattle.brk_sql.specs.Model.{IsConnectionStep};
 ghost use Rattle.brk_tables_scan.specs.Decoded.{ReadsDeskAndCustomerTables, ReadsAccountAndSecurityTables, ReadsChargeAndRateTables};
-ghost use Rattle.brk_tables_scan.specs.Decoded.{ReadsTradeAndHoldingTables, ReadsSummaryAndSettlementTables, ReadsLaterSchemaTables, ReadsAndDecodesDeskTables};
+ghost use Rattle.brk_tables_scan.specs.Decoded.{ReadsTradeAndHoldingTables, ReadsSummaryAndSettlementTables, ReadsLaterSchemaTables};
+ghost use Rattle.brk_tables_scan.specs.Decoded.{ReadsAndDecodesDeskTables};
 
 use crate::decoder::Decoder;
 use crate::rows::{
