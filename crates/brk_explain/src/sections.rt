@@ -1,32 +1,21 @@
 //! The parts of the explanations of an account and of a broker over which the desk walks. None of
 //! them changes the desk.
 
-ghost use Rattle.std.specs.Prelude.{◌≡◌, length};
+ghost use Rattle.std.specs.Prelude.{length};
 ghost use Rattle.brk_explain.specs.Sections.{WritesCountedLines, account_cash_lines, broker_trade_lines, account_lot_lines};
 ghost use Rattle.brk_explain_model.specs.AccountLines.{account_cash_rows_by_stamp};
 ghost use Rattle.brk_explain_model.specs.BrokerLines.{completed_trades_of_broker};
 ghost use Rattle.brk_model.specs.Statement.{holding_rows_of_account};
 ghost use Rattle.brk_report.specs.Stated.{PreservesDesk, HoldsForStoredTables};
-ghost use Rattle.brk_report.specs.WalkFaults.{fault_of_walk_error};
 
 use crate::visitors::{CashPostingWriter, OpenLotWriter, TradeCommissionWriter};
-use brk_desk::{Desk, WalkError};
+use brk_desk::Desk;
 use brk_money::{Cents, Id, Stamp, Wide};
+use brk_report::fault_from_walk_error;
 use brk_report_lines::LinesFault;
 use sqlite::Alter;
 use std::alloc::Global;
 use std::io::Write;
-
-// Returns the fault with which writing lines fails if its walk failed: the walk's own fault as
-// `Desk`, or the fault with which the visitor stopped the walk.
-fn fault_from_walk_error(stop: WalkError<LinesFault>) -> LinesFault
-    ensures { result ≡ fault_of_walk_error stop }
-{
-    match stop {
-        WalkError::Failed(fault) => LinesFault::Desk(fault),
-        WalkError::Cause(fault) => fault,
-    }
-}
 
 /// Writes a line for each cash row of an account, sorted by stamp, with the balance after it, which
 /// starts from the balance `opening`, in cents. Returns the number of cash rows. Fails with `Desk`
