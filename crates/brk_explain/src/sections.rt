@@ -1,12 +1,12 @@
 //! The parts of the explanations of an account and of a broker over which the desk walks. None of
 //! them changes the desk.
 
-ghost use Rattle.std.specs.Prelude.{length};
+ghost use Rattle.std.specs.Prelude.{IfErr, length};
 ghost use Rattle.brk_explain.specs.Sections.{WritesCountedLines, account_cash_lines, broker_trade_lines, account_lot_lines};
 ghost use Rattle.brk_explain_model.specs.AccountLines.{account_cash_rows_by_stamp};
 ghost use Rattle.brk_explain_model.specs.BrokerLines.{completed_trades_of_broker};
 ghost use Rattle.brk_model.specs.Statement.{holding_rows_of_account};
-ghost use Rattle.brk_report.specs.Stated.{PreservesDesk, HoldsForStoredTables};
+ghost use Rattle.brk_report.specs.Stated.{PreservesDesk, IsMemoryStoreOrWriteFault, HoldsForStoredTables};
 
 use crate::visitors::{CashPostingWriter, OpenLotWriter, TradeCommissionWriter};
 use brk_desk::Desk;
@@ -29,6 +29,7 @@ pub(crate) fn write_cash_posting_lines<W: Write, S: Alter>(
     writer: &mut W,
 ) -> Result<u64, LinesFault>
     ensures keeps { PreservesDesk S.Store desk.old desk.new }
+    ensures fault { IfErr result IsMemoryStoreOrWriteFault }
     ensures written { HoldsForStoredTables S.Store desk.old desk.new
         (λ t. WritesCountedLines (account_cash_lines t account opening) (length (account_cash_rows_by_stamp t account))
         (W.contents writer.old) (W.contents writer.new) result) }
@@ -56,6 +57,7 @@ pub(crate) fn write_open_lot_lines<W: Write, S: Alter>(
     writer: &mut W,
 ) -> Result<u64, LinesFault>
     ensures keeps { PreservesDesk S.Store desk.old desk.new }
+    ensures fault { IfErr result IsMemoryStoreOrWriteFault }
     ensures written { HoldsForStoredTables S.Store desk.old desk.new
         (λ t. WritesCountedLines (account_lot_lines t account) (length (holding_rows_of_account t account))
         (W.contents writer.old) (W.contents writer.new) result) }
@@ -82,6 +84,7 @@ pub(crate) fn write_trade_commission_lines<W: Write, S: Alter>(
     writer: &mut W,
 ) -> Result<u64, LinesFault>
     ensures keeps { PreservesDesk S.Store desk.old desk.new }
+    ensures fault { IfErr result IsMemoryStoreOrWriteFault }
     ensures written { HoldsForStoredTables S.Store desk.old desk.new
         (λ t. WritesCountedLines (broker_trade_lines t broker) (length (completed_trades_of_broker t broker))
         (W.contents writer.old) (W.contents writer.new) result) }
