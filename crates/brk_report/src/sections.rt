@@ -14,9 +14,9 @@ use sqlite::Alter;
 use std::alloc::Global;
 use std::io::Write;
 
-// Converts the error of a failed walk into a fault of writing lines: returns the fault of the desk,
-// or the fault with which the visitor stopped the walk.
-fn fault_from_walk_error(stop: WalkError<LinesFault>) -> LinesFault
+/// Converts the error of a failed walk into a fault of writing lines: returns the fault of the desk,
+/// or the fault with which the visitor stopped the walk.
+pub fn fault_from_walk_error(stop: WalkError<LinesFault>) -> LinesFault
     ensures { result ≡ fault_of_walk_error stop }
 {
     match stop {
