@@ -20,7 +20,8 @@ HasKeyOfRawRow row raw = (whole : typed.Kept) × (kept_cells (abstract_kept_row 
 -- The raw rows are, in order, the encodings of some typed rows of KEPT with the keys of `rows`.
 -- Their texts may differ.
 abbrev pub HaveKeysOfRawRows : List typed.Kept → List Row → Type 0
-HaveKeysOfRawRows rows raw = (whole : List typed.Kept) × (map (λ r. kept_cells (abstract_kept_row r)) whole ≡ raw) × (keys_of_kept_rows whole ≡ keys_of_kept_rows rows)
+HaveKeysOfRawRows rows raw =
+    (whole : List typed.Kept) × (map (λ r. kept_cells (abstract_kept_row r)) whole ≡ raw) × (keys_of_kept_rows whole ≡ keys_of_kept_rows rows)
 
 -- The tables of the typed rows `sheets`, with `whole` as the rows of KEPT.
 abbrev pub tables_with_whole_kept_rows : List typed.Kept → Sheets → Tables
