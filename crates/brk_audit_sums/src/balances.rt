@@ -46,7 +46,8 @@ fn cash_postings_of_trades(
     terms: &BTreeMap<u64, AccountTerms>,
     trades: &[TradeRow],
 ) -> Result<Vec<Posting<u64>>, Fault>
-    ensures all { IfOk result (λ all. all.items ≡ filter_map (λ r. cash_posting_of_row (account_tax_status_in_terms terms.now) (abstract_trade_row r)) trades.now) }
+    ensures all { IfOk result (λ all. all.items
+        ≡ filter_map (λ r. cash_posting_of_row (account_tax_status_in_terms terms.now) (abstract_trade_row r)) trades.now) }
     ensures fault { IfErr result (λ fault. fault ≡ Memory) }
 {
     let all = trades

@@ -45,7 +45,8 @@ fn commission_postings_of_trades(
     terms: &BTreeMap<u64, AccountTerms>,
     trades: &[TradeRow],
 ) -> Result<Vec<Posting<u64>>, Fault>
-    ensures all { IfOk result (λ all. all.items ≡ filter_map (λ r. commission_posting_of_row (account_broker_in_terms terms.now) (abstract_trade_row r)) trades.now) }
+    ensures all { IfOk result (λ all. all.items
+        ≡ filter_map (λ r. commission_posting_of_row (account_broker_in_terms terms.now) (abstract_trade_row r)) trades.now) }
     ensures fault { IfErr result (λ fault. fault ≡ Memory) }
 {
     let all = trades
