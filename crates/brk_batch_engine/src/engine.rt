@@ -106,11 +106,16 @@ fn check_end_record_and_write_end_line<W: Write>(
 // Fails with `BadHeader` if there is no record or it is no such header, with `Read` if the reader
 // fails, and with `Desk(Memory)` if memory runs out.
 fn read_batch_name<R: Read>(alloc: Global, records: &mut Reader<R>) -> Result<BatchName, FaultKind>
+    // The reader has the settings for a batch, before the call and, at `Ok`, after it.
     requires { IsBatchReader records.old }
     ensures setup { OnOk result (IsBatchReader records.new) }
+
+    // At `Ok` the name is well-formed and the reader is after the header.
     ensures named { IfOk result (λ name. IsBatchName name) }
     ensures ok { IfOk result (λ name. (text : Option (List ℕ)) → ReaderIsAfterRecords text [] (reader_state records.old) (source_of R.remaining records.old)
         → ReaderIsAfterRecords text (batch_header name ∷ []) (reader_state records.new) (source_of R.remaining records.new)) }
+
+    // At an error: why the header was not read.
     ensures err { IfErr result (λ kind. (text : Option (List ℕ)) → ReaderIsAfterRecords text [] (reader_state records.old) (source_of R.remaining records.old)
         → HeaderReadFailsWith text kind) }
 {

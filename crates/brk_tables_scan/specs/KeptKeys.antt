@@ -21,7 +21,8 @@ IsKeyOfRawRow key raw = (whole : typed.Kept) × (kept_cells (abstract_kept_row w
 -- The raw rows `raw` are, in order, the encodings of some typed rows of KEPT with the keys `keys`, in
 -- this order, and with any texts.
 abbrev pub AreKeysOfRawRows : List typed_key.Key → List Row → Type 0
-AreKeysOfRawRows keys raw = (whole : List typed.Kept) × (map (λ r. kept_cells (abstract_kept_row r)) whole ≡ raw) × (keys_of_kept_rows whole ≡ map abstract_key keys)
+AreKeysOfRawRows keys raw =
+    (whole : List typed.Kept) × (map (λ r. kept_cells (abstract_kept_row r)) whole ≡ raw) × (keys_of_kept_rows whole ≡ map abstract_key keys)
 
 -- The tables of the typed rows `sheets`, with `whole` as the rows of KEPT.
 abbrev pub tables_with_whole_kept_rows : List typed.Kept → Sheets → Tables

@@ -105,7 +105,8 @@ impl Decoder {
         alloc: Global,
         rows: Vec<Row>,
     ) -> Result<Vec<Key>, Fault>
-        ensures decoding { IfOk result (λ all. ContinuesDecoding self.old.are_well_formed self.new.are_well_formed (list_all (passes_all_cell_checks kept_column_cell_checks) rows.items) (AreKeysOfRawRows all.items rows.items)) }
+        ensures decoding { IfOk result (λ all. ContinuesDecoding self.old.are_well_formed self.new.are_well_formed
+            (list_all (passes_all_cell_checks kept_column_cell_checks) rows.items) (AreKeysOfRawRows all.items rows.items)) }
         ensures fault { OnErr result (result ≡ Err Memory) }
     {
         match decode_kept_keys(alloc, rows) {
