@@ -1067,6 +1067,10 @@ def record_type(d):
     """The type of a table's rows in code"""
     return RUST.get(d[3], d[3])
 
+def sheet_type(d):
+    """The type of the items that the sheets hold of a table: of KEPT the keys alone, since no condition of an audit reads its texts"""
+    return 'Key' if d[0] == 'kept' else record_type(d)
+
 def words_of(name):
     """The words of a type's name, in small letters, with an underscore between them"""
     return re.sub(r'(?<!^)([A-Z])', r'_\1', name).lower()
@@ -1162,7 +1166,7 @@ def read_group(word, field, tables):
     """The typed rows of a group, and the function that reads and decodes them"""
     by_schema = word in ('DeskAndCustomer', 'LaterSchema')
     schema, of_schema = ('    schema: Schema,\n', '(abstract_schema schema) ') if by_schema else ('', '')
-    types = ''.join(f'    {sheet_field(d)}: {VALUES[d[0]][0] if d[0] in VALUES else f"Vec<{record_type(d)}>"},\n' for d in tables)
+    types = ''.join(f'    {sheet_field(d)}: {VALUES[d[0]][0] if d[0] in VALUES else f"Vec<{sheet_type(d)}>"},\n' for d in tables)
     reads = ''.join(f'    let {sheet_field(d)} = {reading(d)};\n' for d in tables)
     fields = ''.join(f'        {sheet_field(d)},\n' for d in tables)
     returned = {'DeskAndCustomer': 'Returns the last stamp in DESK and the decoded rows of KEPT (with empty texts), BROKER and CUSTOMER, each list sorted by key.',
@@ -1195,7 +1199,7 @@ fn {group_function('read', word)}<S: Alter>(
 
 def all_tables_code():
     """The reads of all tables in code"""
-    types = lambda crate, *more: ', '.join(sorted([record_type(d) for d in records_of(crate)] + list(more)))
+    types = lambda crate, *more: ', '.join(sorted([sheet_type(d) for d in records_of(crate)] + list(more)))
     reads = sorted(f'{rows_name(d)}_in_schema' if d[0] in LATER else rows_name(d) for d in DATA)
     out = f"""//! The reads of all tables: each table is read and decoded, and its raw rows are dropped, before
 //! the next is read.
@@ -1204,7 +1208,7 @@ ghost use Rattle.std.specs.Prelude.{{◌≡◌, IfErr}};
 ghost use Rattle.brk_model.specs.Run.{{IsCallFault}};
 ghost use Rattle.brk_changes.specs.Schemas.{{abstract_schema}};
 ghost use Rattle.brk_sql.specs.Model.{{IsConnectionStep}};
-ghost use Rattle.brk_tables_scan.specs.Decoded.{{{', '.join(f'Reads{group[0]}Tables' for group in GROUPS)}, ReadsDeskTables}};
+ghost use Rattle.brk_tables_scan.specs.Decoded.{{{', '.join(f'Reads{group[0]}Tables' for group in GROUPS)}, ReadsAndDecodesDeskTables}};
 
 use crate::decoder::Decoder;
 use crate::rows::{{{', '.join(reads)}}};
@@ -1226,7 +1230,7 @@ pub(crate) fn read_all_tables<S: Alter>(
 ) -> Result<Sheets, Fault>
     {SAME_REFERENCE}
     ensures step {{ IsConnectionStep S.Store tx.old tx.new result
-        (λ sheets. ReadsDeskTables (abstract_schema schema) decoder.old.are_well_formed decoder.new.are_well_formed sheets) }}
+        (λ sheets. ReadsAndDecodesDeskTables (abstract_schema schema) decoder.old.are_well_formed decoder.new.are_well_formed sheets) }}
     ensures fault {{ IfErr result IsCallFault }}
 {{
 {''.join(f'    let {field} = {group_function("read", word)}(tx, alloc, {schema(word)}decoder)?;{chr(10)}' for word, field, _ in GROUPS)}    Ok(Sheets {{
@@ -1313,7 +1317,7 @@ def decoded_group(word, field, tables):
     of = lambda d: f'({rows(d)})' if d[0] in VALUES else rows(d)
     form = lambda d: VALUES[d[0]][3] if d[0] in VALUES else f'list_all (passes_all_cell_checks {d[0]}_column_cell_checks) raw.{raw_field(d)}'
     is_kept = lambda d: d[0] == 'kept'
-    decodes = lambda d: f'HaveKeysOfRawRows {of(d)} raw.{raw_field(d)}' if is_kept(d) else f'map {shown(d)} {of(d)} ≡ raw.{raw_field(d)}'
+    decodes = lambda d: f'AreKeysOfRawRows {of(d)} raw.{raw_field(d)}' if is_kept(d) else f'map {shown(d)} {of(d)} ≡ raw.{raw_field(d)}'
     fields = '\n'.join(f'  pub {raw_field(d)} : {decodes(d)}' for d in tables)
     but_texts = ', but for the texts of KEPT' if any(map(is_kept, tables)) else ''
     number = ' The row of DESK has the number of `schema`.' if first else ''
@@ -1355,12 +1359,13 @@ use Rattle.std.specs.List.{{list_all}}
 use Rattle.sqlite.specs.State.{{State}}
 use Rattle.brk_model.specs.Schemas.{{Schema}}
 {meanings('abstract_kept_row')}
+use Rattle.brk_ref.specs.Records.{{abstract_key}}
 use Rattle.brk_ref.specs.declared.key.Kept as typed
 use Rattle.brk_changes.specs.declared.sheets.Sheets.{{Sheets}}
 use Rattle.brk_tables_schema.specs.Cells.{{{', '.join(d[0] + '_cells' for d in DATA if d[0] != 'kept')}}}
 use Rattle.brk_tables_schema.specs.Desk.{{DeskTable, desk_rows, rule_rows, encoded_row, rows_in_schema}}
 use Rattle.brk_tables_schema.specs.Formed.{{passes_all_cell_checks, {forms}}}
-use Rattle.brk_tables_scan.specs.KeptKeys.{{HaveKeysOfRawRows, keys_of_kept_rows, tables_with_whole_kept_rows}}
+use Rattle.brk_tables_scan.specs.KeptKeys.{{AreKeysOfRawRows, keys_of_kept_rows, tables_with_whole_kept_rows}}
 use Rattle.brk_tables_scan.specs.Whole.{{ShowsRowsIfPresent}}
 use Rattle.brk_tables_scan.specs.Raw.{{{', '.join(f'{word}Rows' for word, _, _ in GROUPS)}, RawSheets, raw_rows_of_table, IsUnchangedAndOpen, {', '.join(f'Shows{word}Tables' for word, _, _ in GROUPS)}}}
 {declared('Sheets')}
@@ -1374,11 +1379,11 @@ abbrev pub are_raw_sheets_well_formed : Schema → RawSheets → Bool
 {folded('are_raw_sheets_well_formed desk raw =', [f'are_{words_of(word)}_rows_well_formed {desk(word)}raw.{field}' for word, field, _ in GROUPS], '&&')}
 
 -- The raw rows of each table are, in order, the encodings of the typed rows `sheets`, but for the
--- texts of KEPT: `whole` are typed rows of KEPT with the keys of those of `sheets`. The row of DESK
--- has the number of the schema `desk`.
+-- texts of KEPT: `whole` are typed rows of KEPT that have the keys of `sheets`. The row of DESK has
+-- the number of the schema `desk`.
 pub record DecodesSheets (desk : Schema) (sheets : Sheets) (raw : RawSheets) : Type 0 where
   pub whole : List typed.Kept
-  pub keys : keys_of_kept_rows whole ≡ keys_of_kept_rows sheets.kept.items
+  pub keys : keys_of_kept_rows whole ≡ map abstract_key sheets.kept.items
   pub encoded : (w : DeskTable) → map (encoded_row w) (rows_in_schema desk w (tables_with_whole_kept_rows whole sheets)) ≡ raw_rows_of_table raw w
 
 -- A step of a decoding of raw rows. A flag, `old` before the step and `new` after it, is true only
@@ -1397,7 +1402,7 @@ pub record ContinuesDecoding (old new are_well_formed : Bool) (Decodes : Type 0)
 -- the typed rows `sheets` are the decoded rows, but for the texts of KEPT. If it is false, the flag
 -- `old` before the decoding was false or the rows are malformed (`are_raw_sheets_well_formed`). The
 -- clause on the rows of a table is vacuous if the database does not define it as a desk does.
-pub record ReadsDeskTables (desk : Schema) (old new : Bool) (sheets : Sheets) (a b : State) : Type 0 where
+pub record ReadsAndDecodesDeskTables (desk : Schema) (old new : Bool) (sheets : Sheets) (a b : State) : Type 0 where
   pub raw : RawSheets
   pub stays : IsUnchangedAndOpen a b
   pub shown : (w : DeskTable) → ShowsRowsIfPresent desk w (raw_rows_of_table raw w) a.now
@@ -1441,14 +1446,16 @@ module _ {sheets} (desk : Schema) (raw : RawSheets) {are} where
 
 def sheets_spec():
     """What the sheets are in the model"""
-    rows = lambda d: f's.{sheet_field(d)}' if d[0] in VALUES else f'map {record_meaning(d)} s.{sheet_field(d)}.items'
+    meaning = lambda d: 'kept_row_with_empty_texts' if d[0] == 'kept' else record_meaning(d)
+    rows = lambda d: f's.{sheet_field(d)}' if d[0] in VALUES else f'map {meaning(d)} s.{sheet_field(d)}.items'
     out = f"""-- The model's tables with the values of a desk's typed rows.
 use Rattle.std.specs.Prelude.{{map}}
 use Rattle.brk_model.specs.Tables.{{Tables}}
-{meanings()}
+use Rattle.brk_ref.specs.Records.{{kept_row_with_empty_texts}}
+{meanings('abstract_kept_row')}
 use Rattle.brk_changes.specs.declared.sheets.Sheets.{{Sheets}}
 
--- The model's tables with the values of the typed rows `s`.
+-- The model's tables with the values of the typed rows `s`. The rows of KEPT have empty texts.
 abbrev pub abstract_sheets : Sheets → Tables
 abstract_sheets s = record {{
 {chr(10).join(f'  {sheet_field(d)} = {rows(d)};' for d in DATA)}
@@ -1460,12 +1467,12 @@ def sheets_code():
     """The sheets in code"""
     module = lambda d: words_of(record_type(d))
     uses = sorted(f'use crate::{module(d)}::{record_type(d)};' for d in records_of('brk_changes'))
-    told = {'desk_row': 'The stamp of the last accepted command.', 'rule': 'The settlement day, if one is set: the first day whose completions settle after one day (SR_DAY).'}
-    kind = lambda d: VALUES[d[0]][0] if d[0] in VALUES else f'Vec<{record_type(d)}>'
+    told = {'desk_row': 'The stamp of the last accepted command.', 'kept': 'The keys of the rows of KEPT. The texts of these rows are no part of the sheets.', 'rule': 'The settlement day, if one is set: the first day whose completions settle after one day (SR_DAY).'}
+    kind = lambda d: VALUES[d[0]][0] if d[0] in VALUES else f'Vec<{sheet_type(d)}>'
     fields = ''.join((remark(told[d[0]], '    ///') + '\n' if d[0] in told else '') + f'    pub {sheet_field(d)}: {kind(d)},\n' for d in DATA)
     text = f"""{chr(10).join(uses)}
 use brk_money::{{Day, Stamp}};
-use brk_ref::{{{', '.join(sorted(record_type(d) for d in records_of('brk_ref')))}}};
+use brk_ref::{{{', '.join(sorted(sheet_type(d) for d in records_of('brk_ref')))}}};
 
 /// The rows of all tables of a desk, each list sorted by key, ascending.
 #[derive(Drop)]

@@ -94,7 +94,7 @@ fn execute_query_and_write_view<W: Write, S: Alter>(
 /// `Write` after a prefix of the text, perhaps all of it. If the database is still open, it is
 /// unchanged, whatever the result.
 ///
-/// A crash exposes only states that a crash before the call could expose.
+/// A crash after the call exposes only states that a crash before the call could expose.
 pub fn parse_query_and_write_view<W: Write, S: Alter>(
     alloc: Global,
     desk: &mut Desk<S>,

@@ -46,9 +46,12 @@ fn append_lot_changes_of_trades(
 // sorted by account, symbol and stamp, and have prices, distinct ids and distinct stamps. Fails
 // with `Memory` only.
 fn lot_changes_of_trades(alloc: Global, done: &[&TradeRow]) -> Result<Vec<DealTouch>, Fault>
+    // The trades are sorted, no two have the same id or stamp, and each has a price.
     requires order { IsSortedBy (λ one other. is_before_by_position (abstract_trade_row one.now) (abstract_trade_row other.now)) done.now }
     requires apart { IsDistinct has_same_id_or_stamp (map (λ row. abstract_trade_row row.now) done.now) }
     requires priced { AllByRecursion (λ row. IsSome row.now.price) done.now }
+
+    // At `Ok` the lot changes of exactly these trades; the only fault is `Memory`.
     ensures changes { IfOk result (λ rows. AreLotChangesOfTrades (map (λ row. abstract_trade_row row.now) done.now) (map abstract_deal_touch rows.items)) }
     ensures fault { IfErr result (λ fault. fault ≡ Memory) }
 {

@@ -47,9 +47,12 @@ fn append_holding_rows(
 // by position. The trades must be sorted by account, symbol and stamp, and have prices, distinct
 // ids and distinct stamps. Fails with `Memory` only.
 fn lots_left_by_trades(alloc: Global, done: &[&TradeRow]) -> Result<Vec<HoldingRow>, Fault>
+    // The trades are sorted, no two have the same id or stamp, and each has a price.
     requires order { IsSortedBy (λ one other. is_before_by_position (abstract_trade_row one.now) (abstract_trade_row other.now)) done.now }
     requires apart { IsDistinct has_same_id_or_stamp (map (λ row. abstract_trade_row row.now) done.now) }
     requires priced { AllByRecursion (λ row. IsSome row.now.price) done.now }
+
+    // At `Ok` the lots that remain after exactly these trades; the only fault is `Memory`.
     ensures left { IfOk result (λ held. AreLotsLeftByTrades (map (λ row. abstract_trade_row row.now) done.now) (map abstract_holding_row held.items)) }
     ensures fault { IfErr result (λ fault. fault ≡ Memory) }
 {

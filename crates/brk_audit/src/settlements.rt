@@ -58,7 +58,8 @@ fn settlements_after_trade<'a>(
     ensures { MatchOption result
         (RowsCannotMatchTrades settlement_figures_of_row (settlement_figures_of_trade rule.now (account_tax_status_in_terms terms.now)) is_completed_row
         (map abstract_settlement_row settlements.now) (abstract_trade_row trade.now))
-        (λ others. RowsMatchTradesIffOthersDo settlement_figures_of_row (settlement_figures_of_trade rule.now (account_tax_status_in_terms terms.now)) is_completed_row
+        (λ others. RowsMatchTradesIffOthersDo settlement_figures_of_row
+        (settlement_figures_of_trade rule.now (account_tax_status_in_terms terms.now)) is_completed_row
         (map abstract_settlement_row settlements.now) (abstract_trade_row trade.now) (map abstract_settlement_row others.now)) }
 {
     if !is_completed(trade.status) {

@@ -5,7 +5,7 @@ use Rattle.std.specs.List.{list_all}
 use Rattle.std.proofs.lemmas.List.Folds.{list_all-map}
 use Rattle.brk_model.specs.Keys.{KeyPart, is_key_less, kept_key, broker_key, customer_key, account_key, permission_key, security_key, last_trade_key, charge_key, band_key, tax_rate_key, customer_tax_key, trade_key, history_key, request_key, holding_key, summary_key, holding_history_key, settlement_key, cash_key, move_key}
 use Rattle.brk_model.specs.Form.{is_sorted_by_unique_key, tables_are_sorted_by_unique_key, is_well_formed_kept_row, is_well_formed_broker_row, is_well_formed_customer_row, is_well_formed_account_row, is_well_formed_permission_row, is_well_formed_security_row, is_well_formed_last_trade_row, is_well_formed_charge_row, is_well_formed_band_row, is_well_formed_tax_rate_row, is_well_formed_customer_tax_row, is_well_formed_trade_row, is_well_formed_history_row, is_well_formed_request_row, is_well_formed_holding_row, is_well_formed_summary_row, is_well_formed_holding_history_row, is_well_formed_settlement_row}
-use Rattle.brk_ref.specs.Records.{abstract_kept_row, abstract_broker_row, abstract_customer, abstract_account_row, abstract_permission, abstract_security_row, abstract_last_trade_row, abstract_charge, abstract_band, abstract_tax_rate, abstract_customer_tax}
+use Rattle.brk_ref.specs.Records.{kept_row_with_empty_texts, abstract_broker_row, abstract_customer, abstract_account_row, abstract_permission, abstract_security_row, abstract_last_trade_row, abstract_charge, abstract_band, abstract_tax_rate, abstract_customer_tax}
 use Rattle.brk_changes.specs.Rows.{abstract_trade_row, abstract_history_row, abstract_request_row, abstract_holding_row, abstract_summary_row, abstract_lot_change_row, abstract_settlement_row, abstract_cash_row, abstract_move_row}
 use Rattle.brk_changes.specs.Sheets.{abstract_sheets}
 use Rattle.brk_model.specs.Schemas.{Schema}
@@ -38,7 +38,7 @@ keys_whole s =
     (is_sorted_by_unique_key (λ r. cash_key (abstract_cash_row r)) s.cash.items)
     (is_sorted_by_unique_key (λ r. move_key (abstract_move_row r)) s.moves.items)
     ∙ (λ i.
-    rises-map kept_key abstract_kept_row s.kept.items i
+    rises-map kept_key kept_row_with_empty_texts s.kept.items i
     && rises-map broker_key abstract_broker_row s.brokers.items i
     && rises-map customer_key abstract_customer s.customers.items i
     && rises-map account_key abstract_account_row s.accounts.items i
@@ -61,7 +61,7 @@ keys_whole s =
 
 -- the parts of the forms of records
 pub record ReferenceForms (schema : Schema) (s : Sheets) : Type 0 where
-  pub kept : list_all is_well_formed_kept_row (map abstract_kept_row s.kept.items) ≡ true
+  pub kept : list_all is_well_formed_kept_row (map kept_row_with_empty_texts s.kept.items) ≡ true
   pub brokers : list_all is_well_formed_broker_row (map abstract_broker_row s.brokers.items) ≡ true
   pub customers : list_all is_well_formed_customer_row (map abstract_customer s.customers.items) ≡ true
   pub accounts : list_all (is_well_formed_account_row (abstract_sheets s)) (map abstract_account_row s.accounts.items) ≡ true
@@ -97,9 +97,9 @@ reference_rests schema s =
     list_all is_well_formed_tax_rate_row (map abstract_tax_rate s.tax_rates.items) ∷
     list_all (is_well_formed_customer_tax_row (abstract_sheets s)) (map abstract_customer_tax s.customer_taxes.items) ∷ []
 
-reference_mapped : (schema : Schema) (s : Sheets) → joined (list_all is_well_formed_kept_row (map abstract_kept_row s.kept.items)) (reference_rests schema s) ≡ reference_rows_are_well_formed schema s
+reference_mapped : (schema : Schema) (s : Sheets) → joined (list_all is_well_formed_kept_row (map kept_row_with_empty_texts s.kept.items)) (reference_rests schema s) ≡ reference_rows_are_well_formed schema s
 reference_mapped schema s = λ i.
-    list_all-map is_well_formed_kept_row abstract_kept_row s.kept.items i
+    list_all-map is_well_formed_kept_row kept_row_with_empty_texts s.kept.items i
     && list_all-map is_well_formed_broker_row abstract_broker_row s.brokers.items i
     && list_all-map is_well_formed_customer_row abstract_customer s.customers.items i
     && list_all-map (is_well_formed_account_row (abstract_sheets s)) abstract_account_row s.accounts.items i
@@ -113,7 +113,7 @@ reference_mapped schema s = λ i.
 
 pub reference_forms_parts : (schema : Schema) (s : Sheets) → reference_rows_are_well_formed schema s ≡ true → ReferenceForms schema s
 reference_forms_parts schema s h =
-    let p = parts (list_all is_well_formed_kept_row (map abstract_kept_row s.kept.items)) (reference_rests schema s) (reference_mapped schema s ∙ h) in
+    let p = parts (list_all is_well_formed_kept_row (map kept_row_with_empty_texts s.kept.items)) (reference_rests schema s) (reference_mapped schema s ∙ h) in
     record {
       kept = p.0;
       brokers = p.1.0;
@@ -131,7 +131,7 @@ reference_forms_parts schema s h =
 pub reference_forms_whole : (schema : Schema) (s : Sheets) → ReferenceForms schema s → reference_rows_are_well_formed schema s ≡ true
 reference_forms_whole schema s p =
     sym (reference_mapped schema s)
-    ∙ whole (list_all is_well_formed_kept_row (map abstract_kept_row s.kept.items)) (reference_rests schema s) p.kept (p.brokers, (p.customers, (p.accounts, (p.permissions, (p.securities, (p.last_trades, (p.charges, (p.bands, (p.tax_rates, (p.customer_taxes, tt))))))))))
+    ∙ whole (list_all is_well_formed_kept_row (map kept_row_with_empty_texts s.kept.items)) (reference_rests schema s) p.kept (p.brokers, (p.customers, (p.accounts, (p.permissions, (p.securities, (p.last_trades, (p.charges, (p.bands, (p.tax_rates, (p.customer_taxes, tt))))))))))
 
 -- those after the first one
 abbrev trading_rests : Schema → Sheets → List Bool

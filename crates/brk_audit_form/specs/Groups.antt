@@ -13,7 +13,7 @@ use Rattle.brk_model.specs.Form.{is_well_formed_band_row, is_well_formed_tax_rat
 use Rattle.brk_model.specs.Form.{is_well_formed_history_row, is_well_formed_request_row, is_well_formed_holding_row, is_well_formed_summary_row}
 use Rattle.brk_model.specs.Form.{is_well_formed_holding_history_row, is_well_formed_settlement_row, lacks_rows_of_later_schemas, is_last_stamp_in_calendar}
 use Rattle.brk_model.specs.Form.{is_settlement_day_in_calendar}
-use Rattle.brk_ref.specs.Records.{abstract_kept_row, abstract_broker_row, abstract_customer, abstract_account_row, abstract_permission, abstract_security_row}
+use Rattle.brk_ref.specs.Records.{kept_row_with_empty_texts, abstract_broker_row, abstract_customer, abstract_account_row, abstract_permission, abstract_security_row}
 use Rattle.brk_ref.specs.Records.{abstract_last_trade_row, abstract_charge, abstract_band, abstract_tax_rate, abstract_customer_tax}
 use Rattle.brk_changes.specs.Rows.{abstract_trade_row, abstract_history_row, abstract_request_row, abstract_holding_row, abstract_summary_row}
 use Rattle.brk_changes.specs.Rows.{abstract_lot_change_row, abstract_settlement_row, abstract_cash_row, abstract_move_row}
@@ -24,7 +24,7 @@ use Rattle.brk_changes.specs.declared.sheets.Sheets.{Sheets}
 -- key, ascending, and no key occurs twice in a table.
 abbrev pub reference_tables_are_sorted : Sheets → Bool
 reference_tables_are_sorted s =
-    is_sorted_by_unique_key (λ r. kept_key (abstract_kept_row r)) s.kept.items
+    is_sorted_by_unique_key (λ r. kept_key (kept_row_with_empty_texts r)) s.kept.items
     && is_sorted_by_unique_key (λ r. broker_key (abstract_broker_row r)) s.brokers.items
     && is_sorted_by_unique_key (λ r. customer_key (abstract_customer r)) s.customers.items
     && is_sorted_by_unique_key (λ r. account_key (abstract_account_row r)) s.accounts.items
@@ -54,7 +54,7 @@ trading_tables_are_sorted s =
 -- and within the limits of the schema, and each record that it refers to exists.
 abbrev pub reference_rows_are_well_formed : Schema → Sheets → Bool
 reference_rows_are_well_formed schema s =
-    list_all (λ r. is_well_formed_kept_row (abstract_kept_row r)) s.kept.items
+    list_all (λ r. is_well_formed_kept_row (kept_row_with_empty_texts r)) s.kept.items
     && list_all (λ r. is_well_formed_broker_row (abstract_broker_row r)) s.brokers.items
     && list_all (λ r. is_well_formed_customer_row (abstract_customer r)) s.customers.items
     && list_all (λ r. is_well_formed_account_row (abstract_sheets s) (abstract_account_row r)) s.accounts.items

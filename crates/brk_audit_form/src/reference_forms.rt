@@ -13,19 +13,18 @@ use crate::rows::Formed;
 use brk_changes::{Schema, Sheets};
 use brk_money::{Amount, Rate, TaxRate};
 use brk_ref::{
-    AccountRow, Band, BrokerRow, Charge, Customer, CustomerTax, Kept, LastTrade, Permission,
+    AccountRow, Band, BrokerRow, Charge, Customer, CustomerTax, Key, LastTrade, Permission,
     RowNumber, Security, Tax, Volume,
 };
 
-impl Formed for Kept {
-    ghost form = { λ schema tables row. form.is_well_formed_kept_row (of.abstract_kept_row row) };
+impl Formed for Key {
+    ghost form = { λ schema tables row. form.is_well_formed_kept_row (of.kept_row_with_empty_texts row) };
 
-    // Returns true if the batch name and the row number of the key are well-formed. The texts are
-    // not checked.
+    // Returns true if the batch name and the row number of the key are well-formed.
     fn is_row_well_formed(&self, _schema: Schema, _sheets: &Sheets) -> bool {
-        is_well_formed_text(&self.key.batch)
-            && 1 <= self.key.row.get()
-            && self.key.row.get() <= RowNumber::GREATEST
+        is_well_formed_text(&self.batch)
+            && 1 <= self.row.get()
+            && self.row.get() <= RowNumber::GREATEST
     }
 }
 

@@ -3,19 +3,17 @@ ghost use Rattle.brk_ref.specs.Records as of;
 
 use crate::keys::{Keyed, compare_ids, compare_texts};
 use brk_ref::{
-    AccountRow, Band, BrokerRow, Charge, Customer, CustomerTax, Kept, LastTrade, Permission,
+    AccountRow, Band, BrokerRow, Charge, Customer, CustomerTax, Key, LastTrade, Permission,
     Security, Tax,
 };
 use std::cmp::Ordering;
 
-impl Keyed for Kept {
-    ghost key = { λ row. keys.kept_key (of.abstract_kept_row row) };
+impl Keyed for Key {
+    ghost key = { λ row. keys.kept_key (of.kept_row_with_empty_texts row) };
 
-    // Returns the order of two rows by batch name, then by row number.
-    fn compare_keys(&self, other: &Kept) -> Ordering {
-        compare_texts(&self.key.batch, &other.key.batch).then(
-            self.key.row.get().cmp(&other.key.row.get()),
-        )
+    // Returns the order of two keys by batch name, then by row number.
+    fn compare_keys(&self, other: &Key) -> Ordering {
+        compare_texts(&self.batch, &other.batch).then(self.row.get().cmp(&other.row.get()))
     }
 }
 

@@ -1,20 +1,28 @@
 -- What the checkers' sums over rows in types are of the tables that these rows are.
-use Rattle.std.proofs.Common.{◌≡◌, ℕ, ◌==◌, Bool, cond, List, [], ◌∷◌, ◌++◌, sym, ◌∙◌, ap, subst, map, filter, ℤ, Some, None}
+use Rattle.std.proofs.Common.{◌≡◌, ℕ, ◌==◌, Bool, cond, List, [], ◌∷◌, ◌++◌, refl, sym, ◌∙◌, ap, subst, map, filter, ℤ, Some, None}
 use Rattle.std.specs.Prelude.{◌&&◌, ◌+ℤ◌, is_none}
+use Rattle.std.specs.BTreeMap.{BTreeMap}
 use Rattle.std.specs.Cmp.{unsigned_ties}
 use Rattle.std.specs.List.{AllByRecursion, filter_map}
 use Rattle.std.specs.Ordering.{is_eq, nat_cmp}
 use Rattle.brk_model.specs.Lists.{total_by}
 use Rattle.brk_model.specs.Tables.{TradeRow}
 use Rattle.brk_changes.specs.Rows.{abstract_move_row, abstract_trade_row}
+use Rattle.brk_changes.specs.Sheets.{abstract_sheets}
+use Rattle.brk_changes.specs.declared.sheets.Sheets.{Sheets}
 use Rattle.brk_changes.specs.declared.trade_row.TradeRow as trade
 use Rattle.brk_changes.specs.declared.move_row.MoveRow as move
-use Rattle.brk_audit_sums.specs.Sums.{movement_posting_of_row}
+use Rattle.brk_audit_sums.specs.AccountTerms.{account_broker_in_terms}
+use Rattle.brk_audit_sums.specs.Completed.{is_completed_row}
+use Rattle.brk_audit_sums.specs.Settling.{account_broker_or_zero}
+use Rattle.brk_audit_sums.specs.Sums.{broker_posting_of_row, movement_posting_of_row, sum_over_broker_trades}
+use Rattle.brk_audit_sums.specs.declared.account_terms.AccountTerms.{AccountTerms}
 use Rattle.brk_book_theorems.proofs.Places.{filter-append}
 use Rattle.brk_book_theorems.proofs.Worth.{total-append}
 use Rattle.brk_book_theorems.proofs.Same.{All-map, All-mapped, All-of, filter-same, total_by-same}
 use Rattle.brk_audit_sums.specs.declared.tally.Posting.{Posting}
-use Rattle.brk_audit_sums.specs.Tally.{total_amount_at_key}
+use Rattle.brk_audit_sums.specs.Tally.{sum_at_key, total_amount_at_key}
+use Rattle.brk_audit_sums.proofs.AccountTerms.{HasTerms, same_brokers}
 use Rattle.brk_audit_sums.proofs.Postings.{total_mapped, total_posted}
 
 -- the sum of what is posted of rows in types, as one over the rows that they are
@@ -31,6 +39,15 @@ posted_sum p k j a b rows q e f =
   where
     same_key : (r : TradeRow) → is_eq (nat_cmp (k r) q) ≡ (j r == q)
     same_key r = sym (unsigned_ties (k r) q) ∙ ap (λ n. n == q) (e r)
+
+-- the sums of what completed trades post at brokers, as sums over the tables
+pub broker_sums : (s : Sheets) (terms : BTreeMap ℕ AccountTerms) (amount : TradeRow → ℤ) (sums : BTreeMap ℕ ℤ) (postings : List (Posting ℕ)) → HasTerms terms s.accounts.items
+    → ((q : ℕ) → sum_at_key nat_cmp sums q ≡ total_amount_at_key nat_cmp postings q)
+    → postings ≡ filter_map (λ r. broker_posting_of_row (account_broker_in_terms terms) (abstract_trade_row r) (amount (abstract_trade_row r))) s.trades.items
+    → (q : ℕ) → sum_at_key nat_cmp sums q ≡ sum_over_broker_trades (abstract_sheets s) amount q
+broker_sums s terms amount sums postings has summed posted q =
+    summed q ∙ ap (λ ps. total_amount_at_key nat_cmp ps q) posted
+    ∙ posted_sum is_completed_row (λ r. account_broker_in_terms terms r.account) (λ r. account_broker_or_zero (abstract_sheets s) r.account) amount amount s.trades.items q (λ r. same_brokers s terms has r.account) (λ r. refl)
 
 -- the sum of movements in types, as one over the rows that they are
 pub moved_sum : (rows : List move.MoveRow) (q : ℕ) → total_amount_at_key nat_cmp (filter_map (λ r. movement_posting_of_row (abstract_move_row r)) rows) q

@@ -1,5 +1,5 @@
 -- Sums over the completed trades and the movements of the tables.
-use Rattle.std.specs.Prelude.{ℕ, ◌==◌, ◌&&◌, Option, Some, None, if◌then◌else◌, is_none, filter, ℤ, pos}
+use Rattle.std.specs.Prelude.{ℕ, ◌==◌, ◌&&◌, Option, Some, None, if◌then◌else◌, is_none, filter, ℤ}
 use Rattle.brk_money.specs.declared.tax_status.TaxStatus.{TaxStatus}
 use Rattle.brk_model.specs.Lists.{total_by}
 use Rattle.brk_model.specs.Tables.{MoveRow, Tables, TradeRow}
@@ -15,15 +15,10 @@ sum_over_broker_trades t amount broker = total_by amount (filter (λ r. is_compl
 abbrev pub sum_over_account_cash_trades : Tables → (TradeRow → ℤ) → ℕ → ℤ
 sum_over_account_cash_trades t amount account = total_by amount (filter (λ r. is_completed_cash_trade r && (r.account == account)) t.trades)
 
--- The amount 1 as a posting at the broker of the trade's account, where `brokers` returns the
--- broker of an account, or `None` if the trade is not completed.
-abbrev pub count_posting_of_row : (ℕ → ℕ) → TradeRow → Option (Posting ℕ)
-count_posting_of_row brokers r = if is_completed_row r then Some (record { key = brokers r.account; amount = pos 1 }) else None
-
--- The trade's commission, in cents, as a posting at the broker of its account, where `brokers`
--- returns the broker of an account, or `None` if the trade is not completed.
-abbrev pub commission_posting_of_row : (ℕ → ℕ) → TradeRow → Option (Posting ℕ)
-commission_posting_of_row brokers r = if is_completed_row r then Some (record { key = brokers r.account; amount = pos r.commission }) else None
+-- The amount as a posting at the broker of the trade's account, where `brokers` gives the broker of
+-- an account, or `None` if the trade is not completed.
+abbrev pub broker_posting_of_row : (ℕ → ℕ) → TradeRow → ℤ → Option (Posting ℕ)
+broker_posting_of_row brokers r amount = if is_completed_row r then Some (record { key = brokers r.account; amount = amount }) else None
 
 -- The trade's settlement amount, in cents, as a posting at its account, where `statuses` returns
 -- the tax status of an account, or `None` if it is not a completed cash trade.

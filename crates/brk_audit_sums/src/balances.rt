@@ -1,12 +1,11 @@
 ghost use Rattle.std.specs.Prelude.{◌≡◌, ◌↔◌, ◌++◌, Err, IfErr, IfOk, IsTrue, OnErr, OnOk, ◌+ℤ◌};
-ghost use Rattle.std.specs.BTreeMap.{BTreeMap};
-ghost use Rattle.std.specs.List.{AllByRecursion, filter_map};
+ghost use Rattle.std.specs.List.{filter_map};
 ghost use Rattle.std.specs.Ordering.{nat_cmp};
 ghost use Rattle.brk_money.specs.declared.fault.Condition.TheVariants.{Balance};
 ghost use Rattle.brk_money.specs.declared.fault.Fault.TheVariants.{Memory};
 ghost use Rattle.brk_model.specs.Audit.{ConditionHolds};
 ghost use Rattle.brk_model.specs.Schemas.{Schema};
-ghost use Rattle.brk_changes.specs.Rows.{abstract_move_row, abstract_trade_row};
+ghost use Rattle.brk_changes.specs.Rows.{abstract_move_row};
 ghost use Rattle.brk_changes.specs.Sheets.{abstract_sheets};
 ghost use Rattle.brk_audit_sums.specs.AccountTerms.{account_tax_status_in_terms};
 ghost use Rattle.brk_audit_sums.specs.Conditions.{HasWellFormedRows, HasValidStatuses};
@@ -16,6 +15,7 @@ ghost use Rattle.brk_audit_sums.specs.Tally.{sum_at_key};
 use crate::account_terms::{AccountTerms, account_tax_status, account_terms_by_id};
 use crate::amounts::settlement_amount_of_row;
 use crate::completion::is_completed;
+use crate::keyed_sum::{KeyedSum, all_rows_have_sums, postings_of_trades};
 use crate::tally::{Posting, sum_or_zero_at_key, tally};
 use brk_changes::{MoveRow, Sheets, TradeRow};
 use brk_money::Fault;
@@ -23,43 +23,8 @@ use brk_ref::AccountRow;
 use std::alloc::Global;
 use std::collections::BTreeMap;
 
-// Returns the trade's settlement amount, in cents, as a posting at its account, or `None` if it is
-// not a completed cash trade. The tax status of the account is looked up in `terms`; it is
-// `Untaxed` if `terms` does not contain the account.
-fn cash_posting_of_trade(
-    terms: &BTreeMap<u64, AccountTerms>,
-    trade: &TradeRow,
-) -> Option<Posting<u64>>
-    ensures { result ≡ cash_posting_of_row (account_tax_status_in_terms terms.now) (abstract_trade_row trade.now) }
-{
-    if !is_completed(trade.status) || !trade.is_cash {
-        return None;
-    }
-    let key = trade.account.get();
-    let amount = settlement_amount_of_row(trade, account_tax_status(terms, trade.account));
-    Some(Posting { key, amount })
-}
-
-// Returns the settlement amounts, in cents, of all completed cash trades as postings at their
-// accounts, in the order of the trades. The tax statuses are looked up in `terms`
-// (`account_tax_status`). Fails with `Memory` only.
-fn cash_postings_of_trades(
-    alloc: Global,
-    terms: &BTreeMap<u64, AccountTerms>,
-    trades: &[TradeRow],
-) -> Result<Vec<Posting<u64>>, Fault>
-    ensures all { IfOk result (λ all. all.items ≡ filter_map (λ r. cash_posting_of_row (account_tax_status_in_terms terms.now) (abstract_trade_row r)) trades.now) }
-    ensures fault { IfErr result (λ fault. fault ≡ Memory) }
-{
-    let all = trades
-        .iter()
-        .filter_map(|trade| cash_posting_of_trade(terms, trade))
-        .collect(alloc)?;
-    Ok(all)
-}
-
-// Returns the amount, in cents, of a deposit or a withdrawal as a posting at its account, or `None`
-// if the row of CASH_MOVE belongs to a trade.
+// Returns the amount of a deposit or a withdrawal as a posting at its account, or `None` if the row
+// of CASH_MOVE belongs to a trade.
 fn posting_of_movement_row(row: &MoveRow) -> Option<Posting<u64>>
     ensures { result ≡ movement_posting_of_row (abstract_move_row row.now) }
 {
@@ -107,26 +72,33 @@ fn balance_equals_opening_plus_moved(balance: i64, opening: i64, moved: i128) ->
     are_numbers_equal(left, moved)
 }
 
-// Returns true if the account's balance is its opening balance plus the sum at the account's id in
-// `sums`, all in cents. The sum is 0 if `sums` does not contain the id.
-fn is_account_balanced(sums: &BTreeMap<u64, i128>, row: &AccountRow) -> bool
-    ensures { IsTrue result ↔ (row.now.balance ≡ row.now.account.opening +ℤ sum_at_key nat_cmp sums.now row.now.account.id) }
-{
-    let moved = sum_or_zero_at_key(sums, row.account.id.get());
-    balance_equals_opening_plus_moved(row.balance.get(), row.account.opening.get(), moved)
-}
+/// The balances of accounts, in cents. Each completed cash trade posts its settlement amount at its
+/// account, and a balance is the opening balance plus the sum at the account's id.
+struct Balances;
 
-// Returns true if the balance of each account is its opening balance plus the sum at its id in
-// `sums`, all in cents. The sum is 0 if `sums` does not contain the id.
-fn all_accounts_are_balanced(sums: &BTreeMap<u64, i128>, rows: &[AccountRow]) -> bool
-    ensures { IsTrue result ↔ AllByRecursion (λ row. row.balance ≡ row.account.opening +ℤ sum_at_key nat_cmp sums.now row.account.id) rows.now }
-{
-    for row in rows {
-        if !is_account_balanced(sums, row) {
-            return false;
+impl KeyedSum for Balances {
+    type Total = AccountRow;
+
+    ghost posting_of = { λ terms r. cash_posting_of_row (account_tax_status_in_terms terms) r };
+
+    ghost has_sum = { λ sums row. row.balance ≡ row.account.opening +ℤ sum_at_key nat_cmp sums row.account.id };
+
+    fn posting_of_trade(
+        terms: &BTreeMap<u64, AccountTerms>,
+        trade: &TradeRow,
+    ) -> Option<Posting<u64>> {
+        if !is_completed(trade.status) || !trade.is_cash {
+            return None;
         }
+        let key = trade.account.get();
+        let amount = settlement_amount_of_row(trade, account_tax_status(terms, trade.account));
+        Some(Posting { key, amount })
     }
-    true
+
+    fn row_has_sum(sums: &BTreeMap<u64, i128>, row: &AccountRow) -> bool {
+        let moved = sum_or_zero_at_key(sums, row.account.id.get());
+        balance_equals_opening_plus_moved(row.balance.get(), row.account.opening.get(), moved)
+    }
 }
 
 /// Returns true if the rows, which must satisfy `Form` and `Status`, satisfy the condition
@@ -139,8 +111,8 @@ pub fn balance_condition_holds(alloc: Global, sheets: &Sheets) -> Result<bool, F
     ensures fault { IfErr result (λ fault. fault ≡ Memory) }
 {
     let terms = account_terms_by_id(alloc, &sheets.accounts)?;
-    let mut postings = cash_postings_of_trades(alloc, &terms, &sheets.trades)?;
+    let mut postings = postings_of_trades::<Balances>(alloc, &terms, &sheets.trades)?;
     append_movement_postings(&mut postings, &sheets.moves)?;
     let sums = tally(alloc, &postings)?;
-    Ok(all_accounts_are_balanced(&sums, &sheets.accounts))
+    Ok(all_rows_have_sums::<Balances>(&sums, &sheets.accounts))
 }

@@ -6,8 +6,10 @@
 pub mod account_terms;
 pub mod amounts;
 pub mod balances;
+mod broker_posting;
 pub mod commissions;
 pub mod completion;
 pub mod counts;
+mod keyed_sum;
 pub mod summaries;
 pub mod tally;

@@ -6,3 +6,4 @@ pub mod Endings
 pub mod Memory
 pub mod Reached
 pub mod Listed
+pub mod RowSteps

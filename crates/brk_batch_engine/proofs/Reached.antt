@@ -15,7 +15,7 @@ use Rattle.brk_model.specs.Input.{IsEndRecord, IsBatchName, batch_header}
 use Rattle.brk_money.specs.declared.fault.Fault.{Fault}
 use Rattle.brk_model.specs.Lines.{answer_lines_from}
 use Rattle.brk_model.specs.Records.{Key}
-use Rattle.brk_model.specs.Run.{Did, Failed, IsCallFault, Outcome}
+use Rattle.brk_model.specs.Run.{Did, Failed, IsCallFault}
 use Rattle.brk_batch_engine.specs.Answers.{RowHasAnswer, RowFailsWith, PreservesRepresentedBases, RepresentsDurably}
 use Rattle.brk_batch_engine.specs.Batch.{IsBatchResult, BatchPost, BoundsBatchCrashStates, DeskFaultIsMemory, ChangesOnlyByRowCalls}
 use Rattle.brk_batch_engine.specs.Script.{RowCallRelation, RowCalls, recording_step}

@@ -4,3 +4,4 @@ pub mod Answers
 pub mod Reading
 pub mod Batch
 pub mod Parts
+pub mod RowSteps

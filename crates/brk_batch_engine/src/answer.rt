@@ -1,6 +1,7 @@
 ghost use Rattle.std.specs.Prelude.{◌≡◌, ◌≤◌, Err, IfErr, IfOk, OnErr};
 ghost use Rattle.csv.specs.Records.{fields_of};
 ghost use Rattle.brk_money.specs.declared.fault.Fault.TheVariants.{Memory};
+ghost use Rattle.brk_model.specs.Input.{most_input_bytes};
 ghost use Rattle.brk_model.specs.Run.{IsCallFault};
 ghost use Rattle.brk_ref.specs.Answers.{abstract_answer};
 ghost use Rattle.brk_ref.specs.Records.{abstract_key};
@@ -18,7 +19,7 @@ use std::alloc::Global;
 // 67,108,864. Fails with `Memory` only.
 fn row_key(batch: &BatchName, n: u64) -> Result<Key, Fault>
     requires first { 1 ≤ n }
-    requires last { n ≤ 67108864 }
+    requires last { n ≤ most_input_bytes }
     ensures key { IfOk result (λ key. abstract_key key ≡ record { batch = batch.now; row = n }) }
     ensures fault { OnErr result (result ≡ Err Memory) }
 {
@@ -42,12 +43,19 @@ pub fn execute_row<C: Clock, D: Rows>(
     n: u64,
     row: &ByteRecord,
 ) -> Result<Answer<D::Reply>, Fault>
+    // The number of a row: no batch has more rows than the greatest input has bytes.
     requires first { 1 ≤ n }
-    requires last { n ≤ 67108864 }
+    requires last { n ≤ most_input_bytes }
+
+    // If the disk assumption holds after the call, it held before.
     ensures disk_was_clean { D.honest desk.new → D.honest desk.old }
+
+    // At `Ok`: the answer of the row, and what the row changed.
     ensures ok { IfOk result (λ answer. RowHasAnswer D.honest (RepresentsDurably D.stands D.leaves) D.acts D.step C.gives
         (D.form (fields_of row.now)) batch.now n
         (abstract_answer D.told answer) desk.old desk.new clock.old clock.new) }
+
+    // At an error: the represented bases, the crash safety of the failed call, and the faults.
     ensures represented_at_error { OnErr result (PreservesRepresentedBases D.honest D.stands desk.old desk.new) }
     ensures failed { IfErr result (λ fault. RowFailsWith D.honest D.stands D.leaves D.acts D.step C.gives (D.form (fields_of row.now)) batch.now n fault
         desk.old desk.new clock.old clock.new) }

@@ -1,4 +1,4 @@
-ghost use Rattle.std.specs.Prelude.{◌≡◌, ◌∷◌, [], ℕ, List, Option, IfOk, IfErr, OnOk, option_map};
+ghost use Rattle.std.specs.Prelude.{◌≡◌, ◌+◌, ◌<◌, ◌∷◌, [], ℕ, List, Option, IfOk, IfErr, OnOk, option_map};
 ghost use Rattle.std.specs.Io.KnownBytes.{Appends};
 ghost use Rattle.csv.specs.Reading.{reader_state, source_of};
 ghost use Rattle.csv.specs.Records.{fields_of};
@@ -11,6 +11,7 @@ ghost use Rattle.brk_batch_engine.specs.Batch.{BatchPost, BatchRefinesModel, IsB
 ghost use Rattle.brk_batch_engine.specs.Counts.{end_line_with_counts};
 ghost use Rattle.brk_batch_engine.specs.Parts.{CutRowEndsBatchWith, EndRecordFailsWith, HeaderReadFailsWith, LineWriteFailsWith};
 ghost use Rattle.brk_batch_engine.specs.Reading.{IsBatchReader, ReaderIsAfterRecords};
+ghost use Rattle.brk_batch_engine.specs.RowSteps.{FirstRowEndsBatchWith, NextRecordEndsBatchWith, ReadsOneRecord, RowEndsBatchWith, RowIsDecided};
 
 use crate::answer::execute_row;
 use crate::counts::Counts;
@@ -65,28 +66,38 @@ fn write_refusal_of_cut_row<W: Write, D: Rows>(alloc: Global, writer: &mut W, n:
 // Checks that `row` is the correct end record of a batch of `n` rows, and writes the end line with
 // the counts `counts`.
 //
-// Fails with `BadEnd` if the record is wrong, or with `Desk(Memory)`, and nothing is then written;
-// or with `Write` after a prefix of the line.
+// Fails, with `n` decided rows, with `BadEnd` if the record is wrong, or with `Desk(Memory)`, and
+// nothing is then written; or with `Write` after a prefix of the line.
 fn check_end_record_and_write_end_line<W: Write>(
     alloc: Global,
     writer: &mut W,
     row: &ByteRecord,
     n: u64,
     counts: Counts,
-) -> Result<(), FaultKind>
+) -> Result<(), BatchFault>
     ensures right { OnOk result (fields_of row.now ≡ correct_end_record n) }
     ensures ok { OnOk result (Appends (W.contents writer.old) (W.contents writer.new) (end_line_with_counts counts)) }
-    ensures err { IfErr result (λ kind. EndRecordFailsWith (W.contents writer.old) (W.contents writer.new) (fields_of row.now) n counts kind) }
+    ensures rows { IfErr result (λ fault. fault.rows ≡ n) }
+    ensures err { IfErr result (λ fault. EndRecordFailsWith (W.contents writer.old) (W.contents writer.new) (fields_of row.now) n counts fault.kind) }
 {
     if !is_correct_end_record(row, n) {
-        return Err(FaultKind::BadEnd);
+        return Err(BatchFault {
+            rows: n,
+            kind: FaultKind::BadEnd,
+        });
     }
     let Ok(text) = end_line_of_counts(alloc, counts) else {
-        return Err(FaultKind::Desk(Fault::Memory));
+        return Err(BatchFault {
+            rows: n,
+            kind: FaultKind::Desk(Fault::Memory),
+        });
     };
     match write_all_bytes(writer, text.as_slice()) {
         Ok(()) => Ok(()),
-        Err(_) => Err(FaultKind::Write),
+        Err(_) => Err(BatchFault {
+            rows: n,
+            kind: FaultKind::Write,
+        }),
     }
 }
 
@@ -95,11 +106,16 @@ fn check_end_record_and_write_end_line<W: Write>(
 // Fails with `BadHeader` if there is no record or it is no such header, with `Read` if the reader
 // fails, and with `Desk(Memory)` if memory runs out.
 fn read_batch_name<R: Read>(alloc: Global, records: &mut Reader<R>) -> Result<BatchName, FaultKind>
+    // The reader has the settings for a batch, before the call and, at `Ok`, after it.
     requires { IsBatchReader records.old }
     ensures setup { OnOk result (IsBatchReader records.new) }
+
+    // At `Ok` the name is well-formed and the reader is after the header.
     ensures named { IfOk result (λ name. IsBatchName name) }
     ensures ok { IfOk result (λ name. (text : Option (List ℕ)) → ReaderIsAfterRecords text [] (reader_state records.old) (source_of R.remaining records.old)
         → ReaderIsAfterRecords text (batch_header name ∷ []) (reader_state records.new) (source_of R.remaining records.new)) }
+
+    // At an error: why the header was not read.
     ensures err { IfErr result (λ kind. (text : Option (List ℕ)) → ReaderIsAfterRecords text [] (reader_state records.old) (source_of R.remaining records.old)
         → HeaderReadFailsWith text kind) }
 {
@@ -114,9 +130,109 @@ fn read_batch_name<R: Read>(alloc: Global, records: &mut Reader<R>) -> Result<Ba
     }
 }
 
+// Reads the first record after the header, the first row or the end record, into `row`.
+//
+// Fails with `NoEnd` if no record is left, `Read` if the reader fails, or `Desk(Memory)`; no row is
+// then decided.
+fn read_first_row<R: Read>(records: &mut Reader<R>, row: &mut ByteRecord) -> Result<(), BatchFault>
+    requires { IsBatchReader records.old }
+    ensures setup { OnOk result (IsBatchReader records.new) }
+    ensures read { OnOk result (ReadsOneRecord R.remaining records.old records.new (fields_of row.new)) }
+    ensures err { IfErr result (FirstRowEndsBatchWith R.remaining records.old) }
+{
+    let has_first = match read_record(records, row) {
+        Ok(found) => found,
+        Err(kind) => return Err(BatchFault { rows: 0, kind }),
+    };
+    if !has_first {
+        return Err(BatchFault {
+            rows: 0,
+            kind: FaultKind::NoEnd,
+        });
+    }
+    Ok(())
+}
+
+// Reads the record after row `settled + 1` into `after`, and writes nothing. If no record is left,
+// writes the line that refuses this row.
+//
+// Fails with `Read` or `Desk(Memory)`, and nothing written, if the record could not be read; the
+// row is then not decided. If no record is left, fails with `NoEnd`, or with `Write` or
+// `Desk(Memory)` if the line could not be written; the row is then decided.
+fn read_record_after_row<R: Read, W: Write, D: Rows>(
+    alloc: Global,
+    records: &mut Reader<R>,
+    writer: &mut W,
+    settled: u64,
+    after: &mut ByteRecord,
+) -> Result<(), BatchFault>
+    requires setup { IsBatchReader records.old }
+    requires settled { settled < 67108864 }
+    ensures setup { OnOk result (IsBatchReader records.new) }
+    ensures read { OnOk result (ReadsOneRecord R.remaining records.old records.new (fields_of after.new)) }
+    ensures unwritten { OnOk result (W.contents writer.new ≡ W.contents writer.old) }
+    ensures err { IfErr result (NextRecordEndsBatchWith R.remaining records.old settled (W.contents writer.old) (W.contents writer.new)) }
+{
+    let has_next = match read_record(records, after) {
+        Ok(found) => found,
+        Err(kind) => {
+            return Err(BatchFault {
+                rows: settled,
+                kind,
+            });
+        }
+    };
+    let n = settled + 1;
+    if !has_next {
+        let kind = write_refusal_of_cut_row::<W, D>(alloc, writer, n);
+        return Err(BatchFault { rows: n, kind });
+    }
+    Ok(())
+}
+
+// Executes row `settled + 1` of the batch `name` on the desk, and writes its line. Returns the
+// counts with its answer added.
+//
+// Fails with `Desk`, `Memory` or `Store`, and nothing written, if the row is not decided; with
+// `Write` or `Desk(Memory)` if it is decided and its line could not be written.
+fn execute_row_and_write_line<W: Write, C: Clock, D: Rows>(
+    alloc: Global,
+    name: &BatchName,
+    writer: &mut W,
+    clock: &mut C,
+    desk: &mut D::Desk,
+    settled: u64,
+    counts: Counts,
+    row: &ByteRecord,
+) -> Result<Counts, BatchFault>
+    requires settled { settled < 67108864 }
+    requires counted { counts.ok + counts.again + counts.no ≡ settled }
+    ensures disk_was_clean { D.honest desk.new → D.honest desk.old }
+    ensures ok { IfOk result (RowIsDecided D.honest D.stands D.leaves D.acts D.step C.gives (D.form (fields_of row.now)) name.now settled desk.old desk.new
+        (record { clock = clock.old; later = clock.new; old = W.contents writer.old; new = W.contents writer.new }) counts) }
+    ensures err { IfErr result (RowEndsBatchWith D.honest D.stands D.leaves D.acts D.step C.gives (D.form (fields_of row.now)) name.now settled desk.old desk.new
+        (record { clock = clock.old; later = clock.new; old = W.contents writer.old; new = W.contents writer.new })) }
+{
+    let n = settled + 1;
+    let told = match execute_row::<C, D>(alloc, desk, clock, name, n, row) {
+        Ok(told) => told,
+        Err(fault) => {
+            return Err(BatchFault {
+                rows: settled,
+                kind: FaultKind::Desk(fault),
+            });
+        }
+    };
+    if let Err(kind) = write_answer_line::<W, D>(alloc, writer, n, &told) {
+        return Err(BatchFault { rows: n, kind });
+    }
+    Ok(counts.with_answer(&told))
+}
+
 // Executes the rows after the header of the batch `name`, writes their lines and the end line, and
-// returns the counts of the answers. Each record has at least one byte, so the number of rows is at
-// most the number of bytes, which limits the loop.
+// returns the counts of the answers. A row is executed after the record after it has been read.
+// Each record has at least one byte, so the number of rows is at most the number of bytes, which
+// limits the loop.
 //
 // At an error returns the fault with the number of decided rows, whose changes remain: `NoEnd` if
 // the input ends without an end record, `BadEnd` if that is wrong, `Read` or `Write` if the reader
@@ -138,55 +254,16 @@ fn execute_rows_and_write_lines<R: Read, W: Write, C: Clock, D: Rows>(
     let mut counts = Counts::NONE;
     let mut row = ByteRecord::new(alloc);
     let mut after = ByteRecord::new(alloc);
-    let has_first = match read_record(records, &mut row) {
-        Ok(found) => found,
-        Err(kind) => return Err(BatchFault { rows: 0, kind }),
-    };
-    if !has_first {
-        return Err(BatchFault {
-            rows: 0,
-            kind: FaultKind::NoEnd,
-        });
-    }
+    read_first_row(records, &mut row)?;
     for settled in 0..MAXIMUM_INPUT_BYTES {
         if begins_with_end_field(&row) {
-            if let Err(kind) = check_end_record_and_write_end_line(
-                alloc, writer, &row, settled, counts,
-            ) {
-                return Err(BatchFault {
-                    rows: settled,
-                    kind,
-                });
-            }
+            check_end_record_and_write_end_line(alloc, writer, &row, settled, counts)?;
             return Ok(counts);
         }
-        let has_next = match read_record(records, &mut after) {
-            Ok(found) => found,
-            Err(kind) => {
-                return Err(BatchFault {
-                    rows: settled,
-                    kind,
-                });
-            }
-        };
-        let n = settled + 1;
-        if !has_next {
-            let kind = write_refusal_of_cut_row::<W, D>(alloc, writer, n);
-            return Err(BatchFault { rows: n, kind });
-        }
-        let told = match execute_row::<C, D>(alloc, desk, clock, name, n, &row) {
-            Ok(told) => told,
-            Err(fault) => {
-                return Err(BatchFault {
-                    rows: settled,
-                    kind: FaultKind::Desk(fault),
-                });
-            }
-        };
-        counts = counts.with_answer(&told);
-        if let Err(kind) = write_answer_line::<W, D>(alloc, writer, n, &told) {
-            return Err(BatchFault { rows: n, kind });
-        }
+        read_record_after_row::<R, W, D>(alloc, records, writer, settled, &mut after)?;
+        counts = execute_row_and_write_line::<W, C, D>(
+            alloc, name, writer, clock, desk, settled, counts, &row,
+        )?;
         mem::swap(&mut row, &mut after);
     }
     Err(BatchFault {

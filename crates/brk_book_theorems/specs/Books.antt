@@ -1,6 +1,6 @@
 -- The books invariant: what holds of every base that accepted commands reach from the empty base,
 -- and of every base that is read from rows that pass an audit.
-use Rattle.std.specs.Prelude.{◌≡◌, ◌≤◌, ⊤, ℕ, ◌==◌, ◌&&◌, true, false, List, [], ◌∷◌, Option, Some, None, nat_le, IfSome, bytes_eq, is_some}
+use Rattle.std.specs.Prelude.{◌≡◌, ◌≤◌, ⊤, ℕ, ◌==◌, ◌&&◌, Bool, true, false, List, [], ◌∷◌, Option, Some, None, nat_le, IfSome, bytes_eq, is_some}
 use Rattle.std.specs.List.{AllByRecursion}
 use Rattle.brk_money.specs.Moments.{greatest_stamp}
 use Rattle.brk_money.specs.Kinds.{is_same_trade_status}
@@ -12,20 +12,23 @@ use Rattle.brk_model.specs.Base.{broker_with_id_in_list, customer_with_id_in_lis
 use Rattle.brk_model.specs.Names.{TradesAreNumberedFrom}
 use Rattle.brk_model.specs.Tests.{bands_overlap}
 
+-- No two elements of the list are the same by the test `same`: it is false for each element and each
+-- one before it.
+abbrev pub HasDistinctElements : {X : Type 0} → (X → X → Bool) → List X → Type 0
+HasDistinctElements same [] = ⊤
+HasDistinctElements same (x ∷ xs) = AllByRecursion (λ y. same y x ≡ false) xs × HasDistinctElements same xs
+
 -- No two accounts of the list have the same id.
 abbrev pub HasDistinctAccountIds : List Account → Type 0
-HasDistinctAccountIds [] = ⊤
-HasDistinctAccountIds (a ∷ rest) = AllByRecursion (λ b. (b.id == a.id) ≡ false) rest × HasDistinctAccountIds rest
+HasDistinctAccountIds accounts = HasDistinctElements (λ b a. b.id == a.id) accounts
 
 -- No two permissions of the list have both the same account and the same tax id.
 abbrev pub HasDistinctPermissions : List Permission → Type 0
-HasDistinctPermissions [] = ⊤
-HasDistinctPermissions (p ∷ ps) = AllByRecursion (λ q. ((q.account == p.account) && bytes_eq q.tax_id p.tax_id) ≡ false) ps × HasDistinctPermissions ps
+HasDistinctPermissions permissions = HasDistinctElements (λ q p. (q.account == p.account) && bytes_eq q.tax_id p.tax_id) permissions
 
 -- No two securities of the list have the same symbol.
 abbrev pub HasDistinctSymbols : List Security → Type 0
-HasDistinctSymbols [] = ⊤
-HasDistinctSymbols (s ∷ ss) = AllByRecursion (λ u. bytes_eq u.symbol s.symbol ≡ false) ss × HasDistinctSymbols ss
+HasDistinctSymbols securities = HasDistinctElements (λ u s. bytes_eq u.symbol s.symbol) securities
 
 -- The volume of the security, in shares, is at most the greatest amount.
 abbrev pub HasVolumeWithinLimit : Security → Type 0
@@ -59,9 +62,7 @@ TradeStampIsAtMostLastStamp (Some last) t = last_status_stamp_of_trade t ≤ las
 
 -- No two trades of the list have the same stamp in their last status changes.
 abbrev pub HasDistinctLastStatusStamps : List Trade → Type 0
-HasDistinctLastStatusStamps [] = ⊤
-HasDistinctLastStatusStamps (t ∷ ts) =
-    AllByRecursion (λ u. (last_status_stamp_of_trade u == last_status_stamp_of_trade t) ≡ false) ts × HasDistinctLastStatusStamps ts
+HasDistinctLastStatusStamps trades = HasDistinctElements (λ u t. last_status_stamp_of_trade u == last_status_stamp_of_trade t) trades
 
 -- The account of the movement `m` is one of `accounts`.
 abbrev pub MovementAccountExists : List Account → Movement → Type 0

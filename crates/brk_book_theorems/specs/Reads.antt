@@ -28,7 +28,8 @@ contains_charge t kind tier = is_some (find (λ r. is_same_trade_type r.kind kin
 -- The commission bands of the customer tier `tier`, the trade type `kind` and the exchange
 -- `exchange`, in the order of the table.
 abbrev pub commission_bands_of_tier_type_and_exchange : Tables → ℕ → TradeType → Text → List Band
-commission_bands_of_tier_type_and_exchange t tier kind exchange = filter (λ r. (r.tier == tier) && is_same_trade_type r.kind kind && bytes_eq r.exchange exchange) t.bands
+commission_bands_of_tier_type_and_exchange t tier kind exchange =
+    filter (λ r. (r.tier == tier) && is_same_trade_type r.kind kind && bytes_eq r.exchange exchange) t.bands
 
 -- True if a band in the tables with the tier, type and exchange of the band `b` shares a quantity
 -- with `b`.

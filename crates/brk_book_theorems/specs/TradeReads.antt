@@ -34,7 +34,8 @@ permission_list_for_tax_id t account tax_id = option_to_list (find (λ r. (r.acc
 -- The commission band of the customer tier `tier`, the trade type `kind` and the exchange
 -- `exchange` that contains the quantity `qty`, or `None` if there is none.
 abbrev pub commission_band_of_quantity : Tables → ℕ → TradeType → Text → ℕ → Option Band
-commission_band_of_quantity t tier kind exchange qty = find (λ r. nat_le r.from_qty qty && nat_le qty r.to_qty) (commission_bands_of_tier_type_and_exchange t tier kind exchange)
+commission_band_of_quantity t tier kind exchange qty =
+    find (λ r. nat_le r.from_qty qty && nat_le qty r.to_qty) (commission_bands_of_tier_type_and_exchange t tier kind exchange)
 
 -- The volume of the symbol in LAST_TRADE, in shares, or 0 if the symbol has no row there.
 abbrev pub volume_of_symbol : Tables → Text → ℕ

@@ -18,13 +18,18 @@ pub fn empty_base_satisfies_books_invariant()
 /// Proves that each accepted command that adds a record of reference data preserves the books
 /// invariant.
 pub fn reference_records_preserve_books_invariant()
+    // Brokers, customers, accounts and permissions.
     ensures broker { (base : Base) (now : ℕ) (b : Broker) → PreservesBooksInvariant base now (AddBroker b) }
     ensures customer { (base : Base) (now : ℕ) (c : Customer) → PreservesBooksInvariant base now (AddCustomer c) }
     ensures account { (base : Base) (now : ℕ) (a : Account) → PreservesBooksInvariant base now (AddAccount a) }
     ensures permission { (base : Base) (now : ℕ) (p : Permission) → PreservesBooksInvariant base now (AddPermission p) }
+
+    // Securities, charges and commission bands.
     ensures security { (base : Base) (now : ℕ) (l : Listing) → PreservesBooksInvariant base now (AddSecurity l) }
     ensures charge { (base : Base) (now : ℕ) (c : Charge) → PreservesBooksInvariant base now (AddCharge c) }
     ensures band { (base : Base) (now : ℕ) (b : Band) → PreservesBooksInvariant base now (AddBand b) }
+
+    // Tax rates and the taxes of customers.
     ensures tax_rate { (base : Base) (now : ℕ) (r : TaxRate) → PreservesBooksInvariant base now (AddTaxRate r) }
     ensures customer_tax { (base : Base) (now : ℕ) (x : CustomerTax) → PreservesBooksInvariant base now (AddCustomerTax x) }
 {}

@@ -35,14 +35,19 @@ pub fn empty_base_has_no_rows()
 /// last stamp. A security adds two rows: one of SECURITY and one of LAST_TRADE. No other row
 /// changes, if the base satisfies the books invariant.
 pub fn reference_records_add_only_their_rows()
+    // Brokers, customers, accounts and permissions.
     ensures broker { (base : Base) (now : ℕ) (b : Broker) → HasTableEffect base now (AddBroker b) (tables_with_broker b) }
     ensures customer { (base : Base) (now : ℕ) (c : Customer) → HasTableEffect base now (AddCustomer c) (tables_with_customer c) }
     ensures account { (base : Base) (now : ℕ) (a : Account) → HasTableEffect base now (AddAccount a) (tables_with_account a) }
     ensures permission { (base : Base) (now : ℕ) (p : Permission) → HasTableEffect base now (AddPermission p) (tables_with_permission p) }
+
+    // Securities, charges and commission bands.
     ensures security { (base : Base) (now : ℕ) (l : Listing)
         → HasTableEffect base now (AddSecurity l) (tables_with_listing (stamp_of_next_command base now) l) }
     ensures charge { (base : Base) (now : ℕ) (c : Charge) → HasTableEffect base now (AddCharge c) (tables_with_charge c) }
     ensures band { (base : Base) (now : ℕ) (b : Band) → HasTableEffect base now (AddBand b) (tables_with_band b) }
+
+    // Tax rates and the taxes of customers.
     ensures tax_rate { (base : Base) (now : ℕ) (r : TaxRate) → HasTableEffect base now (AddTaxRate r) (tables_with_tax_rate r) }
     ensures customer_tax { (base : Base) (now : ℕ) (x : CustomerTax) → HasTableEffect base now (AddCustomerTax x) (tables_with_customer_tax x) }
 {}

@@ -29,7 +29,8 @@ ghost use Rattle.brk_ref.specs.declared.tax.Tax.{Tax};
 ghost use Rattle.brk_book_theorems.specs.Books.{BooksInvariant};
 ghost use Rattle.brk_book_theorems.specs.Reads.{account_count_of_customer, overlaps_some_band, contains_tax_id, customer_tax_rate_sum, tax_rate_with_id};
 ghost use Rattle.brk_book_theorems.specs.Sums.{completed_trade_rows_of_broker};
-ghost use Rattle.brk_book_theorems.specs.TradeReads.{commission_band_of_quantity, last_cash_row_number_or_zero, trade_id_in_last_row_or_zero, shares_of_lot_row};
+ghost use Rattle.brk_book_theorems.specs.TradeReads.{commission_band_of_quantity, last_cash_row_number_or_zero};
+ghost use Rattle.brk_book_theorems.specs.TradeReads.{trade_id_in_last_row_or_zero, shares_of_lot_row};
 ghost use Rattle.brk_book_theorems.specs.TradeReads.{holding_rows_of_position, permission_list_for_tax_id, permissions_of_account, lots_of_position};
 ghost use Rattle.brk_book_theorems.specs.TradeReads.{summary_row_if_nonzero, summary_quantity_or_zero, summary_row_of_position};
 ghost use Rattle.brk_book_theorems.specs.Trading.{trade_ids_triggered_by_tick};
@@ -51,13 +52,18 @@ pub fn rows_by_id_match_records()
 /// a permission, the symbol of a security or a last trade, the trade type and the tier of a charge,
 /// and the customer and the tax rate of a customer's tax.
 pub fn rows_by_key_match_records()
+    // Permissions by account and tax id.
     ensures permission { (base : Base) (account : ℕ) (tax_id : Text)
         → find (λ r. (r.account == account) && bytes_eq r.tax_id tax_id) (sheets base).permissions
         ≡ find (λ p. (p.account == account) && bytes_eq p.tax_id tax_id) base.permissions }
+
+    // Securities and last trades by symbol.
     ensures security { (base : Base) (symbol : Text)
         → find (λ r. bytes_eq r.symbol symbol) (sheets base).securities ≡ option_map security_row (security_with_symbol base symbol) }
     ensures last_trade { (base : Base) (symbol : Text)
         → find (λ r. bytes_eq r.symbol symbol) (sheets base).last_trades ≡ option_map last_trade_row (security_with_symbol base symbol) }
+
+    // Charges by trade type and tier, and the taxes of customers by customer and tax rate.
     ensures charge { (base : Base) (kind : TradeType) (tier : ℕ)
         → find (λ r. is_same_trade_type r.kind kind && (r.tier == tier)) (sheets base).charges ≡ charge_for_type_and_tier base kind tier }
     ensures customer_tax { (base : Base) (customer tax : ℕ)

@@ -80,15 +80,20 @@ pub fn table_sums_match_their_rows()
 /// that it closes, at the rates of the base before it, if that base satisfies the books invariant.
 /// Any run preserves this tax, and the row of the trade in TRADE has it.
 pub fn results_are_taxed_on_closed_shares()
+    // An accepted result records the tax, as a command and as a call with or without a key.
     ensures taxed { (base : Base) (now id price : ℕ) (t : Trade)
         → BooksInvariant base → trade_with_id base id ≡ Some t → refusal_of_command base now (CompleteTrade id price) ≡ None
         → CompletedTradeHasTax id (tax_at_completion base now price t) (base_after_command base now (CompleteTrade id price)) }
     ensures called { (base after : Base) (now id price : ℕ) (key : Option Key) (reply : Reply)
         → BooksInvariant base → keyed_step base now (CompleteTrade id price) key ≡ (Done reply, after)
         → (t : Trade) × (trade_with_id base id ≡ Some t) × CompletedTradeHasTax id (tax_at_completion base now price t) after }
+
+    // Any run preserves the tax, and the row of the trade has it.
     ensures preserved { (base : Base) (calls : List (ℕ × Call)) (outcomes : List Outcome) (after : Base) (id tax : ℕ)
         → BooksInvariant base → Run base calls outcomes after → CompletedTradeHasTax id tax base → CompletedTradeHasTax id tax after }
     ensures row { (base : Base) (id tax : ℕ) → CompletedTradeHasTax id tax base → TradeRowHasTax (sheets base) id tax }
+
+    // After a run, the rows have the taxes of all its results.
     ensures run { (base after : Base) (calls : List (ℕ × Call)) (outcomes : List Outcome)
         → BooksInvariant base → Run base calls outcomes after → RecordsTaxesOfResults (sheets after) base calls outcomes }
 {}

@@ -1,18 +1,18 @@
 -- The model's tables with the values of a desk's typed rows.
 use Rattle.std.specs.Prelude.{map}
 use Rattle.brk_model.specs.Tables.{Tables}
-use Rattle.brk_ref.specs.Records.{abstract_kept_row, abstract_broker_row, abstract_customer, abstract_account_row, abstract_permission}
-use Rattle.brk_ref.specs.Records.{abstract_security_row, abstract_last_trade_row, abstract_charge, abstract_band, abstract_tax_rate}
-use Rattle.brk_ref.specs.Records.{abstract_customer_tax}
+use Rattle.brk_ref.specs.Records.{kept_row_with_empty_texts}
+use Rattle.brk_ref.specs.Records.{abstract_broker_row, abstract_customer, abstract_account_row, abstract_permission, abstract_security_row}
+use Rattle.brk_ref.specs.Records.{abstract_last_trade_row, abstract_charge, abstract_band, abstract_tax_rate, abstract_customer_tax}
 use Rattle.brk_changes.specs.Rows.{abstract_trade_row, abstract_history_row, abstract_request_row, abstract_holding_row, abstract_summary_row}
 use Rattle.brk_changes.specs.Rows.{abstract_lot_change_row, abstract_settlement_row, abstract_cash_row, abstract_move_row}
 use Rattle.brk_changes.specs.declared.sheets.Sheets.{Sheets}
 
--- The model's tables with the values of the typed rows `s`.
+-- The model's tables with the values of the typed rows `s`. The rows of KEPT have empty texts.
 abbrev pub abstract_sheets : Sheets → Tables
 abstract_sheets s = record {
   last = s.last;
-  kept = map abstract_kept_row s.kept.items;
+  kept = map kept_row_with_empty_texts s.kept.items;
   brokers = map abstract_broker_row s.brokers.items;
   customers = map abstract_customer s.customers.items;
   accounts = map abstract_account_row s.accounts.items;

@@ -9,7 +9,7 @@ use crate::summary_row::SummaryRow;
 use crate::trade_row::TradeRow;
 use brk_money::{Day, Stamp};
 use brk_ref::{
-    AccountRow, Band, BrokerRow, Charge, Customer, CustomerTax, Kept, LastTrade, Permission,
+    AccountRow, Band, BrokerRow, Charge, Customer, CustomerTax, Key, LastTrade, Permission,
     Security, Tax,
 };
 
@@ -18,7 +18,8 @@ use brk_ref::{
 pub struct Sheets {
     /// The stamp of the last accepted command.
     pub last: Option<Stamp>,
-    pub kept: Vec<Kept>,
+    /// The keys of the rows of KEPT. The texts of these rows are no part of the sheets.
+    pub kept: Vec<Key>,
     pub brokers: Vec<BrokerRow>,
     pub customers: Vec<Customer>,
     pub accounts: Vec<AccountRow>,

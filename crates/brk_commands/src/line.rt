@@ -10,7 +10,7 @@ ghost use Rattle.brk_money.specs.Spelling as spelling;
 ghost use Rattle.brk_money.specs.declared.fault.Fault.TheVariants.{Memory};
 ghost use Rattle.brk_plans.specs.Replies.{abstract_completion, abstract_estimate, abstract_reply};
 
-use brk_money::{Cents, Day, Fault, Id, MoveId, Stamp, Wide, write_day};
+use brk_money::{Cents, Day, Fault, Id, MoveId, Stamp, write_day};
 use brk_plans::{Completed, Estimate, Ordered, Reply};
 use itoa::Buffer;
 use std::alloc::{AllocError, Global};
@@ -33,12 +33,12 @@ fn append_estimate_fields(line: &mut String, estimate: &Estimate) -> Result<(), 
     write!(
         line,
         ",{},{},{},{},{},{},{}",
-        Wide::from(estimate.price),
-        Wide::from(estimate.buy_value),
-        Wide::from(estimate.sell_value),
-        Wide::from(estimate.tax),
-        Wide::from(estimate.commission),
-        Wide::from(estimate.charge),
+        estimate.price,
+        estimate.buy_value,
+        estimate.sell_value,
+        estimate.tax,
+        estimate.commission,
+        estimate.charge,
         estimate.assets
     )
 }
@@ -119,9 +119,7 @@ fn append_commission_tax_and_amount(
     write!(
         line,
         ",{},{},{}",
-        Wide::from(completed.commission),
-        Wide::from(completed.tax),
-        Wide::from(completed.amount)
+        completed.commission, completed.tax, completed.amount
     )
 }
 
@@ -141,9 +139,7 @@ fn append_values_and_balance(line: &mut String, completed: &Completed) -> Result
     write!(
         line,
         ",{},{},{}",
-        Wide::from(completed.buy_value),
-        Wide::from(completed.sell_value),
-        Wide::from(completed.balance)
+        completed.buy_value, completed.sell_value, completed.balance
     )
 }
 
@@ -184,7 +180,7 @@ fn moved_reply_text(
         "{},{},{}",
         stamp.get().unsigned_abs(),
         number.get(),
-        Wide::from(balance)
+        balance
     )
 }
 

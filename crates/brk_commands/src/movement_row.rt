@@ -9,7 +9,7 @@ ghost use Rattle.brk_money.specs.declared.fault.Fault.TheVariants.{Memory};
 ghost use Rattle.brk_orders.specs.Records.{movement_command};
 
 use crate::line::day_text;
-use brk_money::{Day, Fault, Id, Wide};
+use brk_money::{Day, Fault, Id};
 use brk_orders::{Direction, Movement};
 use brk_ref::MovedAmount;
 use std::alloc::{AllocError, Global};
@@ -19,11 +19,7 @@ use std::alloc::{AllocError, Global};
 fn deposit_row_text(alloc: Global, account: Id, amount: MovedAmount) -> Result<String, AllocError>
     ensures { IfOk result (λ row. string_bytes row ≡ model.row_text (DepositCash account amount)) }
 {
-    format!(in alloc;
-        "deposit\x1f{}\x1f{}",
-        account.get(),
-        Wide::new(i128::from(amount.get()))
-    )
+    format!(in alloc; "deposit\x1f{}\x1f{amount}", account.get())
 }
 
 // Returns the row of a withdrawal, as it is stored under a key: `withdraw`, the account and the
@@ -35,11 +31,7 @@ fn withdrawal_row_text(
 ) -> Result<String, AllocError>
     ensures { IfOk result (λ row. string_bytes row ≡ model.row_text (WithdrawCash account amount)) }
 {
-    format!(in alloc;
-        "withdraw\x1f{}\x1f{}",
-        account.get(),
-        Wide::new(i128::from(amount.get()))
-    )
+    format!(in alloc; "withdraw\x1f{}\x1f{amount}", account.get())
 }
 
 /// Returns the row of a deposit or a withdrawal, as it is stored under a key: `deposit` or

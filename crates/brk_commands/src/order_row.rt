@@ -10,7 +10,7 @@ ghost use Rattle.brk_model.specs.Rows as model;
 ghost use Rattle.brk_orders.specs.Records.{abstract_order, completion_command, abstract_tick, abstract_ticks};
 ghost use Rattle.brk_commands.specs.Fields.{fields_after_separators};
 
-use brk_money::{Id, OrderType, Wide};
+use brk_money::{Id, OrderType};
 use brk_orders::{Completion, Order, Tick};
 use std::alloc::{AllocError, Global};
 
@@ -50,7 +50,7 @@ fn append_price_field(row: &mut String, order_type: OrderType) -> Result<(), All
         ≡ string_bytes row.old ++ fields_after_separators 31 (option_map_or model.nonnegative_cents_text (price_of_order order_type) [] ∷ [])) }
 {
     match order_type.price() {
-        Some(price) => write!(row, "\x1f{}", Wide::from(price)),
+        Some(price) => write!(row, "\x1f{price}"),
         None => row.push_str("\x1f"),
     }
 }
@@ -93,7 +93,7 @@ fn append_tick_fields(row: &mut String, tick: &Tick) -> Result<(), AllocError>
         row,
         "\x1f{}\x1f{}\x1f{}",
         tick.symbol.as_str(),
-        Wide::from(tick.price),
+        tick.price,
         tick.qty.get()
     )
 }
@@ -126,6 +126,6 @@ pub fn result_row_text(alloc: Global, completion: &Completion) -> Result<String,
     format!(in alloc;
         "result\x1f{}\x1f{}",
         completion.trade.get(),
-        Wide::from(completion.price)
+        completion.price
     )
 }

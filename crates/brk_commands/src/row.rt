@@ -14,7 +14,7 @@ use crate::command::Command;
 use crate::movement_row::{movement_row_text, settlement_day_row_text};
 use crate::order_row::{cancel_row_text, feed_row_text, order_row_text, result_row_text};
 use crate::update_row::update_row_text;
-use brk_money::{Fault, Wide};
+use brk_money::Fault;
 use brk_plans::Reference;
 use brk_ref::{Account, Band, Broker, Charge, Customer, CustomerTax, Listing, Permission, Tax};
 use std::alloc::{AllocError, Global};
@@ -55,7 +55,7 @@ fn account_row_text(alloc: Global, account: &Account) -> Result<String, AllocErr
         account.broker.get(),
         account.name.as_str(),
         account.tax_status.number(),
-        Wide::from(account.opening)
+        account.opening
     )
 }
 
@@ -87,7 +87,7 @@ fn listing_row_text(alloc: Global, listing: &Listing) -> Result<String, AllocErr
         security.name.as_str(),
         security.exchange.as_str(),
         security.sector.as_str(),
-        Wide::from(listing.price)
+        listing.price
     )
 }
 
@@ -100,7 +100,7 @@ fn charge_row_text(alloc: Global, charge: &Charge) -> Result<String, AllocError>
         "charge\x1f{}\x1f{}\x1f{}",
         charge.kind.code(),
         charge.tier.get(),
-        Wide::new(i128::from(charge.amount.get()))
+        charge.amount
     )
 }
 

@@ -42,9 +42,10 @@ IsDiskContentAfterCommand g old now command key trees =
     × ((base : Base) → Represents g old base → IsTrue (has_utf8_texts (sheets (base_after_call base now command key))))
 
 -- The postcondition of a call that executes a command, between the states `old` and `new` of the
--- store. At `Ok` the call refines the model's step for the command. At an error the open store is
--- unchanged, although a crash may expose the command as committed. `brk_store/specs/Holds.antt`
--- explains the terms of the clauses; `g` is the specification of the storage `S`.
+-- store. At `Ok` the call refines the model's step for the command. At an error a store that is
+-- still open is unchanged, also after a crash; if the call closed it, a crash may expose the
+-- command as committed. `brk_store/specs/Holds.antt` explains the terms of the clauses; `g` is the
+-- specification of the storage `S`.
 pub record CallPost {S : Type 0} (g : Ghosts S) (old new : Held S) (now : ℕ) (command : Command) (key : Option Key)
     (result : Result CommandAnswer Fault) : Type 0 where
   -- At `Ok` the call refines the model's step. Vacuous if the disk assumption fails.
@@ -53,10 +54,10 @@ pub record CallPost {S : Type 0} (g : Ghosts S) (old new : Held S) (now : ℕ) (
   pub same_bases_at_error : OnErr result (PreservesRepresentation g old new)
   -- The error is `Memory` or `Store`.
   pub fault : IfErr result IsCallFault
-  -- A crash exposes a state that a crash before the call could expose, or the tables after the
-  -- command.
+  -- A crash after the call exposes a state that a crash before the call could expose, or the tables
+  -- after the command.
   pub survives : Survives (state g old) (state g new) (IsDiskContentAfterCommand g old now command key)
-  -- At `Done` a crash exposes only the tables after the command.
+  -- At `Done` a crash after the call exposes only the tables after the command.
   pub durable : HasCleanDisk (state g new) → IsDoneResult result → (base : Base) → Represents g old base
       → CrashStatesSatisfy g new (IsDiskContentOfRows (sheets (base_after_call base now command key)))
   -- At `Done` the store was open, is open, and has committed its current state.
@@ -67,5 +68,5 @@ pub record CallPost {S : Type 0} (g : Ghosts S) (old new : Held S) (now : ℕ) (
   pub same : HasCleanDisk (state g new) → IsTrue (state g new).is_open → IsNotDoneResult result → WasOpenAndIsUnchanged (state g old) (state g new)
   -- If the disk assumption holds after the call, it held before.
   pub clean : HasCleanDisk (state g new) → HasCleanDisk (state g old)
-  -- The command and its key are well-formed.
+  -- The command and its key are well-formed, as all values of their types are.
   pub in_form : MeetsAuditFormats command × IfSome key IsWellFormedKey

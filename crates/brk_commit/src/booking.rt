@@ -43,15 +43,16 @@ fn prove_command_and_key_are_well_formed(command: &Command, key: Option<&Key>)
 ///
 /// Fails with `Memory` or `Store` only; with `Store` also if a row that another row requires does
 /// not exist, a lot has no shares, a number or a sum is out of range, or no number is left for a
-/// cash row. A refusal, a stored reply or a fault changes nothing in the open store and records no
-/// key.
+/// cash row. A refusal, a stored reply or a fault changes nothing in a store that is still open,
+/// and records no key.
 ///
-/// A crash exposes a state that a crash before the call could expose, or the tables after the
-/// command; after `Done` only the latter.
+/// A crash after the call exposes a state that a crash before the call could expose, or the tables
+/// after the command; after `Done` only the latter.
 ///
-/// After a fault, too, a crash may expose the command as committed. With a key, retry under the
-/// same key: the command is then executed at most once. Without a key a retry may execute it twice,
-/// so read the tables before it.
+/// After a fault that closed the store, too, a crash may expose the command as committed. Retry
+/// after a fault: if it closed the store, first open and adopt the file again. Under the same key
+/// the command is executed at most once. Without a key a retry may execute it twice, so before it
+/// read the tables, the reopened ones if the store was closed.
 pub fn execute_and_commit_command<S: Alter>(
     alloc: Global,
     store: &mut Store<S>,

@@ -1,8 +1,9 @@
 -- What was found of an account's order is what is found for its estimate.
-use Rattle.std.proofs.Common.{◌≡◌, ℕ, ◌==◌, ◌+ℤ◌, ℤ, pos, List, [], ◌∷◌, ◌++◌, Option, Some, None, refl, sym, subst, ap, ◌∙◌, arith, find, map, option_map, ◌+◌, ◌<◌, get_or, length, take}
+use Rattle.std.proofs.Common.{◌≡◌, ℕ, ◌==◌, ◌+ℤ◌, ℤ, pos, Bool, true, false, cond, List, [], ◌∷◌, ◌++◌, Option, Some, None, refl, sym, subst, ap, ◌∙◌, arith, filter, find, map, option_map, ◌+◌, ◌<◌, get_or, length, take}
+use Rattle.std.proofs.lemmas.Bool.{eqb-true}
 use Rattle.std.proofs.lemmas.List.{map-append, take_more}
 use Rattle.std.proofs.lemmas.Int.{ints}
-use Rattle.std.specs.Prelude.{IfSome, MatchOption, option_to_list}
+use Rattle.std.specs.Prelude.{◌&&◌, IfSome, MatchOption, option_to_list}
 use Rattle.std.specs.Option.{option_map_or}
 use Rattle.brk_model.specs.Joins.{account_row_with_id, security_row_with_symbol}
 use Rattle.brk_model.specs.Lists.{total_by}
@@ -22,7 +23,7 @@ use Rattle.brk_changes.specs.declared.summary_row.SummaryRow.{SummaryRow}
 use Rattle.brk_book_theorems.specs.OrderReads.{CustomerOfAccountSatisfies, charge_of_type_and_tier}
 use Rattle.brk_trade_theorems.specs.OrderPlans.{EstimateFactsMatchTables, order_account_of_row}
 use Rattle.brk_book_theorems.specs.Reads.{customer_tax_rate_sum}
-use Rattle.brk_book_theorems.specs.TradeReads.{commission_band_of_quantity, permission_list_for_tax_id}
+use Rattle.brk_book_theorems.specs.TradeReads.{commission_band_of_quantity, permission_list_for_tax_id, summary_row_of_position}
 use Rattle.brk_decisions.specs.OrderFactReads.{EstimateAmountsMatchTables, CustomerOrderFactsMatchTables, IsCustomerWithId, EstimateFactsMatchIfAccountOfOrder, order_facts_with_account, order_facts_without_account, market_value_of_summary}
 use Rattle.brk_decisions.specs.declared.tested.OrderTestFacts.{OrderTestFacts}
 use Rattle.brk_decisions.specs.declared.amounts.Amounts.{Amounts}
@@ -49,6 +50,15 @@ module _ (t : Tables) (account : ℕ) (a : ref.AccountRow) (c : customer.Custome
   if_customer : (holds : Customer → Type 0) → holds (abstract_customer c) → CustomerOfAccountSatisfies t account holds
   if_customer holds h = if_account (λ a. IfSome (find (λ r. r.id == a.customer) t.customers) holds) (subst (λ x. IfSome x holds) (sym k) h)
 
+-- The row that was found passes the test.
+passes_found : {X : Type 0} (p : X → Bool) (xs : List X) (x : X) → find p xs ≡ Some x → p x ≡ true
+passes_found p [] x e = absurd (let f = e in cc)
+passes_found p (y ∷ ys) x e = go (passes_found p ys x) (p y) refl
+  where
+    go : (find p ys ≡ Some x → p x ≡ true) → (b : Bool) → p y ≡ b → p x ≡ true
+    go more true k = let f : Some y ≡ Some x = rw k at e in let same : y ≡ x = cc in ap p (sym same) ∙ k
+    go more false k = more (rw k at e)
+
 pub all_found : (t : Tables) (order : Order) (a : ref.AccountRow) (c : customer.Customer) (tested : OrderTestFacts) (amounts : Amounts) → IsCustomerWithId t a.account.customer c
     → CustomerOrderFactsMatchTables t order c tested → EstimateAmountsMatchTables t a order amounts → EstimateFactsMatchIfAccountOfOrder t order a (order_facts_with_account a tested amounts)
 all_found t order a c tested amounts k x y there = record {
@@ -60,8 +70,10 @@ all_found t order a c tested amounts k x y there = record {
   rate = λ p. if_customer t order.account a c there k
       (λ c. IfSome (security_row_with_symbol t order.symbol) (λ s. tested.rate ≡ option_map (λ b. b.rate) (commission_band_of_quantity t c.tier (trade_type_of_order order.order_type) s.exchange order.qty))) x.rate;
   rates = λ p. if_account t order.account a c there k (λ a. amounts.rates ≡ customer_tax_rate_sum t a.customer) y.rates;
-  assets = λ p. if_account t order.account a c there k (λ a. amounts.assets ≡ a.balance +ℤ market_value_of_account_row t a) y.assets;
-  summary = λ p. y.summary;
+  assets = λ p. if_account t order.account a c there k (λ a. amounts.assets ≡ a.balance +ℤ market_value_of_account_row t a) y.held.assets_total;
+  summary = λ p. y.held.shares_held
+      ∙ ap (λ account. option_map (λ r. r.qty) (summary_row_of_position t account order.symbol))
+      (eqb-true a.account.id order.account (passes_found (λ (r : AccountRow). r.id == order.account) t.accounts (abstract_account_row a) (sym there)));
 }
 
 -- the last trade is no part of an estimate
@@ -76,6 +88,18 @@ with_last_trade t order found last k = record {
   assets = k.assets;
   summary = k.summary;
 }
+
+-- ---- rows
+
+-- The first row that passes the test `p` among those that pass `q` is the first that passes both.
+pub find-filter : {X : Type 0} (q p : X → Bool) (xs : List X) → find p (filter q xs) ≡ find (λ x. q x && p x) xs
+find-filter q p [] = refl
+find-filter {X = X} q p (x ∷ xs) = by_test (q x) (find-filter q p xs)
+  where
+    by_test : (b : Bool) → find p (filter q xs) ≡ find (λ x. q x && p x) xs
+        → find p (cond b (x ∷ filter q xs) (filter q xs)) ≡ cond (b && p x) (Some x) (find (λ x. q x && p x) xs)
+    by_test true e = ap (λ o. cond (p x) (Some x) o) e
+    by_test false e = e
 
 -- ---- sums
 

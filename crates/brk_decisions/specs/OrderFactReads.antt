@@ -1,10 +1,12 @@
 -- The facts in the tables that decide on an order.
-use Rattle.std.specs.Prelude.{◌≡◌, ℕ, ◌==◌, ◌+ℤ◌, ◌*ℤ◌, ℤ, pos, false, filter, find, Some, None, IfSome, option_map}
+use Rattle.std.specs.Prelude.{◌≡◌, ℕ, ◌==◌, ◌+ℤ◌, ◌*ℤ◌, ℤ, pos, false, filter, find, map, Option, Some, None, IfSome, option_map}
 use Rattle.brk_model.specs.Joins.{account_row_with_id, last_price_in_tables, security_row_with_symbol}
 use Rattle.brk_model.specs.Lists.{total_by}
 use Rattle.brk_model.specs.Orders.{is_customer_or_has_permission}
 use Rattle.brk_model.specs.Tables.{SummaryRow, Tables}
 use Rattle.brk_money.specs.OrderTypes.{trade_type_of_order}
+use Rattle.brk_money.specs.Spelling.{Text}
+use Rattle.brk_changes.specs.Rows.{abstract_summary_row}
 use Rattle.brk_orders.specs.declared.order.Order.{Order}
 use Rattle.brk_ref.specs.Records.{abstract_account_row, abstract_customer, abstract_executor}
 use Rattle.brk_ref.specs.declared.account.AccountRow.{AccountRow}
@@ -16,6 +18,7 @@ use Rattle.brk_book_theorems.specs.Reads.{customer_tax_rate_sum}
 use Rattle.brk_book_theorems.specs.TradeReads.{commission_band_of_quantity, permission_list_for_tax_id, summary_row_of_position}
 use Rattle.brk_decisions.specs.declared.tested.OrderTestFacts.{OrderTestFacts}
 use Rattle.brk_decisions.specs.declared.amounts.Amounts.{Amounts}
+use Rattle.brk_decisions.specs.declared.amounts.ValuedSummaries.{ValuedSummaries}
 
 -- The customer with the id `id` exists in the tables `t`, and its row equals `customer`.
 abbrev pub IsCustomerWithId : Tables → ℕ → Customer → Type 0
@@ -43,14 +46,27 @@ market_value_of_summary t row = row.qty *ℤ pos (last_price_in_tables t row.sym
 abbrev pub market_value_of_account : Tables → ℕ → ℤ
 market_value_of_account t account = total_by (market_value_of_summary t) (filter (λ row. row.account == account) t.summaries)
 
+-- The rows of `held` equal the holding summaries of the account `account` in the tables `t`, in the
+-- order of the table, and its value is the market value of these summaries at last prices, in
+-- cents.
+pub record AreValuedSummariesOfAccount (t : Tables) (account : ℕ) (held : ValuedSummaries) : Type 0 where
+  pub rows : map abstract_summary_row held.rows.items ≡ filter (λ r. r.account == account) t.summaries
+  pub value : held.value ≡ market_value_of_account t account
+
+-- `assets` is the account's balance plus the market value of its holdings in the tables `t`, in
+-- cents, and `shares` its number of shares of the security with the symbol `symbol`, or `None` if
+-- it has no summary of the security.
+pub record AreAssetsAndSharesOfAccount (t : Tables) (account : AccountRow) (symbol : Text) (assets : ℤ) (shares : Option ℤ) : Type 0 where
+  pub assets_total : assets ≡ account.balance +ℤ market_value_of_account t account.account.id
+  pub shares_held : shares ≡ option_map (λ r. r.qty) (summary_row_of_position t account.account.id symbol)
+
 -- The amounts for the estimate of an order of the account equal those of the tables `t`: the sum of
 -- the customer's tax rates in hundred-thousandths, the account's balance plus the market value of
 -- its holdings in cents, and the number of shares in the holding summary of the order's account and
 -- symbol, or `None` if there is no summary.
 pub record EstimateAmountsMatchTables (t : Tables) (account : AccountRow) (order : Order) (amounts : Amounts) : Type 0 where
   pub rates : amounts.rates ≡ customer_tax_rate_sum t account.account.customer
-  pub assets : amounts.assets ≡ account.balance +ℤ market_value_of_account t account.account.id
-  pub summary : amounts.summary ≡ option_map (λ r. r.qty) (summary_row_of_position t order.account order.symbol)
+  pub held : AreAssetsAndSharesOfAccount t account order.symbol amounts.assets amounts.summary
 
 -- The facts for the decision on an order whose account does not exist: each is `None`, false or 0,
 -- because no other fact is read.

@@ -2,17 +2,17 @@
 
 ghost use Rattle.std.specs.Prelude.{◌≡◌, ◌+ℤ◌, ◌*ℤ◌, IfErr, IfSome, pos};
 ghost use Rattle.brk_book_theorems.specs.Reads.{customer_tax_rate_sum};
-ghost use Rattle.brk_decisions.specs.OrderFactReads.{EstimateAmountsMatchTables, market_value_of_summary, market_value_of_account};
+ghost use Rattle.brk_decisions.specs.OrderFactReads.{AreAssetsAndSharesOfAccount, AreValuedSummariesOfAccount, EstimateAmountsMatchTables, market_value_of_summary, market_value_of_account};
 ghost use Rattle.brk_model.specs.Run.{IsCallFault};
 ghost use Rattle.brk_store.specs.Holds.{ReadPost};
 ghost use Rattle.brk_changes.specs.Rows.{abstract_summary_row};
 
 use crate::known::require_last_price;
-use crate::summary_finding::read_summary_shares;
+use crate::summary_finding::shares_of_symbol;
 use crate::terms::read_tax_rate_sum_within_limit;
 use brk_money::{Cents, Fault, Id, Price, TaxRate, Wide};
 use brk_orders::Order;
-use brk_ref::AccountRow;
+use brk_ref::{AccountRow, Symbol};
 use brk_store::Store;
 use brk_trade::SummaryRow;
 use sqlite::Alter;
@@ -28,6 +28,16 @@ pub struct Amounts {
     /// The number of shares of the order's symbol that the account holds in total (HS_QTY), below 0
     /// if it sold them short, or `None` if it has no summary of the symbol.
     pub summary: Option<i64>,
+}
+
+/// The holding summaries of an account, and their market value.
+#[derive(Drop)]
+pub struct ValuedSummaries {
+    /// The holding summaries, one for each security that the account holds.
+    pub rows: Vec<SummaryRow>,
+    /// The market value of the summaries at last prices, in cents. Shares that were sold short
+    /// count below 0.
+    pub value: Wide,
 }
 
 // Returns the sum of the tax rates that a customer pays, in hundred-thousandths. Changes nothing.
@@ -79,6 +89,26 @@ fn add_value_at_last_price<S: Alter>(
     }
 }
 
+// Returns the holding summaries of an account, and their market value at last prices. Changes
+// nothing. Fails with `Memory` or `Store` only; with `Store` also if a held symbol has no last
+// price or the sum overflows.
+fn read_valued_summaries<S: Alter>(
+    alloc: Global,
+    store: &mut Store<S>,
+    account: Id,
+) -> Result<ValuedSummaries, Fault>
+    ensures read { ReadPost S.Store store.old store.new result (λ held t. AreValuedSummariesOfAccount t account held) }
+    ensures fault { IfErr result IsCallFault }
+{
+    let mut total = Wide::new(0);
+    let rows = store.summaries_of_account(alloc, account)?;
+    for row in &rows {
+        let sum = add_value_at_last_price(store, total, row)?;
+        total = sum;
+    }
+    Ok(ValuedSummaries { rows, value: total })
+}
+
 /// Returns the market value of an account's holdings at last prices, in cents. Shares that were
 /// sold short count below 0. Changes nothing. Fails with `Memory` or `Store` only; with `Store`
 /// also if a held symbol has no last price or the sum overflows.
@@ -90,13 +120,8 @@ pub fn read_holdings_value<S: Alter>(
     ensures read { ReadPost S.Store store.old store.new result (λ worth t. worth ≡ market_value_of_account t account) }
     ensures fault { IfErr result IsCallFault }
 {
-    let mut total = Wide::new(0);
-    let rows = store.summaries_of_account(alloc, account)?;
-    for row in &rows {
-        let sum = add_value_at_last_price(store, total, row)?;
-        total = sum;
-    }
-    Ok(total)
+    let held = read_valued_summaries(alloc, store, account)?;
+    Ok(held.value)
 }
 
 // Returns a balance plus a market value, in cents, or `None` if the sum overflows.
@@ -109,20 +134,25 @@ fn add_balance_to_value(balance: Cents, worth: Wide) -> Option<Wide>
     }
 }
 
-// Returns an account's balance plus the market value of its holdings, in cents. Changes nothing.
-// Fails with `Memory` or `Store` only; with `Store` also if a held symbol has no last price or the
-// sum overflows.
-fn read_asset_total<S: Alter>(
+// Returns an account's balance plus the market value of its holdings, in cents, and the number of
+// shares of a security that it holds, below 0 if it sold them short, or `None` if it has no summary
+// of the security. Reads the account's summaries once for both. Changes nothing. Fails with
+// `Memory` or `Store` only; with `Store` also if a held symbol has no last price or the sum
+// overflows.
+fn read_assets_and_shares<S: Alter>(
     alloc: Global,
     store: &mut Store<S>,
     account: &AccountRow,
-) -> Result<Wide, Fault>
-    ensures read { ReadPost S.Store store.old store.new result (λ assets t. assets ≡ account.now.balance +ℤ market_value_of_account t account.now.account.id) }
+    symbol: &Symbol,
+) -> Result<(Wide, Option<i64>), Fault>
+    ensures read { ReadPost S.Store store.old store.new result (λ amounts t. AreAssetsAndSharesOfAccount t account.now symbol.now amounts.0 amounts.1) }
     ensures fault { IfErr result IsCallFault }
 {
-    let worth = read_holdings_value(alloc, store, account.account.id)?;
+    let held = read_valued_summaries(alloc, store, account.account.id)?;
+    let shares = shares_of_symbol(&held.rows, symbol);
+    let worth = held.value;
     match add_balance_to_value(account.balance, worth) {
-        Some(assets) => Ok(assets),
+        Some(assets) => Ok((assets, shares)),
         None => Err(Fault::Store),
     }
 }
@@ -141,8 +171,7 @@ pub(crate) fn read_estimate_amounts<S: Alter>(
     ensures fault { IfErr result IsCallFault }
 {
     let rates = read_tax_rate_sum(alloc, store, account.account.customer)?;
-    let assets = read_asset_total(alloc, store, account)?;
-    let summary = read_summary_shares(store, order.account, &order.symbol)?;
+    let (assets, summary) = read_assets_and_shares(alloc, store, account, &order.symbol)?;
     Ok(Amounts {
         rates,
         assets,

@@ -31,15 +31,22 @@ fn plan_estimate_over_lots<S: Alter>(
     found: &OrderPlanFacts,
     lots: &mut LotPages<'_, S>,
 ) -> Planned<Estimate>
+    // The source borrows the same store; reads change neither its rows nor what a crash exposes.
     ensures same_reference { (borrowed_store lots.new).ghost_name ≡ (borrowed_store lots.old).ghost_name }
     ensures store_unchanged { IsUnchangedByReads S.Store (borrowed_store lots.old).now (borrowed_store lots.new).now }
+
+    // At `Ok` the estimate, or the first refusal, for which no lot is read.
     ensures planned { IfOk result (λ planned. MatchResult planned
         (EstimatesCheckedOrder order.now found.now (AreLotsBeforeReads S.Store lots.old lots.new))
         (λ refusal. first_refusal (order_checks found.now) ≡ Some refusal)) }
     ensures refused { IfOk result (λ planned. OnErr planned (lots.new ≡ lots.old)) }
+
+    // The number of lots read, also if the call fails.
     ensures few_rows_read { OrderReadsAtMostOneLotMore (terms_of_order order.now found.now)
         (AreLotsBeforeReads S.Store lots.old lots.new) (number_of_rows_read lots.old + 15) (number_of_rows_read lots.new) }
     ensures no_lot_read { closes_lots (terms_of_order order.now found.now).side (terms_of_order order.now found.now).held ≡ false → lots.new ≡ lots.old }
+
+    // The only faults are `Memory` and `Store`.
     ensures fault { IfErr result IsCallFault }
 {
     plan_estimate(order, found, lots)

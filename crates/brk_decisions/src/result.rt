@@ -37,14 +37,21 @@ fn plan_result_over_lots<S: Alter>(
     last: Option<Stamp>,
     now: Stamp,
 ) -> Planned<Plan>
+    // The source borrows the same store; reads change neither its rows nor what a crash exposes.
     ensures same_reference { (borrowed_store lots.new).ghost_name ≡ (borrowed_store lots.old).ghost_name }
     ensures store_unchanged { IsUnchangedByReads S.Store (borrowed_store lots.old).now (borrowed_store lots.new).now }
+
+    // At `Ok` the plan, or the refusal.
     ensures planned { IfOk result (λ planned. MatchResult planned
         (CompletesExistingTrade (Some found.now) price (AreLotsBeforeReads S.Store lots.old lots.new) last now)
         (IsResultRefusal (Some found.now) price (AreLotsBeforeReads S.Store lots.old lots.new) last now)) }
+
+    // The number of lots read, also if the call fails.
     ensures few_rows_read { ResultReadsAtMostOneLotMore (Some found.now) price (stamp_or_clock_reading (moments.stamp_after last now) now)
         (AreLotsBeforeReads S.Store lots.old lots.new) (number_of_rows_read lots.old + 15) (number_of_rows_read lots.new) }
     ensures no_lot_read { ClosesNoHeldShares found.now → lots.new ≡ lots.old }
+
+    // The only faults are `Memory` and `Store`.
     ensures fault { IfErr result IsCallFault }
 {
     plan_result(alloc, Some(found), price, lots, last, now)

@@ -1,7 +1,8 @@
 //! Reads of the number of shares of a security that an account holds in total.
 
-ghost use Rattle.std.specs.Prelude.{◌≡◌, IfErr, option_map};
+ghost use Rattle.std.specs.Prelude.{◌≡◌, IfErr, bytes_eq, find, map, option_map};
 ghost use Rattle.brk_book_theorems.specs.TradeReads.{summary_row_of_position};
+ghost use Rattle.brk_changes.specs.Rows.{abstract_summary_row};
 ghost use Rattle.brk_model.specs.Run.{IsCallFault};
 ghost use Rattle.brk_store.specs.Holds.{ReadPost};
 
@@ -44,4 +45,23 @@ pub(crate) fn read_summary_shares<S: Alter>(
 {
     let summary = store.summary_of_position(account, symbol)?;
     Ok(shares_of_optional_summary(summary))
+}
+
+// Returns true if the holding summary is of the security with the symbol `symbol`.
+fn is_summary_of_symbol(summary: &SummaryRow, symbol: &Symbol) -> bool
+    ensures { result ≡ bytes_eq summary.now.symbol symbol.now }
+{
+    summary.symbol.as_str() == symbol.as_str()
+}
+
+// Returns the number of shares of the first of the holding summaries `rows` that is of the security
+// with the symbol `symbol`, below 0 if they were sold short, or `None` if none is of it.
+pub(crate) fn shares_of_symbol(rows: &[SummaryRow], symbol: &Symbol) -> Option<i64>
+    ensures { result ≡ option_map (λ r. r.qty) (find (λ r. bytes_eq r.symbol symbol.now) (map abstract_summary_row rows.now)) }
+{
+    let Some(row) = rows.iter().find(|row| is_summary_of_symbol(row, symbol)) else {
+        return None;
+    };
+    let qty = shares_of_summary(row);
+    Some(qty)
 }

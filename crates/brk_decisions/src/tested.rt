@@ -94,7 +94,8 @@ pub(crate) fn read_commission_rate_of_band<S: Alter>(
     exchange: &Exchange,
     qty: Qty,
 ) -> Result<Option<Rate>, Fault>
-    ensures read { ReadPost S.Store store.old store.new result (λ rate t. rate ≡ option_map (λ b. b.rate) (commission_band_of_quantity t tier kind exchange.now qty)) }
+    ensures read { ReadPost S.Store store.old store.new result (λ rate t. rate
+        ≡ option_map (λ b. b.rate) (commission_band_of_quantity t tier kind exchange.now qty)) }
     ensures fault { IfErr result IsCallFault }
 {
     let bands = store.commission_bands(alloc, tier, kind, exchange)?;

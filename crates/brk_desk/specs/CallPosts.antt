@@ -3,7 +3,7 @@
 -- connection before and after a call. `brk_store/specs/Holds.antt` explains the other terms of the
 -- clauses: `state`, `HasCleanDisk`, `is_open`, `Survives` and disk contents (`Trees`). A clause
 -- with the premise `HasCleanDisk` for the new state, and the promise on crashes in `survives`, are
--- vacuous if the disk assumption fails after the call.
+-- vacuous if some read up to the return of the call did not return what was written.
 use Rattle.brk_model.specs.Form.{has_utf8_texts}
 use Rattle.std.specs.Prelude.{◌≡◌, ℕ, List, None, map, length, Result, IfOk, IfErr, IsTrue}
 use Rattle.std.specs.List.{AllByRecursion}
@@ -52,7 +52,8 @@ pub record AskPost {S : Type 0} (g : Ghosts S) (old new : Held S) (query : Query
   -- represented. Vacuous if the disk assumption fails.
   pub answered : HasCleanDisk (state g new) → IfOk result (λ seen. (base : Base) → Represents g old base → ask base query ≡ model_query_result seen)
   -- A returned view has the variant of the query, and carries the rows that the query selects from
-  -- the tables of the base. Vacuous if the disk assumption fails.
+  -- the tables of the base, also in columns that no text of the view shows (`answered` is on its
+  -- texts only). Vacuous if the disk assumption fails.
   pub carried : HasCleanDisk (state g new)
       → IfOk result (λ seen. IfOk seen (λ view. (base : Base) → Represents g old base → HasRowsOfQuery query view (sheets base)))
   -- The store represents every base that it represented, whatever the result.
@@ -60,7 +61,7 @@ pub record AskPost {S : Type 0} (g : Ghosts S) (old new : Held S) (query : Query
   -- A fault is `Memory` or `Store`, whether or not the disk assumption holds. A refusal is no
   -- fault.
   pub fault : IfErr result IsCallFault
-  -- A crash exposes only states that a crash before the call could expose.
+  -- A crash after the call exposes only states that a crash before the call could expose.
   pub survives : Survives (state g old) (state g new) (λ _. ⊥)
   -- If the database is open after the call, it was open before the call, and the call did not
   -- change it.
@@ -109,7 +110,8 @@ CrashMayExposeDiskContent g old calls outcomes trees =
 pub record RunPost {S : Type 0} (g : Ghosts S) (old new : Held S) (calls : List (ℕ × Call)) (outcomes : List Outcome) : Type 0 where
   -- There is exactly one outcome for each call.
   pub count : length outcomes ≡ length calls
-  -- The calls refine a run of the model. Vacuous if the disk assumption fails after the calls.
+  -- The calls refine a run of the model. Vacuous if some read up to the return of the last call did
+  -- not return what was written.
   pub refines_model : HasCleanDisk (state g new) → (base : Base) → Represents g old base
       → (after : Base) × Represents g new after × Run base (map model_call calls) (map model_outcome outcomes) after
   -- Each fault is `Memory` or `Store`.
@@ -119,10 +121,10 @@ pub record RunPost {S : Type 0} (g : Ghosts S) (old new : Held S) (calls : List 
   pub same : HasCleanDisk (state g new) → IsTrue (state g new).is_open → OutcomesAcknowledgeNothing outcomes → WasOpenAndIsUnchanged (state g old) (state g new)
   -- If the store is open after the calls, it was open before.
   pub opened : HasCleanDisk (state g new) → IsTrue (state g new).is_open → IsTrue (state g old).is_open
-  -- Crash safety: a crash exposes a state that a crash before the calls could expose or, only if
-  -- the store was open, recoverable contents (`IsRecoverableDiskContent`).
+  -- Crash safety: a crash after the calls exposes a state that a crash before them could expose or,
+  -- only if the store was open, recoverable contents (`IsRecoverableDiskContent`).
   pub survives : Survives (state g old) (state g new) (CrashMayExposeDiskContent g old calls outcomes)
-  -- If some outcome is `Done`, a crash exposes only recoverable contents
+  -- If some outcome is `Done`, a crash after the calls exposes only recoverable contents
   -- (`IsRecoverableDiskContent`).
   pub durable : HasCleanDisk (state g new) → (base : Base) → Represents g old base → ¬ OutcomesAcknowledgeNothing outcomes
       → CrashStatesSatisfy g new (IsRecoverableDiskContent base calls outcomes)
@@ -132,7 +134,7 @@ pub record RunPost {S : Type 0} (g : Ghosts S) (old new : Held S) (calls : List 
       → CrashStatesSatisfy g new (IsRecoverableDiskContent base calls outcomes)
   -- If the disk assumption holds after the calls, it held before.
   pub clean : HasCleanDisk (state g new) → HasCleanDisk (state g old)
-  -- The commands and their keys are well-formed.
+  -- The commands and their keys are well-formed, as all values of their types are.
   pub in_form : AllByRecursion CallMeetsAuditFormats (map model_call calls)
 
 -- After the calls from `base` the store represents some base `after` whose tables pass the audit of

@@ -8,7 +8,8 @@ use Rattle.brk_model.specs.Keyed.{keyed_step}
 use Rattle.brk_model.specs.Records.{Key}
 use Rattle.brk_model.specs.Run.{Call, Do, Outcome, Did, Failed, Run}
 
--- The outcome acknowledges no change: it is not `Did` with the answer `Done`.
+-- The outcome acknowledges no change: it is not `Did` with the answer `Done`. `Again` returns a
+-- stored reply and acknowledges no change.
 abbrev pub AcknowledgesNothing : Outcome → Type 0
 AcknowledgesNothing (Did (Done reply)) = ⊥
 AcknowledgesNothing _ = Unit {0}
@@ -40,8 +41,8 @@ pub record HasUnacknowledgedCommand (base : Base) (calls : List (ℕ × Call)) (
   -- The base after the command, as if it had not failed.
   pub after_is : after ≡ (keyed_step before now command key).1
 
--- A crash after the calls from `base` may expose the tables of `after`: either a run of the calls
--- with these outcomes ends at `after`, or `after` has the change of one more command, which
--- returned a fault and after which no change was acknowledged (`HasUnacknowledgedCommand`).
+-- A crash after the calls from `base` have returned may expose the tables of `after`: either a run
+-- of the calls with these outcomes ends at `after`, or `after` has the change of one more command,
+-- which returned a fault and after which no change was acknowledged (`HasUnacknowledgedCommand`).
 abbrev pub CrashMayExposeBase : Base → List (ℕ × Call) → List Outcome → Base → Type 0
 CrashMayExposeBase base calls outcomes after = Run base calls outcomes after ⊎ HasUnacknowledgedCommand base calls outcomes after

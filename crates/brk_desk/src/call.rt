@@ -25,8 +25,8 @@ pub enum Outcome {
     Saw(View),
     /// The refusal of the query.
     NoView(Refusal),
-    /// The call failed. The open store is unchanged, but if the call was a command, a crash may
-    /// still expose it as committed.
+    /// The call failed. A store that is still open is unchanged, also after a crash. If the call
+    /// was a command and closed the store, a crash may expose it as committed.
     Failed(Fault),
 }
 

@@ -20,10 +20,17 @@ use std::marker::Model;
 
 /// A desk, which executes commands and answers queries over one store. A *base* is the abstract
 /// state of a brokerage; a desk *represents* it if its tables are those of the base. A command is
-/// *acknowledged* once its call has returned `Done`.
+/// *acknowledged* once its call has returned `Done`; `Again` returns a stored reply and
+/// acknowledges nothing.
 ///
-/// A *crash* is the end of the process or the machine at any time. It *exposes* what the next open
-/// of the database finds, after SQLite's own recovery.
+/// A *crash* is the end of the process or the machine. It *exposes* what the next open of the
+/// database finds, after the `sqlite` crate has recovered the log. The clauses specify a crash
+/// after a call has returned; no clause covers a crash within a call (docs/PROMISES.md, "Trusted
+/// parts").
+///
+/// A desk is *open* until its disk fails (`Store`). Under the disk assumption: a desk that is still
+/// open after a fault is unchanged, and a crash exposes only its last commit; if the fault closed
+/// the desk, a crash may expose the command as committed.
 ///
 /// In contracts the value of a desk is the connection of its store (`Held S`), and `t` are the rows
 /// that the store holds.
@@ -93,14 +100,15 @@ impl<S: Alter> Desk<S> {
     /// Fails with `Memory` or `Store` only; `Store` may also mean that a row that another row
     /// requires does not exist, that a lot has no shares, that a number or a sum is out of range,
     /// or that no number is left for a cash row. A refusal, a stored reply or a fault changes
-    /// nothing in the open store and records no key; but after a fault a crash may still expose the
-    /// command as committed.
+    /// nothing in a store that is still open, and records no key. After a fault that closed the
+    /// store a crash may expose the command as committed (`Desk`).
     ///
-    /// A crash exposes a state that a crash before the call could expose, or the tables after the
-    /// command; after `Done` it exposes only the tables after the command.
+    /// A crash after the call exposes a state that a crash before the call could expose, or the
+    /// tables after the command; after `Done` it exposes only the tables after the command.
     ///
-    /// After a fault, with a key, retry under the same key: the command is then accepted at most
-    /// once. Without a key a retry may accept it twice, so read the tables before a retry.
+    /// Retry after a fault: if the fault closed the store, first open and adopt the file again.
+    /// Under the same key the command is accepted at most once. Without a key a retry may accept it
+    /// twice, so before it read the tables, the reopened ones if the store was closed.
     pub fn call(
         &mut self,
         alloc: Global,
@@ -119,7 +127,7 @@ impl<S: Alter> Desk<S> {
     /// requires does not exist, that a lot has no shares, or that a sum overflows or exceeds its
     /// limit. If the database is still open, it is unchanged, whatever the result.
     ///
-    /// A crash exposes only states that a crash before the call could expose.
+    /// A crash after the call exposes only states that a crash before the call could expose.
     pub fn ask(&mut self, alloc: Global, query: &Query) -> Planned<View>
         ensures asked { AskPost S.Store self.old self.new (abstract_query query.now) result }
     {
@@ -127,17 +135,17 @@ impl<S: Alter> Desk<S> {
     }
 
     /// Executes exactly the calls in order, each at its clock reading, and appends one outcome for
-    /// each to `out`. A query, a refusal, a stored reply or a fault changes nothing in the open
-    /// store, and the next call is executed.
+    /// each to `out`. A query, a refusal, a stored reply or a fault changes nothing in a store that
+    /// is still open, and the next call is executed.
     ///
     /// Fails with `Memory` only. The desk and the outcomes in `out` are then unchanged. The fault
     /// of an outcome is `Memory` or `Store`.
     ///
-    /// A crash exposes a state that a crash before the run could expose, or tables with the changes
-    /// of every acknowledged command, and of at most one more: one that returned a fault, and after
-    /// which no command was acknowledged. If the run acknowledges a command, or if a crash before
-    /// the run exposed only the tables of the represented base, a crash exposes only tables with
-    /// these changes.
+    /// A crash after the run has returned exposes a state that a crash before the run could expose,
+    /// or tables with the changes of every acknowledged command, and of at most one more: one that
+    /// returned a fault, and after which no command was acknowledged. If the run acknowledges a
+    /// command, or if a crash before the run exposed only the tables of the represented base, a
+    /// crash after it exposes only tables with these changes.
     pub fn run(
         &mut self,
         alloc: Global,
@@ -174,13 +182,13 @@ impl<S: Alter> Desk<S> {
     }
 
     /// Audits the database by the conditions of schema 3 and writes nothing. Returns `Ok` only if
-    /// its rows pass.
+    /// its rows pass this audit.
     ///
     /// Fails with `Damaged` and the first condition that fails, or with `Memory` or `Store`. Under
     /// the disk assumption a desk that represents a base never returns `Damaged`. The rows and the
     /// open database are unchanged, whatever the result.
     ///
-    /// A crash exposes only states that a crash before the call could expose.
+    /// A crash after the call exposes only states that a crash before the call could expose.
     ///
     /// The result is specified only if the database satisfies `StoreNamedTablesMatchThirdSchema`
     /// (see `Store::audit`). The store of every desk that represents a base satisfies it.
@@ -201,7 +209,7 @@ impl<S: Alter> Desk<S> {
     /// price or that the sum overflows. If the database is still open, it is unchanged, whatever
     /// the result.
     ///
-    /// A crash exposes only states that a crash before the call could expose.
+    /// A crash after the call exposes only states that a crash before the call could expose.
     pub fn head(&mut self, alloc: Global, account: Id) -> Result<Option<StatementHead>, Fault>
         ensures read { ReadPost S.Store self.old self.new result (IsStatementHeadOfAccount account) }
         ensures fault { IfErr result IsCallFault }
@@ -214,11 +222,11 @@ impl<S: Alter> Desk<S> {
     /// does not exist.
     ///
     /// Fails with `Memory` or `Store` only; `Store` may also mean that a row that another row
-    /// requires does not exist or, for a completed trade, that the trade or a trade that opened the
-    /// lot of a closing has no price, or that the number or the sum of the account's earlier cash
-    /// rows overflows. If the database is still open, it is unchanged, whatever the result.
+    /// requires does not exist or, for a completed trade, that it or a trade that opened a lot of
+    /// which it closed shares has no price, or that the number or the sum of the account's earlier
+    /// cash rows overflows. If the database is still open, it is unchanged, whatever the result.
     ///
-    /// A crash exposes only states that a crash before the call could expose.
+    /// A crash after the call exposes only states that a crash before the call could expose.
     pub fn trade_explanation_rows(
         &mut self,
         alloc: Global,
@@ -236,7 +244,7 @@ impl<S: Alter> Desk<S> {
     /// Fails with `Memory` or `Store` only; `Store` may also mean that a symbol has no last price.
     /// If the database is still open, it is unchanged, whatever the result.
     ///
-    /// A crash exposes only states that a crash before the call could expose.
+    /// A crash after the call exposes only states that a crash before the call could expose.
     pub fn account_explanation_rows(
         &mut self,
         alloc: Global,
@@ -248,16 +256,17 @@ impl<S: Alter> Desk<S> {
         read_account_details(alloc, &mut self.store, account)
     }
 
-    /// Returns the facts that the explanation of the holding of an account in a security reads:
-    /// both rows, the completed trades, the lots that they opened, the quantity and the last price.
-    /// Refuses with `NoAccount` if the account does not exist, and with `NoSecurity` if the account
-    /// exists and the security does not.
+    /// Returns the facts that the explanation of the holding of an account in a security reads: the
+    /// rows of the account and of the security, the completed trades of the account in the
+    /// security, the lots that they opened, the quantity and the last price. Refuses with
+    /// `NoAccount` if the account does not exist, and with `NoSecurity` if the account exists and
+    /// the security does not.
     ///
     /// Fails with `Memory` or `Store` only; `Store` may also mean that the security has no last
     /// price, or that a trade that changed a lot does not exist or has no price. If the database is
     /// still open, it is unchanged, whatever the result.
     ///
-    /// A crash exposes only states that a crash before the call could expose.
+    /// A crash after the call exposes only states that a crash before the call could expose.
     pub fn holding_explanation_rows(
         &mut self,
         alloc: Global,
@@ -276,7 +285,7 @@ impl<S: Alter> Desk<S> {
     /// Fails with `Memory` or `Store` only. If the database is still open, it is unchanged,
     /// whatever the result.
     ///
-    /// A crash exposes only states that a crash before the call could expose.
+    /// A crash after the call exposes only states that a crash before the call could expose.
     pub fn broker_explanation_rows(
         &mut self,
         alloc: Global,
@@ -298,7 +307,7 @@ impl<S: Alter> Desk<S> {
     /// `ready`: the visitor must be ready to take records, and is so after the walk. `leads`: the
     /// visitors before and after the walk satisfy the relation `leads` that the visitor defines.
     ///
-    /// A crash exposes only states that a crash before the call could expose.
+    /// A crash after the call exposes only states that a crash before the call could expose.
     pub fn visit_completed_trades<E, V: Visitor<TradeRow, E>>(
         &mut self,
         alloc: Global,
@@ -325,7 +334,7 @@ impl<S: Alter> Desk<S> {
     /// `ready`: the visitor must be ready to take records, and is so after the walk. `leads`: the
     /// visitors before and after the walk satisfy the relation `leads` that the visitor defines.
     ///
-    /// A crash exposes only states that a crash before the call could expose.
+    /// A crash after the call exposes only states that a crash before the call could expose.
     pub fn visit_cash_rows<E, V: Visitor<MoveRow, E>>(
         &mut self,
         account: Id,
@@ -353,7 +362,7 @@ impl<S: Alter> Desk<S> {
     /// `ready`: the visitor must be ready to take records, and is so after the walk. `leads`: the
     /// visitors before and after the walk satisfy the relation `leads` that the visitor defines.
     ///
-    /// A crash exposes only states that a crash before the call could expose.
+    /// A crash after the call exposes only states that a crash before the call could expose.
     pub fn visit_lots<E, V: Visitor<HoldingRow, E>>(
         &mut self,
         account: Id,
@@ -378,7 +387,7 @@ impl<S: Alter> Desk<S> {
     /// `callable`: the closure must accept every record, at its first and at each later call.
     /// `called`: it is called with each row, in order, until its first error.
     ///
-    /// A crash exposes only states that a crash before the call could expose.
+    /// A crash after the call exposes only states that a crash before the call could expose.
     pub fn walk_cash<E: From<Fault>, F: FnMut(&MoveRow) -> Result<(), E> + Drop>(
         &mut self,
         account: Id,
@@ -403,7 +412,7 @@ impl<S: Alter> Desk<S> {
     /// `callable`: the closure must accept every record, at its first and at each later call.
     /// `called`: it is called with each lot, in order, until its first error.
     ///
-    /// A crash exposes only states that a crash before the call could expose.
+    /// A crash after the call exposes only states that a crash before the call could expose.
     pub fn walk_lots<E: From<Fault>, F: FnMut(&str, &Lot) -> Result<(), E> + Drop>(
         &mut self,
         account: Id,

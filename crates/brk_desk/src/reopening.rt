@@ -31,9 +31,10 @@ use sqlite::Alter;
 /// Proves that recovery never reports damage. Let a store represent a base, and let a crash expose
 /// only the tables of this base. If a crash state of a call or a run of this store is opened and
 /// adopted, the adoption does not fail with `Damaged`. The same holds after a crash that follows an
-/// adoption of rows that pass, and after a crash that follows a creation, except for states that
-/// were possible before it. The adoption may fail with `Memory` or `Store`. All clauses are under
-/// the disk assumption: every read so far returned what was written.
+/// adoption of rows that pass their audit, and after a crash that follows a creation, except for
+/// states that were possible before it. The adoption may fail with `Memory` or `Store`. All clauses
+/// are under the disk assumption: every read so far returned what was written. They are on a crash
+/// after a call has returned, not on one within a call.
 pub fn recovery_never_reports_damage<S: Alter>()
     // After the creation of the tables, the store represents the empty base, and a crash exposes
     // only its tables.
@@ -72,8 +73,9 @@ pub fn recovery_never_reports_damage<S: Alter>()
         → HasCleanDisk (state S.Store left)
         → IsNewConnectionAfterCrash S.Store left conn → AdoptPost S.Store conn store result → HasCleanDisk (state S.Store store)
         → IsRecovered S.Store store result (λ stood. (stood ≡ base) ⊎ (stood ≡ base_after_call base now command key)) }
-    // For such a store, after a crash that follows a run, the adopted store represents the base
-    // with every acknowledged command, or with one command more (`CrashMayExposeBase`).
+    // For a store as in `crash_after_call`, after a crash that follows a run, the adopted store
+    // represents the base with every acknowledged command, or with one command more
+    // (`CrashMayExposeBase`).
     ensures crash_after_run { (first left conn store : Held S) (base : Base) (result : Result (Unit {0}) faults.Fault) (calls : List (ℕ
         × made.Call)) (outcomes : List came.Outcome)
         → RepresentsDurableBase S.Store first base → RunPost S.Store first left calls outcomes → HasCleanDisk (state S.Store left)

@@ -1,5 +1,5 @@
 -- Lists of lines that have a first one.
-use Rattle.std.proofs.Common.{◌≡◌, Global, List, [], ◌∷◌, ◌++◌, Option, Result, Ok, Err, IfOk, IfErr, OnErr, refl, subst, sym, ap}
+use Rattle.std.proofs.Common.{◌≡◌, Global, List, [], ◌∷◌, ◌++◌, Option, Result, IfOk, IfErr, refl, subst, sym, ap}
 use Rattle.std.specs.Prelude.{ℕ, Vec}
 use Rattle.brk_money.specs.Spelling.{Text}
 use Rattle.brk_money.specs.declared.fault.Fault.{Fault}
@@ -8,6 +8,8 @@ use Rattle.brk_model.specs.Statement.{text_of_lines}
 use Rattle.brk_report_lines.specs.Written.{FailsWithinLines, FailsWithinFirstLines, WritesLines}
 use Rattle.brk_report_lines.specs.declared.fault.LinesFault.{LinesFault}
 use Rattle.brk_report_lines.proofs.Composed.{breaks_off}
+use Rattle.brk_report.specs.Stated.{IsMemoryStoreOrWriteFault}
+use Rattle.brk_report.proofs.Section.{in_written}
 
 -- the lines have a first one
 abbrev pub HasFirst : List Text → Type 0
@@ -33,3 +35,9 @@ pub text_written : {R : Type 0} (lines : List Text) (text : Result (Vec ℕ Glob
 text_written lines text a b r some writes made fails =
     subst (λ (l : List Text). WritesLines l a b r) some.2
     (writes some.0 some.1 (subst (λ (l : List Text). IfOk text (λ t. t.items ≡ text_of_lines l)) (sym some.2) made) fails)
+
+-- the fault of writing the text is one of memory, of the store or of the writer
+pub text_fault : {R : Type 0} (lines : List Text) (text : Result (Vec ℕ Global) Fault) (a b : Option Text) (r : Result R LinesFault) → HasFirst lines
+    → ((line : Text) (rest : List Text) → IfOk text (λ t. t.items ≡ text_of_lines (line ∷ rest)) → IfErr text IsCallFault → WritesLines (line ∷ rest) a b r)
+    → IfOk text (λ t. t.items ≡ text_of_lines lines) → IfErr text IsCallFault → IfErr r IsMemoryStoreOrWriteFault
+text_fault lines text a b r some writes made fails = in_written lines a b r (text_written lines text a b r some writes made fails)

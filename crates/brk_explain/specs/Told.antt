@@ -1,5 +1,5 @@
 -- The output of lines that a desk reads and does not change.
-use Rattle.std.specs.Prelude.{◌≡◌, ◌⊎◌, ℕ, List, [], Option, Result, Ok, Err}
+use Rattle.std.specs.Prelude.{◌≡◌, ◌⊎◌, List, [], IfErr, Option, Result, Ok, Err}
 use Rattle.std.specs.Io.KnownBytes.{Appends}
 use Rattle.sqlite_trees.specs.declared.store.Store.{Ghosts}
 use Rattle.sqlite.specs.Held.{Held}
@@ -8,7 +8,7 @@ use Rattle.brk_money.specs.declared.refusal.Refusal.{Refusal}
 use Rattle.brk_model.specs.Run.{IsCallFault}
 use Rattle.brk_model.specs.Statement.{text_of_lines}
 use Rattle.brk_model.specs.Tables.{Tables}
-use Rattle.brk_report.specs.Stated.{PreservesDesk, HoldsForStoredTables}
+use Rattle.brk_report.specs.Stated.{PreservesDesk, IsRefusalOrMemoryStoreOrWriteFault, HoldsForStoredTables}
 use Rattle.brk_report_lines.specs.Written.{WritesProperPrefixOfLines, WritesLinesAndPartOfNext}
 use Rattle.brk_report_lines.specs.declared.fault.ReportFault.{ReportFault}
 use Rattle.brk_report_lines.specs.declared.fault.ReportFault.TheVariants.{Refused, Desk, Write}
@@ -25,13 +25,15 @@ WritesLinesOrRefuses told old new (Err (Desk fault)) =
     IsCallFault fault × (Appends old new [] ⊎ ((lines : List Text) × (told ≡ Ok lines) × WritesProperPrefixOfLines lines old new))
 WritesLinesOrRefuses told old new (Err Write) = (lines : List Text) × (told ≡ Ok lines) × WritesLinesAndPartOfNext lines old new
 
--- The postcondition of writing the lines, or of returning the refusal, that `told` specifies for
--- the tables of a desk: the output is as `WritesLinesOrRefuses` specifies, the desk is unchanged,
--- and nothing is written at a refusal.
+-- The postcondition of writing the lines that `told` gives for the tables of a desk, or of
+-- returning the refusal that it gives. The output is as specified (`WritesLinesOrRefuses`), a fault
+-- of the desk is `Memory` or `Store`, the desk is unchanged, and nothing is written at a refusal.
 pub record WriteLinesPost {S : Type 0} (g : Ghosts S) (old new : Held S) (told : Tables → Result (List Text) Refusal) (before after : Option Text)
     (result : Result (Unit {0}) ReportFault) : Type 0 where
   -- The output is as specified for the rows that the store holds, whatever they are.
   pub written : HoldsForStoredTables g old new (λ t. WritesLinesOrRefuses (told t) before after result)
+  -- A fault of the desk is `Memory` or `Store`. This does not depend on the disk assumption.
+  pub fault : IfErr result IsRefusalOrMemoryStoreOrWriteFault
   pub keeps : PreservesDesk g old new
   -- Nothing is written at a refusal.
   pub unwritten : (refusal : _) → result ≡ Err (Refused refusal) → after ≡ before

@@ -1,8 +1,9 @@
+ghost use Rattle.std.specs.Prelude.{IfErr};
 ghost use Rattle.brk_explain.specs.Requests.{abstract_explain_request};
 ghost use Rattle.brk_explain.specs.Sections.{all_broker_lines, all_account_lines};
 ghost use Rattle.brk_explain.specs.Told.{WriteLinesPost};
 ghost use Rattle.brk_explain_model.specs.Explain.{TradeOf, AccountOf, HoldingOf, BrokerOf, explanation};
-ghost use Rattle.brk_report.specs.Stated.{PreservesDesk, HoldsForStoredTables};
+ghost use Rattle.brk_report.specs.Stated.{PreservesDesk, IsMemoryStoreOrWriteFault, HoldsForStoredTables};
 ghost use Rattle.brk_report_lines.specs.Written.{WritesLines};
 
 use crate::parse::ExplainRequest;
@@ -56,6 +57,7 @@ fn write_account_lines<W: Write, S: Alter>(
     writer: &mut W,
 ) -> Result<(), LinesFault>
     ensures keeps { PreservesDesk S.Store desk.old desk.new }
+    ensures fault { IfErr result IsMemoryStoreOrWriteFault }
     ensures written { HoldsForStoredTables S.Store desk.old desk.new
         (λ t. WritesLines (all_account_lines t account details.now) (W.contents writer.old) (W.contents writer.new) result) }
 {
@@ -127,6 +129,7 @@ fn write_broker_lines<W: Write, S: Alter>(
     writer: &mut W,
 ) -> Result<(), LinesFault>
     ensures keeps { PreservesDesk S.Store desk.old desk.new }
+    ensures fault { IfErr result IsMemoryStoreOrWriteFault }
     ensures written { HoldsForStoredTables S.Store desk.old desk.new
         (λ t. WritesLines (all_broker_lines t broker details.now) (W.contents writer.old) (W.contents writer.new) result) }
 {
@@ -165,13 +168,13 @@ fn write_broker_explanation<W: Write, S: Alter>(
 ///
 /// Fails with `Refused` and nothing written if a record does not exist: with refusal 5 (`NoTrade`)
 /// for the trade, 1 (`NoAccount`) for the account, also of a holding, 4 (`NoSecurity`) for the
-/// security of a holding whose account exists, and 3 (`NoBroker`) for the broker. Fails with `Desk`
-/// if a read fails, memory runs out, a row that another row requires does not exist, or an amount
-/// overflows or exceeds its limit: only whole lines are then written, from the first on and never
-/// the last one. After `Write` whole lines are written, from the first on, and a part of the next
-/// one.
+/// security of a holding whose account exists, and 3 (`NoBroker`) for the broker. Fails with
+/// `Desk(Memory)` or `Desk(Store)`; `Desk(Store)` may also mean that a row that another row requires
+/// does not exist, or that an amount overflows or exceeds its limit. After `Desk` only whole lines
+/// are written, from the first on and never the last one. After `Write` whole lines are written,
+/// from the first on, and a part of the next one.
 ///
-/// A crash exposes only states that a crash before the call could expose.
+/// A crash after the call exposes only states that a crash before the call could expose.
 pub fn write_explanation<W: Write, S: Alter>(
     alloc: Global,
     desk: &mut Desk<S>,

@@ -1,37 +1,26 @@
 //! The parts of the explanations of an account and of a broker over which the desk walks. None of
 //! them changes the desk.
 
-ghost use Rattle.std.specs.Prelude.{◌≡◌, length};
+ghost use Rattle.std.specs.Prelude.{IfErr, length};
 ghost use Rattle.brk_explain.specs.Sections.{WritesCountedLines, account_cash_lines, broker_trade_lines, account_lot_lines};
 ghost use Rattle.brk_explain_model.specs.AccountLines.{account_cash_rows_by_stamp};
 ghost use Rattle.brk_explain_model.specs.BrokerLines.{completed_trades_of_broker};
 ghost use Rattle.brk_model.specs.Statement.{holding_rows_of_account};
-ghost use Rattle.brk_report.specs.Stated.{PreservesDesk, HoldsForStoredTables};
-ghost use Rattle.brk_report.specs.WalkFaults.{fault_of_walk_error};
+ghost use Rattle.brk_report.specs.Stated.{PreservesDesk, IsMemoryStoreOrWriteFault, HoldsForStoredTables};
 
 use crate::visitors::{CashPostingWriter, OpenLotWriter, TradeCommissionWriter};
-use brk_desk::{Desk, WalkError};
+use brk_desk::Desk;
 use brk_money::{Cents, Id, Stamp, Wide};
+use brk_report::fault_from_walk_error;
 use brk_report_lines::LinesFault;
 use sqlite::Alter;
 use std::alloc::Global;
 use std::io::Write;
 
-// Returns the fault with which writing lines fails if its walk failed: the walk's own fault as
-// `Desk`, or the fault with which the visitor stopped the walk.
-fn fault_from_walk_error(stop: WalkError<LinesFault>) -> LinesFault
-    ensures { result ≡ fault_of_walk_error stop }
-{
-    match stop {
-        WalkError::Failed(fault) => LinesFault::Desk(fault),
-        WalkError::Cause(fault) => fault,
-    }
-}
-
-/// Writes a line for each cash row of an account, sorted by stamp, ascending, with the balance
-/// after it; the balance before the first one is `opening`, in cents. Returns the number of cash
-/// rows. Fails with `Desk` if a read fails, memory runs out, or a balance or the number overflows,
-/// and with `Write` if the writer fails. If the database is still open, it is unchanged.
+/// Writes a line for each cash row of an account, sorted by stamp, with the balance after it, which
+/// starts from the balance `opening`, in cents. Returns the number of cash rows. Fails with `Desk`
+/// if a read fails, memory runs out, or a balance or the number overflows, and with `Write` if the
+/// writer fails. The open database is unchanged.
 pub(crate) fn write_cash_posting_lines<W: Write, S: Alter>(
     alloc: Global,
     desk: &mut Desk<S>,
@@ -40,6 +29,7 @@ pub(crate) fn write_cash_posting_lines<W: Write, S: Alter>(
     writer: &mut W,
 ) -> Result<u64, LinesFault>
     ensures keeps { PreservesDesk S.Store desk.old desk.new }
+    ensures fault { IfErr result IsMemoryStoreOrWriteFault }
     ensures written { HoldsForStoredTables S.Store desk.old desk.new
         (λ t. WritesCountedLines (account_cash_lines t account opening) (length (account_cash_rows_by_stamp t account))
         (W.contents writer.old) (W.contents writer.new) result) }
@@ -67,6 +57,7 @@ pub(crate) fn write_open_lot_lines<W: Write, S: Alter>(
     writer: &mut W,
 ) -> Result<u64, LinesFault>
     ensures keeps { PreservesDesk S.Store desk.old desk.new }
+    ensures fault { IfErr result IsMemoryStoreOrWriteFault }
     ensures written { HoldsForStoredTables S.Store desk.old desk.new
         (λ t. WritesCountedLines (account_lot_lines t account) (length (holding_rows_of_account t account))
         (W.contents writer.old) (W.contents writer.new) result) }
@@ -93,6 +84,7 @@ pub(crate) fn write_trade_commission_lines<W: Write, S: Alter>(
     writer: &mut W,
 ) -> Result<u64, LinesFault>
     ensures keeps { PreservesDesk S.Store desk.old desk.new }
+    ensures fault { IfErr result IsMemoryStoreOrWriteFault }
     ensures written { HoldsForStoredTables S.Store desk.old desk.new
         (λ t. WritesCountedLines (broker_trade_lines t broker) (length (completed_trades_of_broker t broker))
         (W.contents writer.old) (W.contents writer.new) result) }

@@ -2,6 +2,7 @@
 
 ghost use Rattle.std.specs.Prelude.{◌≡◌, ◌++◌, ◌<◌, Err, IfOk, OnErr, OnOk};
 ghost use Rattle.brk_explain_model.specs.Texts.{time_of_day_text, timestamp_text};
+ghost use Rattle.brk_money.specs.Moments.{milliseconds_per_day};
 ghost use Rattle.brk_money.specs.Spelling.{padded_decimal};
 ghost use Rattle.brk_money.specs.declared.fault.Fault.TheVariants.{Memory};
 
@@ -40,7 +41,7 @@ fn put_three_digits(out: &mut Vec<u8>, n: u16) -> Result<(), Fault>
 // midnight, below 86,400,000. Fails with `Memory` only.
 #[tactic(auto, unfolding(brk_explain_model::specs::Texts::time_of_day_text))]
 fn put_time_of_day(out: &mut Vec<u8>, millis: u32) -> Result<(), Fault>
-    requires { millis < 86400000 }
+    requires { millis < milliseconds_per_day }
     ensures ok { OnOk result (out.new.items ≡ out.old.items ++ time_of_day_text millis) }
     ensures fault { OnErr result (result ≡ Err Memory) }
 {

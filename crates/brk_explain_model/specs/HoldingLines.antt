@@ -8,7 +8,8 @@ use Rattle.brk_explain_model.specs.Texts.{labeled_value, timestamp_text, labeled
 use Rattle.brk_explain_model.specs.Texts.{labeled_text}
 use Rattle.brk_explain_model.specs.Running.{lines_with_running_total}
 use Rattle.brk_explain_model.specs.Trades.{completion_price_or_zero}
-use Rattle.brk_explain_model.specs.Holdings.{LotChange, LotDetails, realised_gain_of_change, count_of_lot_changes, remaining_cost_of_lot, remaining_cost_of_lots}
+use Rattle.brk_explain_model.specs.Holdings.{LotChange, LotDetails, realised_gain_of_change, count_of_lot_changes}
+use Rattle.brk_explain_model.specs.Holdings.{remaining_cost_of_lot, remaining_cost_of_lots}
 use Rattle.brk_explain_model.specs.Holdings.{completed_trades_in_symbol, realised_gain_of_lots, remaining_quantity_of_lot, lots_opened_in_symbol}
 use Rattle.brk_explain_model.specs.Holdings.{lots_not_fully_closed, total_purchase_value, total_sale_value, signed_quantity_of_trade, signed_value_of_trade}
 use Rattle.brk_explain_model.specs.Holdings.{summary_quantity_in_symbol}
@@ -32,8 +33,8 @@ holding_header_lines a s =
 -- and signed value, `held`, the quantity of the holding after it, and the code of its type.
 unfoldable pub holding_trade_line : TradeRow → ℤ → Text
 holding_trade_line u held =
-    leading_row_columns (codes "Trade") (timestamp_text u.stamp) u.id (signed_quantity_of_trade u) (completion_price_or_zero u) ++ value_column (signed_value_of_trade u)
-    ++ shares_column held ++ 32
+    leading_row_columns (codes "Trade") (timestamp_text u.stamp) u.id (signed_quantity_of_trade u) (completion_price_or_zero u)
+    ++ value_column (signed_value_of_trade u) ++ shares_column held ++ 32
     ∷ trade_type_code u.kind
 
 -- The line of the column headings of lots.

@@ -72,4 +72,5 @@ IsSettlementOfTrade t trade settled =
 -- the current tax rates and commission band, and the settlement day. Vacuous if `order` does not
 -- have the rows and status changes of its trade in these tables (`IsOrderOfTrade`).
 abbrev pub IsResultOfOrder : OrderDetails → ResultDetails → Tables → Type 0
-IsResultOfOrder order details t = IsOrderOfTrade order.trade order t → abstract_result_details details ≡ result_details_of_trade t (abstract_trade_row order.trade)
+IsResultOfOrder order details t =
+    IsOrderOfTrade order.trade order t → abstract_result_details details ≡ result_details_of_trade t (abstract_trade_row order.trade)

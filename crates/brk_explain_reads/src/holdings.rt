@@ -91,10 +91,10 @@ fn holding_details_of_parts(
     }
 }
 
-/// Returns the facts that the explanation of the holding of an account in a security reads: both
-/// rows, the completed trades, the lots that they opened, the quantity and the last price. Refuses
-/// with `NoAccount` if the account does not exist, and with `NoSecurity` if only the security does
-/// not exist.
+/// Returns the facts that the explanation of the holding of an account in a security reads: the
+/// rows of the account and of the security, the completed trades of the account in the security,
+/// the lots that they opened, the quantity and the last price. Refuses with `NoAccount` if the
+/// account does not exist, and with `NoSecurity` if only the security does not exist.
 ///
 /// Fails with `Memory` or `Store` only; with `Store` also if the security has no last price, or if
 /// a trade that changed a lot does not exist or has no price. If the database is still open, it is

@@ -28,9 +28,9 @@ fn is_completed(trade: &TradeRow) -> bool
 /// exist.
 ///
 /// Fails with `Memory` or `Store` only; with `Store` also if a row that another row requires does
-/// not exist. For a completed trade it fails with `Store` also if the trade or a trade that opened
-/// the lot of a closing has no price, or if the number or the sum of the account's earlier cash
-/// rows overflows.
+/// not exist. For a completed trade it fails with `Store` also if it or a trade that opened a lot
+/// of which it closed shares has no price, or if the number or the sum of the account's earlier
+/// cash rows overflows.
 ///
 /// If the database is still open, it is unchanged, whatever the result.
 pub fn read_trade_details<S: Alter>(

@@ -86,9 +86,10 @@ abbrev pub abstract_lot_details : lot_details.LotDetails → LotDetails
 abstract_lot_details l = record { trade = abstract_trade_row l.trade; opened = l.opened; changes = map abstract_priced_lot_change l.changes.items }
 
 -- The facts `s` are the facts that the explanation of the holding of `account` in the security
--- `symbol` reads from the tables `t`: both rows, the completed trades, the lots that they opened,
--- the quantity and the last price. A refusal is `NoAccount` if the account does not exist, and
--- `NoSecurity` if the account exists and the security does not.
+-- `symbol` reads from the tables `t`: the rows of the account and of the security, the completed
+-- trades of the account in the security, the lots that they opened, the quantity and the last
+-- price. A refusal is `NoAccount` if the account does not exist, and `NoSecurity` if the account
+-- exists and the security does not.
 abbrev pub AreDetailsOfHolding : ℕ → Text → Result holding_details.HoldingDetails Refusal → Tables → Type 0
 AreDetailsOfHolding account symbol (Err refusal) t =
     ((account_row_with_id t account ≡ None) × (refusal ≡ NoAccount))

@@ -73,7 +73,8 @@ fn parse_keyed_row_route<D: Service>(
     batch: &str,
     n: &str,
 ) -> Result<Option<Route<D::ViewName>>, Fault>
-    ensures { IfOk result (λ route. option_map (route_in_model D.view_text) route ≡ route_of_segments D.forms.views (first.now ∷ word.now ∷ batch.now ∷ n.now ∷ [])) }
+    ensures { IfOk result (λ route. option_map (route_in_model D.view_text) route
+        ≡ route_of_segments D.forms.views (first.now ∷ word.now ∷ batch.now ∷ n.now ∷ [])) }
 {
     if !has_first_segment(first, word, "rows") {
         return Ok(None);

@@ -136,11 +136,16 @@ pub fn serve_next_request<R: Read, W: Write, C: Clock, D: Service>(
     desk: &mut D::Desk,
     done: u64,
 ) -> Result<Turn, FaultKind>
+    // The stream may have another reply; the router has all routes; no view has an empty name.
     requires few { done < most_requests_per_stream }
     requires routes { router.now ≡ all_router_rows }
     requires named { list_all is_nonempty D.forms.views ≡ Bool.true }
+
+    // At most one call of the desk; at `Open` the stream may have another reply.
     ensures called { ChangesOnlyByCalls D.acts (call_limit_of_turn result) desk.old desk.new }
     ensures open { result ≡ Ok Turn.Open → done + 1 < most_requests_per_stream }
+
+    // If the content of the reader is specified: the request, its reply, and what was written.
     ensures ok { IfOk result (λ turn. IfSome (R.remaining reader.old) (λ xs. ExchangeCompletesWith D.forms D.acts C.gives done (buffer.old.items ++ xs)
         (record { base = desk.old; after = desk.new; clock = clock.old; later = clock.new; old = W.contents writer.old; new = W.contents writer.new })
         (prepend_known buffer.new.items (R.remaining reader.new)) turn)) }

@@ -17,7 +17,12 @@ IsRequestWithin (Whole r) len = IsWithin len r.method × IsWithin len r.target �
 -- The request whose method, target and body are the bytes of `buffer` at the positions `r`, with
 -- the close flag of `r`.
 abbrev pub request_at_positions : List ℕ → RequestPositions → Request
-request_at_positions buffer r = record { method = span_bytes buffer r.method; target = span_bytes buffer r.target; closes = r.closes; body = span_bytes buffer r.body }
+request_at_positions buffer r = record {
+  method = span_bytes buffer r.method;
+  target = span_bytes buffer r.target;
+  closes = r.closes;
+  body = span_bytes buffer r.body;
+}
 
 -- The result of `read_next_request`, the first argument, represents `found`, the result of reading
 -- in the model: no byte left, a request that cannot be read because of the same problem, or a

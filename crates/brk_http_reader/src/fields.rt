@@ -10,6 +10,9 @@ ghost use Rattle.brk_http_reader.specs.FieldFactUpdates.{facts_with_field};
 use brk_http_model::RequestProblem;
 use httparse::spans::HeaderSpan;
 
+/// The greatest length of a request's body, in bytes.
+const MAXIMUM_BODY_BYTES: usize = 65_536;
+
 /// The body length and the close flag of the fields of a head.
 #[derive(Clone, Copy, Debug)]
 pub struct FieldFacts {
@@ -60,7 +63,7 @@ fn value_of_digits(value: &[u8]) -> usize
 /// than nine digits or exceeds the limit.
 fn body_length_of_value(value: &[u8]) -> Result<usize, RequestProblem>
     ensures value { result ≡ spec.body_length_of_value value.now }
-    ensures small { IfOk result (λ n. n ≤ 65536) }
+    ensures small { IfOk result (λ n. n ≤ spec.most_body_bytes) }
 {
     if !has_only_digits(value) {
         return Err(RequestProblem::BadRequest);
@@ -69,7 +72,7 @@ fn body_length_of_value(value: &[u8]) -> Result<usize, RequestProblem>
         return Err(RequestProblem::TooLarge);
     }
     let len = value_of_digits(value);
-    if len > 65536 {
+    if len > MAXIMUM_BODY_BYTES {
         Err(RequestProblem::TooLarge)
     } else {
         Ok(len)
@@ -94,7 +97,7 @@ struct FieldFactsSoFar {
 /// `BadRequest`.
 fn facts_with_one_more_field(seen: FieldFactsSoFar, name: &[u8], value: &[u8]) -> FieldFactsSoFar
     ensures value { result ≡ facts_with_field seen (name.now, value.now) }
-    ensures small { IfOk seen.len (λ n. n ≤ 65536) → IfOk result.len (λ n. n ≤ 65536) }
+    ensures small { IfOk seen.len (λ n. n ≤ spec.most_body_bytes) → IfOk result.len (λ n. n ≤ spec.most_body_bytes) }
 {
     let is_length = equals_ignoring_case(name, b"content-length");
     let is_close = equals_ignoring_case(name, b"connection")
@@ -123,7 +126,7 @@ fn facts_with_one_more_field(seen: FieldFactsSoFar, name: &[u8], value: &[u8]) -
 pub fn facts_from_fields(front: &[u8], headers: &[HeaderSpan]) -> FieldFacts
     requires { All (IsHeaderWithin (length front.now)) headers.now }
     ensures len { result.len ≡ spec.body_length_of_fields (map (header_bytes front.now) headers.now) }
-    ensures small { IfOk result.len (λ n. n ≤ 65536) }
+    ensures small { IfOk result.len (λ n. n ≤ spec.most_body_bytes) }
     ensures closes { result.closes ≡ spec.asks_to_close_stream (map (header_bytes front.now) headers.now) }
 {
     let mut seen = FieldFactsSoFar {

@@ -2,6 +2,7 @@
 ghost use Rattle.std.specs.Prelude.{◌≡◌, ◌||◌, ◌≤◌, ℕ, List, length, IfSome, IfNone, IfOk};
 ghost use Rattle.httparse.specs.Grammar.{RequestHead};
 ghost use Rattle.httparse.specs.Spans.{span_bytes, IsWithin};
+ghost use Rattle.brk_http_model.specs.Fields.{most_body_bytes};
 ghost use Rattle.brk_http_model.specs.Found.{IsRequestHead};
 ghost use Rattle.brk_http_reader.specs.Heads.{FactsDescribeHead};
 
@@ -37,7 +38,7 @@ fn is_either_true(a: bool, b: bool) -> bool
 /// with a head of at most 100 fields.
 pub fn parse_head(front: &[u8]) -> Option<HeadFacts>
     ensures within { IfSome result (λ facts. IsWithin (length front.now) facts.method × IsWithin (length front.now) facts.target) }
-    ensures small { IfSome result (λ facts. IfOk facts.len (λ n. n ≤ 65536)) }
+    ensures small { IfSome result (λ facts. IfOk facts.len (λ n. n ≤ most_body_bytes)) }
     ensures head { IfSome result (λ facts. (h : RequestHead) × (rest : List ℕ) × FactsDescribeHead front.now facts h rest) }
     ensures none { IfNone result ((h : RequestHead) → ¬ (IsRequestHead front.now h)) }
 {

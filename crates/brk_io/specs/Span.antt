@@ -32,4 +32,11 @@ pub record ClockAndWriterChange (C : Type 0) : Type 0 where
 -- The change of an environment that consists of the change `outside` of the clock and the writer,
 -- and of the desk's bases `base` before it and `after` after it.
 abbrev pub environment_change_with_bases : {S C : Type 0} → S → S → ClockAndWriterChange C → EnvironmentChange S C
-environment_change_with_bases base after outside = record { base = base; after = after; clock = outside.clock; later = outside.later; old = outside.old; new = outside.new }
+environment_change_with_bases base after outside = record {
+  base = base;
+  after = after;
+  clock = outside.clock;
+  later = outside.later;
+  old = outside.old;
+  new = outside.new;
+}

@@ -10,10 +10,15 @@ use crate::lot::{Lot, Touch};
 // the lot at `last` to `qty`, or closes this lot too if `qty` is 0. Returns the index of the first
 // remaining lot; the closed lots before it are not removed from the vector.
 fn remove_front_lots(lots: &mut Vec<Lot>, last: usize, qty: i64) -> usize
+    // `last` is the index of a lot.
     requires { last < vec_len lots.old }
+
+    // The lots from the returned index on are those that remain.
     ensures left { (lot : Lot) → lot ≡ slice_index_or lots.old.items last lot
         → drop result lots.new.items ≡ lot_with_nonzero_quantity qty lot ++ drop (last + 1) lots.old.items }
     ensures within { result ≤ vec_len lots.new }
+
+    // The capacity and the length of the vector are unchanged.
     ensures capacity { vec_capacity lots.new ≡ vec_capacity lots.old }
     ensures len { vec_len lots.new ≡ vec_len lots.old }
 {
@@ -27,8 +32,13 @@ fn remove_front_lots(lots: &mut Vec<Lot>, last: usize, qty: i64) -> usize
 // Removes the lots after the index `last`, which must be that of a lot, from the vector, and sets
 // the quantity of the lot at `last` to `qty`, or removes this lot too if `qty` is 0.
 fn remove_back_lots(lots: &mut Vec<Lot>, last: usize, qty: i64)
+    // `last` is the index of a lot.
     requires { last < vec_len lots.old }
+
+    // All lots that remain.
     ensures left { (lot : Lot) → lot ≡ slice_index_or lots.old.items last lot → lots.new.items ≡ take last lots.old.items ++ lot_with_nonzero_quantity qty lot }
+
+    // The capacity of the vector is unchanged, no lot is added, and at least `last` lots remain.
     ensures capacity { vec_capacity lots.new ≡ vec_capacity lots.old }
     ensures len { vec_len lots.new ≤ vec_len lots.old }
     ensures within { last ≤ vec_len lots.new }
@@ -46,11 +56,16 @@ fn remove_back_lots(lots: &mut Vec<Lot>, last: usize, qty: i64)
 // except that the last change may only reduce its lot. Returns the index of the first remaining
 // lot.
 pub(crate) fn apply_touches_to_lots(lots: &mut Vec<Lot>, first: usize, touched: &[Touch]) -> usize
+    // The lots from `first` on form a position; the changes are those of its shares from one end.
     requires within { first ≤ vec_len lots.old }
     requires walk { IsPositionInAnyOrder (drop first lots.old.items) }
     requires rows { (lifo : Bool) × (k : ℕ) × (touched.now ≡ touches_of_first_shares k (list_in_closing_order lifo (drop first lots.old.items))) }
+
+    // The lots from the returned index on are those that remain.
     ensures left { drop result lots.new.items ≡ lots_after_touches touched.now (drop first lots.old.items) }
     ensures begins { result ≤ vec_len lots.new }
+
+    // The capacity of the vector is unchanged, and no lot is added.
     ensures capacity { vec_capacity lots.new ≡ vec_capacity lots.old }
     ensures len { vec_len lots.new ≤ vec_len lots.old }
 {

@@ -189,4 +189,5 @@ base_after_covering_purchase =
 -- The base `base_after_covering_purchase` after the trade `sale_of_all_shares`.
 unfoldable pub base_after_sale_of_all : Base
 base_after_sale_of_all =
-    setting_with_trades (first_purchase ∷ second_purchase ∷ sale_first_in_first_out ∷ short_sale ∷ short_covering_purchase ∷ sale_of_all_shares ∷ []) 1709251200027
+    setting_with_trades
+    (first_purchase ∷ second_purchase ∷ sale_first_in_first_out ∷ short_sale ∷ short_covering_purchase ∷ sale_of_all_shares ∷ []) 1709251200027

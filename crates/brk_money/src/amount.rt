@@ -1,8 +1,10 @@
-ghost use Rattle.std.specs.Prelude.{◌≡◌, ℕ, ◌≤◌, SomeIff, nat_abs, pos};
+ghost use Rattle.std.specs.Prelude.{◌≡◌, ℕ, ◌≤◌, Some, SomeIff, nat_abs, pos};
+ghost use Rattle.brk_money.specs.Spelling.{cents_text};
 ghost use Rattle.brk_money.specs.declared.amount.TheConstants.Amount;
 
 use crate::cents::Cents;
 use crate::wide::Wide;
+use std::fmt;
 use std::marker::Model;
 
 /// An amount that is never negative, such as a commission, a tax or the value of shares: whole
@@ -59,5 +61,15 @@ impl From<Amount> for Wide {
     /// Returns the amount, in cents, as a `Wide`.
     fn from(amount: Amount) -> Wide {
         Wide::new(i128::from(amount.get()))
+    }
+}
+
+/// Writes the canonical text of an amount, such as `12.05`.
+impl fmt::Display for Amount {
+    ghost output = { λ amount. Some (cents_text (pos amount)) };
+
+    /// Writes the canonical text of the amount, such as `12.05`. Fails if the formatter fails.
+    fn fmt<W: fmt::Write>(&self, f: &mut fmt::Formatter<W>) -> fmt::Result {
+        fmt::Display::fmt(&Wide::from(*self), f)
     }
 }

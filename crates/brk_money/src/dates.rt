@@ -33,9 +33,12 @@ fn parse_two_digits(tens: u8, ones: u8) -> Option<u8>
 // Returns the date of a year, a month and a day of the month, or `None` if the calendar has no such
 // date. Requires that the year is below 10000, and the month and the day below 100.
 fn date_if_in_calendar(year: u16, month: u8, day: u8) -> Option<Date>
+    // The year has at most four digits, the month and the day at most two.
     requires year { year < 10000 }
     requires month { month < 100 }
     requires day { day < 100 }
+
+    // The date, or `None` if the calendar has no such date.
     ensures found { IfSome result (λ date. (date.year ≡ pos year) × (date.month ≡ month) × (date.day ≡ day)) }
     ensures none { IfNone result (¬ (IsDate (pos year) (pos month) (pos day))) }
 {

@@ -74,6 +74,26 @@ impl fmt::Display for Wide {
     }
 }
 
+/// Writes the canonical text of an amount, such as `-12.05`.
+impl fmt::Display for Cents {
+    ghost output = { λ cents. Some (cents_text cents) };
+
+    /// Writes the canonical text of the amount, such as `-12.05`. Fails if the formatter fails.
+    fn fmt<W: fmt::Write>(&self, f: &mut fmt::Formatter<W>) -> fmt::Result {
+        fmt::Display::fmt(&Wide::from(*self), f)
+    }
+}
+
+/// Writes the canonical text of a price, such as `12.05`.
+impl fmt::Display for Price {
+    ghost output = { λ price. Some (cents_text (pos price)) };
+
+    /// Writes the canonical text of the price, such as `12.05`. Fails if the formatter fails.
+    fn fmt<W: fmt::Write>(&self, f: &mut fmt::Formatter<W>) -> fmt::Result {
+        fmt::Display::fmt(&Wide::from(*self), f)
+    }
+}
+
 // Appends the bytes of `first`, `second` and `third`, in this sequence, to `out`.
 //
 // Fails with `Memory` only; `out` is then unchanged.

@@ -152,13 +152,18 @@ fn apply_tick_to_quote(
     changes: &mut Vec<Change>,
     ids: &mut Vec<Id>,
 ) -> Planned<Quote>
+    // If the tick is not refused: the quote after it, and what is appended to `changes` and `ids`.
     ensures quote { IfOk result (λ taken. IfOk taken (λ after. state_of_quote after ∷ [] ≡ states_after_tick stamp (state_of_quote quote ∷ []) tick.now)) }
     ensures changes { IfOk result (λ taken. IfOk taken (λ _. changes.new.items
         ≡ changes.old.items ++ row_changes_of_tick stamp tick.now (state_of_quote quote ∷ []))) }
     ensures ids { IfOk result (λ taken. IfOk taken (λ _. ids.new.items ≡ ids.old.items ++ trades_triggered_by_tick tick.now (state_of_quote quote ∷ []))) }
+
+    // The volume after the tick is within its limit, or the tick is refused.
     ensures within { IfOk result (λ taken. IfOk taken (λ after. exceeds_volume_limit (state_of_quote after) ≡ false)) }
     ensures refusal { IfOk result (λ taken. IfErr taken (λ refusal. (refusal ≡ Range limit.Volume)
         × (list_any exceeds_volume_limit (states_after_tick stamp (state_of_quote quote ∷ []) tick.now) ≡ true))) }
+
+    // The only fault is `Memory`.
     ensures fault { OnErr result (result ≡ Err Memory) }
 {
     if !is_quote_of_symbol(&quote, &tick.symbol) {
@@ -187,14 +192,19 @@ fn apply_tick_to_quotes(
     changes: &mut Vec<Change>,
     ids: &mut Vec<Id>,
 ) -> Planned<Vec<Quote>>
+    // If the tick is not refused: the quotes after it, and what is appended to `changes` and `ids`.
     ensures quotes { IfOk result (λ taken. IfOk taken (λ after. states_of_quotes after.items
         ≡ states_after_tick stamp (states_of_quotes quotes.items) tick.now)) }
     ensures changes { IfOk result (λ taken. IfOk taken (λ _. changes.new.items
         ≡ changes.old.items ++ row_changes_of_tick stamp tick.now (states_of_quotes quotes.items))) }
     ensures ids { IfOk result (λ taken. IfOk taken (λ _. ids.new.items ≡ ids.old.items ++ trades_triggered_by_tick tick.now (states_of_quotes quotes.items))) }
+
+    // Each volume after the tick is within its limit, or the tick is refused.
     ensures within { IfOk result (λ taken. IfOk taken (λ after. list_any exceeds_volume_limit (states_of_quotes after.items) ≡ false)) }
     ensures refusal { IfOk result (λ taken. IfErr taken (λ refusal. (refusal ≡ Range limit.Volume)
         × (list_any exceeds_volume_limit (states_after_tick stamp (states_of_quotes quotes.items) tick.now) ≡ true))) }
+
+    // The only fault is `Memory`.
     ensures fault { OnErr result (result ≡ Err Memory) }
 {
     let mut after = Vec::new(alloc);
@@ -229,14 +239,19 @@ fn apply_ticks_to_quotes(
     changes: &mut Vec<Change>,
     ids: &mut Vec<Id>,
 ) -> Planned<()>
+    // If the ticks are not refused: what is appended to `changes` and `ids`.
     ensures changes { IfOk result (λ taken. OnOk taken (changes.new.items
         ≡ changes.old.items ++ row_changes_of_ticks stamp ticks.now (states_of_quotes quotes.items))) }
     ensures ids { IfOk result (λ taken. OnOk taken (ids.new.items
         ≡ ids.old.items ++ trades_triggered_by_ticks stamp ticks.now (states_of_quotes quotes.items))) }
+
+    // Each volume after the ticks is within its limit, or the ticks are refused.
     ensures within { IfOk result (λ taken. OnOk taken (list_any exceeds_volume_limit (states_after_ticks stamp ticks.now (states_of_quotes quotes.items))
         ≡ false)) }
     ensures refusal { IfOk result (λ taken. IfErr taken (λ refusal. (refusal ≡ Range limit.Volume)
         × (list_any exceeds_volume_limit (states_after_ticks stamp ticks.now (states_of_quotes quotes.items)) ≡ true))) }
+
+    // The only fault is `Memory`.
     ensures fault { OnErr result (result ≡ Err Memory) }
 {
     prove_volumes_are_within_limit(&quotes);

@@ -3,7 +3,8 @@
 ghost use Rattle.std.specs.Prelude.{◌≡◌, ◌++◌, ◌∷◌, [], IfErr, bytes_eq, filter, flat_map, map};
 ghost use Rattle.brk_changes.specs.Rows.{abstract_request_row};
 ghost use Rattle.brk_queries.specs.QueryResults.{AnswersQueryAsModel};
-ghost use Rattle.brk_queries.specs.Volumes.{is_sector_request_of_broker, is_symbol_in_sector, brokers_of_name_in_sector, requests_with_row_of_broker_in_sector, volumes_of_brokers_in_sector};
+ghost use Rattle.brk_queries.specs.Volumes.{is_sector_request_of_broker, is_symbol_in_sector, brokers_of_name_in_sector};
+ghost use Rattle.brk_queries.specs.Volumes.{requests_with_row_of_broker_in_sector, volumes_of_brokers_in_sector};
 ghost use Rattle.brk_model.specs.Queries.{VolumeOf};
 ghost use Rattle.brk_model.specs.Run.{IsCallFault};
 ghost use Rattle.brk_ref.specs.Records.{abstract_broker_row};

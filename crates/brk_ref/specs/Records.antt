@@ -1,5 +1,5 @@
 -- The abstract value of each record of this crate.
-use Rattle.std.specs.Prelude.{string_bytes}
+use Rattle.std.specs.Prelude.{[], string_bytes}
 use Rattle.brk_model.specs.Records.{Broker, Customer, Account, Permission, Charge, Band, TaxRate, CustomerTax, Key, Kept, Executor}
 use Rattle.brk_model.specs.Commands.{Listing}
 use Rattle.brk_model.specs.Tables.{BrokerRow, AccountRow, SecurityRow, LastTradeRow}
@@ -76,6 +76,10 @@ abstract_key k = record { batch = k.batch; row = k.row }
 -- request and of the stored reply.
 abbrev pub abstract_kept_row : kept.Kept → Kept
 abstract_kept_row k = record { key = abstract_key k.key; row_text = string_bytes k.row_text; line = string_bytes k.line }
+
+-- The model's KEPT row with the typed key `k` and two empty texts.
+abbrev pub kept_row_with_empty_texts : key.Key → Kept
+kept_row_with_empty_texts k = record { key = abstract_key k; row_text = []; line = [] }
 
 -- The model's BROKER row with the values of the typed row `r`.
 abbrev pub abstract_broker_row : broker_row.BrokerRow → BrokerRow

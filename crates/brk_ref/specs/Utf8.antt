@@ -47,8 +47,10 @@ text_is_ascii_if_each_byte_is test low (c ∷ cs) h zero = low c (first_conjunct
 text_is_ascii_if_each_byte_is test low (c ∷ cs) h (suc i) = text_is_ascii_if_each_byte_is test low cs (second_conjunct_is_true (test c) (list_all test cs) h) i
 
 -- A text of 1 to `most` bytes that each pass `test` is UTF-8 if only bytes below 128 pass `test`.
-text_of_ascii_bytes_is_utf8 : (most : ℕ) (test : ℕ → Bool) → ((c : ℕ) → test c ≡ true → c < 128) → (text : List ℕ) → is_word_up_to_length most test text ≡ true → IsUtf8 text
-text_of_ascii_bytes_is_utf8 most test low text h = IsUtf8-from_ascii text (text_is_ascii_if_each_byte_is test low text (second_conjunct_is_true _ (list_all test text) h))
+text_of_ascii_bytes_is_utf8 : (most : ℕ) (test : ℕ → Bool) → ((c : ℕ) → test c ≡ true → c < 128) → (text : List ℕ)
+    → is_word_up_to_length most test text ≡ true → IsUtf8 text
+text_of_ascii_bytes_is_utf8 most test low text h =
+    IsUtf8-from_ascii text (text_is_ascii_if_each_byte_is test low text (second_conjunct_is_true _ (list_all test text) h))
 
 -- A text that has the format of a name is UTF-8.
 pub name_is_utf8 : (text : List ℕ) → is_name text ≡ true → IsUtf8 text
@@ -57,7 +59,8 @@ name_is_utf8 text h = IsUtf8-from_is_utf8 text (second_conjunct_is_true _ (is_ut
 -- A text that has the format of a tax id is UTF-8.
 pub tax_id_is_utf8 : (text : List ℕ) → is_tax_id text ≡ true → IsUtf8 text
 tax_id_is_utf8 =
-    text_of_ascii_bytes_is_utf8 20 _ (λ c. holds_by_either_disjunct _ _ (c < 128) (alphanumeric_byte_is_ascii c) (byte_equal_to_ascii_is_ascii 45 c (omega arith)))
+    text_of_ascii_bytes_is_utf8 20 _
+    (λ c. holds_by_either_disjunct _ _ (c < 128) (alphanumeric_byte_is_ascii c) (byte_equal_to_ascii_is_ascii 45 c (omega arith)))
 
 -- A text that has the format of a symbol is UTF-8.
 pub symbol_is_utf8 : (text : List ℕ) → is_symbol text ≡ true → IsUtf8 text

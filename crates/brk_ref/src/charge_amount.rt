@@ -1,6 +1,9 @@
-ghost use Rattle.std.specs.Prelude.{◌≡◌, ℕ, ◌≤◌, SomeIff};
+ghost use Rattle.std.specs.Prelude.{◌≡◌, ℕ, ◌≤◌, pos, Some, SomeIff};
+ghost use Rattle.brk_money.specs.Spelling.{cents_text};
 ghost use Rattle.brk_ref.specs.declared.charge_amount.TheConstants.ChargeAmount;
 
+use brk_money::Wide;
+use std::fmt;
 use std::marker::Model;
 
 /// The cost of an order in addition to its commission (CH_CHRG), in cents, 0 to 1,000,000.
@@ -38,5 +41,15 @@ impl ChargeAmount {
         ensures high { self ≤ ChargeAmount.GREATEST }
     {
         self.0
+    }
+}
+
+/// Writes the canonical text of a charge, such as `12.05`.
+impl fmt::Display for ChargeAmount {
+    ghost output = { λ amount. Some (cents_text (pos amount)) };
+
+    /// Writes the canonical text of the charge, such as `12.05`. Fails if the formatter fails.
+    fn fmt<W: fmt::Write>(&self, f: &mut fmt::Formatter<W>) -> fmt::Result {
+        fmt::Display::fmt(&Wide::new(i128::from(self.get())), f)
     }
 }

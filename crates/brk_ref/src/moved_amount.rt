@@ -1,6 +1,9 @@
-ghost use Rattle.std.specs.Prelude.{◌≡◌, ℕ, ◌≤◌, SomeIff};
+ghost use Rattle.std.specs.Prelude.{◌≡◌, ℕ, ◌≤◌, pos, Some, SomeIff};
+ghost use Rattle.brk_money.specs.Spelling.{cents_text};
 ghost use Rattle.brk_ref.specs.declared.moved_amount.TheConstants.MovedAmount;
 
+use brk_money::Wide;
+use std::fmt;
 use std::marker::Model;
 
 /// The amount of a deposit or a withdrawal, in cents, 1 to 10^17, both included.
@@ -39,5 +42,15 @@ impl MovedAmount {
         ensures high { self ≤ MovedAmount.GREATEST }
     {
         self.0
+    }
+}
+
+/// Writes the canonical text of an amount, such as `12.05`.
+impl fmt::Display for MovedAmount {
+    ghost output = { λ amount. Some (cents_text (pos amount)) };
+
+    /// Writes the canonical text of the amount, such as `12.05`. Fails if the formatter fails.
+    fn fmt<W: fmt::Write>(&self, f: &mut fmt::Formatter<W>) -> fmt::Result {
+        fmt::Display::fmt(&Wide::new(i128::from(self.get())), f)
     }
 }

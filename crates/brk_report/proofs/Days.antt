@@ -1,30 +1,115 @@
 -- The rows of a walk from one stamp to another are those of days.
-use Rattle.std.proofs.Common.{◌≡◌, ℕ, ◌+◌, ◌-◌, ◌*◌, ◌<◌, ◌+ℤ◌, ℤ, Bool, false, List, [], ◌∷◌, filter, arith, refl, sym, ap, ◌∙◌}
-use Rattle.std.specs.Prelude.{nat_lt}
+use Rattle.std.proofs.Common.{◌≡◌, ℕ, ◌+◌, ◌*◌, ◌/◌, ◌<◌, ◌≤◌, ◌&&◌, Bool, true, false, cond, List, [], ◌∷◌, ◌++◌, filter, arith, refl, sym, ap, ◌∙◌}
+use Rattle.std.specs.Prelude.{nat_le, nat_lt}
+use Rattle.std.specs.List.{AllByRecursion}
+use Rattle.std.proofs.lemmas.Bool.{le-leb, leb-true, lt-ltb, ltb-true, ltb-false}
 use Rattle.std.proofs.lemmas.Bool.Decides.{nat_tests}
+use Rattle.brk_book_theorems.proofs.Order.{Sorted, nat_one_way, nat_splits, sorted_sort}
 use Rattle.brk_money.specs.Moments.{day_of}
-use Rattle.brk_model.specs.Lists.{total_by}
-use Rattle.brk_model.specs.Statement.{cash_move_rows_before_day, cash_move_rows_of_account, cash_row_total, cash_move_rows_within_days}
+use Rattle.brk_model.specs.Limits.{is_in_range}
+use Rattle.brk_model.specs.Joins.{move_rows_of_account}
+use Rattle.brk_model.specs.Statement.{cash_move_rows_before_day, cash_move_rows_of_account, cash_move_rows_within_days}
 use Rattle.brk_model.specs.Tables.{MoveRow, Tables}
 use Rattle.brk_store.specs.Walked.{cash_rows_in_span}
-use Rattle.brk_report_lines.proofs.DayStamps.{before_day, within_days}
-use lib.IntN.{+ℤ_idr}
+use Rattle.brk_report_lines.proofs.DayStamps.{within_days}
+use Rattle.brk_report.proofs.CashLists.{AreBefore, AreNotBefore}
 
 pub rows_within : (t : Tables) (account from to first last : ℕ) → first ≡ from * 86400000 → last ≡ to * 86400000 + 86399999 → cash_rows_in_span account first last t ≡ cash_move_rows_within_days from to (cash_move_rows_of_account t account)
 rows_within t account from to first last f l = (λ i. cash_rows_in_span account (f i) (l i) t) ∙ (λ i. filter (λ (row : MoveRow). within_days from to row.stamp i) (cash_move_rows_of_account t account))
 
-pub rows_before : (t : Tables) (account from start last : ℕ) → start ≡ 0 → 0 < from → last ≡ from * 86400000 - 1 → cash_rows_in_span account start last t ≡ cash_move_rows_before_day from (cash_move_rows_of_account t account)
-rows_before t account from start last z some l = (λ i. cash_rows_in_span account (z i) (l i) t) ∙ (λ i. filter (λ (row : MoveRow). before_day from row.stamp some i) (cash_move_rows_of_account t account))
+-- ---- the rows before a day, and those from it on
 
-never : (n : ℕ) → nat_lt n 0 ≡ false
-never n = grind (arith, nat_tests)
+-- What follows from a test holds of each row that passes it.
+passing : {X : Type 0} (p : X → Bool) (Q : X → Type 0) → ((x : X) → p x ≡ true → Q x) → (xs : List X) → AllByRecursion Q (filter p xs)
+passing p Q f [] = tt
+passing p Q f (x ∷ xs) = by_test (passing p Q f xs) (p x) refl
+  where
+    by_test : AllByRecursion Q (filter p xs) → (b : Bool) → p x ≡ b → AllByRecursion Q (cond b (x ∷ filter p xs) (filter p xs))
+    by_test more true e = (f x e, more)
+    by_test more false e = more
 
-none_passes : {X : Type 0} (p : X → Bool) → ((x : X) → p x ≡ false) → (xs : List X) → filter p xs ≡ []
-none_passes p none [] = refl
-none_passes p none (x ∷ xs) = rw (none x) (none_passes p none xs)
+left_of_and : (a b : Bool) → a && b ≡ true → a ≡ true
+left_of_and true b e = refl
+left_of_and false b e = e
 
-pub none_before : (t : Tables) (account from : ℕ) (opening sum : ℤ) → from ≡ 0 → sum ≡ opening → sum ≡ opening +ℤ cash_row_total (cash_move_rows_before_day from (cash_move_rows_of_account t account))
-unfolding total_by
-none_before t account from opening sum z s =
-    s ∙ sym (+ℤ_idr opening)
-    ∙ ap (λ (rows : List MoveRow). opening +ℤ cash_row_total rows) (sym (none_passes (λ (row : MoveRow). nat_lt (day_of row.stamp) from) (λ row. ap (nat_lt (day_of row.stamp)) z ∙ never (day_of row.stamp)) (cash_move_rows_of_account t account)))
+not_less : (a b : ℕ) → b ≤ a → nat_lt a b ≡ false
+not_less a b h = grind (arith, nat_tests)
+
+not_at_most : (a b : ℕ) → b < a → nat_le a b ≡ false
+not_at_most a b h = grind (arith, nat_tests)
+
+-- A row before a day has a stamp before the first stamp of the day.
+early_stamp : (from stamp first : ℕ) → first ≡ from * 86400000 → nat_lt (day_of stamp) from ≡ true → nat_lt stamp first ≡ true
+early_stamp from stamp first f e = lt-ltb stamp first (omega (arith, f, ltb-true (stamp / 86400000) from e))
+
+late_stamp : (from to stamp first : ℕ) → first ≡ from * 86400000 → is_in_range from to (day_of stamp) ≡ true → nat_lt stamp first ≡ false
+late_stamp from to stamp first f e =
+    not_less stamp first (omega (arith, f, leb-true from (stamp / 86400000) (left_of_and (nat_le from (day_of stamp)) (nat_le (day_of stamp) to) e)))
+
+pub before_first : (from first : ℕ) (rows : List MoveRow) → first ≡ from * 86400000 → AreBefore first (cash_move_rows_before_day from rows)
+before_first from first rows f = passing (λ (r : MoveRow). nat_lt (day_of r.stamp) from) (λ r. nat_lt r.stamp first ≡ true) (λ r e. early_stamp from r.stamp first f e) rows
+
+pub not_before_first : (from to first : ℕ) (rows : List MoveRow) → first ≡ from * 86400000 → AreNotBefore first (cash_move_rows_within_days from to rows)
+not_before_first from to first rows f = passing (λ (r : MoveRow). is_in_range from to (day_of r.stamp)) (λ r. nat_lt r.stamp first ≡ false) (λ r e. late_stamp from to r.stamp first f e) rows
+
+module _ (from to last : ℕ) (span : from ≤ to) (l : last ≡ to * 86400000 + 86399999) where
+  -- A row up to the last stamp, of a day before the first, or within the days.
+  abbrev up_to : MoveRow → Bool
+  up_to r = is_in_range 0 last r.stamp
+
+  abbrev early : MoveRow → Bool
+  early r = nat_lt (day_of r.stamp) from
+
+  abbrev within : MoveRow → Bool
+  within r = is_in_range from to (day_of r.stamp)
+
+  early_up_to : (r : MoveRow) → early r ≡ true → up_to r ≡ true
+  early_up_to r e =
+      let day : r.stamp / 86400000 < from = ltb-true (r.stamp / 86400000) from e in
+      let low : nat_le 0 r.stamp ≡ true = le-leb 0 r.stamp (omega arith) in
+      let high : nat_le r.stamp last ≡ true = le-leb r.stamp last (omega arith) in
+      λ i. low i && high i
+
+  early_not_within : (r : MoveRow) → early r ≡ true → within r ≡ false
+  early_not_within r e = ap (λ b. b && nat_le (day_of r.stamp) to) (not_at_most from (day_of r.stamp) (ltb-true (r.stamp / 86400000) from e))
+
+  late_same : (r : MoveRow) → early r ≡ false → up_to r ≡ within r
+  late_same r e =
+      let day : from ≤ r.stamp / 86400000 = ltb-false (r.stamp / 86400000) from e in
+      let low : nat_le 0 r.stamp ≡ nat_le (from * 86400000) r.stamp = le-leb 0 r.stamp (omega arith) ∙ sym (le-leb (from * 86400000) r.stamp (omega arith)) in
+      (λ i. low i && nat_le r.stamp (l i)) ∙ within_days from to r.stamp
+
+  all_late : (x : MoveRow) (rows : List MoveRow) → early x ≡ false → AllByRecursion (λ y. nat_lt y.stamp x.stamp ≡ false) rows → AllByRecursion (λ y. early y ≡ false) rows
+  all_late x [] e h = tt
+  all_late x (y ∷ rows) e h = (later x.stamp y.stamp e h.0, all_late x rows e h.1)
+    where
+      later : (a b : ℕ) → nat_lt (day_of a) from ≡ false → nat_lt b a ≡ false → nat_lt (day_of b) from ≡ false
+      later a b e f = not_less (b / 86400000) from (omega (arith, ltb-false (a / 86400000) from e, ltb-false b a f))
+
+  none_early : (rows : List MoveRow) → AllByRecursion (λ y. early y ≡ false) rows → filter early rows ≡ []
+  none_early [] h = refl
+  none_early (y ∷ rows) h = rw h.0 (none_early rows h.1)
+
+  same_late : (rows : List MoveRow) → AllByRecursion (λ y. early y ≡ false) rows → filter up_to rows ≡ filter within rows
+  same_late [] h = refl
+  same_late (y ∷ rows) h = λ i. cond (late_same y h.0 i) (y ∷ same_late rows h.1 i) (same_late rows h.1 i)
+
+  split : (rows : List MoveRow) → Sorted (λ x y. nat_lt x.stamp y.stamp) rows → filter up_to rows ≡ filter early rows ++ filter within rows
+  split [] h = refl
+  split (x ∷ rows) h = by_test (split rows h.1) (early x) refl
+    where
+      by_test : filter up_to rows ≡ filter early rows ++ filter within rows → (b : Bool) → early x ≡ b → filter up_to (x ∷ rows) ≡ cond b (x ∷ filter early rows) (filter early rows) ++ filter within (x ∷ rows)
+      by_test more true e =
+          (λ i. cond (early_up_to x e i) (x ∷ filter up_to rows) (filter up_to rows)) ∙ ap (λ (l : List MoveRow). x ∷ l) more
+          ∙ (λ i. x ∷ (filter early rows ++ cond (sym (early_not_within x e) i) (x ∷ filter within rows) (filter within rows)))
+      by_test more false e =
+          let later = all_late x rows e h.0 in
+          same_late (x ∷ rows) (e, later) ∙ (λ i. sym (none_early rows later) i ++ filter within (x ∷ rows))
+
+-- The rows of an account up to the last stamp of a day are those before the first day, and those of
+-- the days after them.
+pub rows_up_to : (t : Tables) (account from to last : ℕ) → from ≤ to → last ≡ to * 86400000 + 86399999
+    → cash_rows_in_span account 0 last t ≡ cash_move_rows_before_day from (cash_move_rows_of_account t account) ++ cash_move_rows_within_days from to (cash_move_rows_of_account t account)
+rows_up_to t account from to last span l =
+    split from to last span l (cash_move_rows_of_account t account)
+    (sorted_sort (λ (x y : MoveRow). nat_lt x.stamp y.stamp) (move_rows_of_account t account) (λ x y w. nat_splits x.stamp y.stamp w.stamp) (λ x y. nat_one_way x.stamp y.stamp))

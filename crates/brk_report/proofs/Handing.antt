@@ -8,10 +8,12 @@ use Rattle.brk_money.specs.declared.fault.Fault.TheVariants as fault
 use Rattle.brk_model.specs.Run.{IsCallFault}
 use Rattle.brk_model.specs.Statement.{text_of_lines}
 use Rattle.brk_model.specs.Tables.{Tables}
-use Rattle.brk_report_lines.specs.Written.{FailsWithinLines, WritesLines}
+use Rattle.brk_report_lines.specs.Written.{FailsWithinFirstLines, FailsWithinLines, WritesLines}
 use Rattle.brk_report_lines.specs.declared.fault.LinesFault.{LinesFault}
 use Rattle.brk_report_lines.specs.declared.fault.LinesFault.TheVariants.{Desk}
+use Rattle.brk_report.specs.CashWalk.{WritesCashLines, opening_and_cash_lines}
 use Rattle.brk_report.specs.Parts.{WritesCashAndClosingLines, cash_and_closing_lines}
+use Rattle.brk_report.specs.declared.visitors.CashProgress.{CashProgress}
 use Rattle.brk_report_lines.proofs.Composed.{appends_none, breaks_before, breaks_behind, then_all}
 
 -- want of memory is a fault that a call may have
@@ -44,10 +46,12 @@ pub behind : {R : Type 0} (xs ys : List Text) (a b c : Option Text) (r : Result 
 behind xs ys a b c (Ok u) h k = then_all xs ys a b c h k
 behind xs ys a b c (Err e) h k = breaks_behind xs ys a b c e h k
 
-pub none_written : {Y : Type 0} (line : Text) (lines : List Text) (a : Option Text) (outer : Result Y LinesFault) (e : LinesFault) (f : Fault) → IsErrAnd outer (λ out. out ≡ e) → e ≡ Desk f → IsCallFault f → WritesLines (line ∷ lines) a a outer
-none_written line lines a outer e f is same may = breaks_as (line ∷ lines) a a outer e is (subst (FailsWithinLines (line ∷ lines) a a) (sym same) (may, ([], line, lines, refl, appends_none a)))
-
 pub days_broke : (t : Tables) (account from to : ℕ) (opening : ℤ) (a b : Option Text) (outer : Result ℕ LinesFault) (e : LinesFault) → IsErrAnd outer (λ out. out ≡ e) → FailsWithinLines (cash_and_closing_lines t account from to opening) a b e
     → WritesCashAndClosingLines t account from to opening a b outer
 days_broke t account from to opening a b (Err out) e is h = subst (FailsWithinLines (cash_and_closing_lines t account from to opening) a b) (sym is) h
 days_broke t account from to opening a b (Ok n) e is h = absurd is
+
+pub opening_broke : (t : Tables) (account from to : ℕ) (opening : ℤ) (a b : Option Text) (outer : Result CashProgress LinesFault) (e : LinesFault) → IsErrAnd outer (λ out. out ≡ e) → FailsWithinFirstLines (opening_and_cash_lines t account from to opening) a b e
+    → WritesCashLines t account from to opening a b outer
+opening_broke t account from to opening a b (Err out) e is h = subst (FailsWithinFirstLines (opening_and_cash_lines t account from to opening) a b) (sym is) h
+opening_broke t account from to opening a b (Ok n) e is h = absurd is

@@ -1,6 +1,9 @@
+pub mod CashLists
+pub mod CashWalked
 pub mod Days
 pub mod Handing
 pub mod Keeping
+pub mod Opened
 pub mod Reported
 pub mod Section
 pub mod Whole

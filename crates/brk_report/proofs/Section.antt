@@ -1,5 +1,5 @@
 -- What a walk with a visitor that writes lines has written, and what one that adds up has added.
-use Rattle.std.proofs.Common.{◌≡◌, ℕ, ◌+◌, ℤ, ◌+ℤ◌, List, [], ◌∷◌, ◌++◌, IfErr, Option, Result, Ok, Err, length, map, inr, refl, sym, ap, subst, ◌∙◌, arith}
+use Rattle.std.proofs.Common.{◌≡◌, ℕ, ◌+◌, List, [], ◌∷◌, ◌++◌, IfErr, Option, Result, Ok, Err, length, map, refl, sym, ap, subst, ◌∙◌, arith}
 use Rattle.std.specs.List.{FoldsTo}
 use Rattle.std.specs.Io.KnownBytes.{Appends}
 use Rattle.std.proofs.KnownBytes.{Appends-trans}
@@ -7,8 +7,6 @@ use Rattle.sqlite_trees.specs.declared.store.Store.{Ghosts}
 use Rattle.sqlite.specs.Held.{Held, state}
 use Rattle.sqlite.specs.State.{HasCleanDisk}
 use Rattle.brk_money.specs.Spelling.{Text}
-use Rattle.brk_money.specs.declared.fault.Fault.TheVariants as faults
-use Rattle.brk_model.specs.Lists.{total_by}
 use Rattle.brk_model.specs.Statement.{text_of_lines}
 use Rattle.brk_model.specs.Tables.{Tables}
 use Rattle.brk_store.specs.Holds.{HoldsRows}
@@ -20,7 +18,6 @@ use Rattle.brk_report.specs.Stated.{IsMemoryStoreOrWriteFault}
 use Rattle.brk_report_lines.specs.declared.fault.LinesFault.{LinesFault}
 use Rattle.brk_report_lines.specs.declared.fault.LinesFault.TheVariants.{Desk, Write}
 use Rattle.brk_report_lines.proofs.Composed.{appends_none, breaks_before, breaks_behind}
-use lib.IntN.{+ℤ_assoc, +ℤ_idr}
 use Rattle.brk_report.specs.WalkFaults.{fault_of_walk_error}
 
 map_parts : {X Y : Type 0} (f : X → Y) (xs ys : List X) → map f (xs ++ ys) ≡ map f xs ++ map f ys
@@ -28,7 +25,7 @@ map_parts f [] ys = refl
 map_parts f (x ∷ xs) ys = ap (λ l. f x ∷ l) (map_parts f xs ys)
 
 -- a part that may end with any line is one that may have all its lines written
-weaker : (lines : List Text) (a b : Option Text) (e : LinesFault) → FailsWithinLines lines a b e → FailsWithinFirstLines lines a b e
+pub weaker : (lines : List Text) (a b : Option Text) (e : LinesFault) → FailsWithinLines lines a b e → FailsWithinFirstLines lines a b e
 weaker lines a b (Desk f) h = (h.0, (h.1.0, h.1.1 ∷ h.1.2, h.1.3, h.1.4))
 weaker lines a b Write h = h
 
@@ -41,10 +38,6 @@ in_broken lines a b Write h = tt
 pub in_written : {Y : Type 0} (lines : List Text) (a b : Option Text) (r : Result Y LinesFault) → WritesLines lines a b r → IfErr r IsMemoryStoreOrWriteFault
 in_written lines a b (Ok y) h = tt
 in_written lines a b (Err e) h = in_broken lines a b e h
-
--- an amount that is too large is the fault `Store`
-pub of_store : (e : LinesFault) → e ≡ Desk faults.Store → IsMemoryStoreOrWriteFault e
-of_store e same = subst IsMemoryStoreOrWriteFault (sym same) (inr refl)
 
 -- the fault of a walk, whatever the disk
 module _ {S X M V : Type 0} (g : Ghosts S) (old new : Held S) (of : X → M) (list : Tables → List M) (takes : V → X → V → Type 0) (stops : V → X → LinesFault → V → Type 0) (before after : V)
@@ -86,14 +79,3 @@ module _ {S X M V : Type 0} (g : Ghosts S) (old new : Held S) (of : X → M) (li
         let same : (map line (map of h.0) ++ line (of h.1) ∷ []) ++ map line b.0 ≡ map line (list t) =
         ap (λ l. l ++ map line b.0) (sym (map_parts line (map of h.0) (of h.1 ∷ [])) ∙ ap (map line) (sym (map_parts of h.0 (h.1 ∷ [])))) ∙ sym (map_parts line (map of (h.0 ++ h.1 ∷ [])) b.0) ∙ ap (map line) b.1 in
         weaker (map line (list t)) (contents before) (contents after) fault (subst (λ ls. FailsWithinLines ls (contents before) (contents after) fault) same whole)
-
-  -- ---- sums
-
-  module _ (amount : M → ℤ) (total : V → ℤ) (adds : (p : V) (x : X) (q : V) → takes p x q → total q ≡ total p +ℤ amount (of x)) where
-    sum_taken : (p : V) (xs : List X) (q : V) → FoldsTo takes p xs q → total q ≡ total p +ℤ total_by amount (map of xs)
-    unfolding total_by
-    sum_taken p [] q h = sym (ap total h) ∙ sym (+ℤ_idr (total p))
-    sum_taken p (x ∷ xs) q h = sum_taken h.0 xs q h.2 ∙ ap (λ z. z +ℤ total_by amount (map of xs)) (adds p x h.0 h.1) ∙ +ℤ_assoc (total p) (amount (of x)) (total_by amount (map of xs))
-
-    pub added_all : (u : Unit {0}) → result ≡ Ok u → total after ≡ total before +ℤ total_by amount (list t)
-    added_all u e = let h = rw e at (walked.all clean) in sum_taken before h.0 after h.1 ∙ ap (λ ms. total before +ℤ total_by amount ms) (h.2 t holds)

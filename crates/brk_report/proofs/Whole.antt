@@ -1,26 +1,23 @@
 -- The parts of a statement are the whole, and it is told where it is refused.
-use Rattle.std.proofs.Common.{◌≡◌, ℕ, ◌+ℤ◌, ℤ, Bool, true, false, List, [], ◌∷◌, ◌++◌, Option, Some, None, Result, Ok, Err, codes, decimal, length, map, find, ◌==◌, refl, sym, ap, ◌∙◌, inr}
-use Rattle.std.specs.Prelude.{IsErrAnd, nat_lt}
+use Rattle.std.proofs.Common.{◌≡◌, ℕ, ◌+ℤ◌, ℤ, Bool, true, false, List, [], ◌∷◌, ◌++◌, Option, Some, None, Ok, Err, codes, decimal, length, map, find, ◌==◌, refl, sym, ap, ◌∙◌, inr}
+use Rattle.std.specs.Prelude.{nat_lt}
 use Rattle.std.specs.Io.KnownBytes.{Appends}
 use Rattle.std.proofs.lemmas.Bool.{eqb-true}
 use Rattle.std.proofs.lemmas.List.{append_assoc}
-use Rattle.brk_money.specs.Spelling.{Text, day_text}
-use Rattle.brk_money.specs.declared.fault.Fault.{Fault}
+use Rattle.brk_money.specs.Spelling.{Text}
 use Rattle.brk_money.specs.declared.refusal.Refusal.TheVariants.{BadText, NoAccount}
 use Rattle.brk_model.specs.Joins.{account_row_with_id}
 use Rattle.brk_model.specs.PositionView.{market_value_of_account_row}
-use Rattle.brk_model.specs.Run.{IsCallFault}
 use Rattle.brk_model.specs.Statement.{amount_line, cash_move_rows_before_day, cash_move_rows_of_account, cash_row_line, cash_row_total, cash_move_rows_within_days, text_of_lines, lot_line, holding_rows_of_account, statement, statement_lines}
 use Rattle.brk_model.specs.Tables.{AccountRow, Tables}
 use Rattle.brk_queries.specs.declared.head.StatementHead.{StatementHead}
-use Rattle.brk_report.specs.Parts.{all_statement_lines, cash_and_closing_lines, lot_and_total_lines, statement_header_lines}
+use Rattle.brk_report.specs.Parts.{all_statement_lines, statement_header_lines}
 use Rattle.brk_report.specs.Stated.{AreStatementLines, WritesStatement}
 use Rattle.brk_report_lines.specs.Faults.{report_fault_of_lines_fault}
-use Rattle.brk_report_lines.specs.Written.{FailsWithinLines, WritesLines}
+use Rattle.brk_report_lines.specs.Written.{FailsWithinLines}
 use Rattle.brk_report_lines.specs.declared.fault.LinesFault.{LinesFault}
 use Rattle.brk_report_lines.specs.declared.fault.LinesFault.TheVariants.{Desk, Write}
 use Rattle.brk_queries.specs.Heads.{IsStatementHeadOfAccount}
-use Rattle.brk_report.proofs.Handing.{none_written}
 
 passes_found : {X : Type 0} (p : X → Bool) (xs : List X) (x : X) → find p xs ≡ Some x → p x ≡ true
 passes_found p [] x e = absurd (let f = e in cc)
@@ -38,12 +35,13 @@ lines_whole t account head from to a found name opening holdings =
     let before = cash_row_total (cash_move_rows_before_day from (cash_move_rows_of_account t account)) in
     let parts : ℕ → Text → ℤ → ℤ → List Text =
     λ n name opening holdings.
-    statement_header_lines n name from to (opening +ℤ before) ++ ((map cash_row_line rows ++ (amount_line (codes "Closing") (opening +ℤ before +ℤ cash_row_total rows) ∷ map lot_line (holding_rows_of_account t n)))
+    statement_header_lines n name from to ++ amount_line (codes "Opening") (opening +ℤ before) ∷ ((map cash_row_line rows ++ (amount_line (codes "Closing") (opening +ℤ before +ℤ cash_row_total rows) ∷ map lot_line (holding_rows_of_account t n)))
     ++ (amount_line (codes "Holdings") holdings ∷ (codes "Cash rows " ++ decimal (length rows) ++ codes ", lots " ++ decimal (length (holding_rows_of_account t n))) ∷ [])) in
+    let first = amount_line (codes "Opening") (head.opening +ℤ before) in
     let closing = amount_line (codes "Closing") (head.opening +ℤ before +ℤ cash_row_total rows) in
     let lots = map lot_line (holding_rows_of_account t account) in
     let end = amount_line (codes "Holdings") head.holdings ∷ (codes "Cash rows " ++ decimal (length rows) ++ codes ", lots " ++ decimal (length (holding_rows_of_account t account))) ∷ [] in
-    ap (λ (l : List Text). statement_header_lines account head.name from to (head.opening +ℤ before) ++ l) (append_assoc (map cash_row_line rows) (closing ∷ []) (lots ++ end) ∙ sym (append_assoc (map cash_row_line rows) (closing ∷ lots) end))
+    ap (λ (l : List Text). statement_header_lines account head.name from to ++ first ∷ l) (append_assoc (map cash_row_line rows) (closing ∷ []) (lots ++ end) ∙ sym (append_assoc (map cash_row_line rows) (closing ∷ lots) end))
     ∙ (λ i. parts (sym id i) (name i) (opening i) (holdings i))
 
 pub statement_is : (t : Tables) (account from to : ℕ) (lines : List Text) → AreStatementLines t account from to lines → statement t account from to ≡ Ok (text_of_lines lines)
@@ -59,19 +57,6 @@ refused_days t account from to h = rw h refl
 pub refused_account : (t : Tables) (account from to : ℕ) → nat_lt to from ≡ false → account_row_with_id t account ≡ None → statement t account from to ≡ Err NoAccount
 unfolding statement
 refused_account t account from to h none = rw (h, none) refl
-
--- All lines of a statement with this opening amount.
-abbrev pub statement_lines_with_opening : Tables → ℕ → StatementHead → ℕ → ℕ → ℤ → List Text
-statement_lines_with_opening t account head from to opening = statement_header_lines account head.name from to opening ++ cash_and_closing_lines t account from to opening ++ lot_and_total_lines t account head.holdings (length (cash_move_rows_within_days from to (cash_move_rows_of_account t account)))
-
--- nothing is written of them
-pub none_of : {Y : Type 0} (t : Tables) (account : ℕ) (head : StatementHead) (from to : ℕ) (a : Option Text) (outer : Result Y LinesFault) (e : LinesFault) (f : Fault) → IsErrAnd outer (λ out. out ≡ e) → e ≡ Desk f → IsCallFault f
-    → WritesLines (all_statement_lines t account head from to) a a outer
-none_of t account head from to a outer e f is same may =
-    let opening = head.opening +ℤ cash_row_total (cash_move_rows_before_day from (cash_move_rows_of_account t account)) in
-    none_written (codes "Statement of account " ++ decimal account)
-    (head.name ∷ (codes "From " ++ day_text from ++ codes " to " ++ day_text to) ∷ amount_line (codes "Opening") opening ∷ (cash_and_closing_lines t account from to opening ++ lot_and_total_lines t account head.holdings (length (cash_move_rows_within_days from to (cash_move_rows_of_account t account)))))
-    a outer e f is same may
 
 -- ---- with the head that was read
 

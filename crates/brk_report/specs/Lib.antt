@@ -1,3 +1,4 @@
 pub mod Stated
+pub mod CashWalk
 pub mod WalkFaults
 pub mod Parts

@@ -2,30 +2,34 @@
 use Rattle.std.specs.Prelude.{◌≡◌, ℕ, ℤ, ◌+ℤ◌, List, [], ◌∷◌, ◌++◌, Option, Result, Ok, Err, codes, decimal, length, map}
 use Rattle.std.specs.Io.KnownBytes.{Appends}
 use Rattle.brk_money.specs.Spelling.{Text, day_text}
-use Rattle.brk_model.specs.Statement.{amount_line, cash_move_rows_before_day, cash_move_rows_of_account, cash_row_line, cash_row_total}
+use Rattle.brk_model.specs.Statement.{amount_line, cash_move_rows_before_day, cash_move_rows_of_account, cash_row_total}
 use Rattle.brk_model.specs.Statement.{cash_move_rows_within_days, text_of_lines, lot_line, holding_rows_of_account}
 use Rattle.brk_model.specs.Tables.{Tables}
 use Rattle.brk_queries.specs.declared.head.StatementHead.{StatementHead}
+use Rattle.brk_report.specs.CashWalk.{opening_and_cash_lines}
 use Rattle.brk_report_lines.specs.Written.{FailsWithinLines}
 use Rattle.brk_report_lines.specs.declared.fault.LinesFault.{LinesFault}
 
--- The first four lines of a statement: the title with the id of `account`, its name `name`, the
--- first day `from` and the last day `to`, and the opening amount `opening`, in cents.
-abbrev pub statement_header_lines : ℕ → Text → ℕ → ℕ → ℤ → List Text
-statement_header_lines account name from to opening =
-    (codes "Statement of account " ++ decimal account) ∷ name ∷ (codes "From " ++ day_text from ++ codes " to " ++ day_text to)
-    ∷ amount_line (codes "Opening") opening ∷ []
+-- The first three lines of a statement: the title with the id of `account`, its name `name`, and
+-- the first day `from` and the last day `to`.
+abbrev pub statement_header_lines : ℕ → Text → ℕ → ℕ → List Text
+statement_header_lines account name from to =
+    (codes "Statement of account " ++ decimal account) ∷ name ∷ (codes "From " ++ day_text from ++ codes " to " ++ day_text to) ∷ []
 
--- A line for each cash row of `account` from the day `from` to the day `to`, both included, and the
--- line of the closing amount: `opening` plus the amounts of these rows, in cents.
+-- The line of the opening amount: `opening` plus the amounts of the cash rows of `account` before
+-- the day `from`, in cents; a line for each of its cash rows from the day `from` to the day `to`,
+-- both included; and the line of the closing amount: the opening amount plus the amounts of these
+-- rows.
 abbrev pub cash_and_closing_lines : Tables → ℕ → ℕ → ℕ → ℤ → List Text
 cash_and_closing_lines t account from to opening =
-    map cash_row_line (cash_move_rows_within_days from to (cash_move_rows_of_account t account))
-    ++ amount_line (codes "Closing") (opening +ℤ cash_row_total (cash_move_rows_within_days from to (cash_move_rows_of_account t account)))
+    opening_and_cash_lines t account from to opening
+    ++ amount_line (codes "Closing") (opening +ℤ cash_row_total (cash_move_rows_before_day from (cash_move_rows_of_account t account))
+    +ℤ cash_row_total (cash_move_rows_within_days from to (cash_move_rows_of_account t account)))
     ∷ []
 
--- `Ok`: exactly the lines of the cash rows from the day `from` to the day `to` and of the closing
--- amount (`cash_and_closing_lines`) were written, and the count is the number of these cash rows.
+-- `Ok`: exactly the lines of the opening amount, of the cash rows from the day `from` to the day
+-- `to`, and of the closing amount (`cash_and_closing_lines`) were written, and the count is the
+-- number of these cash rows.
 -- `Err`: writing them failed as `FailsWithinLines` specifies.
 abbrev pub WritesCashAndClosingLines : Tables → ℕ → ℕ → ℕ → ℤ → Option Text → Option Text → Result ℕ LinesFault → Type 0
 WritesCashAndClosingLines t account from to opening old new (Ok count) =
@@ -44,6 +48,5 @@ lot_and_total_lines t account holdings cash =
 -- the name, the opening balance and the market value of `head`.
 abbrev pub all_statement_lines : Tables → ℕ → StatementHead → ℕ → ℕ → List Text
 all_statement_lines t account head from to =
-    statement_header_lines account head.name from to (head.opening +ℤ cash_row_total (cash_move_rows_before_day from (cash_move_rows_of_account t account)))
-    ++ cash_and_closing_lines t account from to (head.opening +ℤ cash_row_total (cash_move_rows_before_day from (cash_move_rows_of_account t account)))
+    statement_header_lines account head.name from to ++ cash_and_closing_lines t account from to head.opening
     ++ lot_and_total_lines t account head.holdings (length (cash_move_rows_within_days from to (cash_move_rows_of_account t account)))

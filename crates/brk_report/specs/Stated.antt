@@ -1,15 +1,13 @@
 -- The output of a statement, which changes nothing.
-use Rattle.std.specs.Prelude.{◌≡◌, ◌⊎◌, ◌+ℤ◌, ℕ, ℤ, List, [], IfErr, Option, Some, Result, Ok, Err, length, map, nat_lt, false, IsTrue}
+use Rattle.std.specs.Prelude.{◌≡◌, ◌⊎◌, ℕ, List, [], IfErr, Option, Some, Result, Ok, Err, length, map, nat_lt, false, IsTrue}
 use Rattle.std.specs.Io.KnownBytes.{Appends}
 use Rattle.sqlite_trees.specs.declared.store.Store.{Ghosts}
 use Rattle.sqlite.specs.Held.{Held, state}
 use Rattle.sqlite.specs.State.{HasCleanDisk, Survives}
 use Rattle.brk_money.specs.Spelling.{Text}
-use Rattle.brk_money.specs.declared.fault.Fault.{Fault}
 use Rattle.brk_model.specs.Joins.{account_row_with_id}
 use Rattle.brk_model.specs.Run.{IsCallFault}
-use Rattle.brk_model.specs.Statement.{cash_move_rows_of_account, cash_row_line, cash_row_total, cash_move_rows_within_days}
-use Rattle.brk_model.specs.Statement.{text_of_lines, lot_line, holding_rows_of_account, statement, statement_lines}
+use Rattle.brk_model.specs.Statement.{cash_move_rows_of_account, text_of_lines, lot_line, holding_rows_of_account, statement, statement_lines}
 use Rattle.brk_model.specs.Tables.{AccountRow, Tables}
 use Rattle.brk_store.specs.Holds.{HoldsRows, WasOpenAndIsUnchanged}
 use Rattle.brk_report_lines.specs.Written.{FailsWithinFirstLines, WritesProperPrefixOfLines, WritesLinesAndPartOfNext}
@@ -17,23 +15,22 @@ use Rattle.brk_report_lines.specs.declared.fault.LinesFault.{LinesFault}
 use Rattle.brk_report_lines.specs.declared.fault.LinesFault.TheVariants as lines
 use Rattle.brk_report_lines.specs.declared.fault.ReportFault.{ReportFault}
 use Rattle.brk_report_lines.specs.declared.fault.ReportFault.TheVariants.{Refused, Desk, Write}
-use Rattle.brk_report.specs.declared.visitors.CashCountAndTotal.{CashCountAndTotal}
 
 -- The call between the states `old` and `new` of the desk's store changes nothing: the rows and the
--- open database are unchanged, and a crash exposes only states that a crash before the call could
--- expose. `g` is the specification of the storage `S`.
+-- open database are unchanged, and a crash after the call exposes only states that a crash before
+-- the call could expose. `g` is the specification of the storage `S`.
 pub record PreservesDesk {S : Type 0} (g : Ghosts S) (old new : Held S) : Type 0 where
   -- The store holds after the call the rows that it held before.
   pub same_rows : (t : Tables) → HoldsRows g old t → HoldsRows g new t
   -- If the database is open after the call, it was open before and is unchanged. Vacuous if the
   -- disk assumption fails.
   pub same : HasCleanDisk (state g new) → IsTrue (state g new).is_open → WasOpenAndIsUnchanged (state g old) (state g new)
-  -- A crash exposes only states that a crash before the call could expose. Vacuous if the disk
-  -- assumption fails.
+  -- A crash after the call exposes only states that a crash before the call could expose. Vacuous
+  -- if the disk assumption fails.
   pub survives : Survives (state g old) (state g new) (λ _. ⊥)
 
--- All tables that the store held before the call, in the state `old`, satisfy `So`. Vacuous if the
--- disk assumption fails after the call.
+-- All tables that the store held before the call, in the state `old`, satisfy `So`. Vacuous if some
+-- read up to the return of the call did not return what was written.
 abbrev pub HoldsForStoredTables : {S : Type 0} → Ghosts S → Held S → Held S → (Tables → Type 0) → Type 0
 HoldsForStoredTables g old new So = HasCleanDisk (state g new) → (t : Tables) → HoldsRows g old t → So t
 
@@ -43,23 +40,6 @@ IsMemoryStoreOrWriteFault (lines.Desk fault) = IsCallFault fault
 IsMemoryStoreOrWriteFault lines.Write = Unit {0}
 
 -- ---- the parts of a statement
-
--- `Ok`: the returned sum equals `total`, in cents. `Err`: the fault is the fault `Memory` or
--- `Store` of the desk.
-abbrev pub IsTotalOrFault : ℤ → Result ℤ LinesFault → Type 0
-IsTotalOrFault total (Ok sum) = sum ≡ total
-IsTotalOrFault total (Err e) = (f : Fault) × (e ≡ lines.Desk f) × IsCallFault f
-
--- `Ok`: exactly the lines of the cash rows of `account` from the day `from` to the day `to` were
--- written, and the result has the number of these rows and, in cents, `amount` plus their amounts.
--- `Err`: writing them failed as `FailsWithinFirstLines` specifies.
-abbrev pub WritesCashLines : Tables → ℕ → ℕ → ℕ → ℤ → Option Text → Option Text → Result CashCountAndTotal LinesFault → Type 0
-WritesCashLines t account from to amount old new (Ok moved) =
-    Appends old new (text_of_lines (map cash_row_line (cash_move_rows_within_days from to (cash_move_rows_of_account t account))))
-    × (moved.count ≡ length (cash_move_rows_within_days from to (cash_move_rows_of_account t account)))
-    × (moved.total ≡ amount +ℤ cash_row_total (cash_move_rows_within_days from to (cash_move_rows_of_account t account)))
-WritesCashLines t account from to amount old new (Err e) =
-    FailsWithinFirstLines (map cash_row_line (cash_move_rows_within_days from to (cash_move_rows_of_account t account))) old new e
 
 -- `Ok`: exactly the lines of the lots of `account` were written, and the count is their number.
 -- `Err`: writing them failed as `FailsWithinFirstLines` specifies.
@@ -101,7 +81,7 @@ IsRefusalOrMemoryStoreOrWriteFault Write = Unit {0}
 pub record StatementPost {S : Type 0} (g : Ghosts S) (old new : Held S) (account from to : ℕ) (before after : Option Text)
     (result : Result (Unit {0}) ReportFault) : Type 0 where
   -- The output is that of `WritesStatement` for all rows that the store held before the call.
-  -- Vacuous if the disk assumption fails after the call.
+  -- Vacuous if some read up to the return of the call did not return what was written.
   pub written : HoldsForStoredTables g old new (λ t. WritesStatement t account from to before after result)
   -- A fault of the desk is `Memory` or `Store`. This does not depend on the disk assumption.
   pub fault : IfErr result IsRefusalOrMemoryStoreOrWriteFault

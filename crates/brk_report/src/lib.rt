@@ -7,4 +7,5 @@ pub mod stating;
 pub mod visitors;
 
 pub use brk_report_lines::ReportFault;
+pub use sections::fault_from_walk_error;
 pub use stating::{StatementFault, statement};

@@ -1,21 +1,22 @@
-//! The parts of a statement that are computed or written row by row.
+//! The parts of a statement that are written row by row.
 
-ghost use Rattle.std.specs.Prelude.{◌≡◌, ◌+ℤ◌, IfErr};
-ghost use Rattle.brk_model.specs.Statement.{cash_move_rows_before_day, cash_move_rows_of_account, cash_row_total};
-ghost use Rattle.brk_report.specs.Stated.{IsTotalOrFault, PreservesDesk, IsMemoryStoreOrWriteFault, HoldsForStoredTables, WritesCashLines, WritesLotLines};
+ghost use Rattle.std.specs.Prelude.{◌≡◌, ◌≤◌, IfErr};
+ghost use Rattle.brk_report.specs.CashWalk.{WritesCashLines, WritesLinesOfWalk};
+ghost use Rattle.brk_report.specs.Stated.{PreservesDesk, IsMemoryStoreOrWriteFault, HoldsForStoredTables, WritesLotLines};
 ghost use Rattle.brk_report.specs.WalkFaults.{fault_of_walk_error};
+ghost use Rattle.brk_store.specs.Walked.{cash_rows_in_span};
 
-use crate::visitors::{CashCountAndTotal, CashLines, Lines, Sum};
+use crate::visitors::{CashLines, CashProgress, Lines, write_opening_line_unless};
 use brk_desk::{Desk, WalkError};
 use brk_money::{Cents, Day, Id, Stamp, Wide};
-use brk_report_lines::{LinesFault, first_stamp_of_day, last_stamp_before_day, last_stamp_of_day};
+use brk_report_lines::{LinesFault, first_stamp_of_day, last_stamp_of_day};
 use sqlite::Alter;
 use std::alloc::Global;
 use std::io::Write;
 
-// Converts the error of a failed walk into a fault of writing lines: returns the fault of the desk,
-// or the fault with which the visitor stopped the walk.
-fn fault_from_walk_error(stop: WalkError<LinesFault>) -> LinesFault
+/// Converts the error of a failed walk into a fault of writing lines: returns the fault of the desk,
+/// or the fault with which the visitor stopped the walk.
+pub fn fault_from_walk_error(stop: WalkError<LinesFault>) -> LinesFault
     ensures { result ≡ fault_of_walk_error stop }
 {
     match stop {
@@ -24,68 +25,73 @@ fn fault_from_walk_error(stop: WalkError<LinesFault>) -> LinesFault
     }
 }
 
-/// Returns the balance before the day `from`, in cents: `opening` plus the amounts of the cash rows
-/// of an account on earlier days. If the database is still open, it is unchanged. Fails with `Desk`
-/// only: with `Desk(Memory)` or `Desk(Store)` if a read fails, and with `Desk(Store)` also if the
-/// sum overflows.
-pub(crate) fn read_balance_before_day<S: Alter>(
+// Adds up the amounts of the cash rows of an account up to the stamp `last`, from the balance
+// `opening` on, in cents. Writes a line for each cash row from the stamp `first` on, and before the
+// first of these lines that of the opening amount, which is the total of the earlier rows. Returns
+// how far it has come. If the database is still open, it is unchanged. Fails with `Desk` if a read
+// fails, memory runs out, or the number or the sum overflows, or with `Write`.
+fn walk_cash_rows<W: Write, S: Alter>(
+    alloc: Global,
     desk: &mut Desk<S>,
     account: Id,
-    from: Day,
+    first: Stamp,
+    last: Stamp,
     opening: Cents,
-) -> Result<Wide, LinesFault>
+    writer: &mut W,
+) -> Result<CashProgress, LinesFault>
     ensures keeps { PreservesDesk S.Store desk.old desk.new }
     ensures fault { IfErr result IsMemoryStoreOrWriteFault }
-    ensures sum { HoldsForStoredTables S.Store desk.old desk.new (λ t. IsTotalOrFault (opening
-        +ℤ cash_row_total (cash_move_rows_before_day from (cash_move_rows_of_account t account))) result) }
+    ensures written { HoldsForStoredTables S.Store desk.old desk.new
+        (λ t. WritesLinesOfWalk (cash_rows_in_span account 0 last t) first opening (W.contents writer.old) (W.contents writer.new) result) }
 {
-    let Some(last) = last_stamp_before_day(from) else {
-        return Ok(Wide::from(opening));
+    let mut visitor = CashLines {
+        alloc,
+        writer,
+        first,
+        moved: CashProgress {
+            is_opened: false,
+            count: 0,
+            total: Wide::from(opening),
+        },
     };
-    let mut sum = Sum {
-        total: Wide::from(opening),
-    };
-    match desk.visit_cash_rows(account, Stamp::nearest(0), last, &mut sum) {
-        Ok(()) => Ok(sum.total),
+    match desk.visit_cash_rows(account, Stamp::nearest(0), last, &mut visitor) {
+        Ok(()) => Ok(visitor.progress()),
         Err(stop) => Err(fault_from_walk_error(stop)),
     }
 }
 
-/// Writes a line for each cash row of an account from the day `from` to the day `to`, both
-/// included. Returns the number of these rows, and `opening` plus their amounts, in cents. If the
-/// database is still open, it is unchanged. Fails with `Desk` if a read fails, memory runs out, or
-/// the number or the sum overflows, or with `Write`.
-pub(crate) fn write_cash_lines<W: Write, S: Alter>(
+/// Writes the line of the opening amount, which is `opening` plus the amounts of the cash rows of
+/// an account before the day `from`, and a line for each of its cash rows from the day `from` to
+/// the day `to`, both included. Returns the number of the latter rows, and `opening` plus the
+/// amounts of all these rows, in cents. Walks over the cash rows once. If the database is still
+/// open, it is unchanged. Fails with `Desk` if a read fails, memory runs out, or the number or the
+/// sum overflows, or with `Write`.
+pub(crate) fn write_opening_and_cash_lines<W: Write, S: Alter>(
     alloc: Global,
     desk: &mut Desk<S>,
     account: Id,
     from: Day,
     to: Day,
-    opening: Wide,
+    opening: Cents,
     writer: &mut W,
-) -> Result<CashCountAndTotal, LinesFault>
+) -> Result<CashProgress, LinesFault>
+    requires { from ≤ to }
     ensures keeps { PreservesDesk S.Store desk.old desk.new }
     ensures fault { IfErr result IsMemoryStoreOrWriteFault }
     ensures written { HoldsForStoredTables S.Store desk.old desk.new
         (λ t. WritesCashLines t account from to opening (W.contents writer.old) (W.contents writer.new) result) }
 {
-    let mut visitor = CashLines {
+    let moved = walk_cash_rows(
         alloc,
-        writer,
-        moved: CashCountAndTotal {
-            count: 0,
-            total: opening,
-        },
-    };
-    match desk.visit_cash_rows(
+        desk,
         account,
         first_stamp_of_day(from),
         last_stamp_of_day(to),
-        &mut visitor,
-    ) {
-        Ok(()) => Ok(visitor.count_and_total()),
-        Err(stop) => Err(fault_from_walk_error(stop)),
-    }
+        opening,
+        writer,
+    )?;
+    write_opening_line_unless(alloc, moved.is_opened, moved.total, writer)?;
+    Ok(moved)
 }
 
 /// Writes a line for each lot of an account, sorted by symbol, then by opening stamp, and returns

@@ -1,10 +1,9 @@
-ghost use Rattle.std.specs.Prelude.{IfErr};
+ghost use Rattle.std.specs.Prelude.{◌≤◌, IfErr};
 ghost use Rattle.brk_report.specs.Parts.{all_statement_lines};
 ghost use Rattle.brk_report.specs.Stated.{StatementPost, PreservesDesk, IsMemoryStoreOrWriteFault, HoldsForStoredTables};
 ghost use Rattle.brk_report_lines.specs.Written.{WritesLines};
 
 use crate::parts::{write_cash_and_closing_lines, write_header_lines, write_lot_and_total_lines};
-use crate::sections::read_balance_before_day;
 use brk_desk::{Desk, StatementHead};
 use brk_money::{Day, Id, Refusal};
 use brk_report_lines::{LinesFault, ReportFault};
@@ -28,13 +27,14 @@ fn write_statement_lines<W: Write, S: Alter>(
     to: Day,
     writer: &mut W,
 ) -> Result<(), LinesFault>
+    requires { from ≤ to }
     ensures keeps { PreservesDesk S.Store desk.old desk.new }
     ensures fault { IfErr result IsMemoryStoreOrWriteFault }
     ensures written { HoldsForStoredTables S.Store desk.old desk.new
         (λ t. WritesLines (all_statement_lines t account head.now from to) (W.contents writer.old) (W.contents writer.new) result) }
 {
-    let opening = read_balance_before_day(desk, account, from, head.opening)?;
-    write_header_lines(alloc, account, head, from, to, opening, writer)?;
+    write_header_lines(alloc, account, head, from, to, writer)?;
+    let opening = head.opening;
     let cash = write_cash_and_closing_lines(alloc, desk, account, from, to, opening, writer)?;
     write_lot_and_total_lines(alloc, desk, account, head.holdings, cash, writer)
 }

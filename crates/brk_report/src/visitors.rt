@@ -1,16 +1,19 @@
 //! Visitors that write a line for each record, count the records, and add up their amounts.
 
-ghost use Rattle.std.specs.Prelude.{◌≡◌, ◌+ℤ◌, Err, IfErr, IfOk, OnErr};
+ghost use Rattle.std.specs.Prelude.{◌≡◌, ◌+ℤ◌, ◌++◌, ◌∷◌, [], Err, IfErr, IfOk, OnErr, nat_lt};
+ghost use Rattle.brk_changes.specs.Rows.{abstract_move_row};
 ghost use Rattle.brk_money.specs.Spelling.{Text};
 ghost use Rattle.brk_model.specs.Run.{IsCallFault};
 ghost use Rattle.brk_money.specs.declared.fault.Fault.TheVariants as fault;
-ghost use Rattle.brk_report_lines.specs.Written.{line_with_line_feed};
+ghost use Rattle.brk_model.specs.Statement.{cash_row_line};
+ghost use Rattle.brk_report.specs.CashWalk.{opening_line_unless};
+ghost use Rattle.brk_report_lines.specs.Written.{WritesLines, line_with_line_feed};
 ghost use Rattle.brk_report_lines.specs.declared.fault.LinesFault.TheVariants.{Desk};
 
 use brk_changes::{HoldingRow, MoveRow};
 use brk_desk::Visitor;
-use brk_money::{Cents, Fault, Wide};
-use brk_report_lines::{LinesFault, cash_row_line, lot_line, write_line};
+use brk_money::{Cents, Fault, Stamp, Wide};
+use brk_report_lines::{LinesFault, amount_line, cash_row_line, lot_line, write_line};
 use std::alloc::Global;
 use std::io::Write;
 
@@ -61,35 +64,42 @@ fn total_plus_amount(total: Wide, amount: Cents) -> Result<Wide, LinesFault>
     }
 }
 
-/// A visitor that adds up the amounts of cash rows.
-#[derive(Drop)]
-pub struct Sum {
-    /// The sum of the amounts so far, in cents.
-    pub total: Wide,
+// Returns true if the stamp of the cash row is before `first`.
+fn is_before_stamp(item: &MoveRow, first: Stamp) -> bool
+    ensures { result ≡ nat_lt item.now.stamp first }
+{
+    item.stamp.get() < first.get()
 }
 
-impl Visitor<MoveRow, LinesFault> for Sum {
-    ghost use Rattle.std.specs.Prelude.{◌≡◌, ◌+ℤ◌};
-    ghost use Rattle.brk_money.specs.declared.fault.Fault.TheVariants.{Store};
-    ghost use Rattle.brk_report_lines.specs.declared.fault.LinesFault.TheVariants.{Desk};
-
-    ghost ready = { λ _. Unit {0} };
-
-    ghost leads = { λ _ _. Unit {0} };
-
-    ghost takes = { λ p row q. q.total ≡ p.total +ℤ row.amount };
-
-    ghost stops = { λ p row e q. e ≡ Desk Store };
-
-    /// Adds the amount of the cash row to the total. Fails with `Desk(Store)` if the sum overflows.
-    fn visit(&mut self, item: &MoveRow) -> Result<(), LinesFault> {
-        self.total = total_plus_amount(self.total, item.amount)?;
-        Ok(())
+/// Writes the line of the opening amount, in cents, unless `is_written` is true. Fails with
+/// `Desk(Memory)` or `Write`.
+pub(crate) fn write_opening_line_unless<W: Write>(
+    alloc: Global,
+    is_written: bool,
+    opening: Wide,
+    writer: &mut W,
+) -> Result<(), LinesFault>
+    ensures { WritesLines (opening_line_unless is_written opening) (W.contents writer.old) (W.contents writer.new) result }
+{
+    if is_written {
+        return Ok(());
     }
+    write_line(writer, amount_line(alloc, "Opening", opening))
+}
 
-    ghost reflexive = { λ _. tt };
-
-    ghost transitive = { λ _ _ _ _ _. tt };
+// Writes the line of the opening amount, unless it is written, and the line of the cash row
+// `item`. The opening amount is the total so far. Fails with `Desk(Memory)` or `Write`.
+fn write_opening_and_row_lines<W: Write>(
+    alloc: Global,
+    moved: CashProgress,
+    item: &MoveRow,
+    writer: &mut W,
+) -> Result<(), LinesFault>
+    ensures { WritesLines (opening_line_unless moved.is_opened moved.total ++ cash_row_line (abstract_move_row item.now)
+        ∷ []) (W.contents writer.old) (W.contents writer.new) result }
+{
+    write_opening_line_unless(alloc, moved.is_opened, moved.total, writer)?;
+    write_line(writer, item.line(alloc))
 }
 
 /// A visitor that writes a line for each record, and counts the records.
@@ -131,26 +141,31 @@ impl<R: Line, W: Write> Visitor<R, LinesFault> for Lines<'_, W> {
     ghost transitive = { λ _ _ _ a b. b ∙ a };
 }
 
-/// The number of cash rows that were written, and the sum of an opening amount and the amounts of
-/// these rows, in cents.
+/// How far the walk over the cash rows of an account has come.
 #[derive(Clone, Copy)]
-pub struct CashCountAndTotal {
+pub struct CashProgress {
+    /// True if the line of the opening amount is written.
+    pub is_opened: bool,
+    /// The number of cash rows whose lines are written.
     pub count: u64,
+    /// The opening balance of the account plus the amounts of all cash rows so far, in cents.
     pub total: Wide,
 }
 
-/// A visitor that writes a line for each cash row, counts the rows, and adds up their amounts.
+/// A visitor that adds up the amounts of cash rows. From a stamp on it also writes a line for each
+/// cash row and counts it, and before the first of these lines the line of the opening amount.
 #[derive(Drop)]
 pub struct CashLines<'a, W> {
     pub alloc: Global,
     pub writer: &'a mut W,
-    pub moved: CashCountAndTotal,
+    /// The stamp from which on it writes lines.
+    pub first: Stamp,
+    pub moved: CashProgress,
 }
 
 impl<W> CashLines<'_, W> {
-    /// Returns the number of cash rows that the visitor has written so far, and the total after
-    /// them, in cents.
-    pub fn count_and_total(&self) -> CashCountAndTotal
+    /// Returns how far the visitor has come.
+    pub fn progress(&self) -> CashProgress
         ensures { result ≡ self.now.moved }
     {
         self.moved
@@ -158,31 +173,42 @@ impl<W> CashLines<'_, W> {
 }
 
 impl<W: Write> Visitor<MoveRow, LinesFault> for CashLines<'_, W> {
-    ghost use Rattle.std.specs.Prelude.{◌≡◌, ◌+◌, ◌+ℤ◌, [], ◌∷◌, refl};
+    ghost use Rattle.std.specs.Prelude.{◌≡◌, nat_lt, refl};
     ghost use Rattle.std.proofs.Common.{◌∙◌};
     ghost use Rattle.std.specs.Io.KnownBytes.{Appends};
     ghost use Rattle.brk_changes.specs.Rows.{abstract_move_row};
-    ghost use Rattle.brk_model.specs.Statement.{cash_row_line};
-    ghost use Rattle.brk_report_lines.specs.Written.{FailsWithinLines, line_with_line_feed};
+    ghost use Rattle.brk_model.specs.Statement.{text_of_lines};
+    ghost use Rattle.brk_report.specs.CashWalk.{lines_of_row, progress_after_row};
+    ghost use Rattle.brk_report_lines.specs.Written.{FailsWithinFirstLines};
 
     ghost ready = { λ _. Unit {0} };
 
     ghost leads = { λ p q. q.writer.ghost_name ≡ p.writer.ghost_name };
 
-    ghost takes = { λ p r q. (q.moved.total ≡ p.moved.total +ℤ r.amount) × (q.moved.count ≡ p.moved.count + 1)
-        × Appends (W.contents p.writer.now) (W.contents q.writer.now) (line_with_line_feed (cash_row_line (abstract_move_row r))) };
+    ghost takes = { λ p r q. (q.first ≡ p.first) × (q.moved ≡ progress_after_row (nat_lt r.stamp p.first) p.moved (abstract_move_row r))
+        × Appends (W.contents p.writer.now) (W.contents q.writer.now) (text_of_lines (lines_of_row (nat_lt r.stamp p.first) p.moved (abstract_move_row r))) };
 
-    ghost stops = { λ p r e q. FailsWithinLines (cash_row_line (abstract_move_row r) ∷ []) (W.contents p.writer.now) (W.contents q.writer.now) e };
+    ghost stops = { λ p r e q. FailsWithinFirstLines (lines_of_row (nat_lt r.stamp p.first) p.moved (abstract_move_row r)) (W.contents p.writer.now) (W.contents q.writer.now) e };
 
-    /// Writes the line of the cash row, counts the row and adds its amount to the total. Fails with
-    /// `Desk(Memory)`, with `Desk(Store)` if the total or the count overflows, or with `Write`.
+    /// Adds the amount of the cash row to the total. If the row is not before the first stamp,
+    /// writes its line, after that of the opening amount if this is not written, and counts the
+    /// row. Fails with `Desk(Memory)`, with `Desk(Store)` if the total or the count overflows, or
+    /// with `Write`.
     fn visit(&mut self, item: &MoveRow) -> Result<(), LinesFault> {
         let total = total_plus_amount(self.moved.total, item.amount)?;
+        if is_before_stamp(item, self.first) {
+            self.moved.total = total;
+            return Ok(());
+        }
         let Some(count) = self.moved.count.checked_add(1) else {
             return Err(LinesFault::Desk(Fault::Store));
         };
-        write_line(self.writer, item.line(self.alloc))?;
-        self.moved = CashCountAndTotal { count, total };
+        write_opening_and_row_lines(self.alloc, self.moved, item, self.writer)?;
+        self.moved = CashProgress {
+            is_opened: true,
+            count,
+            total,
+        };
         Ok(())
     }
 

@@ -17,7 +17,7 @@ use Rattle.brk_changes.specs.Schemas.{abstract_schema}
 use Rattle.brk_changes.specs.Sheets.{abstract_sheets}
 use Rattle.brk_changes.specs.declared.sheets.Sheets.{Sheets}
 use Rattle.brk_ref.specs.declared.key.Kept as typed
-use Rattle.brk_ref.specs.Records.{abstract_kept_row}
+use Rattle.brk_ref.specs.Records.{abstract_key, abstract_kept_row, kept_row_with_empty_texts}
 use Rattle.brk_sql.specs.Model.{IsTransactionStep}
 use Rattle.brk_sql.proofs.Inside.{step_read, step_then}
 use Rattle.brk_sql.proofs.Order.{map_twice}
@@ -107,12 +107,12 @@ module _ (schema : known.Schema) (a b : State) where
       subst (λ told. AuditsDeskOfSchema schema told a b) e (p.0, p.1, λ defined there. (there, λ t rows texts. form_fails (abstract_schema schema) t (p.2 defined there t rows) texts))) step
 
   -- the answer for rows of KEPT without their texts is that for the whole rows
-  whole_answer : (sheets : Sheets) (whole : List typed.Kept) → keys_of_kept_rows whole ≡ keys_of_kept_rows sheets.kept.items → (answer : Option Condition) → IsAuditResult (abstract_schema schema) (abstract_sheets sheets) answer
+  whole_answer : (sheets : Sheets) (whole : List typed.Kept) → keys_of_kept_rows whole ≡ map abstract_key sheets.kept.items → (answer : Option Condition) → IsAuditResult (abstract_schema schema) (abstract_sheets sheets) answer
       → IsAuditResult (abstract_schema schema) (tables_with_whole_kept_rows whole sheets) answer
   whole_answer sheets whole keys answer h =
-      let here = map_twice (λ k. k.key) abstract_kept_row sheets.kept.items in
+      let here = map_twice (λ k. k.key) kept_row_with_empty_texts sheets.kept.items in
       let there = map_twice (λ k. k.key) abstract_kept_row whole in
-      answer_alike (abstract_schema schema) (abstract_sheets sheets) (map abstract_kept_row sheets.kept.items) (map abstract_kept_row whole) (here ∙ sym keys ∙ sym there) row_conditions answer h
+      answer_alike (abstract_schema schema) (abstract_sheets sheets) (map kept_row_with_empty_texts sheets.kept.items) (map abstract_kept_row whole) (here ∙ sym keys ∙ sym there) row_conditions answer h
 
   pub rows_told : (sheets : Sheets) (r : Result (Option Condition) Fault) → IsTransactionStep {V = Option Sheets} {E = Fault} a b (Ok (Some sheets)) (ReadsSheetsOfSchema schema) → IfOk r (λ answer. IsAuditResult (abstract_schema schema) (abstract_sheets sheets) answer)
       → IsTransactionStep {V = Option Condition} {E = Fault} a b r (AuditsDeskOfSchema schema)

@@ -3,7 +3,8 @@
 -- exactly its columns, no table that a later schema adds, and one row of the table DESK, with the
 -- number of the schema. `brk_store/specs/Holds.antt` explains the other terms of the clauses. A
 -- clause with the premise `HasCleanDisk` for the new state, and the promise on crashes in
--- `survives`, are vacuous if the disk assumption fails after the call.
+-- `survives`, are vacuous if some read up to the return of the call did not return what was
+-- written.
 use Rattle.std.specs.Prelude.{◌≡◌, ◌≢◌, ◌⊎◌, ⊤, Option, Some, None, Result, Ok, Err, OnOk, OnErr, IsTrue}
 use Rattle.sqlite_trees.specs.declared.store.Store.{Ghosts}
 use Rattle.sqlite_trees.specs.Tree.{Trees}
@@ -105,18 +106,18 @@ StoreHasThirdSchema g held = HasCleanDisk (state g held) → IsTrue (state g hel
 -- The postcondition of an audit by the conditions of schema 3, which writes nothing: `old` is the
 -- connection before the call, and `new` after it.
 pub record AuditPost {S : Type 0} (g : Ghosts S) (old new : Held S) (result : Result (Unit {0}) Fault) : Type 0 where
-  -- `Ok` is returned only if the rows pass, and `Damaged` only with the first condition that fails.
-  -- Vacuous if the disk assumption fails after the call, or if the old database does not satisfy
-  -- `StoreNamedTablesMatchThirdSchema`.
+  -- `Ok` is returned only if the rows pass the audit, and `Damaged` only with the first condition
+  -- that fails. Vacuous if some read up to the return of the call did not return what was written,
+  -- or if the old database does not satisfy `StoreNamedTablesMatchThirdSchema`.
   pub answered : HasCleanDisk (state g new) → StoreNamedTablesMatchThirdSchema g old
       → AuditAnswerSatisfies result (IsDatabaseAuditResultBySchema third_schema (state g old).now)
-  -- `Ok` and `Damaged` are returned only if the database was open.
+  -- `Ok` and `Damaged` are returned only if the database was open before the call.
   pub opened : HasCleanDisk (state g new) → AuditAnswerSatisfies result (λ _. IsTrue (state g old).is_open)
   -- The store holds after the call the rows that it held before, whatever the result.
   pub same_rows : (t : Tables) → HoldsRows g old t → HoldsRows g new t
   -- If the database is open after the call, it was open before and is unchanged.
   pub same : HasCleanDisk (state g new) → IsTrue (state g new).is_open → WasOpenAndIsUnchanged (state g old) (state g new)
-  -- A crash exposes only states that a crash before the call could expose.
+  -- A crash after the call exposes only states that a crash before the call could expose.
   pub survives : Survives (state g old) (state g new) (λ _. ⊥)
 
 -- ---- an adoption
@@ -144,18 +145,18 @@ IsUpgradedDiskContent db trees =
 -- `StoreNamedTablesMatchDeskDefinitions` promise nothing of a database whose tables have the names
 -- and columns of a desk's, but another definition.
 pub record AdoptPost {S : Type 0} (g : Ghosts S) (old new : Held S) (result : Result (Unit {0}) Fault) : Type 0 where
-  -- `Ok` is returned only if the rows pass, and `Damaged` only with the first condition that fails.
-  -- Vacuous if the disk assumption fails after the call, or if the old database does not satisfy
-  -- `StoreNamedTablesMatchDeskDefinitions`.
+  -- `Ok` is returned only if the rows pass the audit, and `Damaged` only with the first condition
+  -- that fails. Vacuous if some read up to the return of the call did not return what was written,
+  -- or if the old database does not satisfy `StoreNamedTablesMatchDeskDefinitions`.
   pub answered : HasCleanDisk (state g new) → StoreNamedTablesMatchDeskDefinitions g old → AuditAnswerSatisfies result (IsDatabaseAuditResult (state g old).now)
-  -- `Ok` and `Damaged` are returned only if the database was open.
+  -- `Ok` and `Damaged` are returned only if the database was open before the call.
   pub opened : HasCleanDisk (state g new) → AuditAnswerSatisfies result (λ _. IsTrue (state g old).is_open)
   -- At `Ok` the store holds rows that pass the audit of schema 3, with texts in UTF-8. Vacuous if
   -- the old database does not satisfy `StoreNamedTablesMatchDeskDefinitions`.
   pub adopted : StoreNamedTablesMatchDeskDefinitions g old
       → OnOk result ((t : Tables) × HoldsRows g new t × PassesAudit third_schema t × IsTrue (has_utf8_texts t))
-  -- At `Ok`, if the store is open, it has committed the tables of the base that the old rows
-  -- determine.
+  -- At `Ok`, if the store is open, it contains the tables of the base that the old rows determine,
+  -- and they are committed: by this call, if the database had an older schema.
   pub upgraded : HasCleanDisk (state g new) → IsTrue (state g new).is_open → StoreNamedTablesMatchDeskDefinitions g old
       → OnOk result (UpgradesPassingRows (state g old).now (state g new).now × ((state g new).committed ≡ (state g new).now))
   -- At `Ok` the store is open, unless the database had schema 3.
@@ -163,8 +164,8 @@ pub record AdoptPost {S : Type 0} (g : Ghosts S) (old new : Held S) (result : Re
       → OnOk result (StoreHasThirdSchema g old ⊎ IsTrue (state g new).is_open)
   -- At an error: if the database is open after the call, it was open before and is unchanged.
   pub same : HasCleanDisk (state g new) → IsTrue (state g new).is_open → OnErr result (WasOpenAndIsUnchanged (state g old) (state g new))
-  -- A crash exposes a state that a crash before the call could expose or, if the rows of an older
-  -- schema pass their audit, the tables after the upgrade to schema 3.
+  -- A crash after the call exposes a state that a crash before the call could expose or, if the
+  -- rows of an older schema pass their audit, the tables after the upgrade to schema 3.
   pub survives : StoreNamedTablesMatchDeskDefinitions g old → Survives (state g old) (state g new) (IsUpgradedDiskContent (state g old).now)
   -- If the database had schema 3, the adoption satisfies the postcondition of an audit by schema 3,
   -- which writes nothing.

@@ -1,27 +1,31 @@
 -- The rows that a store holds, and the postconditions of its calls. Terms:
 -- - `Held S`: in contracts, a connection to a database in a storage of the type `S` (files,
---   memory), with its SQLite schema and its open transaction.
+--   memory), with its SQLite schema and the transaction that it is in, if any.
 -- - `Ghosts S`, `g`: the specification of the storage (a ghost has a meaning in proofs only): its
 --   contents, its faults, and the contents that a crash may expose.
 -- - `state g conn`: the state of the connection. `now` is the database as the connection sees it,
---   changes of its open transaction included; `committed` is the database at the last commit;
---   `may_leave` holds of the disk contents that a crash may expose.
+--   changes of the transaction that it is in included; `committed` is the database at the last
+--   commit; `may_leave` holds of the disk contents that a crash may expose.
 -- - `Trees`: disk contents, the rows of each table and index of a database, by the number of its
 --   tree (compare SQLite's root page).
 -- - A store, its connection and its database are *open* (`is_open`) until a fault of the disk
---   closes them: an I/O error, a full disk or damage. Nothing else closes them.
+--   closes them: an I/O error, a full disk or a corrupt page (SQLITE_CORRUPT). Nothing else closes
+--   them.
 -- - *Disk assumption* (`HasCleanDisk`): every read so far returned what was written.
 -- - `Survives old new P`: a crash in the state `new` exposes contents that a crash in the state
---   `old` could expose, or contents that satisfy `P`. With `λ _. ⊥` for `P`: only the former.
+--   `old` could expose, or contents that satisfy `P`. With `λ _. ⊥` for `P`: only the former. It
+--   also states that only a fault of the disk closes an open connection, and that a disk assumption
+--   that has failed stays failed.
 -- - `IfOk r P`, `IfErr r P`: `P` of the value, or of the error. `OnOk r Q`, `OnErr r Q`: `Q`, which
 --   does not depend on it. All are vacuous for the other case.
 -- - `Tables`: the rows of all tables of a desk, `t` in the clauses; *the rows `t`* and *the tables
---   of a base* (`sheets base`) are values of this type.
+--   of a base* (`sheets base`) are values of this type. In rows that a database contains, those of
+--   each table are sorted by its key, ascending.
 -- - *Schema 1*, *2* or *3*, and *a schema* without more, is a version of the desk's tables; *SQLite
 --   schema* is what SQLite calls a schema.
 -- - A clause is *vacuous* if it promises nothing. A clause with the premise `HasCleanDisk` for the
---   new state, and the promise on crashes in `survives`, are vacuous if the disk assumption fails
---   after the call.
+--   new state, and the promise on crashes in `survives`, are vacuous if some read up to the return
+--   of the call did not return what was written.
 use Rattle.std.specs.Prelude.{◌≡◌, ◌⊎◌, ℕ, true, false, Result, Err, IfOk, OnOk, OnErr, IsTrue}
 use Rattle.sqlite_trees.specs.declared.store.Store.{Ghosts}
 use Rattle.sqlite_trees.specs.Tree.{Trees}
@@ -59,31 +63,33 @@ pub record WasOpenAndIsUnchanged (old new : State) : Type 0 where
   pub committed : new.committed ≡ old.committed
 
 -- The postcondition of a read, which writes nothing: `old` is the store before the call, and `new`
--- after it. `Told` relates a returned value to the rows that the store holds.
+-- after it. `Told` relates a returned value to the rows that the store holds. No clause states that
+-- the store is open after the call, also at `Ok`: a disk fault at the end of the transaction of the
+-- read may close it.
 pub record ReadPost {S V E : Type 0} (g : Ghosts S) (old new : Held S) (result : Result V E) (Told : V → Tables → Type 0) : Type 0 where
   -- A returned value satisfies `Told` with the rows that the store held before the call. Vacuous if
-  -- the disk assumption fails after the call.
+  -- some read up to the return of the call did not return what was written.
   pub answered : HasCleanDisk (state g new) → IfOk result (λ answer. (t : Tables) → HoldsRows g old t → Told answer t)
-  -- A value is returned only if the store was open.
+  -- A value is returned only if the store was open before the call.
   pub opened : HasCleanDisk (state g new) → OnOk result (IsTrue (state g old).is_open)
   -- The store holds after the call the rows that it held before, whatever the result.
   pub same_rows : (t : Tables) → HoldsRows g old t → HoldsRows g new t
   -- If the database is open after the call, it was open before and is unchanged.
   pub same : HasCleanDisk (state g new) → IsTrue (state g new).is_open → WasOpenAndIsUnchanged (state g old) (state g new)
-  -- A crash exposes only states that a crash before the call could expose.
+  -- A crash after the call exposes only states that a crash before the call could expose.
   pub survives : Survives (state g old) (state g new) (λ _. ⊥)
 
 -- The postcondition of a call that changes the rows `t` to `after t`, all together or not at all:
 -- `old` is the store before the call, and `new` after it.
 pub record ApplyPost {S V E : Type 0} (g : Ghosts S) (old new : Held S) (result : Result V E) (after : Tables → Tables) : Type 0 where
-  -- At `Ok` the store holds the changed rows.
+  -- At `Ok` the store holds the tables with all changes.
   pub applied : OnOk result ((t : Tables) → HoldsRows g old t → HoldsRows g new (after t))
   -- At `Ok` the store was open, is open, and has committed its current state.
   pub opened : HasCleanDisk (state g new)
       → OnOk result (IsTrue (state g old).is_open × IsTrue (state g new).is_open × ((state g new).committed ≡ (state g new).now))
-  -- At `Ok` the SQLite schema of the database is unchanged. The rows of each other table are
-  -- unchanged too, unless a foreign key of that table changes or deletes them by CASCADE, SET NULL
-  -- or SET DEFAULT.
+  -- At `Ok` the SQLite schema of the database is unchanged. The rows of each table that is not the
+  -- desk's are unchanged too, unless a foreign key of that table changes or deletes them by
+  -- CASCADE, SET NULL or SET DEFAULT.
   pub others : HasCleanDisk (state g new)
       → OnOk result ((t : Tables) (tree : DeskTable → ℕ) → HasTables desk_tables t tree (state g old).now
       → PreservesUnrelatedTables tree (state g old).now (state g new).now)
@@ -91,11 +97,11 @@ pub record ApplyPost {S V E : Type 0} (g : Ghosts S) (old new : Held S) (result 
   pub same_rows_at_error : OnErr result ((t : Tables) → HoldsRows g old t → HoldsRows g new t)
   -- At an error: if the database is open after the call, it was open before and is unchanged.
   pub same : HasCleanDisk (state g new) → IsTrue (state g new).is_open → OnErr result (WasOpenAndIsUnchanged (state g old) (state g new))
-  -- A crash exposes a state that a crash before the call could expose, or the changed rows; the
-  -- changed rows only if the store was open.
+  -- A crash after the call exposes a state that a crash before the call could expose, or the tables
+  -- with all changes; the latter only if the store was open.
   pub survives : Survives (state g old) (state g new) (λ trees. IsTrue (state g old).is_open
       × ((t : Tables) → HasDeskTables t (state g old).now → IsDiskContentOfRows (after t) trees))
-  -- At `Ok` a crash exposes only the changed rows.
+  -- At `Ok` a crash after the call exposes only the tables with all changes.
   pub durable : HasCleanDisk (state g new) → OnOk result ((t : Tables) → HoldsRows g old t → CrashStatesSatisfy g new (IsDiskContentOfRows (after t)))
 
 -- The postcondition of the creation of the tables, of all together or of none: `old` is the
@@ -118,9 +124,10 @@ pub record CreatePost {S : Type 0} (g : Ghosts S) (old new : Held S) (result : R
       → (result ≡ Err (Damaged NotEmpty)) ⊎ (result ≡ Err Store)
   -- At an error: if the database is open after the call, it was open before and is unchanged.
   pub same : HasCleanDisk (state g new) → IsTrue (state g new).is_open → OnErr result (WasOpenAndIsUnchanged (state g old) (state g new))
-  -- A crash exposes a state that a crash before the call could expose, or the tables without rows.
+  -- A crash after the call exposes a state that a crash before the call could expose, or the tables
+  -- without rows.
   pub survives : Survives (state g old) (state g new) (IsDiskContentOfRows tables_without_rows)
-  -- At `Ok` a crash exposes only the tables without rows.
+  -- At `Ok` a crash after the call exposes only the tables without rows.
   pub durable : HasCleanDisk (state g new) → OnOk result (CrashStatesSatisfy g new (IsDiskContentOfRows tables_without_rows))
 
 -- `conn` is a connection to a database with the disk contents `trees`. Under the disk assumption

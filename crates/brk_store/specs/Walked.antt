@@ -1,7 +1,7 @@
 -- The postconditions of the walks of a store, which pass the rows of a list to a visitor or a
 -- closure, one at a time. `brk_store/specs/Holds.antt` explains the terms of the clauses. A clause
 -- with the premise `HasCleanDisk` for the new state, and the promise on crashes in `survives`, are
--- vacuous if the disk assumption fails after the call.
+-- vacuous if some read up to the return of the call did not return what was written.
 use Rattle.std.specs.Prelude.{◌≡◌, ℕ, List, ◌++◌, filter, Result, Ok, Err, OnOk, IfErr, IsTrue}
 use Rattle.sqlite_trees.specs.declared.store.Store.{Ghosts}
 use Rattle.sqlite.specs.Held.{Held, state}
@@ -31,21 +31,23 @@ completed_trades_by_stamp t = sort_by_key (λ r. r.stamp) (filter (λ r. is_same
 
 -- The records `all` equal the whole list that `list` selects from the rows that the store holds.
 -- Vacuous if the store is open and has no tables of a desk. If the store is closed, or the disk
--- assumption fails, `all` has to equal `list t` for all rows `t`.
+-- assumption fails, `all` has to equal `list t` for all rows `t`: no records do, if the list
+-- depends on the rows.
 abbrev pub EqualsStoredList : {S M : Type 0} → Ghosts S → Held S → (Tables → List M) → List M → Type 0
 EqualsStoredList g store list all = (t : Tables) → HoldsRows g store t → all ≡ list t
 
 -- The records `first` are a prefix of the list that `list` selects from the rows that the store
 -- holds, possibly empty. Vacuous if the store is open and has no tables of a desk. If the store is
--- closed, or the disk assumption fails, `first` has to be a prefix of `list t` for all rows `t`.
+-- closed, or the disk assumption fails, `first` has to be a prefix of `list t` for all rows `t`:
+-- only the empty list is one, if `list` selects no record from some rows.
 abbrev pub IsPrefixOfStoredList : {S M : Type 0} → Ghosts S → Held S → (Tables → List M) → List M → Type 0
 IsPrefixOfStoredList {S} {M} g store list first = (t : Tables) → HoldsRows g store t → (rest : List M) × (first ++ rest ≡ list t)
 
 -- The postcondition of a walk, which passes the records that `list` selects from the rows of the
 -- store to a visitor, in order and one at a time, and writes nothing. The walk ends after the last
--- record, at an error of the visitor, or at a fault. `takes` and `stops` relate the visitor before
--- and after it takes a record or returns an error for it; `before` and `after` are the visitor
--- before and after the walk.
+-- record, at an error of the visitor, or at a fault. `of` converts a record that the visitor takes
+-- to a row of the model. `takes` and `stops` relate the visitor before and after it takes a record
+-- or returns an error for it; `before` and `after` are the visitor before and after the walk.
 pub record WalkPost {S X M V E : Type 0} (g : Ghosts S) (old new : Held S) (of : X → M) (list : Tables → List M) (takes : V → X → V → Type 0)
     (stops : V → X → E → V → Type 0)
     (before after : V) (result : Result (Unit {0}) (WalkError E)) : Type 0 where
@@ -57,13 +59,13 @@ pub record WalkPost {S X M V E : Type 0} (g : Ghosts S) (old new : Held S) (of :
   -- The error is `Memory` or `Store`, or that of the visitor, whether or not the disk assumption
   -- holds.
   pub fault : IfErr result (IsWalkError stops after)
-  -- `Ok` is returned only if the store was open.
+  -- `Ok` is returned only if the store was open before the call.
   pub opened : HasCleanDisk (state g new) → OnOk result (IsTrue (state g old).is_open)
   -- The store holds after the call the rows that it held before, whatever the result.
   pub same_rows : (t : Tables) → HoldsRows g old t → HoldsRows g new t
   -- If the database is open after the call, it was open before and is unchanged.
   pub same : HasCleanDisk (state g new) → IsTrue (state g new).is_open → WasOpenAndIsUnchanged (state g old) (state g new)
-  -- A crash exposes only states that a crash before the call could expose.
+  -- A crash after the call exposes only states that a crash before the call could expose.
   pub survives : Survives (state g old) (state g new) (λ _. ⊥)
 
 -- `result` is the result of a walk that calls a closure, if the walk with the closure as its

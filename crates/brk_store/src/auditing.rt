@@ -79,12 +79,12 @@ fn audit_database<S: Alter>(conn: &mut Connection<S>, alloc: Global) -> Result<(
 
 impl<S: Alter> Store<S> {
     /// Audits the database by the conditions of schema 3 and writes nothing. Returns `Ok` only if
-    /// its rows pass.
+    /// its rows pass this audit.
     ///
     /// Fails with `Damaged` and the first condition that fails, or with `Memory` or `Store`. The
     /// rows and the open database are unchanged, whatever the result.
     ///
-    /// A crash exposes only states that a crash before the call could expose.
+    /// A crash after the call exposes only states that a crash before the call could expose.
     ///
     /// The result is specified only if the database satisfies `StoreNamedTablesMatchThirdSchema`:
     /// if it has all tables of schema 3, by their names and columns, these have the definitions of

@@ -61,8 +61,8 @@ impl<S: Alter> Store<S> {
     }
 
     /// Of the trades of an account whose last status change has a stamp of at least `first`,
-    /// returns the oldest, and of several with this stamp the one with the least id, or `None` if
-    /// there is none. If the database is still open, it is unchanged. Fails with `Store` only.
+    /// returns the oldest or, if several have its stamp, the one with the least id. Returns `None`
+    /// if there is none. If the database is still open, it is unchanged. Fails with `Store` only.
     pub fn first_trade_of_account_since(
         &mut self,
         account: Id,

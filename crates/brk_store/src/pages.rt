@@ -21,7 +21,8 @@ use std::alloc::Global;
 // contain this number too.
 const PAGE_SIZE: usize = 16;
 
-/// The rows of a page, and the number of them that were returned as lots.
+/// The rows of a page, and the number of them that were returned as lots (1 for an empty page that
+/// was read).
 #[derive(Drop)]
 pub struct Page {
     rows: Vec<HoldingRow>,
@@ -154,7 +155,7 @@ impl<S: Alter> Store<S> {
     /// lot of the next page has no shares, or that the number of rows read exceeds 32 bits. The
     /// remaining lots and the open database are then unchanged, so the call may be retried.
     ///
-    /// A crash during its reads exposes only states that a crash before them could expose.
+    /// A crash after its reads exposes only states that a crash before them could expose.
     pub fn lot_pages<'a>(
         &'a mut self,
         alloc: Global,
@@ -162,8 +163,11 @@ impl<S: Alter> Store<S> {
         symbol: &'a Symbol,
         lifo: bool,
     ) -> LotPages<'a, S>
+        // The source borrows this store, which is unchanged.
         ensures same_reference { (borrowed_store result).ghost_name ≡ self.entry.ghost_name }
         ensures same { (borrowed_store result).now ≡ self.old }
+
+        // All lots of the position remain; none was requested, and no row was read.
         ensures remaining { (t : Tables) → HoldsRows S.Store self.old t
             → ⟦<Pages<'static, S, Page> as LotSource>⟧.remaining result (list_in_closing_order lifo (lots_of_position t account symbol.now)) }
         ensures asked { ⟦<Pages<'static, S, Page> as LotSource>⟧.asked result ≡ 0 }
@@ -216,14 +220,21 @@ impl<S: Alter> Pages<'_, S, Page> {
     // `Memory` or `Store` only; with `Store` also if the page has more than 16 rows or a lot
     // without shares, or if this number exceeds 32 bits. At an error the number is unchanged.
     fn read_next_page(&mut self) -> Result<Vec<HoldingRow>, Fault>
+        // The store is the same and unchanged; of the source only the number of rows read changes.
         ensures same_reference { self.new.store.ghost_name ≡ self.old.store.ghost_name }
         ensures same { self.new ≡ record self.old { store = self.new.store; read = self.new.read } }
         ensures store { IsUnchangedByReads S.Store self.old.store.now self.new.store.now }
+
+        // At `Ok` the rows of the next page, if the disk assumption holds.
         ensures rows { HasCleanDisk (state S.Store self.new.store.now) → IfOk result (λ page. (t : Tables) → HoldsRows S.Store self.old.store.now t →
             map abstract_holding_row page.items
             ≡ page_after_skipped self.old.read (lot_rows_in_closing_order self.old.lifo self.old.account self.old.symbol.now t)) }
+
+        // The number of rows read grows by the rows of the page; at an error it is unchanged.
         ensures counted { IfOk result (λ page. self.new.read ≡ self.old.read + length page.items) }
         ensures count_at_error { OnErr result (self.new.read ≡ self.old.read) }
+
+        // Also if the disk assumption fails: at most 16 rows, none without shares, and the faults.
         ensures few { IfOk result (λ page. length page.items ≤ page_size) }
         ensures some_shares { IfOk result (λ page. All (λ r. r.qty ≢ pos 0) page.items) }
         ensures fault { IfErr result IsCallFault }
@@ -248,15 +259,26 @@ impl<S: Alter> Pages<'_, S, Page> {
     // also if the page has more than 16 rows or a lot without shares, or if the number of rows read
     // exceeds 32 bits. The remaining lots are then unchanged.
     fn read_first_lot_of_next_page(&mut self) -> Result<Option<Lot>, Fault>
+        // All lots of the current page were returned.
         requires { length self.old.page.rows.items ≤ self.old.page.returned }
+
+        // The store is the same and unchanged.
         ensures same_reference { self.new.store.ghost_name ≡ self.old.store.ghost_name }
         ensures store { IsUnchangedByReads S.Store self.old.store.now self.new.store.now }
+
+        // At `Ok` the next lot, or `None` if no lot remains; a returned lot is never of 0 shares.
         ensures first_lot { IfOk result (λ given. HasCleanDisk (state S.Store self.new.store.now) → (ls : List TheLot) → AreRemainingLots S.Store self.old ls →
             MatchOption given ((ls ≡ []) × AreRemainingLots S.Store self.new []) (λ lot. (more : List TheLot) × (ls ≡ lot ∷ more)
             × AreRemainingLots S.Store self.new more)) }
         ensures some_shares { IfOk result (λ given. IfSome given (λ lot. lot.qty ≢ pos 0)) }
+
+        // At an error the remaining lots are unchanged.
         ensures remaining_at_error { IfErr result (λ _. (ls : List TheLot) → AreRemainingLots S.Store self.old ls → AreRemainingLots S.Store self.new ls) }
+
+        // The number of lots requested grows by at most 1.
         ensures asked { self.new.read - (length self.new.page.rows.items - self.new.page.returned) ≤ self.old.read + 1 }
+
+        // The count of faults is unchanged; the only faults are `Memory` and `Store`.
         ensures faults { self.new.faults ≡ self.old.faults }
         ensures fault { IfErr result IsCallFault }
     {

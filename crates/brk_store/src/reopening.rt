@@ -23,7 +23,8 @@ pub fn crash_of_open_store_exposes_last_commit<S: Alter>()
         → CrashStatesSatisfy S.Store store (λ trees. trees ≡ (state S.Store store).committed.trees) }
 {}
 
-/// Proves that a store in memory is always open and satisfies the disk assumption.
+/// Proves that a store in memory is always open and satisfies the disk assumption. This says
+/// nothing of a crash: no content of a store in memory outlives its process.
 pub fn a_store_in_memory_is_open()
     ensures { (store : Held MemStore) → HasCleanDisk (state over_memory store) × IsTrue (state over_memory store).is_open }
 {}

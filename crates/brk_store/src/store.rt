@@ -5,11 +5,20 @@ use sqlite::{Alter, Connection};
 use std::marker::Model;
 
 /// A connection to a database with the tables of a desk. `HoldsRows` states which rows these tables
-/// have; the type itself ensures only that no transaction is open between calls. In contracts the
-/// value of a store is its connection (`Held S`).
+/// have; the type itself ensures only that the connection is in autocommit mode between calls. In
+/// contracts the value of a store is its connection (`Held S`).
 ///
-/// A *crash* is the end of the process or the machine at any time. It *exposes* what the next open
-/// of the database finds, after SQLite's own recovery.
+/// A store, its connection and its database are *open* until their disk fails: an I/O error, a full
+/// disk or a corrupt page (SQLITE_CORRUPT) closes them.
+///
+/// A *crash* is the end of the process or the machine. It *exposes* what the next open of the
+/// database finds, after the `sqlite` crate has recovered the log. The clauses specify a crash
+/// after a call has returned; no clause covers a crash within a call (docs/PROMISES.md, "Trusted
+/// parts").
+///
+/// Under the disk assumption: a store that is still open after a fault is unchanged, and a crash
+/// exposes only its last commit (`crash_of_open_store_exposes_last_commit`); if the fault closed
+/// the store, a crash may expose the changes of the call as committed.
 pub struct Store<S: Alter> {
     pub(crate) conn: Connection<S>,
 }
@@ -42,17 +51,18 @@ impl<S: Alter> Store<S> {
     ghost use Rattle.brk_store.specs.Holds.{ApplyPost, CreatePost};
 
     /// Creates the tables of a desk in the database of `conn`, commits them and returns the store.
-    /// The tables have no rows, except for one row of DESK. The rows of other tables are unchanged.
+    /// The tables have no rows, except for one row of DESK. The rows of tables that are not the
+    /// desk's are unchanged.
     ///
     /// Errors return the connection; a database that is still open is unchanged. The fault
     /// `Damaged(NotEmpty)`, which here means no damage but that tables of a desk exist, is returned
     /// only if a table with the name of a desk's table exists; if one exists, the fault is this one
-    /// or `Store`. The fault `Store` is returned also if a transaction is open on `conn`, and then
-    /// the connection is unchanged; otherwise no transaction is open on the returned connection.
+    /// or `Store`. The fault `Store` is returned also if `conn` is in a transaction, and then the
+    /// connection is unchanged; otherwise the returned connection is in autocommit mode.
     ///
-    /// A crash exposes a state that a crash before the call could expose, or the tables without
-    /// rows; after `Ok` only the latter. After an error, too, a crash may expose the created
-    /// tables.
+    /// A crash after the call exposes a state that a crash before the call could expose, or the
+    /// tables without rows; after `Ok` only the latter. After an error it may expose the created
+    /// tables only if the database is closed.
     pub fn create(mut conn: Connection<S>) -> Result<Store<S>, (Connection<S>, Fault)>
         ensures created { MatchResult result (λ store. CreatePost S.Store conn store (Ok tt)) (λ e. CreatePost S.Store conn e.0 (Err e.1)) }
         ensures fault { IfErr result (λ e. (e.1 ≡ fault.Store) ⊎ (e.1 ≡ fault.Damaged NotEmpty)) }
@@ -68,15 +78,16 @@ impl<S: Alter> Store<S> {
         }
     }
 
-    /// Applies `changes` in order, in one transaction, and commits them. The rows of each other
-    /// table are unchanged, unless a foreign key of that table changes or deletes them by CASCADE,
-    /// SET NULL or SET DEFAULT.
+    /// Applies `changes` in order, in one transaction, and commits them. The rows of each table
+    /// that is not the desk's are unchanged, unless a foreign key of that table changes or deletes
+    /// them by CASCADE, SET NULL or SET DEFAULT.
     ///
     /// Fails with `Store` only, which may also mean that a row to add exists or breaks another
     /// constraint of its table. The rows and the open database are then unchanged.
     ///
-    /// A crash exposes a state that a crash before the call could expose, or the changed rows;
-    /// after `Ok` only the latter. After an error, too, a crash may expose the changed rows.
+    /// A crash after the call exposes a state that a crash before the call could expose, or the
+    /// tables with all changes; after `Ok` only the latter. After an error it may expose the tables
+    /// with all changes only if the store is closed.
     pub fn apply(&mut self, changes: &[Change]) -> Result<(), Fault>
         ensures applied { ApplyPost S.Store self.old self.new result (tables_after_changes changes.now) }
         ensures fault { OnErr result (result ≡ Err fault.Store) }
@@ -84,7 +95,7 @@ impl<S: Alter> Store<S> {
         apply_changes_in_transaction(&mut self.conn, changes)
     }
 
-    /// Returns the connection of the store, on which no transaction is open.
+    /// Returns the connection of the store, which is in autocommit mode.
     pub fn into_conn(self) -> Connection<S>
         ensures same { result ≡ self }
         ensures idle { result.in_transaction ≡ false }

@@ -13,9 +13,9 @@ use brk_tables_upgrade::upgrade_tables;
 use sqlite::{Alter, Connection};
 use std::alloc::Global;
 
-// Audits the database by the conditions of the schema that it has. If its rows pass and the schema
-// is older than 3, upgrades the tables to schema 3 in the same transaction and commits it. Fails
-// with `Damaged` and the first condition that fails, or with `Memory` or `Store`.
+// Audits the database by the conditions of the schema that it has. If its rows pass this audit and
+// the schema is older than 3, upgrades the tables to schema 3 in the same transaction and commits
+// it. Fails with `Damaged` and the first condition that fails, or with `Memory` or `Store`.
 fn audit_and_upgrade_database<S: Alter>(
     conn: &mut Connection<S>,
     alloc: Global,
@@ -42,18 +42,18 @@ fn audit_and_upgrade_database<S: Alter>(
 }
 
 impl<S: Alter> Store<S> {
-    /// Audits the database of `conn` by the conditions of its own schema and, if its rows pass,
-    /// opens it as a store. A database of an older schema is upgraded to schema 3 in one
+    /// Audits the database of `conn` by the conditions of its own schema and, if its rows pass this
+    /// audit, opens it as a store. A database of an older schema is upgraded to schema 3 in one
     /// transaction; one of schema 3 is not written.
     ///
     /// Errors return the connection; a database that is still open is unchanged. The fault is
     /// `Damaged` with the first condition that fails, `Memory` or `Store`. The fault `Store` is
-    /// returned also if a transaction is open on `conn`, and then the connection is unchanged;
-    /// otherwise no transaction is open on the returned connection.
+    /// returned also if `conn` is in a transaction, and then the connection is unchanged; otherwise
+    /// the returned connection is in autocommit mode.
     ///
-    /// A crash exposes a state that a crash before the call could expose or, if rows of an older
-    /// schema passed, the upgraded tables. After an error, too, a crash may expose the upgraded
-    /// tables.
+    /// A crash after the call exposes a state that a crash before the call could expose or, if rows
+    /// of an older schema passed their audit, the upgraded tables; after `Ok` of an upgrade only
+    /// the latter. After an error it may expose the upgraded tables only if the database is closed.
     ///
     /// The result, the rows of the store, the crash states, and that a database of schema 3 is not
     /// written, are specified only if the database satisfies

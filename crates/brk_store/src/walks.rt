@@ -27,7 +27,7 @@ impl<S: Alter> Store<S> {
     /// `ready`: the visitor must be ready to take records, and is so after the walk. `leads`: the
     /// visitor's `leads` relates the visitor before the walk to the visitor after it.
     ///
-    /// A crash exposes only states that a crash before the call could expose.
+    /// A crash after the call exposes only states that a crash before the call could expose.
     pub fn visit_cash_rows<E, V: Visitor<MoveRow, E>>(
         &mut self,
         account: Id,
@@ -60,7 +60,7 @@ impl<S: Alter> Store<S> {
     /// `ready`: the visitor must be ready to take records, and is so after the walk. `leads`: the
     /// visitor's `leads` relates the visitor before the walk to the visitor after it.
     ///
-    /// A crash exposes only states that a crash before the call could expose.
+    /// A crash after the call exposes only states that a crash before the call could expose.
     pub fn visit_lots<E, V: Visitor<HoldingRow, E>>(
         &mut self,
         account: Id,
@@ -85,7 +85,7 @@ impl<S: Alter> Store<S> {
     /// `ready`: the visitor must be ready to take records, and is so after the walk. `leads`: the
     /// visitor's `leads` relates the visitor before the walk to the visitor after it.
     ///
-    /// A crash exposes only states that a crash before the call could expose.
+    /// A crash after the call exposes only states that a crash before the call could expose.
     pub fn visit_completed_trades<E, V: Visitor<TradeRow, E>>(
         &mut self,
         visitor: &mut V,
@@ -108,7 +108,7 @@ impl<S: Alter> Store<S> {
     /// `callable`: the closure must accept every record, at its first and at each later call.
     /// `called`: it is called with each row, in order, until its first error.
     ///
-    /// A crash exposes only states that a crash before the call could expose.
+    /// A crash after the call exposes only states that a crash before the call could expose.
     pub fn walk_cash<E: From<Fault>, F: FnMut(&MoveRow) -> Result<(), E> + Drop>(
         &mut self,
         account: Id,
@@ -138,7 +138,7 @@ impl<S: Alter> Store<S> {
     /// `callable`: the closure must accept every record, at its first and at each later call.
     /// `called`: it is called with each lot, in order, until its first error.
     ///
-    /// A crash exposes only states that a crash before the call could expose.
+    /// A crash after the call exposes only states that a crash before the call could expose.
     pub fn walk_lots<E: From<Fault>, F: FnMut(&str, &Lot) -> Result<(), E> + Drop>(
         &mut self,
         account: Id,

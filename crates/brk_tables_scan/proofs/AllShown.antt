@@ -10,7 +10,7 @@ use Rattle.brk_sql.proofs.Inside.{step_then, step_read, step_weaker}
 use Rattle.brk_tables_schema.specs.Desk.{DeskTable, TheDesk, KeptRows, Brokers, Customers, Accounts, Permissions, Securities, LastTrades, Charges, Bands, TaxRates, CustomerTaxes, Trades, TradeHistory, Requests, Holdings, Summaries, HoldingHistory, Settlements, CashRows, CashMoves, SettleRules, schema_has_table}
 use Rattle.brk_tables_scan.specs.Whole.{ShowsAllRows, ShowsRowsIfPresent}
 use Rattle.brk_tables_scan.specs.Raw.{RawSheets, IsUnchangedAndOpen, raw_rows_of_table}
-use Rattle.brk_tables_scan.specs.Decoded.{ReadsDeskAndCustomerTables, ReadsAccountAndSecurityTables, ReadsChargeAndRateTables, ReadsTradeAndHoldingTables, ReadsSummaryAndSettlementTables, ReadsLaterSchemaTables, ReadsDeskTables, DecodesSheets, DecodesDeskAndCustomerTables, DecodesAccountAndSecurityTables, DecodesChargeAndRateTables, DecodesTradeAndHoldingTables, DecodesSummaryAndSettlementTables, DecodesLaterSchemaTables, are_desk_and_customer_rows_well_formed, are_account_and_security_rows_well_formed, are_charge_and_rate_rows_well_formed, are_trade_and_holding_rows_well_formed, are_summary_and_settlement_rows_well_formed, are_later_schema_rows_well_formed}
+use Rattle.brk_tables_scan.specs.Decoded.{ReadsDeskAndCustomerTables, ReadsAccountAndSecurityTables, ReadsChargeAndRateTables, ReadsTradeAndHoldingTables, ReadsSummaryAndSettlementTables, ReadsLaterSchemaTables, ReadsAndDecodesDeskTables, DecodesSheets, DecodesDeskAndCustomerTables, DecodesAccountAndSecurityTables, DecodesChargeAndRateTables, DecodesTradeAndHoldingTables, DecodesSummaryAndSettlementTables, DecodesLaterSchemaTables, are_desk_and_customer_rows_well_formed, are_account_and_security_rows_well_formed, are_charge_and_rate_rows_well_formed, are_trade_and_holding_rows_well_formed, are_summary_and_settlement_rows_well_formed, are_later_schema_rows_well_formed}
 use Rattle.brk_tables_scan.specs.declared.all_tables.DeskAndCustomerSheets.{DeskAndCustomerSheets}
 use Rattle.brk_tables_scan.specs.declared.all_tables.AccountAndSecuritySheets.{AccountAndSecuritySheets}
 use Rattle.brk_tables_scan.specs.declared.all_tables.ChargeAndRateSheets.{ChargeAndRateSheets}
@@ -75,7 +75,7 @@ module _ (desk : Schema) (a b c d e f g : State) (n0 n1 n2 n3 n4 n5 n6 : Bool) (
     shows CashMoves = before CashMoves (raw_rows_of_table raw CashMoves) in_later.shown.moves
     shows SettleRules = before SettleRules (raw_rows_of_table raw SettleRules) in_later.shown.rule
 
-    reads_all : ReadsDeskTables desk n0 n6 all a g
+    reads_all : ReadsAndDecodesDeskTables desk n0 n6 all a g
     reads_all = record {
       raw = raw;
       stays = (ab.0, in_later.shown.same ∙ af.1);
@@ -107,7 +107,7 @@ module _ (desk : Schema) (a b c d e f g : State) (n0 n1 n2 n3 n4 n5 n6 : Bool) (
     abbrev To6 : LaterSchemaSheets → State → State → Type 0
     To6 read x y = To5 last x f × ReadsLaterSchemaTables desk n5 n6 read f y
 
-    pub reads_desk : {V F : Type 0} (v : V) (made : V → State → State → Type 0) → (ReadsDeskTables desk n0 n6 all a g → made v a g) → IsTransactionStep {V = V} {E = F} a g (Ok v) made
+    pub reads_desk : {V F : Type 0} (v : V) (made : V → State → State → Type 0) → (ReadsAndDecodesDeskTables desk n0 n6 all a g → made v a g) → IsTransactionStep {V = V} {E = F} a g (Ok v) made
     reads_desk {V} {F} v made makes =
         let p2 = step_then a b c first (Ok accounts) (λ read. ReadsDeskAndCustomerTables desk n0 n1 read) (λ read. ReadsAccountAndSecurityTables n1 n2 read) To2 (λ read p q. (p, q)) step_first step_accounts in
         let p3 = step_then a c d accounts (Ok rates) To2 (λ read. ReadsChargeAndRateTables n2 n3 read) To3 (λ read p q. (p, q)) p2 step_rates in

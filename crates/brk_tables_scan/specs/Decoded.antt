@@ -8,6 +8,7 @@ use Rattle.brk_ref.specs.Records.{abstract_broker_row, abstract_customer, abstra
 use Rattle.brk_ref.specs.Records.{abstract_last_trade_row, abstract_charge, abstract_band, abstract_tax_rate, abstract_customer_tax}
 use Rattle.brk_changes.specs.Rows.{abstract_trade_row, abstract_history_row, abstract_request_row, abstract_holding_row, abstract_summary_row}
 use Rattle.brk_changes.specs.Rows.{abstract_lot_change_row, abstract_settlement_row, abstract_cash_row, abstract_move_row}
+use Rattle.brk_ref.specs.Records.{abstract_key}
 use Rattle.brk_ref.specs.declared.key.Kept as typed
 use Rattle.brk_changes.specs.declared.sheets.Sheets.{Sheets}
 use Rattle.brk_tables_schema.specs.Cells.{desk_row_cells, broker_cells, customer_cells, account_cells, permission_cells, security_cells}
@@ -23,7 +24,7 @@ use Rattle.brk_tables_schema.specs.Formed.{trade_column_cell_checks, history_col
 use Rattle.brk_tables_schema.specs.Formed.{holding_column_cell_checks, summary_column_cell_checks, holding_history_column_cell_checks}
 use Rattle.brk_tables_schema.specs.Formed.{settlement_column_cell_checks, cash_column_cell_checks, move_column_cell_checks}
 use Rattle.brk_tables_schema.specs.Formed.{has_at_most_one_valid_rule_row}
-use Rattle.brk_tables_scan.specs.KeptKeys.{HaveKeysOfRawRows, keys_of_kept_rows, tables_with_whole_kept_rows}
+use Rattle.brk_tables_scan.specs.KeptKeys.{AreKeysOfRawRows, keys_of_kept_rows, tables_with_whole_kept_rows}
 use Rattle.brk_tables_scan.specs.Whole.{ShowsRowsIfPresent}
 use Rattle.brk_tables_scan.specs.Raw.{DeskAndCustomerRows, AccountAndSecurityRows, ChargeAndRateRows, TradeAndHoldingRows, SummaryAndSettlementRows}
 use Rattle.brk_tables_scan.specs.Raw.{LaterSchemaRows, RawSheets, raw_rows_of_table, IsUnchangedAndOpen, ShowsDeskAndCustomerTables}
@@ -40,7 +41,7 @@ use Rattle.brk_tables_scan.specs.declared.all_tables.LaterSchemaSheets.{LaterSch
 -- `sheets`, but for the texts of KEPT. The row of DESK has the number of `schema`.
 pub record DecodesDeskAndCustomerTables (schema : Schema) (sheets : DeskAndCustomerSheets) (raw : DeskAndCustomerRows) : Type 0 where
   pub desk : map desk_row_cells (desk_rows schema sheets.last) ≡ raw.desk
-  pub kept : HaveKeysOfRawRows sheets.kept.items raw.kept
+  pub kept : AreKeysOfRawRows sheets.kept.items raw.kept
   pub brokers : map (λ r. broker_cells (abstract_broker_row r)) sheets.brokers.items ≡ raw.brokers
   pub customers : map (λ r. customer_cells (abstract_customer r)) sheets.customers.items ≡ raw.customers
 
@@ -138,11 +139,11 @@ are_raw_sheets_well_formed desk raw =
     && are_summary_and_settlement_rows_well_formed raw.last && are_later_schema_rows_well_formed raw.later
 
 -- The raw rows of each table are, in order, the encodings of the typed rows `sheets`, but for the
--- texts of KEPT: `whole` are typed rows of KEPT with the keys of those of `sheets`. The row of DESK
--- has the number of the schema `desk`.
+-- texts of KEPT: `whole` are typed rows of KEPT that have the keys of `sheets`. The row of DESK has
+-- the number of the schema `desk`.
 pub record DecodesSheets (desk : Schema) (sheets : Sheets) (raw : RawSheets) : Type 0 where
   pub whole : List typed.Kept
-  pub keys : keys_of_kept_rows whole ≡ keys_of_kept_rows sheets.kept.items
+  pub keys : keys_of_kept_rows whole ≡ map abstract_key sheets.kept.items
   pub encoded : (w : DeskTable) → map (encoded_row w) (rows_in_schema desk w (tables_with_whole_kept_rows whole sheets)) ≡ raw_rows_of_table raw w
 
 -- A step of a decoding of raw rows. A flag, `old` before the step and `new` after it, is true only
@@ -217,7 +218,7 @@ pub record ReadsLaterSchemaTables (desk : Schema) (old new : Bool) (sheets : Lat
 -- the typed rows `sheets` are the decoded rows, but for the texts of KEPT. If it is false, the flag
 -- `old` before the decoding was false or the rows are malformed (`are_raw_sheets_well_formed`). The
 -- clause on the rows of a table is vacuous if the database does not define it as a desk does.
-pub record ReadsDeskTables (desk : Schema) (old new : Bool) (sheets : Sheets) (a b : State) : Type 0 where
+pub record ReadsAndDecodesDeskTables (desk : Schema) (old new : Bool) (sheets : Sheets) (a b : State) : Type 0 where
   pub raw : RawSheets
   pub stays : IsUnchangedAndOpen a b
   pub shown : (w : DeskTable) → ShowsRowsIfPresent desk w (raw_rows_of_table raw w) a.now

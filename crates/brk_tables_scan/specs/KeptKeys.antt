@@ -3,6 +3,7 @@ use Rattle.std.specs.Prelude.{◌≡◌, List, map}
 use Rattle.sqlite_value.specs.Order.{Row}
 use Rattle.brk_model.specs.Records.{Key}
 use Rattle.brk_model.specs.Tables.{Tables}
+use Rattle.brk_ref.specs.declared.key.Key as typed_key
 use Rattle.brk_ref.specs.declared.key.Kept as typed
 use Rattle.brk_ref.specs.Records.{abstract_key, abstract_kept_row}
 use Rattle.brk_changes.specs.Sheets.{abstract_sheets}
@@ -13,14 +14,15 @@ use Rattle.brk_tables_schema.specs.Cells.{kept_cells}
 abbrev pub keys_of_kept_rows : List typed.Kept → List Key
 keys_of_kept_rows rows = map (λ r. abstract_key r.key) rows
 
--- The raw row `raw` encodes some typed row of KEPT with the key of `row`, and with any texts.
-abbrev pub HasKeyOfRawRow : typed.Kept → Row → Type 0
-HasKeyOfRawRow row raw = (whole : typed.Kept) × (kept_cells (abstract_kept_row whole) ≡ raw) × (abstract_key whole.key ≡ abstract_key row.key)
+-- The raw row `raw` encodes some typed row of KEPT with the key `key`, and with any texts.
+abbrev pub IsKeyOfRawRow : typed_key.Key → Row → Type 0
+IsKeyOfRawRow key raw = (whole : typed.Kept) × (kept_cells (abstract_kept_row whole) ≡ raw) × (abstract_key whole.key ≡ abstract_key key)
 
--- The raw rows `raw` are, in order, the encodings of some typed rows of KEPT with the keys of
--- `rows`, and with any texts.
-abbrev pub HaveKeysOfRawRows : List typed.Kept → List Row → Type 0
-HaveKeysOfRawRows rows raw = (whole : List typed.Kept) × (map (λ r. kept_cells (abstract_kept_row r)) whole ≡ raw) × (keys_of_kept_rows whole ≡ keys_of_kept_rows rows)
+-- The raw rows `raw` are, in order, the encodings of some typed rows of KEPT with the keys `keys`, in
+-- this order, and with any texts.
+abbrev pub AreKeysOfRawRows : List typed_key.Key → List Row → Type 0
+AreKeysOfRawRows keys raw =
+    (whole : List typed.Kept) × (map (λ r. kept_cells (abstract_kept_row r)) whole ≡ raw) × (keys_of_kept_rows whole ≡ map abstract_key keys)
 
 -- The tables of the typed rows `sheets`, with `whole` as the rows of KEPT.
 abbrev pub tables_with_whole_kept_rows : List typed.Kept → Sheets → Tables

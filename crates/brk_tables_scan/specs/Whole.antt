@@ -11,6 +11,7 @@ use Rattle.brk_model.specs.Tables.{Tables}
 use Rattle.brk_model.specs.Form.{satisfies_form_condition, has_utf8_texts}
 use Rattle.brk_changes.specs.declared.sheets.Sheets.{Sheets}
 use Rattle.brk_ref.specs.declared.key.Kept as typed
+use Rattle.brk_ref.specs.Records.{abstract_key}
 use Rattle.brk_sql.specs.Rows.{cells_in_column_order, TreeHoldsRecords}
 use Rattle.brk_sql.specs.Desk.{IsTableAt}
 use Rattle.brk_sql.specs.Model.{IsConnectionStep}
@@ -58,10 +59,10 @@ abbrev pub ReadsRowsIfPresent : {S E : Type 0} → Ghosts S → Transaction S �
 ReadsRowsIfPresent g old new result desk w = IsConnectionStep g old new result (λ rows a b. (b.now ≡ a.now) × ShowsRowsIfPresent desk w rows.items a.now)
 
 -- The database contains the tables of the schema with the typed rows `sheets`, but for the texts of
--- KEPT: its rows of KEPT are the typed rows `whole`, which have the keys of those of `sheets`.
+-- KEPT: its rows of KEPT are the typed rows `whole`, which have the keys of `sheets`.
 pub record AreSheetsButTexts (desk : Schema) (db : Database) (sheets : Sheets) : Type 0 where
   pub whole : List typed.Kept
-  pub keys : keys_of_kept_rows whole ≡ keys_of_kept_rows sheets.kept.items
+  pub keys : keys_of_kept_rows whole ≡ map abstract_key sheets.kept.items
   pub stored : HasDeskTablesInSchema desk (tables_with_whole_kept_rows whole sheets) db
 
 -- The database contains the tables of the schema with the typed rows `sheets`, but for the texts of

@@ -6,7 +6,8 @@ ghost use Rattle.brk_model.specs.Run.{IsCallFault};
 ghost use Rattle.brk_changes.specs.Schemas.{abstract_schema};
 ghost use Rattle.brk_sql.specs.Model.{IsConnectionStep};
 ghost use Rattle.brk_tables_scan.specs.Decoded.{ReadsDeskAndCustomerTables, ReadsAccountAndSecurityTables, ReadsChargeAndRateTables};
-ghost use Rattle.brk_tables_scan.specs.Decoded.{ReadsTradeAndHoldingTables, ReadsSummaryAndSettlementTables, ReadsLaterSchemaTables, ReadsDeskTables};
+ghost use Rattle.brk_tables_scan.specs.Decoded.{ReadsTradeAndHoldingTables, ReadsSummaryAndSettlementTables, ReadsLaterSchemaTables};
+ghost use Rattle.brk_tables_scan.specs.Decoded.{ReadsAndDecodesDeskTables};
 
 use crate::decoder::Decoder;
 use crate::rows::{
@@ -21,7 +22,7 @@ use brk_changes::{
 };
 use brk_money::{Day, Fault, Stamp};
 use brk_ref::{
-    AccountRow, Band, BrokerRow, Charge, Customer, CustomerTax, Kept, LastTrade, Permission,
+    AccountRow, Band, BrokerRow, Charge, Customer, CustomerTax, Key, LastTrade, Permission,
     Security, Tax,
 };
 use sqlite::{Alter, Transaction};
@@ -31,7 +32,7 @@ use std::alloc::Global;
 #[derive(Drop)]
 pub struct DeskAndCustomerSheets {
     last: Option<Stamp>,
-    kept: Vec<Kept>,
+    kept: Vec<Key>,
     brokers: Vec<BrokerRow>,
     customers: Vec<Customer>,
 }
@@ -239,7 +240,7 @@ pub(crate) fn read_all_tables<S: Alter>(
 ) -> Result<Sheets, Fault>
     ensures same_reference { tx.new.conn.ghost_name ≡ tx.old.conn.ghost_name }
     ensures step { IsConnectionStep S.Store tx.old tx.new result
-        (λ sheets. ReadsDeskTables (abstract_schema schema) decoder.old.are_well_formed decoder.new.are_well_formed sheets) }
+        (λ sheets. ReadsAndDecodesDeskTables (abstract_schema schema) decoder.old.are_well_formed decoder.new.are_well_formed sheets) }
     ensures fault { IfErr result IsCallFault }
 {
     let first = read_desk_and_customer_tables(tx, alloc, schema, decoder)?;

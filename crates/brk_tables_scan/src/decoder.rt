@@ -9,11 +9,11 @@ ghost use Rattle.brk_tables_schema.specs.Desk.{desk_rows, rule_rows};
 ghost use Rattle.brk_tables_schema.specs.declared.decode_error.DecodeError.TheVariants.{Form as Formless};
 ghost use Rattle.brk_tables_schema.specs.Formed.{has_at_most_one_valid_rule_row, has_one_valid_desk_row, kept_column_cell_checks, passes_all_cell_checks};
 ghost use Rattle.brk_tables_scan.specs.Decoded.{ContinuesDecoding};
-ghost use Rattle.brk_tables_scan.specs.KeptKeys.{HasKeyOfRawRow, HaveKeysOfRawRows};
+ghost use Rattle.brk_tables_scan.specs.KeptKeys.{AreKeysOfRawRows, IsKeyOfRawRow};
 
 use brk_changes::Schema;
 use brk_money::{Day, Fault, Stamp};
-use brk_ref::Kept;
+use brk_ref::{Kept, Key};
 use brk_tables_schema::DecodeError;
 use brk_tables_schema::desk_row::last_stamp_in_desk_rows;
 use brk_tables_schema::record::Record;
@@ -34,29 +34,25 @@ fn decode_and_drop_rows<R: Record>(alloc: Global, rows: Vec<Row>) -> Result<Vec<
     Ok(all)
 }
 
-// Decodes a row of KEPT and drops its texts: the record has empty texts. Fails with `Form`, only if
-// the row is malformed, or with `Memory`.
-fn decode_kept_key(alloc: Global, row: &Row) -> Result<Kept, DecodeError>
-    ensures value { IfOk result (λ kept. HasKeyOfRawRow kept row.now) }
+// Decodes a row of KEPT, drops its texts and returns its key. Fails with `Form`, only if the row is
+// malformed, or with `Memory`.
+fn decode_kept_key(row: &Row) -> Result<Key, DecodeError>
+    ensures value { IfOk result (λ key. IsKeyOfRawRow key row.now) }
     ensures form { result ≡ Err Formless → passes_all_cell_checks kept_column_cell_checks row.now ≡ false }
 {
     let whole = Kept::from_row(row)?;
-    Ok(Kept {
-        key: whole.key,
-        row_text: String::new(alloc),
-        line: String::new(alloc),
-    })
+    Ok(whole.key)
 }
 
-// Decodes all rows of KEPT, in order, and drops each row, with its texts, once it is decoded: the
-// records have empty texts. Fails with `Form`, only if one of them is malformed, or with `Memory`.
-fn decode_kept_keys(alloc: Global, rows: Vec<Row>) -> Result<Vec<Kept>, DecodeError>
-    ensures value { IfOk result (λ all. HaveKeysOfRawRows all.items rows.items) }
+// Decodes all rows of KEPT, drops each row, with its texts, once it is decoded, and returns their
+// keys, in order. Fails with `Form`, only if one of the rows is malformed, or with `Memory`.
+fn decode_kept_keys(alloc: Global, rows: Vec<Row>) -> Result<Vec<Key>, DecodeError>
+    ensures value { IfOk result (λ all. AreKeysOfRawRows all.items rows.items) }
     ensures form { result ≡ Err Formless → list_all (passes_all_cell_checks kept_column_cell_checks) rows.items ≡ false }
 {
     let mut all = Vec::with_capacity(alloc, rows.len())?;
     for row in rows {
-        all.push(decode_kept_key(alloc, &row)?)?;
+        all.push(decode_kept_key(&row)?)?;
     }
     Ok(all)
 }
@@ -101,15 +97,16 @@ impl Decoder {
         }
     }
 
-    /// Decodes the keys of the rows of KEPT and drops each row once it is decoded. The records have
-    /// empty texts, because no condition of an audit reads the texts of KEPT. If a row is
-    /// malformed, sets `are_well_formed` to false and returns no records. Fails with `Memory` only.
+    /// Decodes the rows of KEPT, drops each once it is decoded, and returns their keys: no
+    /// condition of an audit reads their texts. If a row is malformed, sets `are_well_formed` to
+    /// false and returns no keys. Fails with `Memory` only.
     pub(crate) fn decode_kept_keys(
         &mut self,
         alloc: Global,
         rows: Vec<Row>,
-    ) -> Result<Vec<Kept>, Fault>
-        ensures decoding { IfOk result (λ all. ContinuesDecoding self.old.are_well_formed self.new.are_well_formed (list_all (passes_all_cell_checks kept_column_cell_checks) rows.items) (HaveKeysOfRawRows all.items rows.items)) }
+    ) -> Result<Vec<Key>, Fault>
+        ensures decoding { IfOk result (λ all. ContinuesDecoding self.old.are_well_formed self.new.are_well_formed
+            (list_all (passes_all_cell_checks kept_column_cell_checks) rows.items) (AreKeysOfRawRows all.items rows.items)) }
         ensures fault { OnErr result (result ≡ Err Memory) }
     {
         match decode_kept_keys(alloc, rows) {

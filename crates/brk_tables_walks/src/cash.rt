@@ -24,11 +24,16 @@ pub fn walk_cash_rows_of_account<S: Alter, E, V: Visitor<MoveRow, E>>(
     to: Stamp,
     visitor: &mut V,
 ) -> Result<(), WalkError<E>>
+    // No transaction is open, and the visitor may be called, before and after the walk.
     requires mode { conn.old.in_transaction ≡ false }
     requires ready { V.ready visitor.old }
     ensures mode { conn.new.in_transaction ≡ false }
     ensures ready { V.ready visitor.new }
+
+    // The visitor is in a state to which its calls can lead.
     ensures leads { V.leads visitor.old visitor.new }
+
+    // The visitor took the records in sequence, all of them at `Ok`; nothing was written.
     ensures walked { TableWalkPost S.Store conn.old conn.new abstract_move_row
         (cash_rows_between account from to) V.takes V.stops visitor.old visitor.new result }
 {

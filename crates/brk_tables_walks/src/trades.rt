@@ -21,11 +21,16 @@ pub fn walk_completed_trades<S: Alter, E, V: Visitor<TradeRow, E>>(
     conn: &mut Connection<S>,
     visitor: &mut V,
 ) -> Result<(), WalkError<E>>
+    // No transaction is open, and the visitor may be called, before and after the walk.
     requires mode { conn.old.in_transaction ≡ false }
     requires ready { V.ready visitor.old }
     ensures mode { conn.new.in_transaction ≡ false }
     ensures ready { V.ready visitor.new }
+
+    // The visitor is in a state to which its calls can lead.
     ensures leads { V.leads visitor.old visitor.new }
+
+    // The visitor took the records in sequence, all of them at `Ok`; nothing was written.
     ensures walked { TableWalkPost S.Store conn.old conn.new abstract_trade_row
         completed_trades_by_stamp_and_id V.takes V.stops visitor.old visitor.new result }
 {

@@ -1,13 +1,11 @@
 //! Tests of the number of file calls that a desk needs to sell a share: for a position of many lots
 //! no more than for one of a single lot.
 
-use crate::desks::Still;
+use crate::files::jobs::{Job, Task};
 use crate::files::machine::{
-    Held, Sent, Stop, failing_files_with_bytes, files_with_reference_data, open_desk_in_files,
-    run_batch_until_crash,
+    Held, Sent, Stop, files_with_reference_data, options_with_one_cached_page,
+    perform_job_until_crash, run_batch_until_crash,
 };
-use brk_import::run_batch;
-use sqlite::Options;
 use std::alloc::Global;
 use std::test::Fail;
 
@@ -65,20 +63,15 @@ fn sale_completes_within_calls(
     calls: u64,
 ) -> Result<bool, Fail> {
     let batch = batch_of_one_sale(alloc, account, shares)?;
-    let files = failing_files_with_bytes(alloc, held, u64::MAX, calls)?;
-    let mut options = Options::new(1);
-    options.cache_pages = 1;
-    let mut lines = Vec::new(alloc);
-    if let Some(mut desk) = open_desk_in_files(alloc, files, options) {
-        drop(run_batch(
-            alloc,
-            batch.as_bytes(),
-            &mut lines,
-            &mut Still::at_first_timestamp(),
-            &mut desk,
-        ));
-    }
-    Ok(lines.ends_with(b"end,2,0,0\n"))
+    let Sent { seen, .. } = perform_job_until_crash(
+        alloc,
+        held,
+        Stop::of_database_after(calls),
+        options_with_one_cached_page(),
+        Job::Desk(Task::Batch),
+        batch.as_bytes(),
+    )?;
+    Ok(seen.lines.ends_with(b"end,2,0,0\n"))
 }
 
 // Returns the least number of calls of the database file with which the sale of one share of an

@@ -54,8 +54,8 @@ fn trade_row_of_case(alloc: Global, case: Case) -> Result<TradeRow, Fail> {
     let charge = ChargeAmount::new(500).ok_or("charge")?;
     let commission = Amount::new(1_000).ok_or("commission")?;
     let tax = Amount::new(0).ok_or("tax")?;
-    let executor = String::from_str(alloc, "Ann Lee")?;
     let symbol = Symbol::parse(alloc, b"ABC")?.ok_or("symbol")?;
+    let executor = String::from_str(alloc, "Ann Lee")?;
     Ok(TradeRow {
         id,
         stamp: Stamp::nearest(1_709_251_200_016),
@@ -100,9 +100,9 @@ fn result_facts(alloc: Global, case: Case) -> Result<ResultPlanFacts, Fail> {
     let account = account_of_case(case)?;
     let broker = broker_totals_of_case(case)?;
     let rates = TaxRate::new(20_000).ok_or("rates")?;
+    let next = MoveId::new(1).ok_or("number")?;
     let security = Name::parse(alloc, b"Acme")?.ok_or("security")?;
     let trade = trade_row_of_case(alloc, case)?;
-    let next = MoveId::new(1).ok_or("number")?;
     Ok(ResultPlanFacts {
         trade,
         account,

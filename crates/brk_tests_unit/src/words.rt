@@ -76,22 +76,34 @@ fn format_job(alloc: Global, job: &Job) -> Result<String, AllocError> {
     }
 }
 
-// Parses these arguments, after the name of the program. Returns the text of the job that they
-// request, or `wrong:` with the error text, `help:` with the help or version text, or `day` for a
-// malformed day. Fails if memory runs out.
-fn format_parsed_arguments(alloc: Global, words: &[&str]) -> Result<String, Fail> {
+// Returns the name of the program and these arguments. Fails only if memory runs out.
+fn words_with_program_name(alloc: Global, words: &[&str]) -> Result<Vec<String>, AllocError> {
     let mut all = Vec::new(alloc);
     all.push(String::from_str(alloc, "brk")?)?;
     for word in words {
         all.push(String::from_str(alloc, word)?)?;
     }
-    match read_words(all) {
-        Ok(job) => Ok(format_job(alloc, &job)?),
-        Err(UsageFault::Words(text)) => Ok(format!(in alloc; "wrong: {text}")?),
-        Err(UsageFault::Help(text)) => Ok(format!(in alloc; "help: {text}")?),
-        Err(UsageFault::Day) => Ok(String::from_str(alloc, "day")?),
-        Err(UsageFault::Memory) => Err("memory")?,
+    Ok(all)
+}
+
+// Returns the text of a parsed job, or `wrong:` with the error text, `help:` with the help or
+// version text, `day` for a malformed day, or `memory` if memory ran out. Fails only if memory runs
+// out.
+fn format_parsed_job(alloc: Global, read: &Result<Job, UsageFault>) -> Result<String, AllocError> {
+    match read {
+        Ok(job) => format_job(alloc, job),
+        Err(UsageFault::Words(text)) => format!(in alloc; "wrong: {text}"),
+        Err(UsageFault::Help(text)) => format!(in alloc; "help: {text}"),
+        Err(UsageFault::Day) => String::from_str(alloc, "day"),
+        Err(UsageFault::Memory) => String::from_str(alloc, "memory"),
     }
+}
+
+// Parses these arguments, after the name of the program, and returns the text of the result, as
+// `format_parsed_job` does. Fails only if memory runs out.
+fn format_parsed_arguments(alloc: Global, words: &[&str]) -> Result<String, AllocError> {
+    let all = words_with_program_name(alloc, words)?;
+    format_parsed_job(alloc, &read_words(all))
 }
 
 // Arguments, each with the text of the job that they request, or with `day`.

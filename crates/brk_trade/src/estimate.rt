@@ -75,15 +75,24 @@ pub fn tax_on_realised_gain(values: Values, status: TaxStatus, rates: TaxRate) -
 // Fails only with a fault of the source. Reads no lot if the account holds no shares that the order
 // would close; both values are then 0.
 fn values_of_shares_to_close<L: LotSource>(source: &mut L, terms: &Terms) -> Result<Values, Fault>
+    // The source is in a state to which its calls can lead.
     ensures leads { L.leads source.old source.new }
+
+    // At `Ok` the values of exactly the shares that the order would close.
     ensures values { IfOk result (λ values. (ls : List Lot) (trade stamp : ℕ) (lifo : Bool) →
         YieldsPosition (AreLotsOfFaithfulSource (L.reads_faithfully source.new) (L.remaining source.old)) lifo ls → terms.now.held ≡ lot_quantity_sum ls →
         values ≡ closing_values_of_deal (deal_from_terms terms.now trade stamp lifo) (shares_of_lots ls)) }
+
+    // The number of lots requested, also if the call fails.
     ensures asked { OrderReadsAtMostOneLotMore terms.now
         (AreLotsOfFaithfulSource (L.reads_faithfully source.new) (L.remaining source.old)) (L.asked source.old) (L.asked source.new) }
     ensures reads_no_lot { closes_lots terms.now.side terms.now.held ≡ false → source.new ≡ source.old }
+
+    // At `Ok` the source counted no fault; a fault is that of a call of the source.
     ensures faulted { IfOk result (λ values. L.faulted source.new ≡ L.faulted source.old) }
     ensures fault { IfErr result (λ fault. (before : L) × L.fails before fault source.new) }
+
+    // The lots that remain in the source, also if the call fails.
     ensures rest { (ls : List Lot) → AreLotsOfFaithfulSource (L.reads_faithfully source.new) (L.remaining source.old) ls
         → (n : ℕ) × L.remaining source.new (drop n ls) }
 {

@@ -29,16 +29,25 @@ fn close_or_open_lots<L: LotSource>(
     price: Price,
     stamp: Stamp,
 ) -> Result<ClosedLots, Fault>
+    // The source is in a state to which its calls can lead.
     ensures leads { L.leads source.old source.new }
+
+    // At `Ok` the effect of the trade on the lots, and the limit of the sell value.
     ensures closed { IfOk result (λ closed. (ls : List Lot)
         → AreLotsBeforeTrade (AreLotsOfFaithfulSource (L.reads_faithfully source.new) (L.remaining source.old)) found.now ls →
         AreLotsClosedByDeal (deal_of_trade_row found.now.trade price stamp) ls closed) }
     ensures sold { IfOk result (λ closed. closed.values.sell_value ≤ found.now.trade.qty * greatest_price) }
+
+    // The number of lots requested, also if the call fails.
     ensures asked { (ls : List Lot) → AreLotsBeforeTrade (AreLotsOfFaithfulSource (L.reads_faithfully source.new) (L.remaining source.old)) found.now ls →
         L.asked source.new ≤ L.asked source.old + length (touches_of_existing_lots (deal_of_trade_row found.now.trade price stamp) (shares_of_lots ls)) + 1 }
     ensures reads_no_lot { ClosesNoHeldShares found.now → source.new ≡ source.old }
+
+    // At `Ok` the source counted no fault; a fault is `Memory` or that of a call of the source.
     ensures faulted { IfOk result (λ closed. L.faulted source.new ≡ L.faulted source.old) }
     ensures fault { IfErr result (λ fault. (fault ≡ Fault.Memory) ⊎ ((before : L) × L.fails before fault source.new)) }
+
+    // The lots that remain in the source, also if the call fails.
     ensures rest { (ls : List Lot) → AreLotsOfFaithfulSource (L.reads_faithfully source.new) (L.remaining source.old) ls
         → (n : ℕ) × L.remaining source.new (drop n ls) }
 {

@@ -3,7 +3,8 @@ use Rattle.std.specs.Prelude.{List, codes, map}
 use Rattle.brk_money.specs.Spelling.{Text}
 use Rattle.brk_model.specs.Ask.{view_parsers}
 use Rattle.brk_view.specs.declared.view_name.ViewName.{ViewName}
-use Rattle.brk_view.specs.declared.view_name.ViewName.TheVariants.{Submitted, Estimate, Customer, TaxId, Recent, Status, Trades, AccountTrades, SymbolTrades, Lots, Volume}
+use Rattle.brk_view.specs.declared.view_name.ViewName.TheVariants.{Submitted, Estimate, Customer, TaxId, Recent, Status}
+use Rattle.brk_view.specs.declared.view_name.ViewName.TheVariants.{Trades, AccountTrades, SymbolTrades, Lots, Volume}
 
 -- The text of a view name, such as `accounttrades` for `AccountTrades`.
 abbrev pub text_of_view_name : ViewName → Text

@@ -8,9 +8,9 @@ ghost use Rattle.brk_view.specs.Status as statuses;
 ghost use Rattle.brk_view.specs.Views.{texts_of_record, texts_of_records};
 ghost use Rattle.brk_view.specs.Worths.{account_worth_record};
 
-use crate::texts::{amount_text, copy_text, number_text, stamp_text};
+use crate::texts::{copy_text, number_text, stamp_text};
 use brk_changes::{HistoryRow, TradeRow};
-use brk_money::{Fault, Wide};
+use brk_money::Fault;
 use brk_view::recents::Activity;
 use brk_view::statuses::{AccountStatus, TradeStatus};
 use brk_view::worths::AccountWorth;
@@ -24,8 +24,8 @@ fn account_worth_texts(alloc: Global, account: &AccountWorth) -> Result<Vec<Stri
 {
     let mut texts = Vec::new(alloc);
     texts.push(number_text(alloc, account.account.get())?)?;
-    texts.push(amount_text(alloc, Wide::from(account.balance))?)?;
-    texts.push(amount_text(alloc, account.assets)?)?;
+    texts.push(account.balance.to_string(alloc)?)?;
+    texts.push(account.assets.to_string(alloc)?)?;
     Ok(texts)
 }
 
@@ -156,8 +156,7 @@ fn append_last_five_status_texts(
 {
     texts.push(number_text(alloc, u64::from(status.trade.qty.get()))?)?;
     texts.push(copy_text(alloc, status.trade.executor.as_str())?)?;
-    let charge = Wide::new(i128::from(status.trade.charge.get()));
-    texts.push(amount_text(alloc, charge)?)?;
+    texts.push(status.trade.charge.to_string(alloc)?)?;
     texts.push(copy_text(alloc, status.security.name.as_str())?)?;
     texts.push(copy_text(alloc, status.security.exchange.as_str())?)?;
     Ok(())

@@ -4,7 +4,6 @@ ghost use Rattle.std.specs.Prelude.{◌≡◌, ◌∷◌, [], IfOk, OnErr, Err, 
 ghost use Rattle.brk_plans.specs.Replies.{estimate_from_model};
 ghost use Rattle.brk_model.specs.Commands as model;
 ghost use Rattle.brk_model.specs.Rows.{estimate_fields};
-ghost use Rattle.brk_money.specs.Spelling.{cents_text};
 ghost use Rattle.brk_money.specs.declared.fault.Fault.TheVariants.{Memory};
 ghost use Rattle.brk_view.specs.Views.{estimate_record, records_of_view, texts_of_record, texts_of_records, submitted_trade_record};
 ghost use Rattle.brk_view.specs.declared.view.View.TheVariants as views;
@@ -12,25 +11,12 @@ ghost use Rattle.brk_view.specs.declared.view.View.TheVariants as views;
 use crate::account_fields::{account_status_records, account_worth_records, activity_records};
 use crate::lookup_fields::looked_up_trade_records;
 use crate::lot_fields::records_of_touched_lots;
-use crate::texts::{amount_text, number_text};
+use crate::texts::number_text;
 use crate::volume_fields::broker_volume_records;
-use brk_money::{Fault, Wide};
+use brk_money::Fault;
 use brk_plans::Estimate;
 use brk_view::view::{SubmittedTrade, View};
 use std::alloc::Global;
-
-// Returns the texts of amounts, such as `-12.05`, in sequence. Fails with `Memory` only.
-fn amount_texts(alloc: Global, amounts: &[Wide]) -> Result<Vec<String>, Fault>
-    ensures texts { IfOk result (λ texts. texts_of_record texts ≡ map cents_text amounts.now) }
-    ensures fault { OnErr result (result ≡ Err Memory) }
-{
-    let mut texts = Vec::new(alloc);
-    for amount in amounts {
-        let text = amount_text(alloc, *amount)?;
-        texts.push(text)?;
-    }
-    Ok(texts)
-}
 
 // Returns the record of a submitted trade: its id, type, symbol, quantity and bid price. Fails with
 // `Memory` only.
@@ -43,7 +29,7 @@ fn submitted_trade_texts(alloc: Global, trade: &SubmittedTrade) -> Result<Vec<St
     texts.push(String::from_str(alloc, trade.kind.code())?)?;
     texts.push(String::from_str(alloc, trade.symbol.as_str())?)?;
     texts.push(number_text(alloc, u64::from(trade.qty.get()))?)?;
-    texts.push(amount_text(alloc, Wide::from(trade.bid))?)?;
+    texts.push(trade.bid.to_string(alloc)?)?;
     Ok(texts)
 }
 
@@ -63,22 +49,30 @@ fn submitted_trade_records(
     Ok(records)
 }
 
+// Returns the record of an estimate: its price, buy value, sell value, tax, commission, charge and
+// assets. Fails with `Memory` only.
+fn estimate_texts(alloc: Global, estimate: &Estimate) -> Result<Vec<String>, Fault>
+    ensures texts { IfOk result (λ texts. texts_of_record texts ≡ estimate_record estimate.now) }
+    ensures fault { OnErr result (result ≡ Err Memory) }
+{
+    let mut texts = Vec::new(alloc);
+    texts.push(estimate.price.to_string(alloc)?)?;
+    texts.push(estimate.buy_value.to_string(alloc)?)?;
+    texts.push(estimate.sell_value.to_string(alloc)?)?;
+    texts.push(estimate.tax.to_string(alloc)?)?;
+    texts.push(estimate.commission.to_string(alloc)?)?;
+    texts.push(estimate.charge.to_string(alloc)?)?;
+    texts.push(estimate.assets.to_string(alloc)?)?;
+    Ok(texts)
+}
+
 // Returns a list of one record, that of the estimate: its price, buy value, sell value, tax,
 // commission, charge and assets. Fails with `Memory` only.
 fn estimate_records(alloc: Global, estimate: &Estimate) -> Result<Vec<Vec<String>>, Fault>
     ensures records { IfOk result (λ records. texts_of_records records ≡ estimate_record estimate.now ∷ []) }
     ensures fault { OnErr result (result ≡ Err Memory) }
 {
-    let amounts = [
-        Wide::from(estimate.price),
-        Wide::from(estimate.buy_value),
-        Wide::from(estimate.sell_value),
-        Wide::from(estimate.tax),
-        Wide::from(estimate.commission),
-        Wide::from(estimate.charge),
-        estimate.assets,
-    ];
-    let texts = amount_texts(alloc, &amounts)?;
+    let texts = estimate_texts(alloc, estimate)?;
     let mut records = Vec::new(alloc);
     records.push(texts)?;
     Ok(records)

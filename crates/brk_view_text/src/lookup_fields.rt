@@ -8,10 +8,10 @@ ghost use Rattle.brk_view.specs.Lookup.{cash_and_lot_end_fields, price_and_cost_
 ghost use Rattle.brk_view.specs.Lookup.{history_status_record, first_five_trade_fields, order_fields_of_trade};
 ghost use Rattle.brk_view.specs.Views.{texts_of_record, texts_of_records};
 
-use crate::texts::{amount_text, copy_text, number_text, optional_price_text, stamp_text};
+use crate::texts::{copy_text, number_text, optional_price_text, stamp_text};
 use brk_changes::{MoveRow, SettlementRow, TradeRow};
 use brk_commands::{cash_or_margin_word, day_text, lifo_or_fifo_word};
-use brk_money::{Fault, Wide};
+use brk_money::Fault;
 use brk_view::lookups::{LookedUp, StatusMoment};
 use std::alloc::Global;
 
@@ -38,7 +38,7 @@ fn append_order_texts(alloc: Global, texts: &mut Vec<String>, trade: &TradeRow) 
 {
     texts.push(copy_text(alloc, trade.symbol.as_str())?)?;
     texts.push(number_text(alloc, u64::from(trade.qty.get()))?)?;
-    texts.push(amount_text(alloc, Wide::from(trade.bid))?)?;
+    texts.push(trade.bid.to_string(alloc)?)?;
     texts.push(copy_text(alloc, trade.executor.as_str())?)?;
     Ok(())
 }
@@ -54,10 +54,9 @@ fn append_price_and_cost_texts(
     ensures fault { OnErr result (result ≡ Err Memory) }
 {
     texts.push(optional_price_text(alloc, trade.price)?)?;
-    let charge = Wide::new(i128::from(trade.charge.get()));
-    texts.push(amount_text(alloc, charge)?)?;
-    texts.push(amount_text(alloc, Wide::from(trade.commission))?)?;
-    texts.push(amount_text(alloc, Wide::from(trade.tax))?)?;
+    texts.push(trade.charge.to_string(alloc)?)?;
+    texts.push(trade.commission.to_string(alloc)?)?;
+    texts.push(trade.tax.to_string(alloc)?)?;
     Ok(())
 }
 
@@ -100,7 +99,7 @@ fn settlement_texts(alloc: Global, row: SettlementRow) -> Result<Vec<String>, Fa
     texts.push(copy_text(alloc, "settlement")?)?;
     texts.push(copy_text(alloc, row.cash_type.word())?)?;
     texts.push(day_text(alloc, row.due_day)?)?;
-    texts.push(amount_text(alloc, Wide::from(row.amount))?)?;
+    texts.push(row.amount.to_string(alloc)?)?;
     Ok(texts)
 }
 
@@ -113,7 +112,7 @@ fn cash_row_texts(alloc: Global, row: &MoveRow) -> Result<Vec<String>, Fault>
     let mut texts = Vec::new(alloc);
     texts.push(copy_text(alloc, "cash")?)?;
     texts.push(stamp_text(alloc, row.stamp)?)?;
-    texts.push(amount_text(alloc, Wide::from(row.amount))?)?;
+    texts.push(row.amount.to_string(alloc)?)?;
     texts.push(copy_text(alloc, row.name.as_str())?)?;
     Ok(texts)
 }

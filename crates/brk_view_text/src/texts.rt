@@ -3,10 +3,9 @@
 ghost use Rattle.std.specs.Prelude.{◌≡◌, [], Err, IfOk, OnErr, decimal, string_bytes};
 ghost use Rattle.std.specs.Option.{option_map_or};
 ghost use Rattle.brk_model.specs.Rows.{nonnegative_cents_text as text_of_price};
-ghost use Rattle.brk_money.specs.Spelling.{cents_text};
 ghost use Rattle.brk_money.specs.declared.fault.Fault.TheVariants.{Memory};
 
-use brk_money::{Fault, Price, Stamp, Wide};
+use brk_money::{Fault, Price, Stamp};
 use std::alloc::Global;
 
 // Returns a copy of the text `word`. Fails with `Memory` only.
@@ -34,14 +33,6 @@ pub(crate) fn stamp_text(alloc: Global, stamp: Stamp) -> Result<String, Fault>
     number_text(alloc, stamp.get().unsigned_abs())
 }
 
-// Returns the text of an amount in its canonical form, such as `-12.05`. Fails with `Memory` only.
-pub(crate) fn amount_text(alloc: Global, amount: Wide) -> Result<String, Fault>
-    ensures text { IfOk result (λ text. string_bytes text ≡ cents_text amount) }
-    ensures fault { OnErr result (result ≡ Err Memory) }
-{
-    Ok(format!(in alloc; "{}", amount)?)
-}
-
 // Returns the text of a price, such as `10.00`, or an empty text if it is `None`. Fails with
 // `Memory` only.
 pub(crate) fn optional_price_text(alloc: Global, price: Option<Price>) -> Result<String, Fault>
@@ -49,7 +40,7 @@ pub(crate) fn optional_price_text(alloc: Global, price: Option<Price>) -> Result
     ensures fault { OnErr result (result ≡ Err Memory) }
 {
     match price {
-        Some(price) => amount_text(alloc, Wide::from(price)),
+        Some(price) => Ok(price.to_string(alloc)?),
         None => copy_text(alloc, ""),
     }
 }

@@ -5,7 +5,7 @@ ghost use Rattle.brk_money.specs.declared.fault.Fault.TheVariants.{Memory};
 ghost use Rattle.brk_view.specs.Views.{texts_of_record, texts_of_records};
 ghost use Rattle.brk_view.specs.Volume.{broker_volume_record};
 
-use crate::texts::{amount_text, copy_text, number_text};
+use crate::texts::{copy_text, number_text};
 use brk_money::Fault;
 use brk_view::volumes::BrokerVolume;
 use std::alloc::Global;
@@ -19,7 +19,7 @@ fn broker_volume_texts(alloc: Global, broker: &BrokerVolume) -> Result<Vec<Strin
     let mut texts = Vec::new(alloc);
     texts.push(copy_text(alloc, broker.name.as_str())?)?;
     texts.push(number_text(alloc, broker.broker.get())?)?;
-    texts.push(amount_text(alloc, broker.volume)?)?;
+    texts.push(broker.volume.to_string(alloc)?)?;
     Ok(texts)
 }
 

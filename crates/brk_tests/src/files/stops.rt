@@ -3,9 +3,9 @@
 
 use crate::cuts::batch::{ROWS, all_lines_of_retry};
 use crate::desks::desk_with_reference_data;
+use crate::files::jobs::{Job, Seen, Task, perform_job};
 use crate::files::machine::{
-    File, Held, Seen, Sent, Stop, files_after_sql, files_with_reference_data,
-    run_batch_on_connection, run_batch_until_crash,
+    File, Held, Sent, Stop, files_after_sql, files_with_reference_data, run_batch_until_crash,
 };
 use crate::worked;
 use crate::worked::{SET, SET_LINES, format_batch};
@@ -71,8 +71,9 @@ fn fail_unless(is_so: bool, stop: Stop, what: &str) -> Result<(), Fail> {
 fn tables_after_rows(alloc: Global, rows: usize) -> Result<String, Fail> {
     let batch = format_batch(alloc, &ROWS[..rows.min(6)])?;
     let conn = desk_with_reference_data(alloc)?.into_store().into_conn();
-    let mut seen = Seen::before_batch(alloc);
-    drop(run_batch_on_connection(alloc, conn, batch.as_bytes(), &mut seen));
+    let mut seen = Seen::before_job(alloc);
+    let job = Job::Observed(Task::Batch);
+    drop(perform_job(alloc, conn, job, batch.as_bytes(), &mut seen));
     let Seen { after, .. } = seen;
     if after.is_empty() {
         return Err("tables that could not be read")?;
@@ -112,31 +113,9 @@ fn expect_creation_crash_recovered(alloc: Global, stop: Stop, tables: &str) -> R
     Ok(was_stopped)
 }
 
-// Checks that a desk can be created and set up after a crash at each call of the log or the
-// database file during its creation, with the bytes that were not synced lost or stored.
-#[test]
-fn crashes_while_a_store_is_created(rt: HostRuntime) -> Result<(), Fail> {
-    let tables = tables_after_rows(rt.alloc(), 0)?;
-    for stop in STOPS {
-        let mut was_stopped = true;
-        for calls in 0..MOST_CALLS {
-            was_stopped = expect_creation_crash_recovered(
-                rt.alloc(),
-                Stop { calls, ..stop },
-                tables.as_str(),
-            )?;
-            if !was_stopped {
-                break;
-            }
-        }
-        assert!(rt; !was_stopped, "always stopped");
-    }
-    Ok(())
-}
-
-// Returns the number of rows of the batch, at most six, that are committed after a crash with the
-// tables `found`: the number of the written lines `told`, or one more. `tables` are the tables
-// after each number of rows. Returns `None` if `found` are the tables of neither number.
+// Returns the number of rows of the batch that are committed after a crash: the number of the
+// written lines `told`, or one more, by the tables `found`. `tables` are the tables after each
+// number of rows. Returns `None` if `found` are the tables of neither number.
 fn committed_rows_after_crash(told: &[u8], found: &str, tables: &[String]) -> Option<usize> {
     let settled = told
         .split(|byte| *byte == b'\n')
@@ -239,39 +218,8 @@ fn expect_batch_crash_recovered(
     Ok(twice.was_stopped)
 }
 
-// Checks that a batch can be retried and completed after a crash at each call of the log or the
-// database file during the batch, with the bytes that were not synced lost or stored.
-#[test]
-fn crashes_while_a_batch_is_executed(rt: HostRuntime) -> Result<(), Fail> {
-    let batch = format_batch(rt.alloc(), &ROWS)?;
-    let mut tables = Vec::new(rt.alloc());
-    for rows in 0..=6 {
-        let after = tables_after_rows(rt.alloc(), rows)?;
-        tables.push(after)?;
-    }
-    let start = files_with_reference_data(rt.alloc())?;
-    for stop in STOPS {
-        let mut was_stopped = true;
-        for calls in 0..MOST_CALLS {
-            let stop = Stop { calls, ..stop };
-            was_stopped = expect_batch_crash_recovered(
-                rt.alloc(),
-                stop,
-                &start,
-                batch.as_str(),
-                &tables,
-            )?;
-            if !was_stopped {
-                break;
-            }
-        }
-        assert!(rt; !was_stopped, "always stopped");
-    }
-    Ok(())
-}
-
-// Executes the first three trades of `worked::ROWS` as a batch on a desk in files after the batch
-// `SET`. Returns the observation of the batch and the files after it. Fails if memory runs out.
+// Executes the first three trades of the worked rows on a desk in files after the batch `SET`.
+// Returns the observation of the batch and the files after it. Fails if memory runs out.
 fn files_after_trades(alloc: Global) -> Result<Sent, Fail> {
     let batch = format_batch(alloc, &worked::ROWS[..6])?;
     let set = files_with_reference_data(alloc)?;
@@ -337,40 +285,114 @@ fn expect_upgrade_crash_recovered(
     Ok(moved.was_stopped)
 }
 
-// Upgrades a desk that the SQL statements `change` convert to an older schema, with each crash of
-// `STOPS` at each call of its file, until a run has no crash. Fails if a crash is not recovered.
-// Returns true if, for each crash of `STOPS`, a run without a crash was reached.
-fn upgrade_with_crash_at_each_call(alloc: Global, change: &str) -> Result<bool, Fail> {
-    let (start, tables) = files_of_older_schema(alloc, change)?;
-    let mut is_always = false;
+// What the machine does until a crash.
+#[derive(Clone, Copy)]
+enum Work<'a> {
+    // It creates a desk, whose tables after the batch `SET` are these.
+    Creation(&'a str),
+    // It executes the batch on the desk in the files `start`. `tables` are the tables after each
+    // number of its rows.
+    Batch {
+        start: &'a Held,
+        batch: &'a str,
+        tables: &'a [String],
+    },
+    // It upgrades the desk of an older schema in the files `start`. `tables` are its tables in
+    // schema 3.
+    Upgrade {
+        start: &'a Held,
+        tables: &'a str,
+    },
+}
+
+// Performs the work until the crash `stop`, and checks that the desk recovers from it. Returns true
+// if there was a crash.
+fn expect_crash_recovered(alloc: Global, stop: Stop, work: Work<'_>) -> Result<bool, Fail> {
+    match work {
+        Work::Creation(tables) => expect_creation_crash_recovered(alloc, stop, tables),
+        Work::Batch {
+            start,
+            batch,
+            tables,
+        } => expect_batch_crash_recovered(alloc, stop, start, batch, tables),
+        Work::Upgrade { start, tables } => expect_upgrade_crash_recovered(
+            alloc, stop, start, tables,
+        ),
+    }
+}
+
+// Performs the work with each crash of `STOPS` at each call of its file, until a run has no crash,
+// and checks each recovery. Fails if a run without a crash is not reached.
+fn expect_each_crash_recovered(alloc: Global, work: Work<'_>) -> Result<(), Fail> {
     for stop in STOPS {
         let mut was_stopped = true;
         for calls in 0..MOST_CALLS {
-            let stop = Stop { calls, ..stop };
-            was_stopped = expect_upgrade_crash_recovered(alloc, stop, &start, tables.as_str())?;
+            was_stopped = expect_crash_recovered(alloc, Stop { calls, ..stop }, work)?;
             if !was_stopped {
                 break;
             }
         }
-        is_always = is_always || was_stopped;
+        if was_stopped {
+            return Err("always stopped")?;
+        }
     }
-    Ok(!is_always)
+    Ok(())
+}
+
+// Checks that a desk can be created and set up after a crash at each call of the log or the
+// database file during its creation, with the bytes that were not synced lost or stored.
+#[test]
+fn crashes_while_a_store_is_created(rt: HostRuntime) -> Result<(), Fail> {
+    let tables = tables_after_rows(rt.alloc(), 0)?;
+    expect_each_crash_recovered(rt.alloc(), Work::Creation(tables.as_str()))
+}
+
+// Returns all tables of a desk in memory, as text, after the batch `SET` and each number of the
+// rows `ROWS`, from none to all six. Fails if the tables cannot be read.
+fn tables_after_each_row(alloc: Global) -> Result<Vec<String>, Fail> {
+    let mut tables = Vec::new(alloc);
+    for rows in 0..=6 {
+        tables.push(tables_after_rows(alloc, rows)?)?;
+    }
+    Ok(tables)
+}
+
+// Checks that a batch can be retried and completed after a crash at each call of the log or the
+// database file during the batch, with the bytes that were not synced lost or stored.
+#[test]
+fn crashes_while_a_batch_is_executed(rt: HostRuntime) -> Result<(), Fail> {
+    let batch = format_batch(rt.alloc(), &ROWS)?;
+    let tables = tables_after_each_row(rt.alloc())?;
+    let start = files_with_reference_data(rt.alloc())?;
+    let work = Work::Batch {
+        start: &start,
+        batch: batch.as_str(),
+        tables: &tables,
+    };
+    expect_each_crash_recovered(rt.alloc(), work)
+}
+
+// Upgrades a desk that the SQL statements `change` convert to an older schema, with each crash of
+// `STOPS` at each call of its file, and checks each recovery.
+fn upgrade_with_crash_at_each_call(alloc: Global, change: &str) -> Result<(), Fail> {
+    let (start, tables) = files_of_older_schema(alloc, change)?;
+    let work = Work::Upgrade {
+        start: &start,
+        tables: tables.as_str(),
+    };
+    expect_each_crash_recovered(alloc, work)
 }
 
 // Checks that the upgrade from schema 1 is atomic if the machine crashes at any call of the log or
 // the database file, and that a retry completes it.
 #[test]
 fn crashes_while_schema_1_is_upgraded(rt: HostRuntime) -> Result<(), Fail> {
-    let is_ended = upgrade_with_crash_at_each_call(rt.alloc(), FIRST)?;
-    assert!(rt; is_ended, "always stopped");
-    Ok(())
+    upgrade_with_crash_at_each_call(rt.alloc(), FIRST)
 }
 
 // Checks that the upgrade from schema 2 is atomic if the machine crashes at any call of the log or
 // the database file, and that a retry completes it.
 #[test]
 fn crashes_while_schema_2_is_upgraded(rt: HostRuntime) -> Result<(), Fail> {
-    let is_ended = upgrade_with_crash_at_each_call(rt.alloc(), SECOND)?;
-    assert!(rt; is_ended, "always stopped");
-    Ok(())
+    upgrade_with_crash_at_each_call(rt.alloc(), SECOND)
 }

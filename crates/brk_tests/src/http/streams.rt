@@ -3,7 +3,7 @@
 use crate::desks::{Still, desk_with_reference_data};
 use brk_http::{ServeFault, serve_stream};
 use brk_import::brk_desk::Desk;
-use sqlite::Alter;
+use sqlite::MemStore;
 use std::alloc::{AllocError, Global};
 use std::io;
 use std::io::Read;
@@ -39,9 +39,9 @@ pub enum Told {
 
 /// Serves a stream, whose bytes arrive in pieces of at most `size` bytes, on a desk at 2024-03-01
 /// 00:00 UTC. Returns the bytes that it wrote and its result: the number of replies, or the fault.
-pub fn serve_stream_in_pieces<S: Alter>(
+pub fn serve_stream_in_pieces(
     alloc: Global,
-    desk: &mut Desk<S>,
+    desk: &mut Desk<MemStore>,
     bytes: &[u8],
     size: usize,
 ) -> (Vec<u8>, Result<u64, ServeFault>) {

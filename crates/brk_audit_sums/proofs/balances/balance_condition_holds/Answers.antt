@@ -37,7 +37,7 @@ returns-clause-value c = λ schema.
     c.in_ok-sums.ensures.sums q ∙ ap (λ ps. total_amount_at_key nat_cmp ps q) (moved ∙ ap (λ ps. ps ++ filter_map (λ r. movement_posting_of_row (abstract_move_row r)) s.moves.items) posted)
     ∙ total_both trades (filter_map (λ r. movement_posting_of_row (abstract_move_row r)) s.moves.items) q
     ∙ (λ i. trades_sum q i +ℤ moved_sum s.moves.items q i) in
-    told_by (λ row. row.balance ≡ row.account.opening +ℤ sum_at_key nat_cmp c.in_ok-sums.sums row.account.id) (λ row. row.balance ≡ row.opening +ℤ moved_on t row.id) abstract_account_row s.accounts.items c.deref-5.result.now c.deref-5.ensures.value c.all_accounts_are_balanced.ensures
+    told_by (λ row. row.balance ≡ row.account.opening +ℤ sum_at_key nat_cmp c.in_ok-sums.sums row.account.id) (λ row. row.balance ≡ row.opening +ℤ moved_on t row.id) abstract_account_row s.accounts.items c.deref-5.result.now c.deref-5.ensures.value c.all_rows_have_sums.ensures
     (λ row e. e ∙ ap (λ z. row.account.opening +ℤ z) (sum row.account.id))
     (λ row e. e ∙ sym (ap (λ z. row.account.opening +ℤ z) (sum row.account.id)))
     (balances_by_rows schema t (key_parts t (form_parts c.requires.form.schema t c.requires.form.form).keys).accounts c.requires.status)

@@ -1,4 +1,4 @@
-use Rattle.std.proofs.Common.{◌≡◌, ℕ, ◌==◌, refl, ◌∙◌, sym, ap, pos}
+use Rattle.std.proofs.Common.{◌≡◌, ℕ, ◌==◌, ◌∙◌, sym, ap, pos}
 use Rattle.std.specs.Prelude.{find, option_map}
 use Rattle.std.specs.BTreeMap.{BTreeMap}
 use Rattle.std.specs.List.{filter_map}
@@ -12,12 +12,10 @@ use Rattle.brk_audit_theorems.proofs.Parts.{key_parts}
 use Rattle.brk_model_theorems.proofs.FormParts.{form_parts}
 use Rattle.brk_audit_sums.specs.declared.account_terms.AccountTerms.{AccountTerms}
 use Rattle.brk_audit_sums.specs.AccountTerms.{account_broker_in_terms, terms_of_account_row}
-use Rattle.brk_audit_sums.specs.Completed.{is_completed_row}
-use Rattle.brk_audit_sums.specs.Settling.{account_broker_or_zero}
-use Rattle.brk_audit_sums.specs.Sums.{commission_posting_of_row, sum_over_broker_trades}
+use Rattle.brk_audit_sums.specs.Sums.{broker_posting_of_row, sum_over_broker_trades}
 use Rattle.brk_audit_sums.specs.Tally.{sum_at_key, total_amount_at_key}
-use Rattle.brk_audit_sums.proofs.AccountTerms.{HasTerms, same_brokers}
-use Rattle.brk_audit_sums.proofs.Checked.{posted_sum, told_by}
+use Rattle.brk_audit_sums.proofs.AccountTerms.{HasTerms}
+use Rattle.brk_audit_sums.proofs.Checked.{broker_sums, told_by}
 use Rattle.brk_audit_sums.proofs.SumRows.{commissions_by_rows}
 use Rattle.brk_audit_sums.proofs.commissions.commission_condition_holds.Goals as goal
 
@@ -27,12 +25,10 @@ returns-clause-value c = λ schema.
     let t : Tables = abstract_sheets s in
     let terms : BTreeMap ℕ AccountTerms = c.in_ok-terms.terms in
     let has : HasTerms terms s.accounts.items = λ id. c.in_ok-terms.ensures.terms id ∙ ap (λ rows. option_map terms_of_account_row (find (λ a. a.account.id == id) rows)) c.deref.ensures.value in
-    let posted : c.in_ok-postings.postings.items ≡ filter_map (λ r. commission_posting_of_row (account_broker_in_terms terms) (abstract_trade_row r)) s.trades.items =
-    c.in_ok-postings.ensures.all ∙ ap (filter_map (λ r. commission_posting_of_row (account_broker_in_terms terms) (abstract_trade_row r))) c.deref-2.ensures.value in
-    let sum : (q : ℕ) → sum_at_key nat_cmp c.in_ok-sums.sums q ≡ sum_over_broker_trades t (λ r. pos r.commission) q = λ q.
-    c.in_ok-sums.ensures.sums q ∙ ap (λ ps. total_amount_at_key nat_cmp ps q) (c.deref-3.ensures.value ∙ posted)
-    ∙ posted_sum is_completed_row (λ r. account_broker_in_terms terms r.account) (λ r. account_broker_or_zero t r.account) (λ r. pos r.commission) (λ r. pos r.commission) s.trades.items q (λ r. same_brokers s terms has r.account) (λ r. refl) in
-    told_by (λ row. pos row.commissions ≡ sum_at_key nat_cmp c.in_ok-sums.sums row.broker.id) (λ row. pos row.commissions ≡ sum_over_broker_trades t (λ r. pos r.commission) row.id) abstract_broker_row s.brokers.items c.deref-4.result.now c.deref-4.ensures.value c.all_brokers_have_commission_sums.ensures
+    let sum : (q : ℕ) → sum_at_key nat_cmp c.in_ok-sums.sums q ≡ sum_over_broker_trades t (λ r. pos r.commission) q =
+    broker_sums s terms (λ r. pos r.commission) c.in_ok-sums.sums c.in_ok-postings.postings.items has (λ q. c.in_ok-sums.ensures.sums q ∙ ap (λ ps. total_amount_at_key nat_cmp ps q) c.deref-3.ensures.value)
+    (c.in_ok-postings.ensures.all ∙ ap (filter_map (λ r. broker_posting_of_row (account_broker_in_terms terms) (abstract_trade_row r) (pos (abstract_trade_row r).commission))) c.deref-2.ensures.value) in
+    told_by (λ row. pos row.commissions ≡ sum_at_key nat_cmp c.in_ok-sums.sums row.broker.id) (λ row. pos row.commissions ≡ sum_over_broker_trades t (λ r. pos r.commission) row.id) abstract_broker_row s.brokers.items c.deref-4.result.now c.deref-4.ensures.value c.all_rows_have_sums.ensures
     (λ row e. e ∙ sum row.broker.id)
     (λ row e. e ∙ sym (sum row.broker.id))
     (commissions_by_rows schema t (key_parts t (form_parts c.requires.form.schema t c.requires.form.form).keys).brokers c.requires.status)

@@ -1,14 +1,15 @@
-use Rattle.std.proofs.Common.{◌≡◌, ℕ, ◌++◌, Err, Ok, length, map, subst}
+use Rattle.std.proofs.Common.{ℕ, ◌++◌, Err, Ok, length, map, subst}
 use Rattle.brk_model.specs.Statement.{holding_rows_of_account}
 use Rattle.brk_ref.specs.Records.{abstract_account_row}
 use Rattle.brk_explain_model.specs.AccountLines.{holding_and_total_lines, account_header_lines, balance_header_lines, account_cash_rows_by_stamp}
 use Rattle.brk_explain_rows.specs.Details.{abstract_priced_holding}
-use Rattle.brk_report.proofs.Handing.{behind, breaks_as, wants}
+use Rattle.brk_report.specs.Stated.{IsMemoryStoreOrWriteFault}
+use Rattle.brk_report.proofs.Handing.{behind, breaks_as, on_err, wants}
 use Rattle.brk_report.proofs.Keeping.{clean_then}
 use Rattle.brk_report_lines.specs.Written.{WritesLines}
 use Rattle.brk_report_lines.proofs.Composed.{breaks_before, breaks_behind}
 use Rattle.brk_explain.specs.Sections.{account_cash_lines, account_lot_lines}
-use Rattle.brk_explain.proofs.Some.{breaks_off_before, first_before, text_written}
+use Rattle.brk_explain.proofs.Some.{breaks_off_before, first_before, text_fault, text_written}
 use Rattle.brk_explain.proofs.Whole.{balance_first, bottom_first, top_first}
 use Rattle.brk_explain.proofs.explaining.write_account_lines.Goals as goal
 
@@ -82,3 +83,27 @@ returns-clause-written g c = λ clean t holds.
     (behind lots bottom _ _ _ _ kept.0
     (subst (λ (n : ℕ). WritesLines (holding_and_total_lines a held n (length (holding_rows_of_account t c.args.account))) (g.W.Write.contents c.write_open_lot_lines.new.writer) (g.W.Write.contents c.write_lines-3.new.writer) c.write_lines-3.result) posted.1
     (subst (λ (n : ℕ). WritesLines (holding_and_total_lines a held c.in_ok-cash.cash n) (g.W.Write.contents c.write_open_lot_lines.new.writer) (g.W.Write.contents c.write_lines-3.new.writer) c.write_lines-3.result) kept.1 end)))))
+
+pub returns-in_err-write_lines-clause-fault : goal.returns-in_err-write_lines-clause-fault
+returns-in_err-write_lines-clause-fault g c =
+    let a = abstract_account_row c.args.details.now.account in
+    on_err IsMemoryStoreOrWriteFault _ _ c.from_residual.ensures.1
+    (text_fault {R = Unit {0}} (account_header_lines a) c.account_header_text.result (g.W.Write.contents c.args.writer.now) (g.W.Write.contents c.write_lines.new.writer) (Err c.in_err-write_lines.field-0.0) (top_first a) c.in_err-write_lines.ensures.written c.account_header_text.ensures.text (wants _ c.account_header_text.ensures.fault))
+
+pub returns-in_err-cash-clause-fault : goal.returns-in_err-cash-clause-fault
+returns-in_err-cash-clause-fault g c = on_err IsMemoryStoreOrWriteFault _ _ c.from_residual-in_err-cash.ensures.1 c.in_err-cash.ensures.fault
+
+pub returns-in_err-write_lines-2-clause-fault : goal.returns-in_err-write_lines-2-clause-fault
+returns-in_err-write_lines-2-clause-fault g c =
+    let a = abstract_account_row c.args.details.now.account in
+    on_err IsMemoryStoreOrWriteFault _ _ c.from_residual-in_err-write_lines-2.ensures.1
+    (text_fault {R = Unit {0}} (balance_header_lines a) c.balance_header_text.result (g.W.Write.contents c.write_cash_posting_lines.new.writer) (g.W.Write.contents c.write_lines-2.new.writer) (Err c.in_err-write_lines-2.field-0.0) (balance_first a) c.in_err-write_lines-2.ensures.written c.balance_header_text.ensures.text (wants _ c.balance_header_text.ensures.fault))
+
+pub returns-in_err-lots-clause-fault : goal.returns-in_err-lots-clause-fault
+returns-in_err-lots-clause-fault g c = on_err IsMemoryStoreOrWriteFault _ _ c.from_residual-in_err-lots.ensures.1 c.in_err-lots.ensures.fault
+
+pub returns-clause-fault : goal.returns-clause-fault
+returns-clause-fault g c =
+    let a = abstract_account_row c.args.details.now.account in
+    let shown = map abstract_priced_holding c.deref.result.now in
+    text_fault (holding_and_total_lines a shown c.in_ok-cash.cash c.in_ok-lots.lots) c.holding_and_total_text.result (g.W.Write.contents c.write_open_lot_lines.new.writer) (g.W.Write.contents c.write_lines-3.new.writer) c.write_lines-3.result (bottom_first a shown c.in_ok-cash.cash c.in_ok-lots.lots) c.write_lines-3.ensures.written c.holding_and_total_text.ensures.text c.holding_and_total_text.ensures.fault

@@ -1,9 +1,10 @@
-use Rattle.std.proofs.Common.{◌≡◌, Ok, Err, refl}
+use Rattle.std.proofs.Common.{Ok, Err, refl}
 use Rattle.brk_explain_model.specs.Explain.{HoldingOf, explanation}
 use Rattle.brk_explain_rows.specs.Details.{AreDetailsOfHolding}
 use Rattle.brk_explain_sums.specs.HoldingTexts.{lines_of_holding_details}
 use Rattle.brk_report.proofs.Keeping.{keeps_read}
-use Rattle.brk_report.proofs.Reported.{FailsAsLines, no_refusal, reported}
+use Rattle.brk_report.proofs.Reported.{FailsAsLines, no_refusal, reported, reported_fault}
+use Rattle.brk_report.proofs.Section.{in_broken}
 use Rattle.brk_explain.specs.Told.{WritesLinesOrRefuses}
 use Rattle.brk_explain.proofs.Some.{text_written}
 use Rattle.brk_explain.proofs.Whole.{holding_first, holding_told, no_holding, tells_all, tells_fault}
@@ -14,6 +15,7 @@ returns-in-Ok-Err g c = record {
   told = record {
     written = λ clean t holds.
         no_holding t c.args.account c.args.symbol.now c.in-Ok-Err.refusal ((rw (c.in-Ok-Err.is, c.in-Ok-Err.field-0-is) at (c.holding_explanation_rows.ensures.read.answered clean)) t holds);
+    fault = tt;
     keeps = keeps_read g.S.Store _ _ c.holding_explanation_rows.result (AreDetailsOfHolding c.args.account c.args.symbol.now) c.holding_explanation_rows.ensures.read;
     unwritten = λ refusal is. refl;
   };
@@ -30,6 +32,7 @@ returns-in_err-write_lines g c =
         written = λ clean t holds.
             let are_details = (rw (c.in-Ok-Ok.is, c.in-Ok-Ok.field-0-is) at (c.holding_explanation_rows.ensures.read.answered clean)) t holds in
             reported (WritesLinesOrRefuses (explanation t (HoldingOf c.args.account c.args.symbol.now)) _ _) _ _ fails (tells_fault (explanation t (HoldingOf c.args.account c.args.symbol.now)) lines (holding_told t c.args.account c.args.symbol.now details are_details) _ _ _ wrote);
+        fault = reported_fault _ _ fails (in_broken _ _ _ _ wrote);
         keeps = keeps_read g.S.Store _ _ c.holding_explanation_rows.result (AreDetailsOfHolding c.args.account c.args.symbol.now) c.holding_explanation_rows.ensures.read;
         unwritten = λ refusal is. absurd (no_refusal _ _ refusal fails is);
       };
@@ -45,6 +48,7 @@ returns g c =
         written = λ clean t holds.
             let are_details = (rw (c.in-Ok-Ok.is, c.in-Ok-Ok.field-0-is) at (c.holding_explanation_rows.ensures.read.answered clean)) t holds in
             tells_all (explanation t (HoldingOf c.args.account c.args.symbol.now)) lines (holding_told t c.args.account c.args.symbol.now details are_details) _ _ wrote;
+        fault = tt;
         keeps = keeps_read g.S.Store _ _ c.holding_explanation_rows.result (AreDetailsOfHolding c.args.account c.args.symbol.now) c.holding_explanation_rows.ensures.read;
         unwritten = λ refusal is. absurd (let same = is in cc);
       };

@@ -1,9 +1,10 @@
-use Rattle.std.proofs.Common.{◌≡◌, Ok, Err, refl}
+use Rattle.std.proofs.Common.{Ok, Err, refl}
 use Rattle.brk_explain_model.specs.Explain.{TradeOf, explanation}
 use Rattle.brk_explain_model.specs.TradeLines.{trade_explanation_lines}
 use Rattle.brk_explain_rows.specs.Details.{AreDetailsOfTrade, abstract_trade_details}
 use Rattle.brk_report.proofs.Keeping.{keeps_read}
-use Rattle.brk_report.proofs.Reported.{FailsAsLines, no_refusal, reported}
+use Rattle.brk_report.proofs.Reported.{FailsAsLines, no_refusal, reported, reported_fault}
+use Rattle.brk_report.proofs.Section.{in_broken}
 use Rattle.brk_explain.specs.Told.{WritesLinesOrRefuses}
 use Rattle.brk_explain.proofs.Some.{text_written}
 use Rattle.brk_explain.proofs.Whole.{no_trade, tells_all, tells_fault, trade_first, trade_told}
@@ -13,6 +14,7 @@ pub returns-in-Ok-None : goal.returns-in-Ok-None
 returns-in-Ok-None g c = record {
   told = record {
     written = λ clean t holds. no_trade t c.args.trade ((rw (c.in-Ok-None.is, c.in-Ok-None.field-0-is) at (c.trade_explanation_rows.ensures.read.answered clean)) t holds);
+    fault = tt;
     keeps = keeps_read g.S.Store _ _ c.trade_explanation_rows.result (AreDetailsOfTrade c.args.trade) c.trade_explanation_rows.ensures.read;
     unwritten = λ refusal is. refl;
   };
@@ -29,6 +31,7 @@ returns-in_err-write_lines g c =
         written = λ clean t holds.
             let are_details = (rw (c.in-Ok-Some.is, c.in-Ok-Some.field-0-is) at (c.trade_explanation_rows.ensures.read.answered clean)) t holds in
             reported (WritesLinesOrRefuses (explanation t (TradeOf c.args.trade)) _ _) _ _ fails (tells_fault (explanation t (TradeOf c.args.trade)) lines (trade_told t c.args.trade details are_details) _ _ _ wrote);
+        fault = reported_fault _ _ fails (in_broken _ _ _ _ wrote);
         keeps = keeps_read g.S.Store _ _ c.trade_explanation_rows.result (AreDetailsOfTrade c.args.trade) c.trade_explanation_rows.ensures.read;
         unwritten = λ refusal is. absurd (no_refusal _ _ refusal fails is);
       };
@@ -44,6 +47,7 @@ returns g c =
         written = λ clean t holds.
             let are_details = (rw (c.in-Ok-Some.is, c.in-Ok-Some.field-0-is) at (c.trade_explanation_rows.ensures.read.answered clean)) t holds in
             tells_all (explanation t (TradeOf c.args.trade)) lines (trade_told t c.args.trade details are_details) _ _ wrote;
+        fault = tt;
         keeps = keeps_read g.S.Store _ _ c.trade_explanation_rows.result (AreDetailsOfTrade c.args.trade) c.trade_explanation_rows.ensures.read;
         unwritten = λ refusal is. absurd (let same = is in cc);
       };

@@ -1,4 +1,4 @@
-use Rattle.std.proofs.Common.{ℤ, List, length, pos, refl, rules, sym, subst}
+use Rattle.std.proofs.Common.{ℤ, ◌+ℤ◌, [], ◌∷◌, pos, refl, rules, sym, subst}
 use Rattle.std.specs.Io.KnownBytes.{Appends}
 use Rattle.brk_changes.specs.Rows.{abstract_trade_row}
 use Rattle.brk_model.specs.Statement.{text_of_lines}
@@ -6,6 +6,7 @@ use Rattle.brk_model.specs.Tables.{TradeRow}
 use Rattle.brk_explain_model.specs.BrokerLines.{trade_commission_line, completed_trades_of_broker}
 use Rattle.brk_explain_model.specs.Running.{lines_with_running_total}
 use Rattle.brk_report_lines.specs.Written.{FailsWithinFirstLines}
+use Rattle.brk_report.proofs.Section.{in_broken, known_end}
 use Rattle.brk_explain.specs.Sections.{broker_trade_lines}
 use Rattle.brk_explain.specs.declared.visitors.TradeCommissionWriter.{TradeCommissionWriter}
 use Rattle.brk_explain.proofs.Walked.{rows_all, rows_first}
@@ -29,3 +30,10 @@ returns-in-Err-clause-written g c = λ clean t holds.
     let told = subst (λ e. FailsWithinFirstLines (rows_from c.new.result) (g.W.Write.contents c.args.writer.now) (g.W.Write.contents c.visit_completed_trades.new.visitor.writer.now) e) (sym c.fault_from_walk_error.ensures) rows in
     let all = subst (λ (z : ℤ). FailsWithinFirstLines (rows_from z) (g.W.Write.contents c.args.writer.now) (g.W.Write.contents c.visit_completed_trades.new.visitor.writer.now) c.fault_from_walk_error.result) c.new.ensures told in
     subst (λ v. FailsWithinFirstLines (broker_trade_lines t c.args.broker) (g.W.Write.contents c.args.writer.now) (g.W.Write.contents v) c.fault_from_walk_error.result) (search rules) all
+
+pub returns-in-Err-clause-fault : goal.returns-in-Err-clause-fault
+returns-in-Err-clause-fault g c =
+    known_end g.S.Store _ _ abstract_trade_row (λ t. completed_trades_of_broker t c.args.broker) _ _ _ _ c.visit_completed_trades.result c.visit_completed_trades.ensures.walked
+    (λ (p : TradeCommissionWriter g.row.W.Denot) x e (q : TradeCommissionWriter g.row.W.Denot) h.
+    in_broken (trade_commission_line (abstract_trade_row x) (p.total +ℤ pos x.commission) ∷ []) (g.W.Write.contents p.writer.now) (g.W.Write.contents q.writer.now) e h)
+    c.in-Err.ended c.in-Err.is c.fault_from_walk_error.result c.fault_from_walk_error.ensures

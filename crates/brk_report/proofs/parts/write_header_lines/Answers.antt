@@ -1,6 +1,5 @@
 use Rattle.std.proofs.Common.{[], ◌∷◌, ◌++◌, codes, decimal}
 use Rattle.brk_money.specs.Spelling.{day_text}
-use Rattle.brk_model.specs.Statement.{amount_line}
 use Rattle.brk_report.proofs.Handing.{behind, breaks_as, line_first, line_then, wants}
 use Rattle.brk_report.proofs.parts.write_header_lines.Goals as goal
 
@@ -8,35 +7,21 @@ pub returns-in_err-write_line : goal.returns-in_err-write_line
 returns-in_err-write_line g c =
     let title = codes "Statement of account " ++ decimal c.args.account in
     let days = codes "From " ++ day_text c.args.from ++ codes " to " ++ day_text c.args.to in
-    let opening = amount_line (codes "Opening") c.args.opening in
-    breaks_as (title ∷ c.args.head.now.name ∷ days ∷ opening ∷ []) _ _ _ _ c.from_residual.ensures.1
-    (line_first title (c.args.head.now.name ∷ days ∷ opening ∷ []) _ _ _ (c.in_err-write_line.ensures.written title c.statement_title_line.ensures.line (wants _ c.statement_title_line.ensures.fault)))
+    breaks_as (title ∷ c.args.head.now.name ∷ days ∷ []) _ _ _ _ c.from_residual.ensures.1
+    (line_first title (c.args.head.now.name ∷ days ∷ []) _ _ _ (c.in_err-write_line.ensures.written title c.statement_title_line.ensures.line (wants _ c.statement_title_line.ensures.fault)))
 
 pub returns-in_err-write_line-2 : goal.returns-in_err-write_line-2
 returns-in_err-write_line-2 g c =
     let title = codes "Statement of account " ++ decimal c.args.account in
     let days = codes "From " ++ day_text c.args.from ++ codes " to " ++ day_text c.args.to in
-    let opening = amount_line (codes "Opening") c.args.opening in
-    breaks_as (title ∷ c.args.head.now.name ∷ days ∷ opening ∷ []) _ _ _ _ c.from_residual-in_err-write_line-2.ensures.1
-    (line_then title (c.args.head.now.name ∷ days ∷ opening ∷ []) _ _ _ _ (c.in_ok-write_line.ensures.written title c.statement_title_line.ensures.line (wants _ c.statement_title_line.ensures.fault))
-    (line_first c.args.head.now.name (days ∷ opening ∷ []) _ _ _ (c.in_err-write_line-2.ensures.written c.args.head.now.name c.account_name_line.ensures.line (wants _ c.account_name_line.ensures.fault))))
-
-pub returns-in_err-write_line-3 : goal.returns-in_err-write_line-3
-returns-in_err-write_line-3 g c =
-    let title = codes "Statement of account " ++ decimal c.args.account in
-    let days = codes "From " ++ day_text c.args.from ++ codes " to " ++ day_text c.args.to in
-    let opening = amount_line (codes "Opening") c.args.opening in
-    breaks_as (title ∷ c.args.head.now.name ∷ days ∷ opening ∷ []) _ _ _ _ c.from_residual-in_err-write_line-3.ensures.1
-    (line_then title (c.args.head.now.name ∷ days ∷ opening ∷ []) _ _ _ _ (c.in_ok-write_line.ensures.written title c.statement_title_line.ensures.line (wants _ c.statement_title_line.ensures.fault))
-    (line_then c.args.head.now.name (days ∷ opening ∷ []) _ _ _ _ (c.in_ok-write_line-2.ensures.written c.args.head.now.name c.account_name_line.ensures.line (wants _ c.account_name_line.ensures.fault))
-    (line_first days (opening ∷ []) _ _ _ (c.in_err-write_line-3.ensures.written days c.first_and_last_day_line.ensures.line (wants _ c.first_and_last_day_line.ensures.fault)))))
+    breaks_as (title ∷ c.args.head.now.name ∷ days ∷ []) _ _ _ _ c.from_residual-in_err-write_line-2.ensures.1
+    (line_then title (c.args.head.now.name ∷ days ∷ []) _ _ _ _ (c.in_ok-write_line.ensures.written title c.statement_title_line.ensures.line (wants _ c.statement_title_line.ensures.fault))
+    (line_first c.args.head.now.name (days ∷ []) _ _ _ (c.in_err-write_line-2.ensures.written c.args.head.now.name c.account_name_line.ensures.line (wants _ c.account_name_line.ensures.fault))))
 
 pub returns : goal.returns
 returns g c =
     let title = codes "Statement of account " ++ decimal c.args.account in
     let days = codes "From " ++ day_text c.args.from ++ codes " to " ++ day_text c.args.to in
-    let opening = amount_line (codes "Opening") c.args.opening in
-    behind (title ∷ []) (c.args.head.now.name ∷ days ∷ opening ∷ []) _ _ _ _ (c.in_ok-write_line.ensures.written title c.statement_title_line.ensures.line (wants _ c.statement_title_line.ensures.fault))
-    (behind (c.args.head.now.name ∷ []) (days ∷ opening ∷ []) _ _ _ _ (c.in_ok-write_line-2.ensures.written c.args.head.now.name c.account_name_line.ensures.line (wants _ c.account_name_line.ensures.fault))
-    (behind (days ∷ []) (opening ∷ []) _ _ _ _ (c.in_ok-write_line-3.ensures.written days c.first_and_last_day_line.ensures.line (wants _ c.first_and_last_day_line.ensures.fault))
-    (c.write_line-4.ensures.written opening c.amount_line.ensures.line (wants _ c.amount_line.ensures.fault))))
+    behind (title ∷ []) (c.args.head.now.name ∷ days ∷ []) _ _ _ _ (c.in_ok-write_line.ensures.written title c.statement_title_line.ensures.line (wants _ c.statement_title_line.ensures.fault))
+    (behind (c.args.head.now.name ∷ []) (days ∷ []) _ _ _ _ (c.in_ok-write_line-2.ensures.written c.args.head.now.name c.account_name_line.ensures.line (wants _ c.account_name_line.ensures.fault))
+    (c.write_line-3.ensures.written days c.first_and_last_day_line.ensures.line (wants _ c.first_and_last_day_line.ensures.fault)))

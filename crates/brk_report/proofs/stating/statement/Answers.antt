@@ -37,6 +37,9 @@ returns-in-Ok-None g c =
       };
     }
 
+pub write_statement_lines-requires : goal.write_statement_lines-requires
+write_statement_lines-requires g c = omega (arith, ints, c.if-get.false, c.get.ensures.value, c.get-2.ensures.value)
+
 pub returns-in_err-write_statement_lines : goal.returns-in_err-write_statement_lines
 returns-in_err-write_statement_lines g c =
     let days = not_before c.args.to c.args.from (omega (arith, ints, c.if-get.false, c.get.ensures.value, c.get-2.ensures.value)) in

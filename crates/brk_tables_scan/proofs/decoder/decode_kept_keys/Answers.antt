@@ -4,7 +4,6 @@ use Rattle.std.specs.Vec.Iter.{into_iter_items}
 use Rattle.brk_ref.specs.declared.key.Kept as typed
 use Rattle.brk_ref.specs.Records.{abstract_key, abstract_kept_row}
 use Rattle.brk_tables_schema.specs.Cells.{kept_cells}
-use Rattle.brk_tables_scan.specs.KeptKeys.{keys_of_kept_rows}
 use Rattle.brk_tables_scan.proofs.decoder.decode_kept_keys.Goals as goal
 
 pub loop-row-preserved : goal.loop-row-preserved
@@ -20,9 +19,9 @@ loop-row-preserved c =
       ap (λ l. l ++ rest) cells ∙ append_assoc (map (λ (r : typed.Kept). kept_cells (abstract_kept_row r)) was.0) (c.in-Some.row ∷ []) rest ∙ left,
       map_push (λ (r : typed.Kept). abstract_key r.key) was.0 one.0
           ∙ ap (λ l. l ++ abstract_key one.0.key ∷ []) was.2
-          ∙ ap (λ k. keys_of_kept_rows at.all.items ++ k ∷ []) one.2
-          ∙ sym (map_push (λ (r : typed.Kept). abstract_key r.key) at.all.items c.in_ok-decode_kept_key.field-0)
-          ∙ ap keys_of_kept_rows (sym c.in_ok-push.ensures.items),
+          ∙ ap (λ k. map abstract_key at.all.items ++ k ∷ []) one.2
+          ∙ sym (map_push abstract_key at.all.items c.in_ok-decode_kept_key.field-0)
+          ∙ ap (map abstract_key) (sym c.in_ok-push.ensures.items),
       let len = was.3 in
           let gone = c.in-Some.ensures.steps.1 in
           let short = ap length steps in

@@ -2,7 +2,7 @@ use Rattle.std.proofs.Common.{◌≡◌, Some, None, Ok, inl, inr, subst}
 use Rattle.sqlite.specs.Held.{state}
 use Rattle.brk_changes.specs.Schemas.{abstract_schema}
 use Rattle.brk_sql.proofs.Inside.{step_read}
-use Rattle.brk_tables_scan.specs.Decoded.{ReadsDeskTables}
+use Rattle.brk_tables_scan.specs.Decoded.{ReadsAndDecodesDeskTables}
 use Rattle.brk_tables_scan.specs.KeptKeys.{tables_with_whole_kept_rows}
 use Rattle.brk_tables_scan.specs.Whole.{AreSheetsOfDatabase}
 use Rattle.brk_tables_scan.proofs.Reading.{rows_read, none_in_form, narrower}
@@ -14,7 +14,7 @@ returns-clause-step g c =
     let old = state g.S.Store c.args.tx.now.conn.now in
     let new = state g.S.Store c.read_all_tables.new.tx.conn.now in
     let flag = c.read_all_tables.new.decoder.are_well_formed in
-    step_read old new c.in_ok-sheets.sheets (Ok (Some c.in_ok-sheets.sheets)) (λ sheets. ReadsDeskTables desk _ flag sheets) _
+    step_read old new c.in_ok-sheets.sheets (Ok (Some c.in_ok-sheets.sheets)) (λ sheets. ReadsAndDecodesDeskTables desk _ flag sheets) _
     (λ read is shown. (
       shown.stays.0,
       shown.stays.1,
@@ -33,7 +33,7 @@ returns-then-not-decoder-clause-step g c =
     let old = state g.S.Store c.args.tx.now.conn.now in
     let new = state g.S.Store c.read_all_tables.new.tx.conn.now in
     let flag = c.read_all_tables.new.decoder.are_well_formed in
-    step_read old new c.in_ok-sheets.sheets (Ok None) (λ sheets. ReadsDeskTables desk _ flag sheets) _
+    step_read old new c.in_ok-sheets.sheets (Ok None) (λ sheets. ReadsAndDecodesDeskTables desk _ flag sheets) _
     (λ read is shown. (
       shown.stays.0,
       shown.stays.1,

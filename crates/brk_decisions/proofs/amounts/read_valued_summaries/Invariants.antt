@@ -4,7 +4,7 @@ use Rattle.brk_model.specs.Lists.{total_by}
 use Rattle.brk_changes.specs.Rows.{abstract_summary_row}
 use Rattle.brk_store.specs.Holds.{ReadPost}
 use Rattle.brk_decisions.specs.OrderFactReads.{market_value_of_summary}
-use Rattle.brk_decisions.proofs.amounts.read_holdings_value.Given as goal
+use Rattle.brk_decisions.proofs.amounts.read_valued_summaries.Given as goal
 
 abbrev pub invariant-loop-row : goal.invariant-loop-row
 invariant-loop-row g l = ReadPost {V = Unit {0}} {E = Fault} g.S.Store l.fn.store l.store (Ok tt)

@@ -1,0 +1,26 @@
+ghost use Rattle.std.specs.Prelude.{◌≡◌};
+ghost use Rattle.brk_changes.specs.Rows.{abstract_trade_row};
+ghost use Rattle.brk_audit_sums.specs.AccountTerms.{account_broker_in_terms};
+ghost use Rattle.brk_audit_sums.specs.Sums.{broker_posting_of_row};
+
+use crate::account_terms::{AccountTerms, account_broker_id};
+use crate::completion::is_completed;
+use crate::tally::Posting;
+use brk_changes::TradeRow;
+use std::collections::BTreeMap;
+
+/// Returns the amount as a posting at the broker of the trade's account, or `None` if the trade is
+/// not completed. The map `terms` has the broker of its account.
+pub(crate) fn posting_at_broker(
+    terms: &BTreeMap<u64, AccountTerms>,
+    trade: &TradeRow,
+    amount: i64,
+) -> Option<Posting<u64>>
+    ensures { result ≡ broker_posting_of_row (account_broker_in_terms terms.now) (abstract_trade_row trade.now) amount }
+{
+    if !is_completed(trade.status) {
+        return None;
+    }
+    let key = account_broker_id(terms, trade.account);
+    Some(Posting { key, amount })
+}

@@ -1,0 +1,98 @@
+-- The steps of a batch at the row after its decided rows: reading it, reading the record after it,
+-- and executing it with its line.
+--
+-- Parameters: those of specs/Answers.antt; `rem reader`, the bytes that the source of a reader
+-- still has; `settled`, the number of decided rows; `outside`, the clock and the writer's content
+-- before and after the step; `old` and `new`, the writer's content where only this changes.
+use Rattle.std.specs.Prelude.{◌≡◌, ◌+◌, ◌⊎◌, ◌∷◌, ◌++◌, [], ℕ, List, Option}
+use Rattle.std.specs.Io.KnownBytes.{Appends}
+use Rattle.csv.specs.Reading.{reader_state, source_of}
+use Rattle.csv.specs.declared.reader.Reader.{Reader}
+use Rattle.brk_money.specs.Spelling.{Text}
+use Rattle.brk_money.specs.declared.fault.Fault.{Fault}
+use Rattle.brk_money.specs.declared.fault.Fault.TheVariants.{Memory}
+use Rattle.brk_money.specs.declared.refusal.Refusal.TheVariants.{BadText}
+use Rattle.brk_model.specs.Answers.{Fields, RowStep}
+use Rattle.brk_model.specs.Commands.{Answer, Refused}
+use Rattle.brk_model.specs.Forms.{ReadResult}
+use Rattle.brk_model.specs.Input.{HasExactlyRecords}
+use Rattle.brk_model.specs.Lines.{answer_line}
+use Rattle.brk_model.specs.Run.{IsCallFault}
+use Rattle.brk_batch_engine.specs.Answers.{RowHasAnswer, RowFailsWith, PreservesRepresentedBases, RepresentsDurably}
+use Rattle.brk_batch_engine.specs.Counts.{counts_with_answer}
+use Rattle.brk_batch_engine.specs.Parts.{CutRowEndsBatchWith, LineWriteFailsWith}
+use Rattle.brk_batch_engine.specs.Reading.{ReaderIsAfterRecords}
+use Rattle.brk_batch_engine.specs.Script.{RowCallRelation}
+use Rattle.brk_io.specs.Span.{ClockAndWriterChange}
+use Rattle.brk_io.specs.declared.batch_fault.BatchFault.{BatchFault}
+use Rattle.brk_io.specs.declared.batch_fault.FaultKind.{FaultKind}
+use Rattle.brk_io.specs.declared.batch_fault.FaultKind.TheVariants as kinds
+use Rattle.brk_batch_engine.specs.declared.counts.Counts.{Counts}
+
+-- In every text, the reader `new` has read the record `row` after the records that `old` has read.
+abbrev pub ReadsOneRecord : {R : Type 0} → (R → Option Text) → Reader R → Reader R → Fields → Type 0
+ReadsOneRecord rem old new row =
+    (text : Option Text) (before : List Fields) → ReaderIsAfterRecords text before (reader_state old) (source_of rem old)
+    → ReaderIsAfterRecords text (before ++ (row ∷ [])) (reader_state new) (source_of rem new)
+
+-- In every text, no record is left after the records that the reader has read.
+abbrev pub HasNoRecordLeft : {R : Type 0} → (R → Option Text) → Reader R → Type 0
+HasNoRecordLeft rem reader =
+    (text : Option Text) (before : List Fields) → ReaderIsAfterRecords text before (reader_state reader) (source_of rem reader) → HasExactlyRecords text before
+
+-- Reading a record failed with the fault `kind`: the reader failed, or memory ran out.
+abbrev pub IsReadFault : FaultKind → Type 0
+IsReadFault kind = (kind ≡ kinds.Read) ⊎ (kind ≡ kinds.Desk Memory)
+
+-- No row was read, and the batch ended with `fault`, before any row was decided. `NoEnd`: no record
+-- is left. Otherwise reading failed.
+abbrev pub FirstRowEndsBatchWith : {R : Type 0} → (R → Option Text) → Reader R → BatchFault → Type 0
+FirstRowEndsBatchWith rem reader fault =
+    ((fault ≡ record { rows = 0; kind = kinds.NoEnd }) × HasNoRecordLeft rem reader)
+    ⊎ ((kind : FaultKind) × (fault ≡ record { rows = 0; kind = kind }) × IsReadFault kind)
+
+-- No record after the row was read, and the batch ended with `fault`. Either reading failed, and
+-- nothing was written; or no record is left, and the row was refused, or its line was not written
+-- (`CutRowEndsBatchWith`).
+abbrev pub NextRecordEndsBatchWith : {R : Type 0} → (R → Option Text) → Reader R → ℕ → Option Text → Option Text → BatchFault → Type 0
+NextRecordEndsBatchWith rem reader settled old new fault =
+    ((kind : FaultKind) × (fault ≡ record { rows = settled; kind = kind }) × IsReadFault kind × (new ≡ old))
+    ⊎ ((kind : FaultKind) × (fault ≡ record { rows = settled + 1; kind = kind }) × HasNoRecordLeft rem reader
+    × CutRowEndsBatchWith old new (answer_line (settled + 1) (Refused BadText)) kind)
+
+-- The row is decided: it has an answer, the line of the answer was written, and the counts `more`
+-- are `counts` with this answer added.
+pub record RowIsDecided {D S X C : Type 0} (honest : D → Type 0) (stands : D → S → Type 0) (leaves : D → S → S → Type 0) (acts : RowCallRelation D X) (step : RowStep S X)
+    (gives : C → ℕ → C → Type 0) (read : ReadResult X) (batch : Text) (settled : ℕ) (first last : D) (outside : ClockAndWriterChange C) (counts more : Counts) : Type 0 where
+  pub answer : Answer
+  pub given : RowHasAnswer honest (RepresentsDurably stands leaves) acts step gives read batch (settled + 1) answer first last outside.clock outside.later
+  pub written : Appends outside.old outside.new (answer_line (settled + 1) answer)
+  pub counted : more ≡ counts_with_answer counts answer
+
+-- The row was not decided, and the batch ended with the fault `fault` of the desk: the row failed
+-- (`RowFailsWith`), the desk represents the bases that it represented before, and nothing was
+-- written.
+pub record RowIsNotDecided {D S X C : Type 0} (honest : D → Type 0) (stands : D → S → Type 0) (leaves : D → S → S → Type 0) (acts : RowCallRelation D X) (step : RowStep S X)
+    (gives : C → ℕ → C → Type 0) (read : ReadResult X) (batch : Text) (settled : ℕ) (first last : D) (outside : ClockAndWriterChange C) (fault : BatchFault) : Type 0 where
+  pub cause : Fault
+  pub is : fault ≡ record { rows = settled; kind = kinds.Desk cause }
+  pub failed : RowFailsWith honest stands leaves acts step gives read batch (settled + 1) cause first last outside.clock outside.later
+  pub may_fail : IsCallFault cause
+  pub represented : PreservesRepresentedBases honest stands first last
+  pub unwritten : outside.new ≡ outside.old
+
+-- The row has an answer, but its line was not written, and the batch ended with `fault`.
+pub record RowLineIsNotWritten {D S X C : Type 0} (honest : D → Type 0) (stands : D → S → Type 0) (leaves : D → S → S → Type 0) (acts : RowCallRelation D X) (step : RowStep S X)
+    (gives : C → ℕ → C → Type 0) (read : ReadResult X) (batch : Text) (settled : ℕ) (first last : D) (outside : ClockAndWriterChange C) (fault : BatchFault) : Type 0 where
+  pub answer : Answer
+  pub given : RowHasAnswer honest (RepresentsDurably stands leaves) acts step gives read batch (settled + 1) answer first last outside.clock outside.later
+  pub kind : FaultKind
+  pub is : fault ≡ record { rows = settled + 1; kind = kind }
+  pub part : LineWriteFailsWith outside.old outside.new (answer_line (settled + 1) answer) kind
+
+-- The batch ended with `fault` at the row: it was not decided, or its line was not written.
+abbrev pub RowEndsBatchWith : {D S X C : Type 0} → (D → Type 0) → (D → S → Type 0) → (D → S → S → Type 0) → RowCallRelation D X → RowStep S X → (C → ℕ → C → Type 0)
+    → ReadResult X → Text → ℕ → D → D → ClockAndWriterChange C → BatchFault → Type 0
+RowEndsBatchWith honest stands leaves acts step gives read batch settled first last outside fault =
+    RowIsNotDecided honest stands leaves acts step gives read batch settled first last outside fault
+    ⊎ RowLineIsNotWritten honest stands leaves acts step gives read batch settled first last outside fault

@@ -1,0 +1,73 @@
+-- The lines that a walk over the cash rows of an account writes, and how far it has come.
+use Rattle.std.specs.Prelude.{◌≡◌, ℕ, ◌+◌, ℤ, ◌+ℤ◌, Bool, true, false, List, [], ◌∷◌, ◌++◌, Option, Result, Ok, Err, codes, length, map, nat_lt}
+use Rattle.std.specs.Io.KnownBytes.{Appends}
+use Rattle.brk_money.specs.Spelling.{Text}
+use Rattle.brk_model.specs.Statement.{amount_line, cash_move_rows_before_day, cash_move_rows_of_account, cash_move_rows_within_days}
+use Rattle.brk_model.specs.Statement.{cash_row_line, cash_row_total, text_of_lines}
+use Rattle.brk_model.specs.Tables.{MoveRow, Tables}
+use Rattle.brk_report.specs.declared.visitors.CashProgress.{CashProgress}
+use Rattle.brk_report_lines.specs.Written.{FailsWithinFirstLines}
+use Rattle.brk_report_lines.specs.declared.fault.LinesFault.{LinesFault}
+
+-- The line of the opening amount `opening`, in cents, or no line if the Boolean is true: the line
+-- is then written already.
+abbrev pub opening_line_unless : Bool → ℤ → List Text
+opening_line_unless true opening = []
+opening_line_unless false opening = amount_line (codes "Opening") opening ∷ []
+
+-- How far a walk has come before its first row, from the balance `opening` on, in cents: no line is
+-- written.
+abbrev pub progress_before_rows : ℤ → CashProgress
+progress_before_rows opening = record { is_opened = false; count = 0; total = opening }
+
+-- How far the walk has come after the cash row `row`. The Boolean is true if the row is before the
+-- first stamp; it is then added to the total alone.
+abbrev pub progress_after_row : Bool → CashProgress → MoveRow → CashProgress
+progress_after_row true p row = record { is_opened = p.is_opened; count = p.count; total = p.total +ℤ row.amount }
+progress_after_row false p row = record { is_opened = true; count = p.count + 1; total = p.total +ℤ row.amount }
+
+-- The lines that the walk writes for the cash row `row`: none if it is before the first stamp (the
+-- Boolean is true), otherwise the line of the opening amount, unless it is written, and the line of
+-- the row.
+abbrev pub lines_of_row : Bool → CashProgress → MoveRow → List Text
+lines_of_row true p row = []
+lines_of_row false p row = opening_line_unless p.is_opened p.total ++ cash_row_line row ∷ []
+
+-- How far the walk has come after the rows, one after another, if `first` is the first stamp.
+abbrev pub progress_after_rows : ℕ → CashProgress → List MoveRow → CashProgress
+progress_after_rows first p [] = p
+progress_after_rows first p (row ∷ rows) = progress_after_rows first (progress_after_row (nat_lt row.stamp first) p row) rows
+
+-- The lines that the walk writes for the rows, one after another, if `first` is the first stamp.
+abbrev pub lines_of_rows : ℕ → CashProgress → List MoveRow → List Text
+lines_of_rows first p [] = []
+lines_of_rows first p (row ∷ rows) =
+    lines_of_row (nat_lt row.stamp first) p row ++ lines_of_rows first (progress_after_row (nat_lt row.stamp first) p row) rows
+
+-- `Ok`: exactly the lines of the walk over the rows were written, from the balance `opening` on, in
+-- cents, and the result is how far it has come. `Err`: writing them failed as
+-- `FailsWithinFirstLines` specifies.
+abbrev pub WritesLinesOfWalk : List MoveRow → ℕ → ℤ → Option Text → Option Text → Result CashProgress LinesFault → Type 0
+WritesLinesOfWalk rows first opening old new (Ok moved) =
+    Appends old new (text_of_lines (lines_of_rows first (progress_before_rows opening) rows))
+    × (moved ≡ progress_after_rows first (progress_before_rows opening) rows)
+WritesLinesOfWalk rows first opening old new (Err e) = FailsWithinFirstLines (lines_of_rows first (progress_before_rows opening) rows) old new e
+
+-- The line of the opening amount: `opening` plus the amounts of the cash rows of `account` before
+-- the day `from`, in cents; and a line for each of its cash rows from the day `from` to the day
+-- `to`, both included.
+abbrev pub opening_and_cash_lines : Tables → ℕ → ℕ → ℕ → ℤ → List Text
+opening_and_cash_lines t account from to opening =
+    amount_line (codes "Opening") (opening +ℤ cash_row_total (cash_move_rows_before_day from (cash_move_rows_of_account t account)))
+    ∷ map cash_row_line (cash_move_rows_within_days from to (cash_move_rows_of_account t account))
+
+-- `Ok`: exactly these lines were written, and the result has the number of the cash rows that have
+-- a line and, in cents, `opening` plus the amounts of all cash rows up to the day `to`. `Err`:
+-- writing them failed as `FailsWithinFirstLines` specifies.
+abbrev pub WritesCashLines : Tables → ℕ → ℕ → ℕ → ℤ → Option Text → Option Text → Result CashProgress LinesFault → Type 0
+WritesCashLines t account from to opening old new (Ok moved) =
+    Appends old new (text_of_lines (opening_and_cash_lines t account from to opening))
+    × (moved.count ≡ length (cash_move_rows_within_days from to (cash_move_rows_of_account t account)))
+    × (moved.total ≡ opening +ℤ cash_row_total (cash_move_rows_before_day from (cash_move_rows_of_account t account))
+    +ℤ cash_row_total (cash_move_rows_within_days from to (cash_move_rows_of_account t account)))
+WritesCashLines t account from to opening old new (Err e) = FailsWithinFirstLines (opening_and_cash_lines t account from to opening) old new e
