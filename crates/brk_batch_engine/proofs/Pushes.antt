@@ -79,8 +79,8 @@ lines_push n (x ∷ xs) answer =
 -- have the answers `replies` from this base, and the desk represents the base after them. Vacuous
 -- if the disk assumption fails.
 abbrev pub CallsRefineSteps : {D S X : Type 0} → (D → Type 0) → (D → S → Type 0) → RowStep S X → D → D → List (RowCall X) → List Answer → Type 0
-CallsRefineSteps {S = S} honest stands step first desk calls replies =
-    honest desk → (base : S) → stands first base → (after : S) × stands desk after × CallsHaveAnswers step base calls replies after
+CallsRefineSteps {S = S} meets_disk_assumption represents step first desk calls replies =
+    meets_disk_assumption desk → (base : S) → represents first base → (after : S) × represents desk after × CallsHaveAnswers step base calls replies after
 
 -- The call of a row as a clock reading, a command and a key.
 abbrev pub desk_call_of_row_call : {X : Type 0} → RowCall X → ℕ × (X × Key)
@@ -100,7 +100,7 @@ called_push acts first mid last calls replies call answer made acted =
 
 -- The rows have these answers, with one clock reading for each well-formed row, and the desk
 -- changed from `first` to `desk` only by their calls.
-pub record RowsHaveAnswers {D S X C : Type 0} (honest : D → Type 0) (stands : Bool → D → S → Type 0) (acts : RowCallRelation D X) (form : Fields → ReadResult X) (step : RowStep S X) (gives : C → ℕ → C → Type 0)
+pub record RowsHaveAnswers {D S X C : Type 0} (meets_disk_assumption : D → Type 0) (represents : Bool → D → S → Type 0) (acts : RowCallRelation D X) (form : Fields → ReadResult X) (step : RowStep S X) (gives : C → ℕ → C → Type 0)
     (batch : Text) (first : D) (clock : C) (rows : List Fields) (answers : List Answer) (desk : D) (later : C) : Type 0 where
   pub moments : List ℕ
   pub replies : List Answer
@@ -109,15 +109,15 @@ pub record RowsHaveAnswers {D S X C : Type 0} (honest : D → Type 0) (stands : 
   pub replied : length replies ≡ length (well_formed_rows_from form 1 rows)
   pub all : answers ≡ answers_interleaved_with_refusals form rows replies
   pub made : CallsHaveReplies acts first (calls_of_rows batch moments (well_formed_rows_from form 1 rows)) replies desk
-  pub follows : (sure : Bool) → CallsRefineSteps honest (stands sure) step first desk (calls_of_rows batch moments (well_formed_rows_from form 1 rows)) replies
+  pub follows : (sure : Bool) → CallsRefineSteps meets_disk_assumption (represents sure) step first desk (calls_of_rows batch moments (well_formed_rows_from form 1 rows)) replies
 
 -- one more row, answered as its form says
-pub answered_push : {D S X C : Type 0} (honest : D → Type 0) (stands : Bool → D → S → Type 0) (acts : RowCallRelation D X) (form : Fields → ReadResult X) (step : RowStep S X) (gives : C → ℕ → C → Type 0)
+pub answered_push : {D S X C : Type 0} (meets_disk_assumption : D → Type 0) (represents : Bool → D → S → Type 0) (acts : RowCallRelation D X) (form : Fields → ReadResult X) (step : RowStep S X) (gives : C → ℕ → C → Type 0)
     (batch : Text) (first mid desk : D) (clock c later : C) (rows : List Fields) (answers : List Answer) (row : Fields) (answer : Answer)
-    → RowsHaveAnswers honest stands acts form step gives batch first clock rows answers mid c → (honest desk → honest mid)
-    → (o : ReadResult X) → form row ≡ o → RowHasAnswer honest stands acts step gives o batch (1 + length rows) answer mid desk c later
-    → RowsHaveAnswers honest stands acts form step gives batch first clock (rows ++ (row ∷ [])) (answers ++ (answer ∷ [])) desk later
-answered_push {X = X} honest stands acts form step gives batch first mid desk clock c later rows answers row answer h earlier (Err k) e a =
+    → RowsHaveAnswers meets_disk_assumption represents acts form step gives batch first clock rows answers mid c → (meets_disk_assumption desk → meets_disk_assumption mid)
+    → (o : ReadResult X) → form row ≡ o → RowHasAnswer meets_disk_assumption represents acts step gives o batch (1 + length rows) answer mid desk c later
+    → RowsHaveAnswers meets_disk_assumption represents acts form step gives batch first clock (rows ++ (row ∷ [])) (answers ++ (answer ∷ [])) desk later
+answered_push {X = X} meets_disk_assumption represents acts form step gives batch first mid desk clock c later rows answers row answer h earlier (Err k) e a =
     let formed = formed_push form 1 rows row ∙ ap (λ (o : ReadResult X). well_formed_rows_from form 1 rows ++ with_well_formed_row o (1 + length rows) []) e ∙ append-nil (well_formed_rows_from form 1 rows) in
     let wove = rw (append-nil h.replies, e) at (woven_push form 1 rows row h.replies [] h.replied) in
     record {
@@ -130,7 +130,7 @@ answered_push {X = X} honest stands acts form step gives batch first mid desk cl
       made = rw (formed, a.1) h.made;
       follows = rw (formed, a.1) h.follows;
     }
-answered_push {S = S} {X = X} honest stands acts form step gives batch first mid desk clock c later rows answers row answer h earlier (Ok command) e a =
+answered_push {S = S} {X = X} meets_disk_assumption represents acts form step gives batch first mid desk clock c later rows answers row answer h earlier (Ok command) e a =
     let formed = formed_push form 1 rows row ∙ ap (λ (o : ReadResult X). well_formed_rows_from form 1 rows ++ with_well_formed_row o (1 + length rows) []) e in
     let wove = rw e at (woven_push form 1 rows row h.replies (answer ∷ []) h.replied) in
     let longer : length (well_formed_rows_from form 1 (rows ++ (row ∷ []))) ≡ length (well_formed_rows_from form 1 rows) + 1 =

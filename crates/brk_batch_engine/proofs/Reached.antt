@@ -48,13 +48,13 @@ pub record BatchPosition (C R : Type 0) : Type 0 where
 
 -- The rows before the position `place` are decided, and the desk changed from `first` to `desk`
 -- only by their calls.
-pub record HasReachedPosition {D S X C R : Type 0} (honest : D → Type 0) (stands : Bool → D → S → Type 0) (acts : RowCallRelation D X) (form : Fields → ReadResult X) (step : RowStep S X) (gives : C → ℕ → C → Type 0)
+pub record HasReachedPosition {D S X C R : Type 0} (meets_disk_assumption : D → Type 0) (represents : Bool → D → S → Type 0) (acts : RowCallRelation D X) (form : Fields → ReadResult X) (step : RowStep S X) (gives : C → ℕ → C → Type 0)
     (rem : R → Option Text) (first : D) (head : BatchStart C R) (desk : D) (place : BatchPosition C R) : Type 0 where
   pub rows : List Fields
   pub answers : List Answer
   pub named : IsBatchName head.name
   pub rows_only : AllByRecursion (λ row. ¬ (IsEndRecord row)) rows
-  pub answered : RowsHaveAnswers honest stands acts form step gives head.name first head.clock rows answers desk place.later
+  pub answered : RowsHaveAnswers meets_disk_assumption represents acts form step gives head.name first head.clock rows answers desk place.later
   pub each : length answers ≡ length rows
   pub size : length rows ≡ place.settled
   pub counts : place.counts ≡ counts_of_answers answers
@@ -62,12 +62,12 @@ pub record HasReachedPosition {D S X C R : Type 0} (honest : D → Type 0) (stan
       → IsReaderAfterRecords rem text (batch_header head.name ∷ (rows ++ (place.row ∷ []))) place.reader
 
 -- before the first row
-pub reached_start : {D S X C R : Type 0} (honest : D → Type 0) (stands : Bool → D → S → Type 0) (acts : RowCallRelation D X) (form : Fields → ReadResult X) (step : RowStep S X) (gives : C → ℕ → C → Type 0)
+pub reached_start : {D S X C R : Type 0} (meets_disk_assumption : D → Type 0) (represents : Bool → D → S → Type 0) (acts : RowCallRelation D X) (form : Fields → ReadResult X) (step : RowStep S X) (gives : C → ℕ → C → Type 0)
     (rem : R → Option Text) (first : D) (head : BatchStart C R) (row : Fields) (reader : Reader R) → IsBatchName head.name
     → ((text : Option Text) (before : List Fields) → IsReaderAfterRecords rem text before head.reader → IsReaderAfterRecords rem text (before ++ (row ∷ [])) reader)
-    → (r : HasReachedPosition honest stands acts form step gives rem first head first
+    → (r : HasReachedPosition meets_disk_assumption represents acts form step gives rem first head first
     (record { settled = 0; counts = record { ok = 0; again = 0; no = 0 }; row = row; later = head.clock; reader = reader })) × (r.answers ≡ [])
-reached_start honest stands acts form step gives rem first head row reader named found = (
+reached_start meets_disk_assumption represents acts form step gives rem first head row reader named found = (
   record {
     rows = [];
     answers = [];
@@ -96,20 +96,20 @@ abbrev pub position_after_row : {C R : Type 0} → BatchPosition C R → Counts 
 position_after_row place counts row later reader = record { settled = place.settled + 1; counts = counts; row = row; later = later; reader = reader }
 
 -- one row more was answered, after the record after it had been read
-pub reached_more : {D S X C R : Type 0} (honest : D → Type 0) (stands : Bool → D → S → Type 0) (acts : RowCallRelation D X) (form : Fields → ReadResult X) (step : RowStep S X) (gives : C → ℕ → C → Type 0)
+pub reached_more : {D S X C R : Type 0} (meets_disk_assumption : D → Type 0) (represents : Bool → D → S → Type 0) (acts : RowCallRelation D X) (form : Fields → ReadResult X) (step : RowStep S X) (gives : C → ℕ → C → Type 0)
     (rem : R → Option Text) (first : D) (head : BatchStart C R) (mid : D) (place : BatchPosition C R) (answer : Answer) (counts : Counts) (row : Fields) (desk : D) (later : C) (reader : Reader R)
-    → (r : HasReachedPosition honest stands acts form step gives rem first head mid place) → ¬ (IsEndRecord place.row) → counts ≡ counts_with_answer place.counts answer → (honest desk → honest mid)
-    → RowHasAnswer honest stands acts step gives (form place.row) head.name (place.settled + 1) answer mid desk place.later later
+    → (r : HasReachedPosition meets_disk_assumption represents acts form step gives rem first head mid place) → ¬ (IsEndRecord place.row) → counts ≡ counts_with_answer place.counts answer → (meets_disk_assumption desk → meets_disk_assumption mid)
+    → RowHasAnswer meets_disk_assumption represents acts step gives (form place.row) head.name (place.settled + 1) answer mid desk place.later later
     → ((text : Option Text) (before : List Fields) → IsReaderAfterRecords rem text before place.reader → IsReaderAfterRecords rem text (before ++ (row ∷ [])) reader)
-    → (q : HasReachedPosition honest stands acts form step gives rem first head desk (position_after_row place counts row later reader)) × (q.answers ≡ r.answers ++ (answer ∷ []))
-reached_more honest stands acts form step gives rem first head mid place answer counts row desk later reader r other more earlier given found =
+    → (q : HasReachedPosition meets_disk_assumption represents acts form step gives rem first head desk (position_after_row place counts row later reader)) × (q.answers ≡ r.answers ++ (answer ∷ []))
+reached_more meets_disk_assumption represents acts form step gives rem first head mid place answer counts row desk later reader r other more earlier given found =
     let number : place.settled + 1 ≡ 1 + length r.rows = omega (arith, r.size) in (
       record {
         rows = r.rows ++ (place.row ∷ []);
         answers = r.answers ++ (answer ∷ []);
         named = r.named;
         rows_only = all_push (λ (x : Fields). ¬ (IsEndRecord x)) r.rows place.row r.rows_only other;
-        answered = answered_push honest stands acts form step gives head.name first mid desk head.clock place.later later r.rows r.answers place.row answer r.answered earlier
+        answered = answered_push meets_disk_assumption represents acts form step gives head.name first mid desk head.clock place.later later r.rows r.answers place.row answer r.answered earlier
             (form place.row) refl (rw number at given);
         each = length-append r.answers (answer ∷ []) ∙ ap (λ (n : ℕ). n + 1) r.each ∙ sym (length-append r.rows (place.row ∷ []));
         size = length-append r.rows (place.row ∷ []) ∙ ap (λ (n : ℕ). n + 1) r.size;
@@ -128,11 +128,11 @@ abbrev pub position_with_base : {S C R : Type 0} → BatchPosition C R → S →
 position_with_base place after = record { settled = place.settled; counts = place.counts; row = place.row; after = after; later = place.later; reader = place.reader }
 
 -- the progress of a batch by some steps, over some base
-abbrev pub progress_of : {D S T X C R : Type 0} (honest : D → Type 0) (stands : Bool → D → S → Type 0) (acts : RowCallRelation D X) (form : Fields → ReadResult X) (step : RowStep S X) (gives : C → ℕ → C → Type 0)
-    (rem : R → Option Text) (first : D) (head : BatchStart C R) (desk : D) (place : BatchPosition C R) (r : HasReachedPosition honest stands acts form step gives rem first head desk place)
+abbrev pub progress_of : {D S T X C R : Type 0} (meets_disk_assumption : D → Type 0) (represents : Bool → D → S → Type 0) (acts : RowCallRelation D X) (form : Fields → ReadResult X) (step : RowStep S X) (gives : C → ℕ → C → Type 0)
+    (rem : R → Option Text) (first : D) (head : BatchStart C R) (desk : D) (place : BatchPosition C R) (r : HasReachedPosition meets_disk_assumption represents acts form step gives rem first head desk place)
     (other : RowStep T X) (base after : T) → CallsHaveAnswers other base (calls_of_rows head.name r.answered.moments (well_formed_rows_from form 1 r.rows)) r.answered.replies after
     → HasDecidedRows form other gives rem (start_with_base head base) (position_with_base place after)
-progress_of honest stands acts form step gives rem first head desk place r other base after turns = record {
+progress_of meets_disk_assumption represents acts form step gives rem first head desk place r other base after turns = record {
   rows = r.rows;
   answers = r.answers;
   moments = r.answered.moments;
@@ -150,19 +150,19 @@ progress_of honest stands acts form step gives rem first head desk place r other
 }
 
 -- a crash exposes only the base after the batch
-pub alone_at : {D S X C : Type 0} (form : Fields → ReadResult X) (step : RowStep S X) (gives : C → ℕ → C → Type 0) (leaves : D → S → S → Type 0) (text : Option Text) (span : EnvironmentChange S C) (last : D)
-    (result : Result Counts BatchFault) → leaves last span.after span.after → BoundsBatchCrashStates form step gives leaves text span last result
-alone_at form step gives leaves text span last (Ok counts) alone = alone
-alone_at form step gives leaves text span last (Err fault) alone = inl alone
+pub alone_at : {D S X C : Type 0} (form : Fields → ReadResult X) (step : RowStep S X) (gives : C → ℕ → C → Type 0) (crash_exposes_only : D → S → S → Type 0) (text : Option Text) (span : EnvironmentChange S C) (last : D)
+    (result : Result Counts BatchFault) → crash_exposes_only last span.after span.after → BoundsBatchCrashStates form step gives crash_exposes_only text span last result
+alone_at form step gives crash_exposes_only text span last (Ok counts) alone = alone
+alone_at form step gives crash_exposes_only text span last (Err fault) alone = inl alone
 
 -- if each call was answered, the script has the calls and their answers
-pub tells_all : {D S X C R : Type 0} (honest : D → Type 0) (stands : Bool → D → S → Type 0) (acts : RowCallRelation D X) (form : Fields → ReadResult X) (step : RowStep S X) (gives : C → ℕ → C → Type 0)
-    (rem : R → Option Text) (first : D) (head : BatchStart C R) (desk : D) (place : BatchPosition C R) (r : HasReachedPosition honest stands acts form step gives rem first head desk place)
+pub tells_all : {D S X C R : Type 0} (meets_disk_assumption : D → Type 0) (represents : Bool → D → S → Type 0) (acts : RowCallRelation D X) (form : Fields → ReadResult X) (step : RowStep S X) (gives : C → ℕ → C → Type 0)
+    (rem : R → Option Text) (first : D) (head : BatchStart C R) (desk : D) (place : BatchPosition C R) (r : HasReachedPosition meets_disk_assumption represents acts form step gives rem first head desk place)
     (text : Option Text) (was now : Option Text) (result : Result Counts BatchFault) → IfErr result (λ fault. DeskFaultIsMemory fault.kind)
     → ((T : Type 0) (other : RowStep T X) (base after : T) → CallsHaveAnswers other base (calls_of_rows head.name r.answered.moments (well_formed_rows_from form 1 r.rows)) r.answered.replies after
     → IsBatchResult form other gives text (record { base = base; after = after; clock = head.clock; later = place.later; old = was; new = now }) result)
     → ChangesOnlyByRowCalls acts form gives text first desk (record { clock = head.clock; later = place.later; old = was; new = now }) result
-tells_all {X = X} honest stands acts form step gives rem first head desk place r text was now result memory so =
+tells_all {X = X} meets_disk_assumption represents acts form step gives rem first head desk place r text was now result memory so =
     let calls = calls_of_rows head.name r.answered.moments (well_formed_rows_from form 1 r.rows) in
     let each : length r.answered.replies ≡ length calls = r.answered.replied ∙ sym (calls_length head.name r.answered.moments (well_formed_rows_from form 1 r.rows) r.answered.one_each) in (
       (map desk_call_of_row_call calls, map Did r.answered.replies),
@@ -179,15 +179,15 @@ tells_all {X = X} honest stands acts form step gives rem first head desk place r
     )
 
 -- the script has also a call that failed
-pub tells_failed : {D S X C R : Type 0} (honest : D → Type 0) (stands : Bool → D → S → Type 0) (acts : RowCallRelation D X) (form : Fields → ReadResult X) (step : RowStep S X) (gives : C → ℕ → C → Type 0)
-    (rem : R → Option Text) (first : D) (head : BatchStart C R) (desk : D) (place : BatchPosition C R) (r : HasReachedPosition honest stands acts form step gives rem first head desk place)
+pub tells_failed : {D S X C R : Type 0} (meets_disk_assumption : D → Type 0) (represents : Bool → D → S → Type 0) (acts : RowCallRelation D X) (form : Fields → ReadResult X) (step : RowStep S X) (gives : C → ℕ → C → Type 0)
+    (rem : R → Option Text) (first : D) (head : BatchStart C R) (desk : D) (place : BatchPosition C R) (r : HasReachedPosition meets_disk_assumption represents acts form step gives rem first head desk place)
     (text : Option Text) (new : Option Text) (later : C) (last : D) (next : Fields) (reader : Reader R) (f : Fault) (moment : ℕ) (command : X)
     → form place.row ≡ Ok command → gives place.later moment later → acts desk moment (command, record { batch = head.name; row = place.settled + 1 }) (Failed f) last
     → IsCallFault f → Appends head.old new (answer_lines_from 1 r.answers)
     → ((text : Option Text) (before : List Fields) → IsReaderAfterRecords rem text before place.reader → IsReaderAfterRecords rem text (before ++ (next ∷ [])) reader)
     → IsReaderAfterRecords rem text (batch_header head.name ∷ []) head.reader
     → ChangesOnlyByRowCalls acts form gives text first last (record { clock = head.clock; later = later; old = head.old; new = new }) (Err (record { rows = place.settled; kind = kinds.Desk f }))
-tells_failed {D = D} {X = X} honest stands acts form step gives rem first head desk place r text new later last next reader f moment command formed given acted may wrote found h =
+tells_failed {D = D} {X = X} meets_disk_assumption represents acts form step gives rem first head desk place r text new later last next reader f moment command formed given acted may wrote found h =
     let calls = calls_of_rows head.name r.answered.moments (well_formed_rows_from form 1 r.rows) in
     let each : length r.answered.replies ≡ length calls = r.answered.replied ∙ sym (calls_length head.name r.answered.moments (well_formed_rows_from form 1 r.rows) r.answered.one_each) in
     let under : ℕ × (X × Key) = (moment, (command, record { batch = head.name; row = place.settled + 1 })) in
@@ -204,7 +204,7 @@ tells_failed {D = D} {X = X} honest stands acts form step gives rem first head d
           r.answered.replies,
           map desk_call_of_row_call calls,
           failed_row form recording_step gives rem (start_with_base head (r.answered.replies, [])) (position_with_base place ([], map desk_call_of_row_call calls)) later new text
-              (progress_of honest stands acts form step gives rem first head desk place r recording_step (r.answered.replies, []) ([], map desk_call_of_row_call calls) turns) next reader f moment command
+              (progress_of meets_disk_assumption represents acts form step gives rem first head desk place r recording_step (r.answered.replies, []) ([], map desk_call_of_row_call calls) turns) next reader f moment command
               formed given may wrote found h,
           refl,
           refl,
@@ -213,35 +213,35 @@ tells_failed {D = D} {X = X} honest stands acts form step gives rem first head d
     )
 
 -- whatever failed, the script has the calls
-pub tells_fault : {D S X C R : Type 0} (honest : D → Type 0) (stands : D → S → Type 0) (leaves : D → S → S → Type 0) (acts : RowCallRelation D X) (form : Fields → ReadResult X) (step : RowStep S X)
+pub tells_fault : {D S X C R : Type 0} (meets_disk_assumption : D → Type 0) (represents : D → S → Type 0) (crash_exposes_only : D → S → S → Type 0) (acts : RowCallRelation D X) (form : Fields → ReadResult X) (step : RowStep S X)
     (gives : C → ℕ → C → Type 0) (rem : R → Option Text) (first : D) (head : BatchStart C R) (desk : D) (place : BatchPosition C R)
-    (r : HasReachedPosition honest (RepresentsDurably stands leaves) acts form step gives rem first head desk place)
+    (r : HasReachedPosition meets_disk_assumption (RepresentsDurably represents crash_exposes_only) acts form step gives rem first head desk place)
     (text : Option Text) (new : Option Text) (later : C) (last : D) (next : Fields) (reader : Reader R) (f : Fault)
-    → RowFailsWith honest stands leaves acts step gives (form place.row) head.name (place.settled + 1) f desk last place.later later
+    → RowFailsWith meets_disk_assumption represents crash_exposes_only acts step gives (form place.row) head.name (place.settled + 1) f desk last place.later later
     → IsCallFault f → Appends head.old new (answer_lines_from 1 r.answers)
     → ((text : Option Text) (before : List Fields) → IsReaderAfterRecords rem text before place.reader → IsReaderAfterRecords rem text (before ++ (next ∷ [])) reader)
     → IsReaderAfterRecords rem text (batch_header head.name ∷ []) head.reader
     → ((T : Type 0) (other : RowStep T X) (base after : T) → CallsHaveAnswers other base (calls_of_rows head.name r.answered.moments (well_formed_rows_from form 1 r.rows)) r.answered.replies after
     → IsBatchResult form other gives text (record { base = base; after = after; clock = head.clock; later = later; old = head.old; new = new }) (Err (record { rows = place.settled; kind = kinds.Desk f })))
     → ChangesOnlyByRowCalls acts form gives text first last (record { clock = head.clock; later = later; old = head.old; new = new }) (Err (record { rows = place.settled; kind = kinds.Desk f }))
-tells_fault honest stands leaves acts form step gives rem first head desk place r text new later last next reader f (inl same) may wrote found h so =
-    rw (same.0, same.1) (tells_all honest (RepresentsDurably stands leaves) acts form step gives rem first head desk place r text head.old new (Err (record { rows = place.settled; kind = kinds.Desk f })) same.2 (rw same.1 at so))
-tells_fault honest stands leaves acts form step gives rem first head desk place r text new later last next reader f (inr way) may wrote found h so =
-    tells_failed honest (RepresentsDurably stands leaves) acts form step gives rem first head desk place r text new later last next reader f way.0 way.1 way.2 way.3 way.4 may wrote found h
+tells_fault meets_disk_assumption represents crash_exposes_only acts form step gives rem first head desk place r text new later last next reader f (inl same) may wrote found h so =
+    rw (same.0, same.1) (tells_all meets_disk_assumption (RepresentsDurably represents crash_exposes_only) acts form step gives rem first head desk place r text head.old new (Err (record { rows = place.settled; kind = kinds.Desk f })) same.2 (rw same.1 at so))
+tells_fault meets_disk_assumption represents crash_exposes_only acts form step gives rem first head desk place r text new later last next reader f (inr way) may wrote found h so =
+    tells_failed meets_disk_assumption (RepresentsDurably represents crash_exposes_only) acts form step gives rem first head desk place r text new later last next reader f way.0 way.1 way.2 way.3 way.4 may wrote found h
 
 -- what holds by all steps, over all bases that they lead from and to, is the postcondition of the
 -- batch
-pub comes : {D S X C R : Type 0} (honest : D → Type 0) (stands : D → S → Type 0) (leaves : D → S → S → Type 0) (acts : RowCallRelation D X) (form : Fields → ReadResult X) (step : RowStep S X)
+pub comes : {D S X C R : Type 0} (meets_disk_assumption : D → Type 0) (represents : D → S → Type 0) (crash_exposes_only : D → S → S → Type 0) (acts : RowCallRelation D X) (form : Fields → ReadResult X) (step : RowStep S X)
     (gives : C → ℕ → C → Type 0) (rem : R → Option Text) (first : D) (head : BatchStart C R) (desk : D) (place : BatchPosition C R)
-    (r : HasReachedPosition honest (RepresentsDurably stands leaves) acts form step gives rem first head desk place)
-    (last : D) (text : Option Text) (outside : ClockAndWriterChange C) (result : Result Counts BatchFault) → (honest last → honest desk) → PreservesRepresentedBases honest stands desk last
+    (r : HasReachedPosition meets_disk_assumption (RepresentsDurably represents crash_exposes_only) acts form step gives rem first head desk place)
+    (last : D) (text : Option Text) (outside : ClockAndWriterChange C) (result : Result Counts BatchFault) → (meets_disk_assumption last → meets_disk_assumption desk) → PreservesRepresentedBases meets_disk_assumption represents desk last
     → ((T : Type 0) (other : RowStep T X) (base after : T) → CallsHaveAnswers other base (calls_of_rows head.name r.answered.moments (well_formed_rows_from form 1 r.rows)) r.answered.replies after
     → IsBatchResult form other gives text (environment_change_with_bases base after outside) result)
     → ChangesOnlyByRowCalls acts form gives text first last outside result
-    → (honest last → (base after : S) → CallsHaveAnswers step base (calls_of_rows head.name r.answered.moments (well_formed_rows_from form 1 r.rows)) r.answered.replies after → stands desk after → leaves desk after after
-    → BoundsBatchCrashStates form step gives leaves text (environment_change_with_bases base after outside) last result)
-    → BatchPost honest stands leaves acts form step gives text first last outside result
-comes {S = S} honest stands leaves acts form step gives rem first head desk place r last text outside result earlier keeps so told stops = record {
+    → (meets_disk_assumption last → (base after : S) → CallsHaveAnswers step base (calls_of_rows head.name r.answered.moments (well_formed_rows_from form 1 r.rows)) r.answered.replies after → represents desk after → crash_exposes_only desk after after
+    → BoundsBatchCrashStates form step gives crash_exposes_only text (environment_change_with_bases base after outside) last result)
+    → BatchPost meets_disk_assumption represents crash_exposes_only acts form step gives text first last outside result
+comes {S = S} meets_disk_assumption represents crash_exposes_only acts form step gives rem first head desk place r last text outside result earlier keeps so told stops = record {
   changed_only_by_calls = told;
   refines_model = λ good base stood.
       let led = r.answered.follows false (earlier good) base stood in
@@ -252,27 +252,27 @@ comes {S = S} honest stands leaves acts form step gives rem first head desk plac
 }
 
 -- the postcondition, if each call was answered
-pub comes_answered : {D S X C R : Type 0} (honest : D → Type 0) (stands : D → S → Type 0) (leaves : D → S → S → Type 0) (acts : RowCallRelation D X) (form : Fields → ReadResult X) (step : RowStep S X)
+pub comes_answered : {D S X C R : Type 0} (meets_disk_assumption : D → Type 0) (represents : D → S → Type 0) (crash_exposes_only : D → S → S → Type 0) (acts : RowCallRelation D X) (form : Fields → ReadResult X) (step : RowStep S X)
     (gives : C → ℕ → C → Type 0) (rem : R → Option Text) (first : D) (head : BatchStart C R) (desk : D) (place : BatchPosition C R)
-    (r : HasReachedPosition honest (RepresentsDurably stands leaves) acts form step gives rem first head desk place)
+    (r : HasReachedPosition meets_disk_assumption (RepresentsDurably represents crash_exposes_only) acts form step gives rem first head desk place)
     (text : Option Text) (was now : Option Text) (result : Result Counts BatchFault) → IfErr result (λ fault. DeskFaultIsMemory fault.kind)
     → ((T : Type 0) (other : RowStep T X) (base after : T) → CallsHaveAnswers other base (calls_of_rows head.name r.answered.moments (well_formed_rows_from form 1 r.rows)) r.answered.replies after
     → IsBatchResult form other gives text (record { base = base; after = after; clock = head.clock; later = place.later; old = was; new = now }) result)
-    → BatchPost honest stands leaves acts form step gives text first desk (record { clock = head.clock; later = place.later; old = was; new = now }) result
-comes_answered honest stands leaves acts form step gives rem first head desk place r text was now result memory so =
-    comes honest stands leaves acts form step gives rem first head desk place r desk text (record { clock = head.clock; later = place.later; old = was; new = now }) result
-    (λ good. good) (λ good base stood. stood) so (tells_all honest (RepresentsDurably stands leaves) acts form step gives rem first head desk place r text was now result memory so)
+    → BatchPost meets_disk_assumption represents crash_exposes_only acts form step gives text first desk (record { clock = head.clock; later = place.later; old = was; new = now }) result
+comes_answered meets_disk_assumption represents crash_exposes_only acts form step gives rem first head desk place r text was now result memory so =
+    comes meets_disk_assumption represents crash_exposes_only acts form step gives rem first head desk place r desk text (record { clock = head.clock; later = place.later; old = was; new = now }) result
+    (λ good. good) (λ good base stood. stood) so (tells_all meets_disk_assumption (RepresentsDurably represents crash_exposes_only) acts form step gives rem first head desk place r text was now result memory so)
     (λ good base after turns stood alone.
-    alone_at form step gives leaves text (record { base = base; after = after; clock = head.clock; later = place.later; old = was; new = now }) desk result alone)
+    alone_at form step gives crash_exposes_only text (record { base = base; after = after; clock = head.clock; later = place.later; old = was; new = now }) desk result alone)
 
 -- the postcondition, if the desk was not called
-pub comes_at_once : {D S X C : Type 0} (honest : D → Type 0) (stands : D → S → Type 0) (leaves : D → S → S → Type 0) (acts : RowCallRelation D X) (form : Fields → ReadResult X) (step : RowStep S X)
+pub comes_at_once : {D S X C : Type 0} (meets_disk_assumption : D → Type 0) (represents : D → S → Type 0) (crash_exposes_only : D → S → S → Type 0) (acts : RowCallRelation D X) (form : Fields → ReadResult X) (step : RowStep S X)
     (gives : C → ℕ → C → Type 0) (desk : D) (text : Option Text) (clock : C) (was now : Option Text) (result : Result Counts BatchFault) → IfErr result (λ fault. DeskFaultIsMemory fault.kind)
     → ((T : Type 0) (other : RowStep T X) (base : T) → IsBatchResult form other gives text (record { base = base; after = base; clock = clock; later = clock; old = was; new = now }) result)
-    → BatchPost honest stands leaves acts form step gives text desk desk (record { clock = clock; later = clock; old = was; new = now }) result
-comes_at_once {S = S} {X = X} honest stands leaves acts form step gives desk text clock was now result memory so = record {
+    → BatchPost meets_disk_assumption represents crash_exposes_only acts form step gives text desk desk (record { clock = clock; later = clock; old = was; new = now }) result
+comes_at_once {S = S} {X = X} meets_disk_assumption represents crash_exposes_only acts form step gives desk text clock was now result memory so = record {
   changed_only_by_calls = (([], []), refl, (refl, inl ([], refl, so (List Answer × RowCalls X) recording_step ([], []), memory)));
   refines_model = λ good base stood. (base, stood, so S step base);
   crash_safe = λ good base stood alone.
-      (base, stood, so S step base, alone_at form step gives leaves text (record { base = base; after = base; clock = clock; later = clock; old = was; new = now }) desk result alone);
+      (base, stood, so S step base, alone_at form step gives crash_exposes_only text (record { base = base; after = base; clock = clock; later = clock; old = was; new = now }) desk result alone);
 }

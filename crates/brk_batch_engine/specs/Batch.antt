@@ -1,11 +1,12 @@
 -- The effects of a run of a batch, for each way in which it ends.
 --
--- Parameters that the traits `Rows` and `Clock` declare: `honest desk`, the disk assumption;
--- `stands desk base`, the desk represents `base`; `leaves desk base other`, a crash exposes only
--- one of these two bases; `acts old now call outcome new`, a call turns the desk `old` into `new`;
--- `form`, the parser of a row; `step`, the model's step for a row; `gives clock moment later`, a
--- reading of the clock. `text` is the text of the batch, or `None` if it is unknown; `span` and
--- `outside` are the desk's base, the clock and the writer's content before and after the batch.
+-- Parameters that the traits `Rows` and `Clock` declare: `meets_disk_assumption desk`, the disk
+-- assumption; `represents desk base`, the desk represents `base`;
+-- `crash_exposes_only desk base other`, a crash exposes only one of these two bases;
+-- `acts old now call outcome new`, a call turns the desk `old` into `new`; `form`, the parser of a
+-- row; `step`, the model's step for a row; `gives clock moment later`, a reading of the clock.
+-- `text` is the text of the batch, or `None` if it is unknown; `span` and `outside` are the desk's
+-- base, the clock and the writer's content before and after the batch.
 use Rattle.std.specs.Prelude.{◌≡◌, ◌+◌, ◌<◌, ◌⊎◌, ◌∷◌, ◌++◌, [], IfErr, List, ℕ, Option, Result, Ok, Err, take, length, map}
 use Rattle.std.specs.Io.KnownBytes.{Appends}
 use Rattle.brk_money.specs.Spelling.{Text}
@@ -209,46 +210,46 @@ ChangesOnlyByRowCalls {X = X} acts form gives text first last outside result =
 
 -- The batch refines the model: for every base that the desk represented before, the lines and the
 -- result follow from the answers of `step` from this base, and the desk represents the base after
--- it. Vacuous if the disk assumption (`honest`) fails after the batch.
+-- it. Vacuous if the disk assumption (`meets_disk_assumption`) fails after the batch.
 abbrev pub BatchRefinesModel : {D S X C : Type 0} → (D → Type 0) → (D → S → Type 0) → (Fields → ReadResult X) → RowStep S X → (C → ℕ → C → Type 0) → Option Text
     → D → D → ClockAndWriterChange C → Result Counts BatchFault → Type 0
-BatchRefinesModel {S = S} honest stands form step gives text first last outside result =
-    honest last → (base : S) → stands first base
-    → (after : S) × stands last after × IsBatchResult form step gives text (environment_change_with_bases base after outside) result
+BatchRefinesModel {S = S} meets_disk_assumption represents form step gives text first last outside result =
+    meets_disk_assumption last → (base : S) → represents first base
+    → (after : S) × represents last after × IsBatchResult form step gives text (environment_change_with_bases base after outside) result
 
 -- The call of the row after the decided rows failed (`NextRowFails`), and a crash exposes only the
 -- base after the decided rows, or the base after the command of this row.
 pub record CrashMayCommitFailedRow {D S X C : Type 0} (form : Fields → ReadResult X) (step : RowStep S X) (gives : C → ℕ → C → Type 0)
-    (leaves : D → S → S → Type 0)
+    (crash_exposes_only : D → S → S → Type 0)
     (text : Option Text) (span : EnvironmentChange S C) (last : D) (fault : BatchFault) : Type 0 where
   pub failed : NextRowFails form step gives text span fault
-  pub may : leaves last span.after (step span.after failed.moment failed.command (record { batch = failed.stopped.name; row = fault.rows + 1 })).1
+  pub may : crash_exposes_only last span.after (step span.after failed.moment failed.command (record { batch = failed.stopped.name; row = fault.rows + 1 })).1
 
 -- A crash after the batch exposes only the base after it; or, only if the batch ended with a fault,
 -- that base or the base after the row whose call failed (`CrashMayCommitFailedRow`).
 abbrev pub BoundsBatchCrashStates : {D S X C : Type 0} → (Fields → ReadResult X) → RowStep S X → (C → ℕ → C → Type 0) → (D → S → S → Type 0) → Option Text
     → EnvironmentChange S C → D → Result Counts BatchFault → Type 0
-BoundsBatchCrashStates form step gives leaves text span last (Ok counts) = leaves last span.after span.after
-BoundsBatchCrashStates form step gives leaves text span last (Err fault) =
-    leaves last span.after span.after ⊎ CrashMayCommitFailedRow form step gives leaves text span last fault
+BoundsBatchCrashStates form step gives crash_exposes_only text span last (Ok counts) = crash_exposes_only last span.after span.after
+BoundsBatchCrashStates form step gives crash_exposes_only text span last (Err fault) =
+    crash_exposes_only last span.after span.after ⊎ CrashMayCommitFailedRow form step gives crash_exposes_only text span last fault
 
 -- Crash safety of a batch: for every base that the desk represented before, if a crash before the
 -- batch exposed only this base, the batch is answered as by `step`, and the desk represents the
 -- base after the decided rows. A crash then exposes only the base after the decided rows, or after
--- a fault also the base after the row whose call failed. Vacuous if the disk assumption (`honest`)
--- fails after the batch.
+-- a fault also the base after the row whose call failed. Vacuous if the disk assumption
+-- (`meets_disk_assumption`) fails after the batch.
 abbrev pub IsBatchCrashSafe : {D S X C : Type 0} → (D → Type 0) → (D → S → Type 0) → (D → S → S → Type 0) → (Fields → ReadResult X) → RowStep S X
     → (C → ℕ → C → Type 0) → Option Text → D → D → ClockAndWriterChange C → Result Counts BatchFault → Type 0
-IsBatchCrashSafe {S = S} honest stands leaves form step gives text first last outside result =
-    honest last → (base : S) → stands first base → leaves first base base → (after : S) × stands last after
+IsBatchCrashSafe {S = S} meets_disk_assumption represents crash_exposes_only form step gives text first last outside result =
+    meets_disk_assumption last → (base : S) → represents first base → crash_exposes_only first base base → (after : S) × represents last after
     × IsBatchResult form step gives text (environment_change_with_bases base after outside) result
-    × BoundsBatchCrashStates form step gives leaves text (environment_change_with_bases base after outside) last result
+    × BoundsBatchCrashStates form step gives crash_exposes_only text (environment_change_with_bases base after outside) last result
 
 -- The postcondition of a run of a batch: the desk changed only by the calls of its rows, the batch
 -- refines the model, and it is crash-safe.
-pub record BatchPost {D S X C : Type 0} (honest : D → Type 0) (stands : D → S → Type 0) (leaves : D → S → S → Type 0) (acts : RowCallRelation D X)
+pub record BatchPost {D S X C : Type 0} (meets_disk_assumption : D → Type 0) (represents : D → S → Type 0) (crash_exposes_only : D → S → S → Type 0) (acts : RowCallRelation D X)
     (form : Fields → ReadResult X) (step : RowStep S X)
     (gives : C → ℕ → C → Type 0) (text : Option Text) (first last : D) (outside : ClockAndWriterChange C) (result : Result Counts BatchFault) : Type 0 where
   pub changed_only_by_calls : ChangesOnlyByRowCalls acts form gives text first last outside result
-  pub refines_model : BatchRefinesModel honest stands form step gives text first last outside result
-  pub crash_safe : IsBatchCrashSafe honest stands leaves form step gives text first last outside result
+  pub refines_model : BatchRefinesModel meets_disk_assumption represents form step gives text first last outside result
+  pub crash_safe : IsBatchCrashSafe meets_disk_assumption represents crash_exposes_only form step gives text first last outside result

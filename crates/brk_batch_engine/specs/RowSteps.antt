@@ -62,30 +62,30 @@ NextRecordEndsBatchWith rem reader settled old new fault =
 
 -- The row is decided: it has an answer, the line of the answer was written, and the counts `more`
 -- are `counts` with this answer added.
-pub record RowIsDecided {D S X C : Type 0} (honest : D → Type 0) (stands : D → S → Type 0) (leaves : D → S → S → Type 0) (acts : RowCallRelation D X) (step : RowStep S X)
+pub record RowIsDecided {D S X C : Type 0} (meets_disk_assumption : D → Type 0) (represents : D → S → Type 0) (crash_exposes_only : D → S → S → Type 0) (acts : RowCallRelation D X) (step : RowStep S X)
     (gives : C → ℕ → C → Type 0) (read : ReadResult X) (batch : Text) (settled : ℕ) (first last : D) (outside : ClockAndWriterChange C) (counts more : Counts) : Type 0 where
   pub answer : Answer
-  pub given : RowHasAnswer honest (RepresentsDurably stands leaves) acts step gives read batch (settled + 1) answer first last outside.clock outside.later
+  pub given : RowHasAnswer meets_disk_assumption (RepresentsDurably represents crash_exposes_only) acts step gives read batch (settled + 1) answer first last outside.clock outside.later
   pub written : Appends outside.old outside.new (answer_line (settled + 1) answer)
   pub counted : more ≡ counts_with_answer counts answer
 
 -- The row was not decided, and the batch ended with the fault `fault` of the desk: the row failed
 -- (`RowFailsWith`), the desk represents the bases that it represented before, and nothing was
 -- written.
-pub record RowIsNotDecided {D S X C : Type 0} (honest : D → Type 0) (stands : D → S → Type 0) (leaves : D → S → S → Type 0) (acts : RowCallRelation D X) (step : RowStep S X)
+pub record RowIsNotDecided {D S X C : Type 0} (meets_disk_assumption : D → Type 0) (represents : D → S → Type 0) (crash_exposes_only : D → S → S → Type 0) (acts : RowCallRelation D X) (step : RowStep S X)
     (gives : C → ℕ → C → Type 0) (read : ReadResult X) (batch : Text) (settled : ℕ) (first last : D) (outside : ClockAndWriterChange C) (fault : BatchFault) : Type 0 where
   pub cause : Fault
   pub is : fault ≡ record { rows = settled; kind = kinds.Desk cause }
-  pub failed : RowFailsWith honest stands leaves acts step gives read batch (settled + 1) cause first last outside.clock outside.later
+  pub failed : RowFailsWith meets_disk_assumption represents crash_exposes_only acts step gives read batch (settled + 1) cause first last outside.clock outside.later
   pub may_fail : IsCallFault cause
-  pub represented : PreservesRepresentedBases honest stands first last
+  pub represented : PreservesRepresentedBases meets_disk_assumption represents first last
   pub unwritten : outside.new ≡ outside.old
 
 -- The row has an answer, but its line was not written, and the batch ended with `fault`.
-pub record RowLineIsNotWritten {D S X C : Type 0} (honest : D → Type 0) (stands : D → S → Type 0) (leaves : D → S → S → Type 0) (acts : RowCallRelation D X) (step : RowStep S X)
+pub record RowLineIsNotWritten {D S X C : Type 0} (meets_disk_assumption : D → Type 0) (represents : D → S → Type 0) (crash_exposes_only : D → S → S → Type 0) (acts : RowCallRelation D X) (step : RowStep S X)
     (gives : C → ℕ → C → Type 0) (read : ReadResult X) (batch : Text) (settled : ℕ) (first last : D) (outside : ClockAndWriterChange C) (fault : BatchFault) : Type 0 where
   pub answer : Answer
-  pub given : RowHasAnswer honest (RepresentsDurably stands leaves) acts step gives read batch (settled + 1) answer first last outside.clock outside.later
+  pub given : RowHasAnswer meets_disk_assumption (RepresentsDurably represents crash_exposes_only) acts step gives read batch (settled + 1) answer first last outside.clock outside.later
   pub kind : FaultKind
   pub is : fault ≡ record { rows = settled + 1; kind = kind }
   pub part : LineWriteFailsWith outside.old outside.new (answer_line (settled + 1) answer) kind
@@ -93,6 +93,6 @@ pub record RowLineIsNotWritten {D S X C : Type 0} (honest : D → Type 0) (stand
 -- The batch ended with `fault` at the row: it was not decided, or its line was not written.
 abbrev pub RowEndsBatchWith : {D S X C : Type 0} → (D → Type 0) → (D → S → Type 0) → (D → S → S → Type 0) → RowCallRelation D X → RowStep S X → (C → ℕ → C → Type 0)
     → ReadResult X → Text → ℕ → D → D → ClockAndWriterChange C → BatchFault → Type 0
-RowEndsBatchWith honest stands leaves acts step gives read batch settled first last outside fault =
-    RowIsNotDecided honest stands leaves acts step gives read batch settled first last outside fault
-    ⊎ RowLineIsNotWritten honest stands leaves acts step gives read batch settled first last outside fault
+RowEndsBatchWith meets_disk_assumption represents crash_exposes_only acts step gives read batch settled first last outside fault =
+    RowIsNotDecided meets_disk_assumption represents crash_exposes_only acts step gives read batch settled first last outside fault
+    ⊎ RowLineIsNotWritten meets_disk_assumption represents crash_exposes_only acts step gives read batch settled first last outside fault

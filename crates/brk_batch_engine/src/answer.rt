@@ -48,16 +48,16 @@ pub fn execute_row<C: Clock, D: Rows>(
     requires last { n ≤ most_input_bytes }
 
     // If the disk assumption holds after the call, it held before.
-    ensures disk_was_clean { D.honest desk.new → D.honest desk.old }
+    ensures disk_was_clean { D.meets_disk_assumption desk.new → D.meets_disk_assumption desk.old }
 
     // At `Ok`: the answer of the row, and what the row changed.
-    ensures ok { IfOk result (λ answer. RowHasAnswer D.honest (RepresentsDurably D.stands D.leaves) D.acts D.step C.gives
+    ensures ok { IfOk result (λ answer. RowHasAnswer D.meets_disk_assumption (RepresentsDurably D.represents D.crash_exposes_only) D.acts D.step C.gives
         (D.form (fields_of row.now)) batch.now n
         (abstract_answer D.told answer) desk.old desk.new clock.old clock.new) }
 
     // At an error: the represented bases, the crash safety of the failed call, and the faults.
-    ensures represented_at_error { OnErr result (PreservesRepresentedBases D.honest D.stands desk.old desk.new) }
-    ensures failed { IfErr result (λ fault. RowFailsWith D.honest D.stands D.leaves D.acts D.step C.gives (D.form (fields_of row.now)) batch.now n fault
+    ensures represented_at_error { OnErr result (PreservesRepresentedBases D.meets_disk_assumption D.represents desk.old desk.new) }
+    ensures failed { IfErr result (λ fault. RowFailsWith D.meets_disk_assumption D.represents D.crash_exposes_only D.acts D.step C.gives (D.form (fields_of row.now)) batch.now n fault
         desk.old desk.new clock.old clock.new) }
     ensures fault { IfErr result IsCallFault }
 {

@@ -34,13 +34,13 @@ pub trait Rows {
 
     /// Holds if the desk satisfies the disk assumption: every read so far returned what was
     /// written.
-    ghost honest: { Self.Desk → Type 0 };
+    ghost meets_disk_assumption: { Self.Desk → Type 0 };
 
     /// Holds if the desk represents this base.
-    ghost stands: { Self.Desk → Base → Type 0 };
+    ghost represents: { Self.Desk → Base → Type 0 };
 
     /// Holds if a crash exposes only one of these two bases.
-    ghost leaves: { Self.Desk → Base → Base → Type 0 };
+    ghost crash_exposes_only: { Self.Desk → Base → Base → Type 0 };
 
     /// Holds if a call at this timestamp, with a command under its key, may turn the first desk
     /// into the second, with this outcome.
@@ -77,13 +77,13 @@ pub trait Rows {
     ) -> Result<Answer<Self::Reply>, Fault>
         ensures called { acts desk.old now (asked command.now, abstract_key key.now) (abstract_command_outcome told result) desk.new }
         // If the disk assumption holds after the call, it held before.
-        ensures earlier { honest desk.new → honest desk.old }
+        ensures earlier { meets_disk_assumption desk.new → meets_disk_assumption desk.old }
         ensures ok { IfOk result (λ answer. (sure : Bool) →
-            CallRefinesStep honest (RepresentsDurably stands leaves sure) step desk.old desk.new now
+            CallRefinesStep meets_disk_assumption (RepresentsDurably represents crash_exposes_only sure) step desk.old desk.new now
             (asked command.now) (abstract_key key.now) (abstract_answer told answer)) }
-        ensures err { OnErr result (PreservesRepresentedBases honest stands desk.old desk.new) }
+        ensures err { OnErr result (PreservesRepresentedBases meets_disk_assumption represents desk.old desk.new) }
         // After a failed call, a crash exposes only the base before or the base after the command.
-        ensures stop { OnErr result (IsFailedCallCrashSafe honest stands leaves step desk.old desk.new now (asked command.now) (abstract_key key.now)) }
+        ensures stop { OnErr result (IsFailedCallCrashSafe meets_disk_assumption represents crash_exposes_only step desk.old desk.new now (asked command.now) (abstract_key key.now)) }
         ensures fault { IfErr result IsCallFault };
 
     /// Returns the fields of a reply, joined by commas. Fails only if memory runs out.

@@ -5,7 +5,7 @@ ghost use Rattle.brk_exit.specs.Lines as line;
 ghost use Rattle.brk_exit.specs.Sinks.{SinkFailsWithinText, ReceivesTextOrFails};
 
 use crate::sink::Sink;
-use crate::telling::{Line, fault_error_line, send_line};
+use crate::telling::{ErrorLineParts, fault_error_line, send_line};
 use brk_args::UsageFault;
 use brk_http_engine::{FaultKind as StreamFault, ServeFault};
 use brk_io::{BatchFault, FaultKind, NotWritten};
@@ -37,7 +37,7 @@ pub enum Ending {
 // Returns the error line of a batch that ended early, in two parts: `brk: batch: ` and the cause
 // for a missing or wrong header or end, `brk: fault: ` and the cause if reading or writing failed,
 // and otherwise the error line of the desk's fault.
-fn batch_error_line(kind: FaultKind) -> Line<'static>
+fn batch_error_line(kind: FaultKind) -> ErrorLineParts<'static>
     ensures { line.bytes_of_error_line result ≡ spec.error_line_of_batch kind }
 {
     match kind {
@@ -52,7 +52,7 @@ fn batch_error_line(kind: FaultKind) -> Line<'static>
 
 // Returns the error line of a stream that ended early, in two parts: `brk: fault: `, and `read`,
 // `write` or `memory` by the kind of the fault.
-fn stream_error_line(kind: StreamFault) -> Line<'static>
+fn stream_error_line(kind: StreamFault) -> ErrorLineParts<'static>
     ensures { line.bytes_of_error_line result ≡ spec.error_line_of_stream kind }
 {
     match kind {

@@ -9,11 +9,11 @@ use brk_money::Fault;
 
 /// An error line in two parts, without its line feed: the program's name with the subject, and the
 /// cause.
-pub type Line<'a> = (&'a str, &'a str);
+pub type ErrorLineParts<'a> = (&'a str, &'a str);
 
 /// Returns the error line of a fault of a desk, in two parts: `brk: fault: ` and `memory` or
 /// `store`, or `brk: damaged: ` and the word for the first condition that fails.
-pub fn fault_error_line(fault: Fault) -> Line<'static>
+pub fn fault_error_line(fault: Fault) -> ErrorLineParts<'static>
     ensures { spec.bytes_of_error_line result ≡ spec.error_line_of_fault fault }
 {
     match fault {
@@ -25,7 +25,7 @@ pub fn fault_error_line(fault: Fault) -> Line<'static>
 
 /// Sends an error line, its two parts and a line feed, to a sink. If the sink fails, it has
 /// received a prefix of them.
-pub fn send_line<S: Sink>(sink: &mut S, line: Line<'_>) -> Result<(), NotWritten>
+pub fn send_line<S: Sink>(sink: &mut S, line: ErrorLineParts<'_>) -> Result<(), NotWritten>
     ensures ok { OnOk result (Appends (S.contents sink.old) (S.contents sink.new) (spec.bytes_of_error_line line.entry)) }
     ensures err { OnErr result (SinkFailsWithinText S.contents S.fails sink.old sink.new (spec.bytes_of_error_line line.entry)) }
 {

@@ -35,8 +35,8 @@ read_holding_request _ = Err BadText
 
 -- The parsers of the four kinds of requests, each with the first argument of its kind: `trade`,
 -- `account`, `holding` or `broker`.
-abbrev pub explain_request_readers : List (NamedParser ExplainRequest)
-explain_request_readers =
+abbrev pub explain_request_parsers : List (NamedParser ExplainRequest)
+explain_request_parsers =
     (codes "trade", read_and_wrap TradeOf read_single_id)
     ∷ (codes "account", read_and_wrap AccountOf read_single_id)
     ∷ (codes "holding", read_holding_request)
@@ -45,7 +45,7 @@ explain_request_readers =
 
 -- The request that the arguments `words` parse as, or the refusal `BadText` if they are malformed.
 unfoldable pub read_explain_request : List Text → ReadResult ExplainRequest
-read_explain_request words = parse_by_first_field explain_request_readers words
+read_explain_request words = parse_by_first_field explain_request_parsers words
 
 -- The lines that `lines` returns for the row, or the refusal `refusal` if there is no row.
 abbrev pub lines_or_refusal : {Row : Type 0} → Refusal → (Row → List Text) → Option Row → Result (List Text) Refusal

@@ -23,25 +23,25 @@ change_between base after clock later was now = record { base = base; after = af
 
 -- ---- over the bases that a desk stands for
 
-module _ {D B C : Type 0} (forms : RequestParsers) (acts : CallRelation D) (does : CallRelation B) (honest : D → Type 0) (stands : D → B → Type 0)
-    (earlier : (old : D) (now : ℕ) (call : Call) (outcome : Outcome) (new : D) → acts old now call outcome new → honest new → honest old)
-    (steps : (old : D) (now : ℕ) (call : Call) (outcome : Outcome) (new : D) → acts old now call outcome new → honest new → (base : B) → stands old base
-    → (after : B) × stands new after × does base now call outcome after) (gives : C → ℕ → C → Type 0) where
+module _ {D B C : Type 0} (forms : RequestParsers) (acts : CallRelation D) (does : CallRelation B) (meets_disk_assumption : D → Type 0) (represents : D → B → Type 0)
+    (earlier : (old : D) (now : ℕ) (call : Call) (outcome : Outcome) (new : D) → acts old now call outcome new → meets_disk_assumption new → meets_disk_assumption old)
+    (steps : (old : D) (now : ℕ) (call : Call) (outcome : Outcome) (new : D) → acts old now call outcome new → meets_disk_assumption new → (base : B) → represents old base
+    → (after : B) × represents new after × does base now call outcome after) (gives : C → ℕ → C → Type 0) where
   -- If the disk assumption holds for `new`, it holds for `old`, and for every base that `old`
   -- represents, `new` represents a base that `P` relates to it.
   abbrev RefinesFromEveryBase : D → D → (B → B → Type 0) → Type 0
-  RefinesFromEveryBase old new P = honest new → honest old × ((base : B) → stands old base → (after : B) × stands new after × P base after)
+  RefinesFromEveryBase old new P = meets_disk_assumption new → meets_disk_assumption old × ((base : B) → represents old base → (after : B) × represents new after × P base after)
 
   answered_carries : (n : ℕ) (input : Text) (old new : D) (clock later : C) (was now : Option Text) (reply : Text) (next : StreamState) → ExchangeHasReply forms acts gives n input (change_between old new clock later was now) reply next
       → RefinesFromEveryBase old new (λ base after. ExchangeHasReply forms does gives n input (change_between base after clock later was now) reply next)
   answered_carries n input old new clock later was now reply next h good =
-      let r = sim.one forms acts does honest stands earlier steps n input (effect_of old h.taken reply next new) h.one good in
+      let r = sim.one forms acts does meets_disk_assumption represents earlier steps n input (effect_of old h.taken reply next new) h.one good in
       (r.0, λ base stood. let k = r.1 base stood in (k.0, k.1, record { taken = h.taken; moments = h.moments; one = k.2 }))
 
   untouched_carries : (old new : D) (clock later : C) (was now : Option Text) → IsUnchangedEnvironment (change_between old new clock later was now)
       → RefinesFromEveryBase old new (λ base after. IsUnchangedEnvironment (change_between base after clock later was now))
   untouched_carries old new clock later was now h good =
-      (subst honest h.base good, λ base stood. (base, subst (λ d. stands d base) (sym h.base) stood, record { base = refl; clock = h.clock; written = h.written }))
+      (subst meets_disk_assumption h.base good, λ base stood. (base, subst (λ d. represents d base) (sym h.base) stood, record { base = refl; clock = h.clock; written = h.written }))
 
   failed_carries : (n : ℕ) (input : Text) (old new : D) (clock later : C) (was now : Option Text) (kind : FaultKind) → ExchangeFailsWith forms acts gives n input (change_between old new clock later was now) kind
       → RefinesFromEveryBase old new (λ base after. ExchangeFailsWith forms does gives n input (change_between base after clock later was now) kind)
@@ -54,14 +54,14 @@ module _ {D B C : Type 0} (forms : RequestParsers) (acts : CallRelation D) (does
       let r = answered_carries n input old new clock later was now reply next h good in (r.0, λ base stood. let k = r.1 base stood in (k.0, k.1, (reply, next, size, k.2, wrote)))
 
   pub keeps : (input : Text) (first last : D) (outside : ClockAndWriterChange C) (result : Result ℕ ServeFault) → IsStreamResult forms acts gives input (environment_change_with_bases first last outside) result
-      → StreamRefinesModel honest stands forms does gives input first last outside result
+      → StreamRefinesModel meets_disk_assumption represents forms does gives input first last outside result
   keeps input first last outside (Ok count) h good base stood =
-      let r = sim.replies_carry forms acts does honest stands earlier steps h.replies 0 (Continues input) first last h.moments h.replied good in
+      let r = sim.replies_carry forms acts does meets_disk_assumption represents earlier steps h.replies 0 (Continues input) first last h.moments h.replied good in
       let k = r.1 base stood in
       (k.0, k.1, record { moments = h.moments; replies = h.replies; taken = h.taken; replied = k.2; written = h.written; counted = h.counted })
   keeps input first last outside (Err fault) h good base stood =
       let f = failed_carries (length h.replies) h.rest h.mid last h.later outside.later h.between outside.new fault.kind h.failed good in
-      let r = sim.begins_carry forms acts does honest stands earlier steps h.replies 0 input h.rest first h.mid h.moments h.begun f.0 in
+      let r = sim.begins_carry forms acts does meets_disk_assumption represents earlier steps h.replies 0 input h.rest first h.mid h.moments h.begun f.0 in
       let k = r.1 base stood in
       let l = f.1 k.0 k.1 in (
         l.0,

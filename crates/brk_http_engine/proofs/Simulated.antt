@@ -8,19 +8,19 @@ use Rattle.brk_http_model.specs.Replies.{Response}
 use Rattle.brk_http_model.specs.Stream.{CallRelation, StreamState, Finished, Continues, RequestEffect, IsEffectOfFirstRequest, IsEffectOfReading, AreRepliesOfStream, AreFirstReplies, IsResponseToDemand}
 use Rattle.brk_http_engine.proofs.Effects.{effect_of, effect_between}
 
-module _ {D B : Type 0} (forms : RequestParsers) (acts : CallRelation D) (does : CallRelation B) (honest : D → Type 0) (stands : D → B → Type 0)
-    (earlier : (old : D) (now : ℕ) (call : Call) (outcome : Outcome) (new : D) → acts old now call outcome new → honest new → honest old)
-    (steps : (old : D) (now : ℕ) (call : Call) (outcome : Outcome) (new : D) → acts old now call outcome new → honest new → (base : B) → stands old base
-    → (after : B) × stands new after × does base now call outcome after) where
+module _ {D B : Type 0} (forms : RequestParsers) (acts : CallRelation D) (does : CallRelation B) (meets_disk_assumption : D → Type 0) (represents : D → B → Type 0)
+    (earlier : (old : D) (now : ℕ) (call : Call) (outcome : Outcome) (new : D) → acts old now call outcome new → meets_disk_assumption new → meets_disk_assumption old)
+    (steps : (old : D) (now : ℕ) (call : Call) (outcome : Outcome) (new : D) → acts old now call outcome new → meets_disk_assumption new → (base : B) → represents old base
+    → (after : B) × represents new after × does base now call outcome after) where
   -- If the disk assumption holds for `new`, it holds for `old`, and for every base that `old`
   -- represents, `new` represents a base that `P` relates to it.
   abbrev RefinesFromEveryBase : D → D → (B → B → Type 0) → Type 0
-  RefinesFromEveryBase old new P = honest new → honest old × ((base : B) → stands old base → (after : B) × stands new after × P base after)
+  RefinesFromEveryBase old new P = meets_disk_assumption new → meets_disk_assumption old × ((base : B) → represents old base → (after : B) × represents new after × P base after)
 
   responds : (asked : RequestDemand) (old new : D) (taken : List ℕ) (response : Response) → IsResponseToDemand acts asked old taken response new
       → RefinesFromEveryBase old new (λ base after. IsResponseToDemand does asked base taken response after)
   responds (ResponseOnly said) old new taken response (is, none, same) good =
-      (subst honest same good, λ base stood. (base, subst (λ d. stands d base) (sym same) stood, (is, none, refl)))
+      (subst meets_disk_assumption same good, λ base stood. (base, subst (λ d. represents d base) (sym same) stood, (is, none, refl)))
   responds (DeskCall call) old new taken response (now, outcome, is, took, acted) good =
       (earlier old now call outcome new acted good, λ base stood. let h = steps old now call outcome new acted good base stood in (h.0, h.1, (now, outcome, is, took, h.2)))
 
@@ -28,7 +28,7 @@ module _ {D B : Type 0} (forms : RequestParsers) (acts : CallRelation D) (does :
       → RefinesFromEveryBase effect.base effect.after (λ base after. IsEffectOfReading forms does n found (effect_between effect base after))
   replied n NoBytesLeft effect h good = elim h [ ]
   replied n (Unreadable problem) effect (is, ends, none, same) good =
-      (subst honest same good, λ base stood. (base, subst (λ d. stands d base) (sym same) stood, (is, ends, none, refl)))
+      (subst meets_disk_assumption same good, λ base stood. (base, subst (λ d. represents d base) (sym same) stood, (is, ends, none, refl)))
   replied n (CompleteRequest request rest) effect h good =
       let r = responds (demand_of_request forms request) effect.base effect.after effect.moments h.response h.responds good in (
         r.0,
@@ -46,9 +46,9 @@ module _ {D B : Type 0} (forms : RequestParsers) (acts : CallRelation D) (does :
   pub replies_carry : (rs : List Text) (n : ℕ) (next : StreamState) (old new : D) (moments : List ℕ) → AreRepliesOfStream forms acts n next old moments rs new
       → RefinesFromEveryBase old new (λ base after. AreRepliesOfStream forms does n next base moments rs after)
   replies_carry rs n Finished old new moments (none, asked, same) good =
-      (subst honest same good, λ base stood. (base, subst (λ d. stands d base) (sym same) stood, (none, asked, refl)))
+      (subst meets_disk_assumption same good, λ base stood. (base, subst (λ d. represents d base) (sym same) stood, (none, asked, refl)))
   replies_carry [] n (Continues input) old new moments (none, asked, same) good =
-      (subst honest same good, λ base stood. (base, subst (λ d. stands d base) (sym same) stood, (none, asked, refl)))
+      (subst meets_disk_assumption same good, λ base stood. (base, subst (λ d. represents d base) (sym same) stood, (none, asked, refl)))
   replies_carry (reply ∷ rs) n (Continues input) old new moments (taken, more, next, mid, split, first, others) good =
       let later = replies_carry rs (n + 1) next mid new more others good in
       let now = one n input (effect_of old taken reply next mid) first later.0 in (
@@ -63,7 +63,7 @@ module _ {D B : Type 0} (forms : RequestParsers) (acts : CallRelation D) (does :
   pub begins_carry : (rs : List Text) (n : ℕ) (input rest : Text) (old new : D) (moments : List ℕ) → AreFirstReplies forms acts n input old moments rs rest new
       → RefinesFromEveryBase old new (λ base after. AreFirstReplies forms does n input base moments rs rest after)
   begins_carry [] n input rest old new moments (is, asked, same) good =
-      (subst honest same good, λ base stood. (base, subst (λ d. stands d base) (sym same) stood, (is, asked, refl)))
+      (subst meets_disk_assumption same good, λ base stood. (base, subst (λ d. represents d base) (sym same) stood, (is, asked, refl)))
   begins_carry (reply ∷ rs) n input rest old new moments (taken, more, left, mid, split, first, others) good =
       let later = begins_carry rs (n + 1) left rest mid new more others good in
       let now = one n input (effect_of old taken reply (Continues left) mid) first later.0 in (

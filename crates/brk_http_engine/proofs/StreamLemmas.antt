@@ -13,7 +13,7 @@ use Rattle.brk_http_model.specs.Found.{NoBytesLeft, ReadsFirstRequest}
 use Rattle.brk_http_model.specs.Stream.{CallRelation, StreamState, Finished, Continues, IsEffectOfFirstRequest, AreRepliesOfStream, AreFirstReplies}
 use Rattle.brk_http_engine.proofs.Effects.{effect_of}
 use Rattle.brk_http_engine.specs.Turns.{ExchangeHasReply, ExchangeCompletesWith, ExchangeFailsWith, StreamFailsWith, IsStreamResult}
-use Rattle.brk_http_engine.specs.declared.turning.Turn.TheVariants as turn
+use Rattle.brk_http_engine.specs.declared.turning.ExchangeResult.TheVariants as turn
 use Rattle.brk_http_engine.specs.declared.turning.FaultKind.{FaultKind}
 use Rattle.brk_http_engine.specs.declared.turning.FaultKind.TheVariants as kinds
 

@@ -1,7 +1,7 @@
 -- The greatest number of calls of the desk that a request and a stream make.
 use Rattle.std.specs.Prelude.{ℕ, ◌+◌, Result, Ok, Err}
-use Rattle.brk_http_engine.specs.declared.turning.Turn.{Turn}
-use Rattle.brk_http_engine.specs.declared.turning.Turn.TheVariants as turn
+use Rattle.brk_http_engine.specs.declared.turning.ExchangeResult.{ExchangeResult}
+use Rattle.brk_http_engine.specs.declared.turning.ExchangeResult.TheVariants as turn
 use Rattle.brk_http_engine.specs.declared.turning.FaultKind.{FaultKind}
 use Rattle.brk_http_engine.specs.declared.turning.FaultKind.TheVariants as kinds
 use Rattle.brk_http_engine.specs.declared.stream.ServeFault.{ServeFault}
@@ -15,7 +15,7 @@ call_limit_at_fault kinds.Memory = 1
 
 -- The greatest number of calls of the desk that a turn of a stream with this result made: 0 if the
 -- input was at its end, 1 after a reply, and otherwise the limit at the fault.
-abbrev pub call_limit_of_turn : Result Turn FaultKind → ℕ
+abbrev pub call_limit_of_turn : Result ExchangeResult FaultKind → ℕ
 call_limit_of_turn (Ok turn.Ended) = 0
 call_limit_of_turn (Ok turn.Open) = 1
 call_limit_of_turn (Ok turn.Closed) = 1

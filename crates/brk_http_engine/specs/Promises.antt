@@ -32,11 +32,11 @@ StreamMatchesScript forms gives input script outside result =
     IsStreamResult forms IsNextScriptedCall gives input (environment_change_with_bases script ([], []) outside) result
 
 -- The stream with the content `input` refines the model: for every base that the desk represented
--- before the stream (`stands`), the replies and the result are possible in the model from this base
--- by calls that satisfy `does`, and the desk represents the base after these calls. Vacuous if the
--- disk assumption (`honest`) fails after the stream.
+-- before the stream (`represents`), the replies and the result are possible in the model from this
+-- base by calls that satisfy `does`, and the desk represents the base after these calls. Vacuous if
+-- the disk assumption (`meets_disk_assumption`) fails after the stream.
 abbrev pub StreamRefinesModel : {D B C : Type 0} → (D → Type 0) → (D → B → Type 0) → RequestParsers → CallRelation B → (C → ℕ → C → Type 0) → Text → D → D
     → ClockAndWriterChange C → Result ℕ ServeFault → Type 0
-StreamRefinesModel {B = B} honest stands forms does gives input first last outside result =
-    honest last → (base : B) → stands first base
-    → (after : B) × stands last after × IsStreamResult forms does gives input (environment_change_with_bases base after outside) result
+StreamRefinesModel {B = B} meets_disk_assumption represents forms does gives input first last outside result =
+    meets_disk_assumption last → (base : B) → represents first base
+    → (after : B) × represents last after × IsStreamResult forms does gives input (environment_change_with_bases base after outside) result

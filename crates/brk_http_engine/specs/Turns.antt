@@ -16,8 +16,8 @@ use Rattle.brk_http_model.specs.Stream.{CallRelation, IsResponseToDemand, most_r
 use Rattle.brk_http_model.specs.Stream.{Finished, Continues, IsEffectOfFirstRequest, AreRepliesOfStream, AreFirstReplies}
 use Rattle.brk_io.specs.Span.{IsUnchangedEnvironment, EnvironmentChange}
 use Rattle.brk_io.specs.Moments.{ClockReturnsInOrder}
-use Rattle.brk_http_engine.specs.declared.turning.Turn.{Turn}
-use Rattle.brk_http_engine.specs.declared.turning.Turn.TheVariants as turn
+use Rattle.brk_http_engine.specs.declared.turning.ExchangeResult.{ExchangeResult}
+use Rattle.brk_http_engine.specs.declared.turning.ExchangeResult.TheVariants as turn
 use Rattle.brk_http_engine.specs.declared.turning.FaultKind.{FaultKind}
 use Rattle.brk_http_engine.specs.declared.turning.FaultKind.TheVariants as kinds
 use Rattle.brk_http_engine.specs.declared.stream.ServeFault.{ServeFault}
@@ -51,7 +51,7 @@ pub record ExecutesRequest {B C : Type 0} (forms : RequestParsers) (does : CallR
 -- changed. `Closed`: the reply was written and is the last of its stream. `Open`: the reply was
 -- written, and `left` is the rest of the input.
 abbrev pub ExchangeCompletesWith : {B C : Type 0} → RequestParsers → CallRelation B → (C → ℕ → C → Type 0) → ℕ → Text → EnvironmentChange B C → Option Text
-    → Turn → Type 0
+    → ExchangeResult → Type 0
 ExchangeCompletesWith forms does gives n input span left turn.Ended = ReadsFirstRequest input NoBytesLeft × IsUnchangedEnvironment span
 ExchangeCompletesWith forms does gives n input span left turn.Closed =
     (reply : Text) × ExchangeHasReply forms does gives n input span reply Finished × Appends span.old span.new reply

@@ -57,10 +57,10 @@ fn fault_word(fault: Fault) -> &'static str
 
 // Returns the HTTP status of a response: 200 for a reply, a stored reply or a view, 409 for a
 // refusal, 503 for a fault of the desk, otherwise the status of the problem.
-fn status_of_response<R, V>(told: &ServiceResponse<R, V>) -> StatusCode
-    ensures { (reply : R → model.Reply) (shown : V → queries.View) → status_text result ≡ http_status_of_response (response_in_model reply shown told.now) }
+fn status_of_response<R, V>(response: &ServiceResponse<R, V>) -> StatusCode
+    ensures { (reply : R → model.Reply) (shown : V → queries.View) → status_text result ≡ http_status_of_response (response_in_model reply shown response.now) }
 {
-    match told {
+    match response {
         ServiceResponse::Wrong(problem) => status_of_problem(*problem),
         ServiceResponse::NoRow(_) => StatusCode::CONFLICT,
         ServiceResponse::NoView(_) => StatusCode::CONFLICT,
@@ -73,20 +73,20 @@ fn status_of_response<R, V>(told: &ServiceResponse<R, V>) -> StatusCode
 
 // Returns true if the response is the problem that the method of the request is not POST, so that
 // the reply names the allowed method.
-fn is_method_refusal<R, V>(told: &ServiceResponse<R, V>) -> bool
-    ensures { (reply : R → model.Reply) (shown : V → queries.View) → result ≡ names_allowed_method (response_in_model reply shown told.now) }
+fn is_method_refusal<R, V>(response: &ServiceResponse<R, V>) -> bool
+    ensures { (reply : R → model.Reply) (shown : V → queries.View) → result ≡ names_allowed_method (response_in_model reply shown response.now) }
 {
-    match told {
+    match response {
         ServiceResponse::Wrong(RequestProblem::NotAllowed) => true,
         _ => false,
     }
 }
 
 /// Returns true if the response is a fault of the desk.
-pub fn is_fault_response<R, V>(told: &ServiceResponse<R, V>) -> bool
-    ensures { (reply : R → model.Reply) (shown : V → queries.View) → result ≡ is_fault_response (response_in_model reply shown told.now) }
+pub fn is_fault_response<R, V>(response: &ServiceResponse<R, V>) -> bool
+    ensures { (reply : R → model.Reply) (shown : V → queries.View) → result ≡ is_fault_response (response_in_model reply shown response.now) }
 {
-    match told {
+    match response {
         ServiceResponse::Failed(_) => true,
         _ => false,
     }
@@ -115,11 +115,11 @@ fn refusal_body(alloc: Global, refusal: Refusal) -> Result<String, AllocError>
 // Returns the JSON body of the reply with this response. Fails only if memory runs out.
 fn response_body<D: Service>(
     alloc: Global,
-    told: &ServiceResponse<D::Reply, D::View>,
+    response: &ServiceResponse<D::Reply, D::View>,
 ) -> Result<String, AllocError>
-    ensures { IfOk result (λ s. string_bytes s ≡ response_body (response_in_model D.told D.shown told.now)) }
+    ensures { IfOk result (λ s. string_bytes s ≡ response_body (response_in_model D.told D.shown response.now)) }
 {
-    match told {
+    match response {
         ServiceResponse::Wrong(problem) => json_text_of_error(alloc, text_of_problem(*problem)),
         ServiceResponse::NoRow(refusal) | ServiceResponse::NoView(refusal) => refusal_body(
             alloc, *refusal,
@@ -147,12 +147,12 @@ fn append_head_line(head: &mut String, line: &str) -> Result<(), AllocError>
     write!(head, "{line}\r\n")
 }
 
-// Appends a line and its line end, CR LF, to the head if the flag `stands` is true, and otherwise
-// nothing. Fails only if memory runs out.
-fn append_head_line_if(head: &mut String, stands: bool, line: &str) -> Result<(), AllocError>
-    ensures { OnOk result (string_bytes head.new ≡ string_bytes head.old ++ head_line_if stands line.now) }
+// Appends a line and its line end, CR LF, to the head if the flag `is_wanted` is true, and
+// otherwise nothing. Fails only if memory runs out.
+fn append_head_line_if(head: &mut String, is_wanted: bool, line: &str) -> Result<(), AllocError>
+    ensures { OnOk result (string_bytes head.new ≡ string_bytes head.old ++ head_line_if is_wanted line.now) }
 {
-    if stands {
+    if is_wanted {
         append_head_line(head, line)
     } else {
         Ok(())
@@ -240,16 +240,16 @@ fn reply_bytes(
 /// if `closes` is true. Fails only if memory runs out.
 pub fn reply_text<D: Service>(
     alloc: Global,
-    told: &ServiceResponse<D::Reply, D::View>,
+    response: &ServiceResponse<D::Reply, D::View>,
     closes: bool,
 ) -> Result<String, AllocError>
-    ensures { IfOk result (λ s. string_bytes s ≡ reply_text (response_in_model D.told D.shown told.now) closes) }
+    ensures { IfOk result (λ s. string_bytes s ≡ reply_text (response_in_model D.told D.shown response.now) closes) }
 {
-    let body = response_body::<D>(alloc, told)?;
+    let body = response_body::<D>(alloc, response)?;
     reply_bytes(
         alloc,
-        status_of_response(told),
-        is_method_refusal(told),
+        status_of_response(response),
+        is_method_refusal(response),
         closes,
         body.as_str(),
     )

@@ -8,7 +8,7 @@ ghost use Rattle.brk_http_engine.specs.Turns.{IsStreamResult};
 
 use crate::router::{RouteKind, new_router};
 use crate::service::Service;
-use crate::turning::{FaultKind, Turn, serve_next_request};
+use crate::turning::{ExchangeResult, FaultKind, serve_next_request};
 use brk_io::Clock;
 use matchit::Router;
 use std::alloc::Global;
@@ -61,9 +61,9 @@ fn serve_with_router<R: Read + Drop, W: Write, C: Clock, D: Service>(
             desk,
             done,
         ) {
-            Ok(Turn::Ended) => return Ok(done),
-            Ok(Turn::Closed) => return Ok(done + 1),
-            Ok(Turn::Open) => done += 1,
+            Ok(ExchangeResult::Ended) => return Ok(done),
+            Ok(ExchangeResult::Closed) => return Ok(done + 1),
+            Ok(ExchangeResult::Open) => done += 1,
             Err(kind) => return Err(ServeFault { done, kind }),
         }
     }

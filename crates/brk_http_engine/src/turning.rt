@@ -27,7 +27,7 @@ pub const MAXIMUM_REQUESTS: u64 = 1000;
 
 /// The result of one turn of a stream, which reads, executes and answers its next request.
 #[derive(Clone, Copy, Debug, PartialEq, Eq)]
-pub enum Turn {
+pub enum ExchangeResult {
     /// The input ended before another request.
     Ended,
     /// The stream continues after the reply.
@@ -135,7 +135,7 @@ pub fn serve_next_request<R: Read, W: Write, C: Clock, D: Service>(
     clock: &mut C,
     desk: &mut D::Desk,
     done: u64,
-) -> Result<Turn, FaultKind>
+) -> Result<ExchangeResult, FaultKind>
     // The stream may have another reply; the router has all routes; no view has an empty name.
     requires few { done < most_requests_per_stream }
     requires routes { router.now ≡ all_router_rows }
@@ -143,7 +143,7 @@ pub fn serve_next_request<R: Read, W: Write, C: Clock, D: Service>(
 
     // At most one call of the desk; at `Open` the stream may have another reply.
     ensures called { ChangesOnlyByCalls D.acts (call_limit_of_turn result) desk.old desk.new }
-    ensures open { result ≡ Ok Turn.Open → done + 1 < most_requests_per_stream }
+    ensures open { result ≡ Ok ExchangeResult.Open → done + 1 < most_requests_per_stream }
 
     // If the content of the reader is specified: the request, its reply, and what was written.
     ensures ok { IfOk result (λ turn. IfSome (R.remaining reader.old) (λ xs. ExchangeCompletesWith D.forms D.acts C.gives done (buffer.old.items ++ xs)
@@ -158,13 +158,13 @@ pub fn serve_next_request<R: Read, W: Write, C: Clock, D: Service>(
         Err(InputFault::Memory) => return Err(FaultKind::Memory),
     };
     match front {
-        NextRequest::Ended => Ok(Turn::Ended),
+        NextRequest::Ended => Ok(ExchangeResult::Ended),
         NextRequest::Broken(problem) => {
             let Ok(text) = format_problem_reply(alloc, problem) else {
                 return Err(FaultKind::Memory);
             };
             match write_all_bytes(writer, text.as_bytes()) {
-                Ok(()) => Ok(Turn::Closed),
+                Ok(()) => Ok(ExchangeResult::Closed),
                 Err(_) => Err(FaultKind::Write),
             }
         }
@@ -182,9 +182,9 @@ pub fn serve_next_request<R: Read, W: Write, C: Clock, D: Service>(
             }
             remove_front_bytes(buffer, places.body.end);
             if draft.closes {
-                Ok(Turn::Closed)
+                Ok(ExchangeResult::Closed)
             } else {
-                Ok(Turn::Open)
+                Ok(ExchangeResult::Open)
             }
         }
     }

@@ -29,7 +29,7 @@ pub fn head_ends_at_first_empty_line()
 /// Shows the length of a body by the fields of a head, or the problem of its length. The case of
 /// letters in the names of fields is ignored, and a Transfer-Encoding is a problem whatever the
 /// length.
-pub fn content_length_gives_body_length()
+pub fn content_length_states_body_length()
     ensures no_field { body_length_of_fields ((codes "Host", codes "x") ∷ []) ≡ Ok 0 }
     ensures leading_zeros { body_length_of_fields ((codes "content-LENGTH", codes "000000012") ∷ []) ≡ Ok 12 }
     ensures greatest { body_length_of_fields ((codes "Content-Length", codes "65536") ∷ []) ≡ Ok 65536 }

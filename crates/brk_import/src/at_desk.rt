@@ -35,11 +35,11 @@ impl<S: Alter> Rows for DeskRows<S> {
 
     ghost Asked = { model.Command };
 
-    ghost honest = { λ desk. HasCleanDisk (state S.Store desk) };
+    ghost meets_disk_assumption = { λ desk. HasCleanDisk (state S.Store desk) };
 
-    ghost stands = { λ desk. Represents S.Store desk };
+    ghost represents = { λ desk. Represents S.Store desk };
 
-    ghost leaves = { CrashExposesOnlyOneOf S.Store };
+    ghost crash_exposes_only = { CrashExposesOnlyOneOf S.Store };
 
     ghost acts = { λ old now row outcome new. RowCallHasOutcome S.Store old now row outcome new };
 

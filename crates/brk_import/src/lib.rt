@@ -3,7 +3,7 @@
 
 mod at_desk;
 mod batch;
-pub mod sent_again;
+pub mod retries;
 
 pub use at_desk::DeskRows;
 pub use batch::run_batch;

@@ -9,7 +9,7 @@ use crate::lot::{Lot, Touch};
 // Closes the lots before the index `last`, which must be that of a lot, and sets the quantity of
 // the lot at `last` to `qty`, or closes this lot too if `qty` is 0. Returns the index of the first
 // remaining lot; the closed lots before it are not removed from the vector.
-fn remove_front_lots(lots: &mut Vec<Lot>, last: usize, qty: i64) -> usize
+fn close_front_lots(lots: &mut Vec<Lot>, last: usize, qty: i64) -> usize
     // `last` is the index of a lot.
     requires { last < vec_len lots.old }
 
@@ -75,7 +75,7 @@ pub(crate) fn apply_touches_to_lots(lots: &mut Vec<Lot>, first: usize, touched: 
     }
     let qty = touched[count - 1].after;
     if touched[0].lot == lots[first].trade {
-        return remove_front_lots(lots, first + count - 1, qty);
+        return close_front_lots(lots, first + count - 1, qty);
     }
     let last = lots.len() - count;
     remove_back_lots(lots, last, qty);

@@ -28,8 +28,8 @@ result_with_answer_in_front answer rest = record { answers = answer ∷ rest.ans
 
 -- The result that `more` returns for the base `answered.1` and the clock readings `moments`, with
 -- the answer `answered.0` in front of its answers.
-abbrev pub answer_then_more : {B : Type 0} → Answer × B → List ℕ → (B → List ℕ → ResultOfRows B) → ResultOfRows B
-answer_then_more answered moments more = result_with_answer_in_front answered.0 (more answered.1 moments)
+abbrev pub result_of_answer_and_later_rows : {B : Type 0} → Answer × B → List ℕ → (B → List ℕ → ResultOfRows B) → ResultOfRows B
+result_of_answer_and_later_rows answered moments more = result_with_answer_in_front answered.0 (more answered.1 moments)
 
 -- The result of a row under the key `key` and of the rows after it, whose result `more` returns for
 -- the base and the clock readings after the row. A malformed row is answered with its refusal, uses
@@ -37,8 +37,8 @@ answer_then_more answered moments more = result_with_answer_in_front answered.0 
 -- `step` returns its answer and the base after it. If no clock reading is left for a command,
 -- neither it nor a row after it has an answer.
 abbrev pub row_then_more : {B C : Type 0} → RowStep B C → ReadResult C → Key → B → List ℕ → (B → List ℕ → ResultOfRows B) → ResultOfRows B
-row_then_more step (Err refusal) key base moments more = answer_then_more (Refused refusal, base) moments more
-row_then_more step (Ok command) key base (now ∷ moments) more = answer_then_more (step base now command key) moments more
+row_then_more step (Err refusal) key base moments more = result_of_answer_and_later_rows (Refused refusal, base) moments more
+row_then_more step (Ok command) key base (now ∷ moments) more = result_of_answer_and_later_rows (step base now command key) moments more
 row_then_more step (Ok command) key base [] more = record { answers = []; base = base; moments = [] }
 
 -- The result of the rows of a batch, parsed by `form` and executed by `step` in sequence, from

@@ -6,7 +6,7 @@ ghost use Rattle.brk_report.specs.Stated.{PreservesDesk, IsMemoryStoreOrWriteFau
 ghost use Rattle.brk_report.specs.WalkFaults.{fault_of_walk_error};
 ghost use Rattle.brk_store.specs.Walked.{cash_rows_in_span};
 
-use crate::visitors::{CashLines, CashProgress, Lines, write_opening_line_unless};
+use crate::visitors::{CashLineWriter, CashProgress, LineWriter, write_opening_line_unless};
 use brk_desk::{Desk, WalkError};
 use brk_money::{Cents, Day, Id, Stamp, Wide};
 use brk_report_lines::{LinesFault, first_stamp_of_day, last_stamp_of_day};
@@ -44,7 +44,7 @@ fn walk_cash_rows<W: Write, S: Alter>(
     ensures written { HoldsForStoredTables S.Store desk.old desk.new
         (λ t. WritesLinesOfWalk (cash_rows_in_span account 0 last t) first opening (W.contents writer.old) (W.contents writer.new) result) }
 {
-    let mut visitor = CashLines {
+    let mut visitor = CashLineWriter {
         alloc,
         writer,
         first,
@@ -107,7 +107,7 @@ pub(crate) fn write_lot_lines<W: Write, S: Alter>(
     ensures fault { IfErr result IsMemoryStoreOrWriteFault }
     ensures written { HoldsForStoredTables S.Store desk.old desk.new (λ t. WritesLotLines t account (W.contents writer.old) (W.contents writer.new) result) }
 {
-    let mut lines = Lines {
+    let mut lines = LineWriter {
         alloc,
         writer,
         count: 0,

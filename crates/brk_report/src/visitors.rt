@@ -104,14 +104,14 @@ fn write_opening_and_row_lines<W: Write>(
 
 /// A visitor that writes a line for each record, and counts the records.
 #[derive(Drop)]
-pub struct Lines<'a, W> {
+pub struct LineWriter<'a, W> {
     pub alloc: Global,
     pub writer: &'a mut W,
     /// The number of records so far.
     pub count: u64,
 }
 
-impl<R: Line, W: Write> Visitor<R, LinesFault> for Lines<'_, W> {
+impl<R: Line, W: Write> Visitor<R, LinesFault> for LineWriter<'_, W> {
     ghost use Rattle.std.specs.Prelude.{◌≡◌, ◌+◌, [], ◌∷◌, Result, Err, refl};
     ghost use Rattle.std.proofs.Common.{◌∙◌};
     ghost use Rattle.std.specs.Io.KnownBytes.{Appends};
@@ -155,7 +155,7 @@ pub struct CashProgress {
 /// A visitor that adds up the amounts of cash rows. From a stamp on it also writes a line for each
 /// cash row and counts it, and before the first of these lines the line of the opening amount.
 #[derive(Drop)]
-pub struct CashLines<'a, W> {
+pub struct CashLineWriter<'a, W> {
     pub alloc: Global,
     pub writer: &'a mut W,
     /// The stamp from which on it writes lines.
@@ -163,7 +163,7 @@ pub struct CashLines<'a, W> {
     pub moved: CashProgress,
 }
 
-impl<W> CashLines<'_, W> {
+impl<W> CashLineWriter<'_, W> {
     /// Returns how far the visitor has come.
     pub fn progress(&self) -> CashProgress
         ensures { result ≡ self.now.moved }
@@ -172,7 +172,7 @@ impl<W> CashLines<'_, W> {
     }
 }
 
-impl<W: Write> Visitor<MoveRow, LinesFault> for CashLines<'_, W> {
+impl<W: Write> Visitor<MoveRow, LinesFault> for CashLineWriter<'_, W> {
     ghost use Rattle.std.specs.Prelude.{◌≡◌, nat_lt, refl};
     ghost use Rattle.std.proofs.Common.{◌∙◌};
     ghost use Rattle.std.specs.Io.KnownBytes.{Appends};

@@ -61,11 +61,11 @@ impl Rows for Last {
 
     ghost Asked = { Asked };
 
-    ghost honest = { λ _. Unit {0} };
+    ghost meets_disk_assumption = { λ _. Unit {0} };
 
-    ghost stands = { λ desk base. base ≡ desk.moment };
+    ghost represents = { λ desk base. base ≡ desk.moment };
 
-    ghost leaves = { λ _ _ _. Unit {0} };
+    ghost crash_exposes_only = { λ _ _ _. Unit {0} };
 
     ghost acts = { λ _ _ _ _ _. Unit {0} };
 

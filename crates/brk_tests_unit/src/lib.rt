@@ -15,12 +15,12 @@ mod money;
 #[cfg(test)]
 mod move_plans;
 #[cfg(test)]
+mod planned_reply;
+#[cfg(test)]
 mod plans;
 #[cfg(test)]
 mod result_plans;
 #[cfg(test)]
 mod slow_lots;
-#[cfg(test)]
-mod told;
 #[cfg(test)]
 mod words;

@@ -1,4 +1,4 @@
-use crate::told::format_planned_reply;
+use crate::planned_reply::format_planned_reply;
 use brk_money::{Cents, Day, Id, MoveId, Stamp};
 use brk_orders::{Direction, Movement};
 use brk_ref::MovedAmount;

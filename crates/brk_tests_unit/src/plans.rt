@@ -1,7 +1,7 @@
 //! Plans at limits that no desk of the tests reaches: the greatest volume and the last number of a
 //! trade. Also which price triggers which type of order.
 
-use crate::told::format_planned_reply;
+use crate::planned_reply::format_planned_reply;
 use brk_lots::Position;
 use brk_money::{Id, Price, Rate, Stamp, TaxRate, TaxStatus, TradeType, Wide};
 use brk_orders::{parse_market_feed, parse_trade_order};

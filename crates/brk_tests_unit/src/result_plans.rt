@@ -1,4 +1,4 @@
-use crate::told::format_planned_reply;
+use crate::planned_reply::format_planned_reply;
 use brk_lots::Position;
 use brk_money::{
     Cents, Id, MoveId, Price, Qty, Rate, Stamp, Status, TaxRate, TaxStatus, TradeType,

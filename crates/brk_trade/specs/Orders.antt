@@ -46,8 +46,8 @@ order_checks found =
     ∷ (is_none found.charge, NoCharge) ∷ (is_none found.rate, NoRate) ∷ []
 
 -- The price that `order` asks for, or `last` if it asks for none, both in cents.
-abbrev pub requested_price_or_last : Order → ℕ → ℕ
-requested_price_or_last order last = unwrap_or (price_of_order order.order_type) last
+abbrev pub requested_or_last_price : Order → ℕ → ℕ
+requested_or_last_price order last = unwrap_or (price_of_order order.order_type) last
 
 -- The terms of `order` from the facts `found`. A number that is missing counts as 0, and a missing
 -- account as untaxed.
@@ -55,7 +55,7 @@ abbrev pub terms_of_order : Order → OrderPlanFacts → Terms
 terms_of_order order found = record {
   side = side_of_trade_type (trade_type_of_order order.order_type);
   qty = order.qty;
-  price = requested_price_or_last order (unwrap_or found.last_price 0);
+  price = requested_or_last_price order (unwrap_or found.last_price 0);
   tax_status = option_map_or (λ a. a.tax_status) found.account Untaxed;
   rates = found.rates;
   rate = unwrap_or found.rate 0;

@@ -70,8 +70,8 @@ abbrev pub first_cash_type_of_trade : Bool → CashType
 first_cash_type_of_trade is_cash = if is_cash then cash_type.CashAccount else cash_type.Margin
 
 -- A space, the quantity `qty` and the text " shares of ", as in the cash text of a trade.
-abbrev pub quantity_in_cash_text : ℕ → Text
-quantity_in_cash_text qty = 32 ∷ decimal qty ++ codes " shares of "
+abbrev pub cash_text_part_with_quantity : ℕ → Text
+cash_text_part_with_quantity qty = 32 ∷ decimal qty ++ codes " shares of "
 
 -- The cash text of the trade `t`: the name of its type, a space, its quantity, " shares of " and
 -- the name of its security.

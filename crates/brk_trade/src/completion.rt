@@ -216,7 +216,7 @@ fn append_summary_and_settlement_changes(
 // Appends to `name` a space, the quantity in decimal digits, and the text " shares of ". Fails if
 // memory runs out.
 fn append_quantity_text(name: &mut String, qty: Qty) -> Result<(), AllocError>
-    ensures { OnOk result (string_bytes name.new ≡ string_bytes name.old ++ spec.quantity_in_cash_text qty) }
+    ensures { OnOk result (string_bytes name.new ≡ string_bytes name.old ++ spec.cash_text_part_with_quantity qty) }
 {
     write!(name, " {} shares of ", qty.get())
 }

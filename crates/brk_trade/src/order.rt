@@ -73,7 +73,7 @@ struct Placement {
 // Returns the price that the order asks for, or `last`, the last price of its security, if it asks
 // for none; both are in cents.
 fn requested_price(order: &Order, last: Price) -> Price
-    ensures { result ≡ spec.requested_price_or_last order.now last }
+    ensures { result ≡ spec.requested_or_last_price order.now last }
 {
     order.order_type.price().unwrap_or(last)
 }

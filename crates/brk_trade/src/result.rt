@@ -22,7 +22,7 @@ use std::alloc::Global;
 // Returns the effect of the trade at `price` and `stamp` on the lots: the lots that it closes or
 // reduces, the lot that it opens, if any, and the values of the closed shares. Fails with `Memory`
 // or a fault of the source. Reads no lot if the account holds no shares that the trade would close.
-fn close_or_open_lots<L: LotSource>(
+fn effect_of_trade_on_lots<L: LotSource>(
     alloc: Global,
     source: &mut L,
     found: &ResultPlanFacts,
@@ -115,7 +115,7 @@ pub fn plan_result<L: LotSource>(
         Some(stamp) => stamp,
         None => now,
     };
-    let closed = close_or_open_lots(alloc, source, found, price, at)?;
+    let closed = effect_of_trade_on_lots(alloc, source, found, price, at)?;
     let outcome = match checked_result_figures(found, price, &known, &closed, moved) {
         Ok(outcome) => outcome,
         Err(refusal) => return Ok(Err(refusal)),

@@ -32,7 +32,7 @@ use Rattle.brk_view.specs.Status.{trade_status_record, party_names_record, rows_
 use Rattle.brk_view.specs.Volume.{volume_of_broker_in_sector, has_name_and_pending_request, precedes_by_volume, broker_volume_record}
 use Rattle.brk_view.specs.Worths.{precedes_by_market_value, worth_of_account, account_worth_record}
 use Rattle.brk_view.specs.declared.lookups.LookedUp.{LookedUp}
-use Rattle.brk_view.specs.declared.lookups.StatusMoment.{StatusMoment}
+use Rattle.brk_view.specs.declared.lookups.StampedStatus.{StampedStatus}
 use Rattle.brk_view.specs.declared.lots.LotTouch.{LotTouch}
 use Rattle.brk_view.specs.declared.lots.TouchedLots.{TouchedLots}
 use Rattle.brk_view.specs.declared.statuses.AccountStatus.{AccountStatus}
@@ -108,7 +108,7 @@ moments_carried history =
     map_sorted before is_older_status status_of_typed_history_row history (λ a b. refl)
     ∙ sym (map_map status_of_history_row abstract_history_row (sort_by before history)) ∙ ap (map status_of_history_row) (sym (map_sorted before older_status abstract_history_row history (λ a b. refl)))
 
-pub one_carried : (t : Tables) (trade : TradeRow) (settlement : Option SettlementRow) (cash : Option MoveRow) (history : List HistoryRow) (moments : Vec StatusMoment)
+pub one_carried : (t : Tables) (trade : TradeRow) (settlement : Option SettlementRow) (cash : Option MoveRow) (history : List HistoryRow) (moments : Vec StampedStatus)
     → moments.items ≡ sort_by is_older_status (map status_of_typed_history_row history) → AreRowsOfTrade t trade settlement cash history
     → rows_of_looked_up_trade (record { trade = trade; settlement = settlement; cash = cash; history = moments }) ≡ table_rows_of_trade t (abstract_trade_row trade)
 one_carried t trade settlement cash history moments e is = λ i. record {
@@ -133,7 +133,7 @@ pub rows_shown : (t : Tables) (found : List LookedUp) (rows : List tables.TradeR
 rows_shown t found rows e =
     sym (map_map shown_rows rows_of_looked_up_trade found) ∙ ap (map shown_rows) e ∙ map_map shown_rows (table_rows_of_trade t) rows ∙ (λ i. map (λ row. rows_in_shown t row i) rows)
 
-pub one_shown : (t : Tables) (trade : TradeRow) (settlement : Option SettlementRow) (cash : Option MoveRow) (history : List HistoryRow) (moments : Vec StatusMoment) → moments.items ≡ sort_by is_older_status (map status_of_typed_history_row history)
+pub one_shown : (t : Tables) (trade : TradeRow) (settlement : Option SettlementRow) (cash : Option MoveRow) (history : List HistoryRow) (moments : Vec StampedStatus) → moments.items ≡ sort_by is_older_status (map status_of_typed_history_row history)
     → AreRowsOfTrade t trade settlement cash history
     → records_of_looked_up_trade (record { trade = trade; settlement = settlement; cash = cash; history = moments }) ≡ model.trade_lookup_records t (abstract_trade_row trade)
 one_shown t trade settlement cash history moments e is =

@@ -16,10 +16,10 @@ use Rattle.brk_model.specs.Tables.{Tables}
 use Rattle.brk_money.specs.Kinds.{trade_status_code, trade_type_code}
 use Rattle.brk_money.specs.Spelling.{Text}
 use Rattle.brk_view.specs.declared.lookups.LookedUp.{LookedUp}
-use Rattle.brk_view.specs.declared.lookups.StatusMoment.{StatusMoment}
+use Rattle.brk_view.specs.declared.lookups.StampedStatus.{StampedStatus}
 
 -- True if the status `a` has a smaller stamp than the status `b`.
-abbrev pub is_older_status : StatusMoment → StatusMoment → Bool
+abbrev pub is_older_status : StampedStatus → StampedStatus → Bool
 is_older_status a b = nat_lt a.stamp b.stamp
 
 -- True if the trade `a` has a smaller stamp than the trade `b`, or the same stamp and a smaller id.
@@ -27,11 +27,11 @@ abbrev pub is_older_trade : TradeRow → TradeRow → Bool
 is_older_trade a b = is_pair_less a.stamp b.stamp a.id b.id
 
 -- The stamp and the status of the typed TRADE_HISTORY row `r`.
-abbrev pub status_of_typed_history_row : HistoryRow → StatusMoment
+abbrev pub status_of_typed_history_row : HistoryRow → StampedStatus
 status_of_typed_history_row r = record { stamp = r.stamp; status = r.status }
 
 -- The record of the status `m` of a trade: the word `history`, its stamp and its code.
-abbrev pub history_status_record : StatusMoment → List Text
+abbrev pub history_status_record : StampedStatus → List Text
 history_status_record m = codes "history" ∷ decimal m.stamp ∷ trade_status_code m.status ∷ []
 
 -- The first five of the fifteen fields of the trade `t`: the word `trade`, its id, its stamp, and
@@ -50,8 +50,8 @@ price_and_cost_fields t =
     option_map_or nonnegative_cents_text t.price [] ∷ nonnegative_cents_text t.charge ∷ nonnegative_cents_text t.commission ∷ nonnegative_cents_text t.tax ∷ []
 
 -- The last two of the fifteen fields of the trade `t`: `cash` or `margin`, and `lifo` or `fifo`.
-abbrev pub cash_and_lot_end_fields : tables.TradeRow → List Text
-cash_and_lot_end_fields t = cash_or_margin_word t.is_cash ∷ lifo_or_fifo_word t.is_lifo ∷ []
+abbrev pub account_type_and_closing_order_fields : tables.TradeRow → List Text
+account_type_and_closing_order_fields t = cash_or_margin_word t.is_cash ∷ lifo_or_fifo_word t.is_lifo ∷ []
 
 -- The records of the looked-up trade `l`: one for the trade, one for its settlement and one for its
 -- cash row, if they exist, and one for each of its statuses.
@@ -67,7 +67,7 @@ pub record LookedUpRows : Type 0 where
   pub trade : tables.TradeRow
   pub settlements : List tables.SettlementRow
   pub moves : List tables.MoveRow
-  pub history : List StatusMoment
+  pub history : List StampedStatus
 
 -- The trade, settlement, cash row and statuses of the looked-up trade `l`, as rows of the model's
 -- tables.
@@ -80,7 +80,7 @@ rows_of_looked_up_trade l = record {
 }
 
 -- The stamp and the status of the TRADE_HISTORY row `r`.
-abbrev pub status_of_history_row : tables.HistoryRow → StatusMoment
+abbrev pub status_of_history_row : tables.HistoryRow → StampedStatus
 status_of_history_row r = record { stamp = r.stamp; status = r.status }
 
 -- The TRADE row `row` with its settlements, its cash rows and its statuses in the tables `t`. The

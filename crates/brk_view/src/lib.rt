@@ -2,7 +2,6 @@
 #![tactic(auto)]
 
 pub mod broker_names;
-pub mod laws;
 pub mod lookups;
 pub mod lots;
 pub mod named_trades;
@@ -14,6 +13,7 @@ pub mod query;
 pub mod recents;
 pub mod statuses;
 pub mod submitted_rows;
+pub mod theorems;
 pub mod view;
 pub mod view_name;
 pub mod volumes;

@@ -20,16 +20,16 @@ use std::alloc::Global;
 
 /// A status of a trade and the stamp at which the trade reached it.
 #[derive(Clone, Copy)]
-pub struct StatusMoment {
+pub struct StampedStatus {
     pub stamp: Stamp,
     pub status: Status,
 }
 
-impl Ranked for StatusMoment {
+impl Ranked for StampedStatus {
     ghost before = { is_older_status };
 
     /// Returns true if the status has a smaller stamp than `other`.
-    fn ranks_before(&self, other: &StatusMoment) -> bool {
+    fn ranks_before(&self, other: &StampedStatus) -> bool {
         self.stamp.get() < other.stamp.get()
     }
 }
@@ -56,7 +56,7 @@ pub struct LookedUp {
     /// The cash row, or `None` if the trade has none.
     pub cash: Option<MoveRow>,
     /// The statuses, the oldest first.
-    pub history: Vec<StatusMoment>,
+    pub history: Vec<StampedStatus>,
 }
 
 // Returns the statuses of a trade with their stamps, from its TRADE_HISTORY rows, sorted by stamp,
@@ -64,13 +64,13 @@ pub struct LookedUp {
 fn sorted_statuses_of_history(
     alloc: Global,
     history: &[HistoryRow],
-) -> Result<Vec<StatusMoment>, Fault>
+) -> Result<Vec<StampedStatus>, Fault>
     ensures order { IfOk result (λ moments. moments.items ≡ sort_by is_older_status (map status_of_typed_history_row history.now)) }
     ensures fault { OnErr result (result ≡ Err Memory) }
 {
     let mut moments = Vec::new(alloc);
     for row in history {
-        moments.push(StatusMoment {
+        moments.push(StampedStatus {
             stamp: row.stamp,
             status: row.status,
         })?;

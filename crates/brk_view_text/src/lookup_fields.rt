@@ -4,7 +4,7 @@ ghost use Rattle.std.specs.Prelude.{◌≡◌, ◌++◌, ◌∷◌, [], Err, IfO
 ghost use Rattle.brk_changes.specs.Rows.{abstract_move_row, abstract_settlement_row, abstract_trade_row};
 ghost use Rattle.brk_model.specs.LookupView as model;
 ghost use Rattle.brk_money.specs.declared.fault.Fault.TheVariants.{Memory};
-ghost use Rattle.brk_view.specs.Lookup.{cash_and_lot_end_fields, price_and_cost_fields, records_of_looked_up_trade};
+ghost use Rattle.brk_view.specs.Lookup.{account_type_and_closing_order_fields, price_and_cost_fields, records_of_looked_up_trade};
 ghost use Rattle.brk_view.specs.Lookup.{history_status_record, first_five_trade_fields, order_fields_of_trade};
 ghost use Rattle.brk_view.specs.Views.{texts_of_record, texts_of_records};
 
@@ -12,7 +12,7 @@ use crate::texts::{copy_text, number_text, optional_price_text, stamp_text};
 use brk_changes::{MoveRow, SettlementRow, TradeRow};
 use brk_commands::{cash_or_margin_word, day_text, lifo_or_fifo_word};
 use brk_money::Fault;
-use brk_view::lookups::{LookedUp, StatusMoment};
+use brk_view::lookups::{LookedUp, StampedStatus};
 use std::alloc::Global;
 
 // Returns the first five of the fifteen fields of a trade: the word `trade`, its id, its stamp, and
@@ -62,12 +62,12 @@ fn append_price_and_cost_texts(
 
 // Appends to `texts` the last two of the fifteen fields of a trade: `cash` or `margin`, and `lifo`
 // or `fifo`. Fails with `Memory` only.
-fn append_cash_and_lot_end_texts(
+fn append_account_type_and_closing_order_texts(
     alloc: Global,
     texts: &mut Vec<String>,
     trade: &TradeRow,
 ) -> Result<(), Fault>
-    ensures texts { OnOk result (texts_of_record texts.new ≡ texts_of_record texts.old ++ cash_and_lot_end_fields (abstract_trade_row trade.now)) }
+    ensures texts { OnOk result (texts_of_record texts.new ≡ texts_of_record texts.old ++ account_type_and_closing_order_fields (abstract_trade_row trade.now)) }
     ensures fault { OnErr result (result ≡ Err Memory) }
 {
     texts.push(copy_text(alloc, cash_or_margin_word(trade.is_cash))?)?;
@@ -85,7 +85,7 @@ fn looked_up_trade_texts(alloc: Global, trade: &TradeRow) -> Result<Vec<String>,
     let mut texts = first_five_trade_texts(alloc, trade)?;
     append_order_texts(alloc, &mut texts, trade)?;
     append_price_and_cost_texts(alloc, &mut texts, trade)?;
-    append_cash_and_lot_end_texts(alloc, &mut texts, trade)?;
+    append_account_type_and_closing_order_texts(alloc, &mut texts, trade)?;
     Ok(texts)
 }
 
@@ -119,7 +119,7 @@ fn cash_row_texts(alloc: Global, row: &MoveRow) -> Result<Vec<String>, Fault>
 
 // Returns the record of a status of a trade: the word `history`, the stamp of the status and its
 // code. Fails with `Memory` only.
-fn history_status_texts(alloc: Global, moment: StatusMoment) -> Result<Vec<String>, Fault>
+fn history_status_texts(alloc: Global, moment: StampedStatus) -> Result<Vec<String>, Fault>
     ensures texts { IfOk result (λ texts. texts_of_record texts ≡ history_status_record moment) }
     ensures fault { OnErr result (result ≡ Err Memory) }
 {
@@ -170,7 +170,7 @@ fn append_cash_record(
 fn append_history_records(
     alloc: Global,
     records: &mut Vec<Vec<String>>,
-    history: &[StatusMoment],
+    history: &[StampedStatus],
 ) -> Result<(), Fault>
     ensures records { OnOk result (texts_of_records records.new ≡ texts_of_records records.old ++ map history_status_record history.now) }
     ensures fault { OnErr result (result ≡ Err Memory) }

@@ -35,8 +35,8 @@ returns-then-count-eq0-clause-left c =
     let r = c.requires.rows in
     sym (left_whole r.0 r.1 (drop c.args.first c.args.lots.now.items) c.requires.walk c.args.touched.now r.2 c.if-count-eq0.true)
 
-pub remove_front_lots-requires : goal.remove_front_lots-requires
-remove_front_lots-requires c =
+pub close_front_lots-requires : goal.close_front_lots-requires
+close_front_lots-requires c =
     let r = c.requires.rows in
     let h = fits c.args.lots.now.items c.args.first c.args.touched.now r.0 r.1 r.2 in
     let some : 0 < length c.args.touched.now = omega (arith, c.if-count-eq0.false) in
@@ -58,7 +58,7 @@ returns-then-eq-clause-left c =
     let next : first + length rows - 1 + 1 ≡ first + length rows = omega (arith, some) in
     let fit : FitsSigned w64 c.index-touched-count.result.after = search rules in
     let q = passed rows (length rows - 1) c.index-touched-count.result fit c.index-touched-count.is in
-    c.remove_front_lots.ensures.left l (place all (first + length rows - 1) f at)
+    c.close_front_lots.ensures.left l (place all (first + length rows - 1) f at)
     ∙ ap (λ z. lot_with_nonzero_quantity z l ++ drop (first + length rows - 1 + 1) all) q
     ∙ ap (λ (n : ℕ). lot_with_nonzero_quantity c.index-touched-count.result.after l ++ drop n all) next
     ∙ ap (λ (ls : List Lot). lot_with_nonzero_quantity c.index-touched-count.result.after l ++ ls) (sym (drop-drop (length rows) first all))

@@ -22,7 +22,7 @@ returns-in-Err-checked_result_figures-clause-planned g c =
     let moved : c.match-moved.moved ≡ stamp_after c.args.last c.args.now = elim c.match-moved.branch [ in-Some-moved w ↦ search rules | in-None w ↦ search rules ] in
     let told = rw moved at c.in-Err-checked_result_figures.ensures in
     let refusal = c.in-Err-checked_result_figures.refusal in
-    let late : (ls : List Lot) (stamp : ℕ) → AreLotsBeforeTrade (AreLotsOfFaithfulSource (g.L.LotSource.reads_faithfully c.close_or_open_lots.new.source) (g.L.LotSource.remaining c.args.source.now)) found ls
+    let late : (ls : List Lot) (stamp : ℕ) → AreLotsBeforeTrade (AreLotsOfFaithfulSource (g.L.LotSource.reads_faithfully c.effect_of_trade_on_lots.new.source) (g.L.LotSource.remaining c.args.source.now)) found ls
     → first_refusal (result_checks found c.args.price (closing_values_of_deal (deal_of_trade_row found.trade c.args.price stamp) (shares_of_lots ls)) (stamp_after c.args.last c.args.now)) ≡ Some refusal = λ ls stamp met.
     let closes : AreLotsClosedByDeal (deal_of_trade_row found.trade c.args.price c.match-moved.at) ls closed = c.in_ok-closed.ensures.closed ls met in
     refused_by_values found c.args.price ls c.match-moved.at stamp closed (stamp_after c.args.last c.args.now) refusal closes c.in-Ok.ensures.0 told in
@@ -42,7 +42,7 @@ returns-clause-planned g c =
     let tested = rw done.1 at done.0 in
     let changed : ResultFigures → Type 0 = λ o. AreResultChanges found price closed o c.in_ok-changes.changes.items in
     let plan : Plan = record { changes = c.in_ok-changes.changes; reply = Completed outcome.completed } in
-    let completed : IsResultPlan found price (AreLotsOfFaithfulSource (g.L.LotSource.reads_faithfully c.close_or_open_lots.new.source) (g.L.LotSource.remaining c.args.source.now)) c.args.last c.args.now plan = record {
+    let completed : IsResultPlan found price (AreLotsOfFaithfulSource (g.L.LotSource.reads_faithfully c.effect_of_trade_on_lots.new.source) (g.L.LotSource.remaining c.args.source.now)) c.args.last c.args.now plan = record {
       stamp = outcome.completed.stamp;
       closed = closed;
       stamped = stamped;
@@ -65,19 +65,19 @@ returns-in-Err-clause-planned g c =
 pub returns-in-Err-checked_result_figures-clause-asked : goal.returns-in-Err-checked_result_figures-clause-asked
 returns-in-Err-checked_result_figures-clause-asked g c =
     let at : c.match-moved.at ≡ stamp_or_clock_reading (stamp_after c.args.last c.args.now) c.args.now = elim c.match-moved.branch [ in-Some-moved w ↦ search rules | in-None w ↦ search rules ] in
-    rw (c.in-Some.is, ← at) c.close_or_open_lots.ensures.asked
+    rw (c.in-Some.is, ← at) c.effect_of_trade_on_lots.ensures.asked
 
 pub returns-clause-asked : goal.returns-clause-asked
 returns-clause-asked g c =
     let at : c.match-moved.at ≡ stamp_or_clock_reading (stamp_after c.args.last c.args.now) c.args.now = elim c.match-moved.branch [ in-Some-moved w ↦ search rules | in-None w ↦ search rules ] in
-    rw (c.in-Some.is, ← at) c.close_or_open_lots.ensures.asked
+    rw (c.in-Some.is, ← at) c.effect_of_trade_on_lots.ensures.asked
 
 pub returns-in_err-closed-clause-asked : goal.returns-in_err-closed-clause-asked
 returns-in_err-closed-clause-asked g c =
     let at : c.match-moved.at ≡ stamp_or_clock_reading (stamp_after c.args.last c.args.now) c.args.now = elim c.match-moved.branch [ in-Some-moved w ↦ search rules | in-None w ↦ search rules ] in
-    rw (c.in-Some.is, ← at) c.close_or_open_lots.ensures.asked
+    rw (c.in-Some.is, ← at) c.effect_of_trade_on_lots.ensures.asked
 
 pub returns-in_err-changes-clause-asked : goal.returns-in_err-changes-clause-asked
 returns-in_err-changes-clause-asked g c =
     let at : c.match-moved.at ≡ stamp_or_clock_reading (stamp_after c.args.last c.args.now) c.args.now = elim c.match-moved.branch [ in-Some-moved w ↦ search rules | in-None w ↦ search rules ] in
-    rw (c.in-Some.is, ← at) c.close_or_open_lots.ensures.asked
+    rw (c.in-Some.is, ← at) c.effect_of_trade_on_lots.ensures.asked

@@ -10,7 +10,7 @@ use Rattle.brk_report.specs.declared.visitors.CashProgress.{CashProgress}
 use Rattle.brk_report.proofs.CashWalked.{none_first}
 use Rattle.brk_report.proofs.Handing.{on_err}
 use Rattle.brk_report.proofs.Section.{weaker}
-use Rattle.brk_report.proofs.visitors.CashLinesVisitorMoveRowLinesFault.visit.Goals as goal
+use Rattle.brk_report.proofs.visitors.CashLineWriterVisitorMoveRowLinesFault.visit.Goals as goal
 
 pub returns-in_err-total-clause-stops : goal.returns-in_err-total-clause-stops
 returns-in_err-total-clause-stops g c =

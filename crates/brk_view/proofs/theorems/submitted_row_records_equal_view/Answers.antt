@@ -1,5 +1,5 @@
 use Rattle.brk_view.proofs.ById.{shown_of_rising, shown_of_sheets}
-use Rattle.brk_view.proofs.laws.submitted_rows_are_the_view.Goals as goal
+use Rattle.brk_view.proofs.theorems.submitted_row_records_equal_view.Goals as goal
 
 pub returns-clause-sorted : goal.returns-clause-sorted
 returns-clause-sorted c = shown_of_rising

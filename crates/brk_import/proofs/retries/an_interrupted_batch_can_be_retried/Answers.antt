@@ -2,7 +2,7 @@ use Rattle.brk_model.specs.Input.{input_text}
 use Rattle.brk_model.specs.Parse.{parse_by_first_field, row_parsers}
 use Rattle.brk_model_theorems.proofs.StoppedLaws.{end-apart}
 use Rattle.brk_import.proofs.SentAgain.{sent_again}
-use Rattle.brk_import.proofs.sent_again.an_interrupted_batch_can_be_retried.Goals as goal
+use Rattle.brk_import.proofs.retries.an_interrupted_batch_can_be_retried.Goals as goal
 
 pub returns : goal.returns
 returns g c = λ input base first left conn store last one two ended taken counts.

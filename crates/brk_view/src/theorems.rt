@@ -16,7 +16,7 @@ ghost use Rattle.brk_view.specs.declared.view.View.TheVariants as views;
 /// Proves that the records of the submitted TRADE rows equal the view of the submitted trades: of
 /// tables whose rows are sorted by id, ascending (`sorted`), and of any tables after they are
 /// sorted by key (`stored`).
-pub fn submitted_rows_are_the_view()
+pub fn submitted_row_records_equal_view()
     // For tables whose TRADE rows are sorted by id, ascending.
     ensures sorted { (t : Tables) → is_sorted_by_unique_key trade_key t.trades ≡ true
         → map record_of_submitted_row (filter has_submitted_status t.trades) ≡ submitted_trades_view t }

@@ -2,7 +2,7 @@ use Rattle.std.proofs.Common.{[], ◌∷◌, refl, inr}
 use Rattle.brk_report_lines.specs.Written.{FailsWithinLines}
 use Rattle.brk_report_lines.proofs.Composed.{appends_none}
 use Rattle.brk_report.proofs.Handing.{on_err}
-use Rattle.brk_report.proofs.visitors.LinesVisitorLinesFault.visit.Goals as goal
+use Rattle.brk_report.proofs.visitors.LineWriterVisitorLinesFault.visit.Goals as goal
 
 pub returns-in_default-clause-stops : goal.returns-in_default-clause-stops
 returns-in_default-clause-stops g c = (inr refl, ([], g.R.Line.line c.args.item.now, [], refl, appends_none _))
