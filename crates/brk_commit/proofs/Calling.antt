@@ -37,7 +37,7 @@ use Rattle.brk_store.specs.Holds.{IsDiskContentOfRows, HoldsRows, ApplyPost, Rea
 use Rattle.brk_decisions.specs.Decisions.{DecidesCommand}
 use Rattle.brk_decisions.proofs.Looking.{none_then, same_then}
 use Rattle.brk_commit.specs.Answers.{CommandAnswer, IsDoneResult, model_answer}
-use Rattle.brk_commit.specs.Booked.{CallPost, IsDiskContentAfterCommand, base_after_call}
+use Rattle.brk_commit.specs.Booked.{CommandPost, IsDiskContentAfterCommand, base_after_keyed_command}
 use Rattle.brk_store.specs.Audited.{Represents}
 use Rattle.brk_commit.specs.Keys.{ReadStoredReplyPost, stored_reply_under_key, with_stored_command}
 use Rattle.brk_ref.specs.declared.answer.Answer.TheVariants as given
@@ -74,22 +74,22 @@ module _ {S : Type 0} (g : Ghosts S) (old mid : Held S) (now : ℕ) (command : C
   sound_after base keeps after answer e = subst AuditInvariant (ap (λ (x : Answer × Base). x.1) e) (keyed_sound base now command key keeps.sound keeps.books formed.0 formed.1)
 
   -- what was read is of no use
-  pub fails : (P : Tables → Type 0) → HoldsWithoutChange g old mid P → (fault : Fault) → IsCallFault fault → CallPost g old mid now command key (Err fault)
+  pub fails : (P : Tables → Type 0) → HoldsWithoutChange g old mid P → (fault : Fault) → IsCallFault fault → CommandPost g old mid now command key (Err fault)
   fails P seen fault may = record {
     answered = λ clean. tt;
     same_bases_at_error = λ base keeps. still_kept g old mid base (seen.kept (sheets base)) keeps;
     fault = may;
     survives = survives_weaker (state g old) (state g mid) (λ _. ⊥) _ (λ _ db none. absurd none) seen.survives;
     durable = λ clean done. absurd done;
-    opened = λ clean done. absurd done;
-    same = λ clean o none. seen.same clean o;
+    open_and_committed = λ clean done. absurd done;
+    unchanged_if_open = λ clean o none. seen.unchanged_if_open clean o;
     clean = seen.clean;
-    in_form = formed;
+    well_formed = formed;
   }
 
   -- its key is kept
   pub repeats : (k : Kept) (answer : CommandAnswer) → ((base : Base) → answer_to_repeated_row base command k ≡ (model_answer answer, base)) → HoldsWithoutChange g old mid (λ t. Some k ≡ stored_reply_under_key t key)
-      → CallPost g old mid now command key (Ok answer)
+      → CommandPost g old mid now command key (Ok answer)
   repeats k answer told seen = record {
     answered = λ clean base keeps. (
       base,
@@ -100,20 +100,20 @@ module _ {S : Type 0} (g : Ghosts S) (old mid : Held S) (now : ℕ) (command : C
     fault = tt;
     survives = survives_weaker (state g old) (state g mid) (λ _. ⊥) _ (λ _ db none. absurd none) seen.survives;
     durable = λ clean done base keeps. absurd (never_done base command k answer (told base) done);
-    opened = λ clean done. absurd (never_done empty_base command k answer (told empty_base) done);
-    same = λ clean o none. seen.same clean o;
+    open_and_committed = λ clean done. absurd (never_done empty_base command k answer (told empty_base) done);
+    unchanged_if_open = λ clean o none. seen.unchanged_if_open clean o;
     clean = seen.clean;
-    in_form = formed;
+    well_formed = formed;
   }
 
   -- its key is kept, and the answer may find no memory
   pub repeats_or_fails : (k : Kept) (result : Result CommandAnswer Fault) → IfOk result (λ answer. (base : Base) → answer_to_repeated_row base command k ≡ (model_answer answer, base))
-      → OnErr result (result ≡ Err Memory) → HoldsWithoutChange g old mid (λ t. Some k ≡ stored_reply_under_key t key) → CallPost g old mid now command key result
+      → OnErr result (result ≡ Err Memory) → HoldsWithoutChange g old mid (λ t. Some k ≡ stored_reply_under_key t key) → CommandPost g old mid now command key result
   repeats_or_fails k (Ok answer) told none seen = repeats k answer told seen
   repeats_or_fails k (Err fault) none e seen = fails (λ t. Some k ≡ stored_reply_under_key t key) seen fault (inl (same_fault fault Memory (Err fault) refl e))
 
   -- it is refused
-  pub refuses : (refusal : Refusal) → HoldsWithoutChange g old mid (DecidesCommandOfNewKey now command key (Err refusal)) → CallPost g old mid now command key (Ok (given.Refused refusal))
+  pub refuses : (refusal : Refusal) → HoldsWithoutChange g old mid (DecidesCommandOfNewKey now command key (Err refusal)) → CommandPost g old mid now command key (Ok (given.Refused refusal))
   refuses refusal seen = record {
     answered = λ clean base keeps.
         let known = seen.told clean (sheets base) keeps.rows in
@@ -126,10 +126,10 @@ module _ {S : Type 0} (g : Ghosts S) (old mid : Held S) (now : ℕ) (command : C
     fault = tt;
     survives = survives_weaker (state g old) (state g mid) (λ _. ⊥) _ (λ _ db none. absurd none) seen.survives;
     durable = λ clean done. absurd done;
-    opened = λ clean done. absurd done;
-    same = λ clean o none. seen.same clean o;
+    open_and_committed = λ clean done. absurd done;
+    unchanged_if_open = λ clean o none. seen.unchanged_if_open clean o;
     clean = seen.clean;
-    in_form = formed;
+    well_formed = formed;
   }
 
   -- it is planned, and is kept with its plan
@@ -158,12 +158,12 @@ module _ {S : Type 0} (g : Ghosts S) (old mid : Held S) (now : ℕ) (command : C
 
     -- and so do the trees that a crash may leave
     comes : HasCleanDisk (state g mid) → (base : Base) → Represents g old base → (trees : Trees) → IsDiskContentOfRows (tables_after_changes kept.changes.items (sheets base)) trees
-        → IsDiskContentOfRows (sheets (base_after_call base now command key)) trees
+        → IsDiskContentOfRows (sheets (base_after_keyed_command base now command key)) trees
     comes clean base keeps trees are =
         let l = lands clean base keeps in
         subst (λ t. IsDiskContentOfRows t trees) (sym l.1 ∙ ap (λ (x : Answer × Base). sheets x.1) (sym l.3)) are
 
-    texts_come : HasCleanDisk (state g mid) → (base : Base) → Represents g old base → has_utf8_texts (sheets (base_after_call base now command key)) ≡ true
+    texts_come : HasCleanDisk (state g mid) → (base : Base) → Represents g old base → has_utf8_texts (sheets (base_after_keyed_command base now command key)) ≡ true
     texts_come clean base keeps =
         let l = lands clean base keeps in
         ap (λ (x : Answer × Base). has_utf8_texts (sheets x.1)) l.3 ∙ l.4
@@ -172,14 +172,14 @@ module _ {S : Type 0} (g : Ghosts S) (old mid : Held S) (now : ℕ) (command : C
     come applied =
         none_then (state g old) (state g mid) (state g end) (IsDiskContentAfterCommand g old now command key) seen.survives
         (survives_weaker (state g mid) (state g end) _ _ (λ clean trees may.
-        let was = seen.same (clean_then applied clean) may.0 in (
+        let was = seen.unchanged_if_open (clean_then applied clean) may.0 in (
           was.was_open,
           (λ base keeps. comes (clean_then applied clean) base keeps trees (may.1 (sheets base) (seen.kept (sheets base) keeps.rows (clean_then applied clean) may.0))),
           (λ base keeps. texts_come (clean_then applied clean) base keeps),
         )) applied.survives)
 
     -- the changes failed
-    pub books_none : (fault : Fault) → IsCallFault fault → ApplyPost {V = Unit {0}} g mid end (Err fault) (tables_after_changes kept.changes.items) → CallPost g old end now command key (Err fault)
+    pub books_none : (fault : Fault) → IsCallFault fault → ApplyPost {V = Unit {0}} g mid end (Err fault) (tables_after_changes kept.changes.items) → CommandPost g old end now command key (Err fault)
     books_none fault may applied =
         let clean_mid = clean_before (state g mid) (state g end) _ applied.survives in
         record {
@@ -188,14 +188,14 @@ module _ {S : Type 0} (g : Ghosts S) (old mid : Held S) (now : ℕ) (command : C
           fault = may;
           survives = come applied;
           durable = λ clean done. absurd done;
-          opened = λ clean done. absurd done;
-          same = λ clean o none. let s = applied.same clean o in same_then (state g old) (state g mid) (state g end) (seen.same (clean_mid clean) s.was_open) s;
+          open_and_committed = λ clean done. absurd done;
+          unchanged_if_open = λ clean o none. let s = applied.unchanged_if_open clean o in same_then (state g old) (state g mid) (state g end) (seen.unchanged_if_open (clean_mid clean) s.was_open) s;
           clean = λ clean. seen.clean (clean_mid clean);
-          in_form = formed;
+          well_formed = formed;
         }
 
     -- they are made
-    pub books_it : (x : Unit {0}) → ApplyPost {E = Fault} g mid end (Ok x) (tables_after_changes kept.changes.items) → CallPost g old end now command key (Ok (given.Done kept.reply))
+    pub books_it : (x : Unit {0}) → ApplyPost {E = Fault} g mid end (Ok x) (tables_after_changes kept.changes.items) → CommandPost g old end now command key (Ok (given.Done kept.reply))
     books_it x applied =
         let clean_mid = clean_before (state g mid) (state g end) _ applied.survives in
         record {
@@ -206,8 +206,8 @@ module _ {S : Type 0} (g : Ghosts S) (old mid : Held S) (now : ℕ) (command : C
           fault = tt;
           survives = come applied;
           durable = λ clean done base keeps trees may. comes (clean_mid clean) base keeps trees (applied.durable clean (sheets base) (seen.kept (sheets base) keeps.rows) trees may);
-          opened = λ clean done. let o = applied.opened clean in ((seen.same (clean_mid clean) o.0).was_open, o.1, o.2);
-          same = λ clean o none. absurd none;
+          open_and_committed = λ clean done. let o = applied.open_and_committed clean in ((seen.unchanged_if_open (clean_mid clean) o.0).was_open, o.1, o.2);
+          unchanged_if_open = λ clean o none. absurd none;
           clean = λ clean. seen.clean (clean_mid clean);
-          in_form = formed;
+          well_formed = formed;
         }

@@ -31,26 +31,26 @@ module _ {S : Type 0} (g : Ghosts S) where
   pub record HoldsWithoutChange (old new : Held S) (P : Tables → Type 0) : Type 0 where
     pub told : HasCleanDisk (state g new) → (t : Tables) → HoldsRows g old t → P t
     pub kept : (t : Tables) → HoldsRows g old t → HoldsRows g new t
-    pub same : HasCleanDisk (state g new) → IsTrue (state g new).is_open → WasOpenAndIsUnchanged (state g old) (state g new)
+    pub unchanged_if_open : HasCleanDisk (state g new) → IsTrue (state g new).is_open → WasOpenAndIsUnchanged (state g old) (state g new)
     pub clean : HasCleanDisk (state g new) → HasCleanDisk (state g old)
     pub survives : Survives (state g old) (state g new) (λ _. ⊥)
 
   pub seen : {V E : Type 0} (old new : Held S) (v : V) (P : V → Tables → Type 0) → ReadPost {E = E} g old new (Ok v) P → HoldsWithoutChange old new (P v)
   seen old new v P read =
-      record { told = read.answered; kept = read.same_rows; same = read.same; clean = clean_before (state g old) (state g new) (λ _. ⊥) read.survives; survives = read.survives }
+      record { told = read.answered; kept = read.same_rows; unchanged_if_open = read.unchanged_if_open; clean = clean_before (state g old) (state g new) (λ _. ⊥) read.survives; survives = read.survives }
 
   pub seen_both : (old mid new : Held S) (P Q : Tables → Type 0) → HoldsWithoutChange old mid P → HoldsWithoutChange mid new Q → HoldsWithoutChange old new (λ t. P t × Q t)
   seen_both old mid new P Q first second = record {
     told = λ clean t holds. (first.told (second.clean clean) t holds, second.told clean t (first.kept t holds));
     kept = λ t holds. second.kept t (first.kept t holds);
-    same = λ clean o. let s = second.same clean o in same_then (state g old) (state g mid) (state g new) (first.same (second.clean clean) s.was_open) s;
+    unchanged_if_open = λ clean o. let s = second.unchanged_if_open clean o in same_then (state g old) (state g mid) (state g new) (first.unchanged_if_open (second.clean clean) s.was_open) s;
     clean = λ clean. first.clean (second.clean clean);
     survives = none_then (state g old) (state g mid) (state g new) (λ _. ⊥) first.survives second.survives;
   }
 
   seen_still : (store : Held S) (P : Tables → Type 0) → ((t : Tables) → P t) → HoldsWithoutChange store store P
   seen_still store P all =
-      record { told = λ clean t holds. all t; kept = λ t holds. holds; same = λ clean o. record { was_open = o; now = refl; committed = refl }; clean = λ clean. clean; survives = still (state g store) }
+      record { told = λ clean t holds. all t; kept = λ t holds. holds; unchanged_if_open = λ clean o. record { was_open = o; now = refl; committed = refl }; clean = λ clean. clean; survives = still (state g store) }
 
   -- nothing is kept under the key
   pub sought_none : (old new : Held S) (key : Option Key) → ReadStoredReplyPost g old new key (Ok None) → HoldsWithoutChange old new (λ t. None ≡ stored_reply_under_key t key)

@@ -30,23 +30,23 @@ PreservesRepresentation g old new = (base : Base) → Represents g old base → 
 
 -- The base after the model executes `command` on `base` at the clock reading `now`, under `key` or
 -- without one. It is `base` itself if the command is refused or repeated.
-abbrev pub base_after_call : Base → ℕ → Command → Option Key → Base
-base_after_call base now command key = (keyed_step base now command key).1
+abbrev pub base_after_keyed_command : Base → ℕ → Command → Option Key → Base
+base_after_keyed_command base now command key = (keyed_step base now command key).1
 
 -- The store was open in the state `old`, and for every base that it represented, `trees` are the
 -- disk contents of a database that contains the tables of the base after the command, and the texts
 -- of these tables are UTF-8.
 abbrev pub IsDiskContentAfterCommand : {S : Type 0} → Ghosts S → Held S → ℕ → Command → Option Key → Trees → Type 0
 IsDiskContentAfterCommand g old now command key trees =
-    IsTrue (state g old).is_open × ((base : Base) → Represents g old base → IsDiskContentOfRows (sheets (base_after_call base now command key)) trees)
-    × ((base : Base) → Represents g old base → IsTrue (has_utf8_texts (sheets (base_after_call base now command key))))
+    IsTrue (state g old).is_open × ((base : Base) → Represents g old base → IsDiskContentOfRows (sheets (base_after_keyed_command base now command key)) trees)
+    × ((base : Base) → Represents g old base → IsTrue (has_utf8_texts (sheets (base_after_keyed_command base now command key))))
 
 -- The postcondition of a call that executes a command, between the states `old` and `new` of the
 -- store. At `Ok` the call refines the model's step for the command. At an error a store that is
 -- still open is unchanged, also after a crash; if the call closed it, a crash may expose the
 -- command as committed. `brk_store/specs/Holds.antt` explains the terms of the clauses; `g` is the
 -- specification of the storage `S`.
-pub record CallPost {S : Type 0} (g : Ghosts S) (old new : Held S) (now : ℕ) (command : Command) (key : Option Key)
+pub record CommandPost {S : Type 0} (g : Ghosts S) (old new : Held S) (now : ℕ) (command : Command) (key : Option Key)
     (result : Result CommandAnswer Fault) : Type 0 where
   -- At `Ok` the call refines the model's step. Vacuous if the disk assumption fails.
   pub answered : HasCleanDisk (state g new) → IfOk result (RefinesStep g old new now command key)
@@ -59,14 +59,14 @@ pub record CallPost {S : Type 0} (g : Ghosts S) (old new : Held S) (now : ℕ) (
   pub survives : Survives (state g old) (state g new) (IsDiskContentAfterCommand g old now command key)
   -- At `Done` a crash after the call exposes only the tables after the command.
   pub durable : HasCleanDisk (state g new) → IsDoneResult result → (base : Base) → Represents g old base
-      → CrashStatesSatisfy g new (IsDiskContentOfRows (sheets (base_after_call base now command key)))
+      → CrashStatesSatisfy g new (IsDiskContentOfRows (sheets (base_after_keyed_command base now command key)))
   -- At `Done` the store was open, is open, and has committed its current state.
-  pub opened : HasCleanDisk (state g new) → IsDoneResult result
+  pub open_and_committed : HasCleanDisk (state g new) → IsDoneResult result
       → IsTrue (state g old).is_open × IsTrue (state g new).is_open × ((state g new).committed ≡ (state g new).now)
   -- If the result is a refusal, a stored reply or a fault, and the database is open after the call,
   -- it was open before and is unchanged.
-  pub same : HasCleanDisk (state g new) → IsTrue (state g new).is_open → IsNotDoneResult result → WasOpenAndIsUnchanged (state g old) (state g new)
+  pub unchanged_if_open : HasCleanDisk (state g new) → IsTrue (state g new).is_open → IsNotDoneResult result → WasOpenAndIsUnchanged (state g old) (state g new)
   -- If the disk assumption holds after the call, it held before.
   pub clean : HasCleanDisk (state g new) → HasCleanDisk (state g old)
   -- The command and its key are well-formed, as all values of their types are.
-  pub in_form : MeetsAuditFormats command × IfSome key IsWellFormedKey
+  pub well_formed : MeetsAuditFormats command × IfSome key IsWellFormedKey

@@ -5,7 +5,7 @@ ghost use Rattle.std.specs.Prelude.{IfSome};
 ghost use Rattle.std.specs.Option.{option_copied};
 ghost use Rattle.brk_commands.specs.Commands.{abstract_command};
 ghost use Rattle.brk_commit.specs.Keys.{optional_model_key};
-ghost use Rattle.brk_commit.specs.Booked.{CallPost};
+ghost use Rattle.brk_commit.specs.Booked.{CommandPost};
 ghost use Rattle.brk_invariant_theorems.specs.InForm.{MeetsAuditFormats, IsWellFormedKey};
 
 use crate::deciding::decide_command;
@@ -60,7 +60,7 @@ pub fn execute_and_commit_command<S: Alter>(
     command: &Command,
     key: Option<&Key>,
 ) -> Result<CommandAnswer, Fault>
-    ensures called { CallPost S.Store store.old store.new now (abstract_command command.now) (optional_model_key (option_copied key.entry)) result }
+    ensures called { CommandPost S.Store store.old store.new now (abstract_command command.now) (optional_model_key (option_copied key.entry)) result }
 {
     prove_command_and_key_are_well_formed(command, key);
     if let Some(kept) = read_stored_reply(store, key)? {

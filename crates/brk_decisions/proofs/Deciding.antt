@@ -17,7 +17,7 @@ module _ {S : Type 0} (g : Ghosts S) (old mid : Held S) where
       → IfOk result (λ x. (t : Tables) → P v t → R x t) → ReadPost g old mid result R
   decided v P R (Ok x) read tell = retold g old mid v x P R tell read
   decided v P R (Err fault) read none =
-      record { answered = λ clean. tt; opened = λ clean. tt; same_rows = read.same_rows; same = read.same; survives = read.survives }
+      record { answered = λ clean. tt; was_open = λ clean. tt; same_rows = read.same_rows; unchanged_if_open = read.unchanged_if_open; survives = read.survives }
 
 module _ {S : Type 0} (g : Ghosts S) (old mid end : Held S) where
   -- an answer that follows from what was read, and from what was read on in a store that is kept
@@ -25,9 +25,9 @@ module _ {S : Type 0} (g : Ghosts S) (old mid end : Held S) where
       → (HasCleanDisk (state g end) → IfOk result (λ x. (t : Tables) → HoldsRows g mid t → P v t → R x t)) → ReadPost g old end result R
   decided_on {V} {X} v P R result read on tell = record {
     answered = λ clean. answered (disk_was_clean_before_reads mid end on clean) result (tell clean);
-    opened = λ clean. was_open (read.opened (disk_was_clean_before_reads mid end on clean)) result;
+    was_open = λ clean. was_open (read.was_open (disk_was_clean_before_reads mid end on clean)) result;
     same_rows = λ t h. on.same_rows t (read.same_rows t h);
-    same = λ clean o. let s = on.same clean o in same_then (state g old) (state g mid) (state g end) (read.same (disk_was_clean_before_reads mid end on clean) s.was_open) s;
+    unchanged_if_open = λ clean o. let s = on.unchanged_if_open clean o in same_then (state g old) (state g mid) (state g end) (read.unchanged_if_open (disk_was_clean_before_reads mid end on clean) s.was_open) s;
     survives = none_then (state g old) (state g mid) (state g end) (λ _. ⊥) read.survives on.survives;
   } where
     answered : HasCleanDisk (state g mid) → (r : Result X Fault) → IfOk r (λ x. (t : Tables) → HoldsRows g mid t → P v t → R x t) → IfOk r (λ x. (t : Tables) → HoldsRows g old t → R x t)

@@ -23,9 +23,9 @@ module _ {S : Type 0} (g : Ghosts S) where
         let before = clean_before (state g mid) (state g end) (λ _. ⊥) second.survives in
         record {
           answered = λ clean t holds. tell t (first.answered (before clean) t holds) (second.answered clean t (first.same_rows t holds));
-          opened = λ clean. first.opened (before clean);
+          was_open = λ clean. first.was_open (before clean);
           same_rows = λ t holds. second.same_rows t (first.same_rows t holds);
-          same = λ clean o. let s = second.same clean o in same_then (state g old) (state g mid) (state g end) (first.same (before clean) s.was_open) s;
+          unchanged_if_open = λ clean o. let s = second.unchanged_if_open clean o in same_then (state g old) (state g mid) (state g end) (first.unchanged_if_open (before clean) s.was_open) s;
           survives = none_then (state g old) (state g mid) (state g end) (λ _. ⊥) first.survives second.survives;
         }
 
@@ -36,8 +36,8 @@ module _ {S : Type 0} (g : Ghosts S) where
         let before = clean_before (state g mid) (state g end) (λ _. ⊥) second.survives in
         record {
           answered = λ clean. tt;
-          opened = λ clean. tt;
+          was_open = λ clean. tt;
           same_rows = λ t holds. second.same_rows t (first.same_rows t holds);
-          same = λ clean o. let s = second.same clean o in same_then (state g old) (state g mid) (state g end) (first.same (before clean) s.was_open) s;
+          unchanged_if_open = λ clean o. let s = second.unchanged_if_open clean o in same_then (state g old) (state g mid) (state g end) (first.unchanged_if_open (before clean) s.was_open) s;
           survives = none_then (state g old) (state g mid) (state g end) (λ _. ⊥) first.survives second.survives;
         }

@@ -34,7 +34,7 @@ is_asked g old new query (Ok seen) read may = record {
   same_bases = λ base keeps. still_kept g old new base (read.same_rows (sheets base)) keeps;
   fault = may;
   survives = read.survives;
-  same = read.same;
+  unchanged_if_open = read.unchanged_if_open;
   clean = clean_before (state g old) (state g new) (λ _. ⊥) read.survives;
 }
 is_asked g old new query (Err fault) read may = record {
@@ -43,6 +43,6 @@ is_asked g old new query (Err fault) read may = record {
   same_bases = λ base keeps. still_kept g old new base (read.same_rows (sheets base)) keeps;
   fault = may;
   survives = read.survives;
-  same = read.same;
+  unchanged_if_open = read.unchanged_if_open;
   clean = clean_before (state g old) (state g new) (λ _. ⊥) read.survives;
 }

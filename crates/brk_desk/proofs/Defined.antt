@@ -9,7 +9,7 @@ use Rattle.brk_changes.specs.Schemas.{abstract_schema}
 use Rattle.brk_sql.specs.Desk.{IsTableAt}
 use Rattle.brk_tables_schema.specs.Desk.{DeskTable, schema_has_table, table_name, table_definition_at}
 use Rattle.brk_tables_schema.specs.Made.{HasDeskTablesInSchema, IsTableOfSchema}
-use Rattle.brk_tables_scan.specs.Schemas.{NamedTablesMatchDeskDefinitions, HasDeskDefinitions}
+use Rattle.brk_tables_scan.specs.Schemas.{TablesWithDeskNamesAreDeskTables, HasDeskDefinitions}
 use Rattle.brk_tables_scan.proofs.Defined.{desk_is_defined, desk_is_there}
 use Rattle.brk_tables_scan.proofs.Listed.{same_name_at}
 
@@ -37,5 +37,5 @@ module _ (a : Schema) (t : Tables) (db : Database) (has : HasDeskTablesInSchema 
     keyed = λ w of at tree s. alike.keyed w (is_of w at (named_at w at tree s)) at tree s;
   }
 
-  pub defined_whole : NamedTablesMatchDeskDefinitions db
+  pub defined_whole : TablesWithDeskNamesAreDeskTables db
   defined_whole schema _ = defined_over (abstract_schema schema)

@@ -10,13 +10,13 @@ use Rattle.brk_invariant_theorems.proofs.Adopted.{sound_passes}
 use Rattle.brk_desk.specs.Answers.{model_outcome}
 use Rattle.brk_desk.specs.Commands.{model_call}
 use Rattle.brk_store.specs.Audited.{Represents}
-use Rattle.brk_desk.specs.CallPosts.{RunPost, RunGuarantee, ReachesAuditedState}
+use Rattle.brk_desk.specs.CallPosts.{RunPost, RunGuarantee, ReachesBasePassingAudit}
 use Rattle.brk_desk.specs.declared.call.Call.{Call}
 use Rattle.brk_desk.specs.declared.call.Outcome.{Outcome}
 use Rattle.brk_desk.proofs.AtFirst.{made_keeps, upgraded_keeps}
 
 leads : {S : Type 0} (g : Ghosts S) (old new : Held S) (calls : List (ℕ × Call)) (outcomes : List Outcome) → RunPost g old new calls outcomes
-    → HasCleanDisk (state g new) → (base : Base) → Represents g old base → ReachesAuditedState g new base calls outcomes
+    → HasCleanDisk (state g new) → (base : Base) → Represents g old base → ReachesBasePassingAudit g new base calls outcomes
 leads g old new calls outcomes run clean base keeps =
     let ran = run.refines_model clean base keeps in
     (ran.0, ran.1, sound_passes ran.0 ran.1.books ran.1.sound, run_adds_up base (map model_call calls) (map model_outcome outcomes) ran.0 keeps.books ran.2)

@@ -22,9 +22,9 @@ use Rattle.brk_store.proofs.Found.{found_again}
 use Rattle.brk_store.proofs.Taking.{sound_books_pass, third_audited}
 use Rattle.brk_desk.specs.Answers.{model_outcome}
 use Rattle.brk_desk.specs.Commands.{model_call}
-use Rattle.brk_commit.specs.Booked.{CallPost, IsDiskContentAfterCommand, base_after_call}
+use Rattle.brk_commit.specs.Booked.{CommandPost, IsDiskContentAfterCommand, base_after_keyed_command}
 use Rattle.brk_desk.specs.CallPosts.{RunPost}
-use Rattle.brk_desk.specs.Reopening.{IsNewConnectionToDiskContent, IsNewConnectionAfterCrash, IsRecovered, RepresentsDurableBase}
+use Rattle.brk_desk.specs.Reopening.{IsNewConnectionToDiskContent, IsNewConnectionAfterCrash, FindsBaseWithoutDamage, RepresentsDurableBase}
 use Rattle.brk_desk.specs.CrashBases.{CrashMayExposeBase}
 use Rattle.brk_commit.specs.Answers.{CommandAnswer}
 use Rattle.brk_desk.specs.declared.call.Call.{Call}
@@ -35,7 +35,7 @@ use Rattle.brk_commit.proofs.Seen.{still_kept}
 pub made_stands : {S : Type 0} (g : Ghosts S) (conn store : Held S) → CreatePost g conn store (Ok tt) → HasCleanDisk (state g store) → RepresentsDurableBase g store empty_base
 made_stands g conn store created clean = record {
   represented = made_keeps g store created.created;
-  alone = λ trees may. subst (λ (t : Tables). IsDiskContentOfRows t trees) (sym empty_rows) (created.durable clean trees may);
+  crash_exposes_only_base = λ trees may. subst (λ (t : Tables). IsDiskContentOfRows t trees) (sym empty_rows) (created.durable clean trees may);
 }
 
 -- ---- what can be kept
@@ -45,9 +45,9 @@ kept_can_be g store base keeps = keeps.consistent
 
 -- what may come of a call can be kept too
 pub booked_can_be : {S : Type 0} (g : Ghosts S) (old new : Held S) (base : Base) (now : ℕ) (command : Command) (key : Option Key) (answer : Result CommandAnswer Fault) (trees : Trees)
-    → CallPost g old new now command key answer → Represents g old base → IsDiskContentAfterCommand g old now command key trees → IsConsistent (base_after_call base now command key)
+    → CommandPost g old new now command key answer → Represents g old base → IsDiskContentAfterCommand g old now command key trees → IsConsistent (base_after_keyed_command base now command key)
 booked_can_be g old new base now command key answer trees called keeps come =
-    let both = keyed_both base now command key (keeps.books, keeps.sound) called.in_form.0 called.in_form.1 in
+    let both = keyed_both base now command key (keeps.books, keeps.sound) called.well_formed.0 called.well_formed.1 in
     record { books = both.0; sound = both.1; texts = come.2 base keeps }
 
 -- ---- what was left is adopted
@@ -81,12 +81,12 @@ module _ {S : Type 0} (g : Ghosts S) (settled : RecoversOnlyLastCommit g) where
     pub audited_stands : (base : Base) → IsConsistent base → IsDiskContentOfRows (sheets base) trees → RepresentsDurableBase g store base
     audited_stands base can are = record {
       represented = still_kept g conn store base (audited.same_rows (sheets base)) (opened_keeps trees conn base can are opened);
-      alone = λ left m. subst (IsDiskContentOfRows (sheets base)) (sym (stays_alone left m)) are;
+      crash_exposes_only_base = λ left m. subst (IsDiskContentOfRows (sheets base)) (sym (stays_alone left m)) are;
     }
 
   -- over the tables of sound books in order
   pub taken_over : (trees : Trees) (conn store : Held S) (result : Result (Unit {0}) Fault) → IsNewConnectionToDiskContent g trees conn → AdoptPost g conn store result → HasCleanDisk (state g store)
-      → (base : Base) → IsConsistent base → IsDiskContentOfRows (sheets base) trees → (May : Base → Type 0) → May base → IsRecovered g store result May
+      → (base : Base) → IsConsistent base → IsDiskContentOfRows (sheets base) trees → (May : Base → Type 0) → May base → FindsBaseWithoutDamage g store result May
   taken_over trees conn store result opened adopted clean base can are May may = record {
     base = base;
     may = may;
@@ -103,7 +103,7 @@ module _ {S : Type 0} (g : Ghosts S) (settled : RecoversOnlyLastCommit g) where
   -- a stop within the making of the tables
   pub making_taken_over : (first left conn store : Held S) (made result : Result (Unit {0}) Fault) (trees : Trees) → CreatePost g first left made → HasCleanDisk (state g left)
       → (state g left).may_leave trees → IsNewConnectionToDiskContent g trees conn → AdoptPost g conn store result → HasCleanDisk (state g store)
-      → (state g first).may_leave trees ⊎ IsRecovered g store result (λ base. base ≡ empty_base)
+      → (state g first).may_leave trees ⊎ FindsBaseWithoutDamage g store result (λ base. base ≡ empty_base)
   making_taken_over first left conn store made result trees created clean may opened adopted after =
       elim (created.survives.crash clean trees may) [
         | inl was ↦ inl was
@@ -114,22 +114,22 @@ module _ {S : Type 0} (g : Ghosts S) (settled : RecoversOnlyLastCommit g) where
   module _ (first left conn store : Held S) (base : Base) (result : Result (Unit {0}) Fault) (at : RepresentsDurableBase g first base) (clean : HasCleanDisk (state g left)) (again : IsNewConnectionAfterCrash g left conn)
       (adopted : AdoptPost g conn store result) (after : HasCleanDisk (state g store)) where
     -- a stop within a call
-    pub call_taken_over : (now : ℕ) (command : Command) (key : Option Key) (answer : Result CommandAnswer Fault) → CallPost g first left now command key answer
-        → IsRecovered g store result (λ stood. (stood ≡ base) ⊎ (stood ≡ base_after_call base now command key))
+    pub call_taken_over : (now : ℕ) (command : Command) (key : Option Key) (answer : Result CommandAnswer Fault) → CommandPost g first left now command key answer
+        → FindsBaseWithoutDamage g store result (λ stood. (stood ≡ base) ⊎ (stood ≡ base_after_keyed_command base now command key))
     call_taken_over now command key answer called =
         elim (called.survives.crash clean again.0 again.1) [
-          | inl was ↦ taken_over again.0 conn store result again.2 adopted after base (kept_can_be g first base at.represented) (at.alone again.0 was) May (inl refl)
-          | inr come ↦ taken_over again.0 conn store result again.2 adopted after (base_after_call base now command key) (booked_can_be g first left base now command key answer again.0 called at.represented come)
+          | inl was ↦ taken_over again.0 conn store result again.2 adopted after base (kept_can_be g first base at.represented) (at.crash_exposes_only_base again.0 was) May (inl refl)
+          | inr come ↦ taken_over again.0 conn store result again.2 adopted after (base_after_keyed_command base now command key) (booked_can_be g first left base now command key answer again.0 called at.represented come)
               (come.1 base at.represented) May (inr refl)
         ]
       where
         May : Base → Type 0
-        May stood = (stood ≡ base) ⊎ (stood ≡ base_after_call base now command key)
+        May stood = (stood ≡ base) ⊎ (stood ≡ base_after_keyed_command base now command key)
 
     -- a stop within or behind a run
     pub run_taken_over : (calls : List (ℕ × Call)) (outcomes : List Outcome) → RunPost g first left calls outcomes
-        → IsRecovered g store result (CrashMayExposeBase base (map model_call calls) (map model_outcome outcomes))
+        → FindsBaseWithoutDamage g store result (CrashMayExposeBase base (map model_call calls) (map model_outcome outcomes))
     run_taken_over calls outcomes run =
-        let l = run.stays_durable clean base at.represented at.alone again.0 again.1 in
-        let both = stands base (map model_call calls) (map model_outcome outcomes) l.0 run.in_form (at.represented.books, at.represented.sound) l.1 in
+        let l = run.stays_durable clean base at.represented at.crash_exposes_only_base again.0 again.1 in
+        let both = stands base (map model_call calls) (map model_outcome outcomes) l.0 run.well_formed (at.represented.books, at.represented.sound) l.1 in
         taken_over again.0 conn store result again.2 adopted after l.0 (record { books = both.0; sound = both.1; texts = l.3 }) l.2 (CrashMayExposeBase base (map model_call calls) (map model_outcome outcomes)) l.1

@@ -30,9 +30,9 @@ use Rattle.brk_desk.specs.Answers.{outcome_of_command, model_outcome, outcome_of
 use Rattle.brk_commands.specs.Commands.{abstract_command}
 use Rattle.brk_commit.specs.Keys.{optional_model_key}
 use Rattle.brk_desk.specs.Commands.{model_call}
-use Rattle.brk_commit.specs.Booked.{CallPost, IsDiskContentAfterCommand, base_after_call}
+use Rattle.brk_commit.specs.Booked.{CommandPost, IsDiskContentAfterCommand, base_after_keyed_command}
 use Rattle.brk_store.specs.Audited.{Represents}
-use Rattle.brk_desk.specs.CallPosts.{OutcomesAcknowledgeNothing, IsRecoverableDiskContent, AskPost, FailsOnlyWithMemoryOrStore, CrashMayExposeDiskContent, OutcomePost, RunPost}
+use Rattle.brk_desk.specs.CallPosts.{OutcomesAcknowledgeNothing, HasAcknowledgedCommands, AskPost, FailsOnlyWithMemoryOrStore, CrashMayExposeDiskContent, OutcomePost, RunPost}
 use Rattle.brk_desk.specs.declared.call.Call.{Call}
 use Rattle.brk_desk.specs.declared.call.Call.TheVariants as call
 use Rattle.brk_desk.specs.declared.call.Outcome.{Outcome}
@@ -94,13 +94,13 @@ module _ {S : Type 0} (g : Ghosts S) where
     count = refl;
     refines_model = λ clean base keeps. (base, keeps, refl);
     fault = tt;
-    same = λ clean up quiet. record { was_open = up; now = refl; committed = refl };
-    opened = λ clean up. up;
+    unchanged_if_open = λ clean up quiet. record { was_open = up; now = refl; committed = refl };
+    was_open = λ clean up. up;
     survives = survives_weaker (state g store) (state g store) (λ _. ⊥) (CrashMayExposeDiskContent g store [] []) (λ _ db none. absurd none) (still (state g store));
     durable = λ clean base keeps loud. absurd (loud tt);
     stays_durable = λ clean base keeps only trees may. (base, inl refl, only trees may, keeps.texts);
     clean = λ clean. clean;
-    in_form = tt;
+    well_formed = tt;
   }
 
   -- what came of a query is its answer over each base whose books were kept
@@ -113,7 +113,7 @@ module _ {S : Type 0} (g : Ghosts S) where
   module _ (a b c : Held S) (calls : List (ℕ × Call)) (outcomes : List Outcome) (run : RunPost g a b calls outcomes) (now : ℕ) where
     -- one call more that acknowledges nothing leaves recoverable trees so
     left_still : (made : Call) (o : Outcome) (base mid : Base) → Run base (map model_call calls) (map model_outcome outcomes) mid → IsOutcomeOfCall mid (model_call (now, made)).0 (model_call (now, made)).1 (model_outcome o) mid → AcknowledgesNothing (model_outcome o)
-        → (trees : Trees) → IsRecoverableDiskContent base calls outcomes trees → IsRecoverableDiskContent base (calls ++ (now, made) ∷ []) (outcomes ++ o ∷ []) trees
+        → (trees : Trees) → HasAcknowledgedCommands base calls outcomes trees → HasAcknowledgedCommands base (calls ++ (now, made) ∷ []) (outcomes ++ o ∷ []) trees
     left_still made o base mid ran told quiet trees l =
         (l.0, mapped base l.0 calls outcomes (now, made) o (stands_still base mid (map model_call calls) (map model_outcome outcomes) (model_call (now, made)) (model_outcome o) ran told quiet l.0 l.1), l.2, l.3)
 
@@ -122,9 +122,9 @@ module _ {S : Type 0} (g : Ghosts S) where
         (same : HasCleanDisk (state g c) → IsTrue (state g c).is_open → WasOpenAndIsUnchanged (state g b) (state g c))
         (told : HasCleanDisk (state g c) → (mid : Base) → Represents g b mid → Represents g c mid × IsOutcomeOfCall mid (model_call (now, made)).0 (model_call (now, made)).1 (model_outcome o) mid) (Comes : Trees → Type 0)
         (come : HasCleanDisk (state g c) → (trees : Trees) → Comes trees
-        → IsTrue (state g b).is_open × ((mid : Base) → Represents g b mid → (base : Base) → Run base (map model_call calls) (map model_outcome outcomes) mid → IsRecoverableDiskContent base (calls ++ (now, made) ∷ []) (outcomes ++ o ∷ []) trees))
+        → IsTrue (state g b).is_open × ((mid : Base) → Represents g b mid → (base : Base) → Run base (map model_call calls) (map model_outcome outcomes) mid → HasAcknowledgedCommands base (calls ++ (now, made) ∷ []) (outcomes ++ o ∷ []) trees))
         (survives : Survives (state g b) (state g c) Comes) where
-      found : HasCleanDisk (state g c) → (base : Base) → Represents g a base → CrashStatesSatisfy g b (IsRecoverableDiskContent base calls outcomes) → CrashStatesSatisfy g c (IsRecoverableDiskContent base (calls ++ (now, made) ∷ []) (outcomes ++ o ∷ []))
+      found : HasCleanDisk (state g c) → (base : Base) → Represents g a base → CrashStatesSatisfy g b (HasAcknowledgedCommands base calls outcomes) → CrashStatesSatisfy g c (HasAcknowledgedCommands base (calls ++ (now, made) ∷ []) (outcomes ++ o ∷ []))
       found k base keeps before trees may =
           let r = run.refines_model (clean k) base keeps in
           elim (survives.crash k trees may) [
@@ -140,23 +140,23 @@ module _ {S : Type 0} (g : Ghosts S) where
             let s = told k r.0 r.1 in
             (r.0, s.0, run_more base r.0 r.0 calls outcomes (now, made) o r.2 s.1);
         fault = all_more FailsOnlyWithMemoryOrStore outcomes o run.fault known;
-        same = λ k up all. let s = same k up in same_then (state g a) (state g b) (state g c) (run.same (clean k) s.was_open (quiet_before outcomes o all).0) s;
-        opened = λ k up. run.opened (clean k) (same k up).was_open;
+        unchanged_if_open = λ k up all. let s = same k up in same_then (state g a) (state g b) (state g c) (run.unchanged_if_open (clean k) s.was_open (quiet_before outcomes o all).0) s;
+        was_open = λ k up. run.was_open (clean k) (same k up).was_open;
         survives = survives_then (state g a) (state g b) (state g c) (CrashMayExposeDiskContent g a calls outcomes) Comes (CrashMayExposeDiskContent g a (calls ++ (now, made) ∷ []) (outcomes ++ o ∷ []))
             (λ k trees before. (before.0, λ base keeps. let r = run.refines_model (clean k) base keeps in left_still made o base r.0 r.2 (told k r.0 r.1).1 quiet trees (before.1 base keeps)))
             (λ k trees comes.
             let at = come k trees comes in
-            (run.opened (clean k) at.0, λ base keeps. let r = run.refines_model (clean k) base keeps in at.1 r.0 r.1 base r.2))
+            (run.was_open (clean k) at.0, λ base keeps. let r = run.refines_model (clean k) base keeps in at.1 r.0 r.1 base r.2))
             run.survives survives;
         durable = λ k base keeps loud. found k base keeps (run.durable (clean k) base keeps (λ all. loud (quiet_more outcomes o all quiet)));
         stays_durable = λ k base keeps only. found k base keeps (run.stays_durable (clean k) base keeps only);
         clean = λ k. run.clean (clean k);
-        in_form = formed_more calls (now, made) run.in_form formed;
+        well_formed = formed_more calls (now, made) run.well_formed formed;
       }
 
     -- one command more that is booked
-    done_found : (command : _) (key : _) (reply : _) → CallPost g b c now (abstract_command command) (optional_model_key key) (Ok (given.Done reply)) → HasCleanDisk (state g c) → (base : Base) → Represents g a base
-        → CrashStatesSatisfy g c (IsRecoverableDiskContent base (calls ++ (now, call.Do command key) ∷ []) (outcomes ++ outcome_of_command (Ok (given.Done reply)) ∷ []))
+    done_found : (command : _) (key : _) (reply : _) → CommandPost g b c now (abstract_command command) (optional_model_key key) (Ok (given.Done reply)) → HasCleanDisk (state g c) → (base : Base) → Represents g a base
+        → CrashStatesSatisfy g c (HasAcknowledgedCommands base (calls ++ (now, call.Do command key) ∷ []) (outcomes ++ outcome_of_command (Ok (given.Done reply)) ∷ []))
     done_found command key reply called k base keeps trees may =
         let r = run.refines_model (called.clean k) base keeps in
         let s = called.answered k r.0 r.1 in (
@@ -166,7 +166,7 @@ module _ {S : Type 0} (g : Ghosts S) where
           s.1.texts,
         )
 
-    by_done : (command : _) (key : _) (reply : _) → CallPost g b c now (abstract_command command) (optional_model_key key) (Ok (given.Done reply))
+    by_done : (command : _) (key : _) (reply : _) → CommandPost g b c now (abstract_command command) (optional_model_key key) (Ok (given.Done reply))
         → RunPost g a c (calls ++ (now, call.Do command key) ∷ []) (outcomes ++ outcome_of_command (Ok (given.Done reply)) ∷ [])
     by_done command key reply called = record {
       count = as_many outcomes calls (outcome_of_command (Ok (given.Done reply))) (now, call.Do command key) run.count;
@@ -175,29 +175,29 @@ module _ {S : Type 0} (g : Ghosts S) where
           let s = called.answered k r.0 r.1 in
           (s.0, s.1, run_more base r.0 s.0 calls outcomes (now, call.Do command key) (outcome_of_command (Ok (given.Done reply))) r.2 s.2);
       fault = all_more FailsOnlyWithMemoryOrStore outcomes (outcome_of_command (Ok (given.Done reply))) run.fault tt;
-      same = λ k up all. absurd (quiet_before outcomes (outcome_of_command (Ok (given.Done reply))) all).1;
-      opened = λ k up. run.opened (called.clean k) (called.opened k tt).0;
+      unchanged_if_open = λ k up all. absurd (quiet_before outcomes (outcome_of_command (Ok (given.Done reply))) all).1;
+      was_open = λ k up. run.was_open (called.clean k) (called.open_and_committed k tt).0;
       survives = survives_by (state g a) (state g c) (λ _. Unit {0}) (CrashMayExposeDiskContent g a (calls ++ (now, call.Do command key) ∷ []) (outcomes ++ outcome_of_command (Ok (given.Done reply)) ∷ []))
           (survives_then (state g a) (state g b) (state g c) (CrashMayExposeDiskContent g a calls outcomes) (IsDiskContentAfterCommand g b now (abstract_command command) (optional_model_key key)) (λ _. Unit {0}) (λ _ db may. tt) (λ _ db may. tt) run.survives called.survives)
-          (λ k trees may. (run.opened (called.clean k) (called.opened k tt).0, λ base keeps. done_found command key reply called k base keeps trees may));
+          (λ k trees may. (run.was_open (called.clean k) (called.open_and_committed k tt).0, λ base keeps. done_found command key reply called k base keeps trees may));
       durable = λ k base keeps loud. done_found command key reply called k base keeps;
       stays_durable = λ k base keeps only. done_found command key reply called k base keeps;
       clean = λ k. run.clean (called.clean k);
-      in_form = formed_more calls (now, call.Do command key) run.in_form called.in_form;
+      well_formed = formed_more calls (now, call.Do command key) run.well_formed called.well_formed;
     }
 
     -- one command more that is answered without a change
-    quiet_told : (command : _) (key : _) (answer : CommandAnswer) → AcknowledgesNothing (model_outcome (outcome_of_command (Ok answer))) → CallPost g b c now (abstract_command command) (optional_model_key key) (Ok answer) → HasCleanDisk (state g c)
+    quiet_told : (command : _) (key : _) (answer : CommandAnswer) → AcknowledgesNothing (model_outcome (outcome_of_command (Ok answer))) → CommandPost g b c now (abstract_command command) (optional_model_key key) (Ok answer) → HasCleanDisk (state g c)
         → (mid : Base) → Represents g b mid → Represents g c mid × (keyed_step mid now (abstract_command command) (optional_model_key key) ≡ (model_answer answer, mid))
     quiet_told command key answer quiet called k mid keeps =
         let s = called.answered k mid keeps in
         let same : s.0 ≡ mid = quiet_leaves mid now (abstract_command command) (optional_model_key key) (model_answer answer) s.0 s.2 quiet in
         (subst (Represents g c) same s.1, subst (λ x. keyed_step mid now (abstract_command command) (optional_model_key key) ≡ (model_answer answer, x)) same s.2)
 
-    by_quiet : (command : _) (key : _) (answer : CommandAnswer) → AcknowledgesNothing (model_outcome (outcome_of_command (Ok answer))) → IsNotDoneResult (Ok answer) → CallPost g b c now (abstract_command command) (optional_model_key key) (Ok answer)
+    by_quiet : (command : _) (key : _) (answer : CommandAnswer) → AcknowledgesNothing (model_outcome (outcome_of_command (Ok answer))) → IsNotDoneResult (Ok answer) → CommandPost g b c now (abstract_command command) (optional_model_key key) (Ok answer)
         → RunPost g a c (calls ++ (now, call.Do command key) ∷ []) (outcomes ++ outcome_of_command (Ok answer) ∷ [])
     by_quiet command key answer quiet booked called =
-        quiet_step (call.Do command key) (outcome_of_command (Ok answer)) quiet tt called.in_form called.clean (λ k up. called.same k up booked) (quiet_told command key answer quiet called) (IsDiskContentAfterCommand g b now (abstract_command command) (optional_model_key key))
+        quiet_step (call.Do command key) (outcome_of_command (Ok answer)) quiet tt called.well_formed called.clean (λ k up. called.unchanged_if_open k up booked) (quiet_told command key answer quiet called) (IsDiskContentAfterCommand g b now (abstract_command command) (optional_model_key key))
         (λ k trees p. (
           p.0,
           λ mid keeps base ran.
@@ -207,15 +207,15 @@ module _ {S : Type 0} (g : Ghosts S) where
         called.survives
 
     -- one command more that failed
-    by_fault : (command : _) (key : _) (fault : Fault) → CallPost g b c now (abstract_command command) (optional_model_key key) (Err fault) → RunPost g a c (calls ++ (now, call.Do command key) ∷ []) (outcomes ++ outcome_of_command (Err fault) ∷ [])
+    by_fault : (command : _) (key : _) (fault : Fault) → CommandPost g b c now (abstract_command command) (optional_model_key key) (Err fault) → RunPost g a c (calls ++ (now, call.Do command key) ∷ []) (outcomes ++ outcome_of_command (Err fault) ∷ [])
     by_fault command key fault called =
-        quiet_step (call.Do command key) (outcome_of_command (Err fault)) tt called.fault called.in_form called.clean (λ k up. called.same k up tt) (λ k mid keeps. (called.same_bases_at_error mid keeps, (called.fault, refl)))
+        quiet_step (call.Do command key) (outcome_of_command (Err fault)) tt called.fault called.well_formed called.clean (λ k up. called.unchanged_if_open k up tt) (λ k mid keeps. (called.same_bases_at_error mid keeps, (called.fault, refl)))
         (IsDiskContentAfterCommand g b now (abstract_command command) (optional_model_key key))
         (λ k trees p. (
           p.0,
           λ mid keeps base ran. (
-            base_after_call mid now (abstract_command command) (optional_model_key key),
-            mapped base (base_after_call mid now (abstract_command command) (optional_model_key key)) calls outcomes (now, call.Do command key) (outcome_of_command (Err fault))
+            base_after_keyed_command mid now (abstract_command command) (optional_model_key key),
+            mapped base (base_after_keyed_command mid now (abstract_command command) (optional_model_key key)) calls outcomes (now, call.Do command key) (outcome_of_command (Err fault))
                 (may_be_there base mid (map model_call calls) (map model_outcome outcomes) now (abstract_command command) (optional_model_key key) fault ran),
             p.1 mid keeps,
             p.2 mid keeps,
@@ -223,7 +223,7 @@ module _ {S : Type 0} (g : Ghosts S) where
         ))
         called.survives
 
-    by_result : (command : _) (key : _) (result : Result CommandAnswer Fault) → CallPost g b c now (abstract_command command) (optional_model_key key) result
+    by_result : (command : _) (key : _) (result : Result CommandAnswer Fault) → CommandPost g b c now (abstract_command command) (optional_model_key key) result
         → RunPost g a c (calls ++ (now, call.Do command key) ∷ []) (outcomes ++ outcome_of_command result ∷ [])
     by_result command key (Ok (given.Done reply)) called = by_done command key reply called
     by_result command key (Ok (given.Again line)) called = by_quiet command key (given.Again line) tt tt called
@@ -233,7 +233,7 @@ module _ {S : Type 0} (g : Ghosts S) where
     by_view : (query : _) (result : Result (Result View Refusal) Fault) → AskPost g b c (abstract_query query) result
         → RunPost g a c (calls ++ (now, call.Ask query) ∷ []) (outcomes ++ outcome_of_query result ∷ [])
     by_view query result asked =
-        quiet_step (call.Ask query) (outcome_of_query result) (quiet_view result) (known_view result asked.fault) tt asked.clean asked.same (λ k mid keeps. (asked.same_bases mid keeps, by_answer b c (abstract_query query) result now mid asked k keeps)) (λ _. ⊥)
+        quiet_step (call.Ask query) (outcome_of_query result) (quiet_view result) (known_view result asked.fault) tt asked.clean asked.unchanged_if_open (λ k mid keeps. (asked.same_bases mid keeps, by_answer b c (abstract_query query) result now mid asked k keeps)) (λ _. ⊥)
         (λ k trees none. absurd none) asked.survives
 
     pub runs_more : (made : Call) (outcome : Outcome) → OutcomePost g b c now made outcome → RunPost g a c (calls ++ (now, made) ∷ []) (outcomes ++ outcome ∷ [])

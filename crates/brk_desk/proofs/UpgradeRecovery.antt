@@ -24,11 +24,11 @@ use Rattle.brk_sql.proofs.Inside.{clean_before}
 use Rattle.brk_tables_schema.specs.Made.{HasDeskTables}
 use Rattle.brk_tables_scan.proofs.Defined.{desk_is_there}
 use Rattle.brk_tables_unique.proofs.OneTables.{one_schema}
-use Rattle.brk_store.specs.Audited.{StoresRowsWithAuditResult, IsDatabaseAuditResult, AdoptPost, StoreNamedTablesMatchDeskDefinitions, AuditAnswerSatisfies, IsConsistent}
+use Rattle.brk_store.specs.Audited.{StoresRowsWithAuditResult, IsDatabaseAuditResult, AdoptPost, ConnectionTablesWithDeskNamesAreDeskTables, AuditAnswerSatisfies, IsConsistent}
 use Rattle.brk_store.specs.Holds.{IsDiskContentOfRows}
 use Rattle.brk_store.proofs.Schemas.{third_rows}
 use Rattle.brk_store.proofs.Taking.{one_answer}
-use Rattle.brk_desk.specs.Reopening.{RepresentsPassingRowsDurably, IsNewConnectionToDiskContent, AdoptsBaseWithoutDamage, IsNewConnectionAfterCrash, IsRecovered, RepresentsDurableBase}
+use Rattle.brk_desk.specs.Reopening.{RepresentsAuditedRowsDurably, IsNewConnectionToDiskContent, AdoptsBaseWithoutDamage, IsNewConnectionAfterCrash, FindsBaseWithoutDamage, RepresentsDurableBase}
 use Rattle.brk_desk.proofs.Defined.{defined_whole}
 use Rattle.brk_desk.proofs.UpgradedRows.{are_upgraded}
 use Rattle.brk_desk.proofs.Reopened.{RecoversOnlyLastCommit, audited_stands, leaves_alone, taken_over}
@@ -53,7 +53,7 @@ each_answer (Err Store) P Q f p = tt
 module _ {S : Type 0} (g : Ghosts S) (settled : RecoversOnlyLastCommit g) where
   -- ---- an adoption that went well
 
-  module _ (trees : Trees) (conn store : Held S) (opened : IsNewConnectionToDiskContent g trees conn) (adopted : AdoptPost g conn store (Ok tt)) (clean : HasCleanDisk (state g store)) (defined : StoreNamedTablesMatchDeskDefinitions g conn) where
+  module _ (trees : Trees) (conn store : Held S) (opened : IsNewConnectionToDiskContent g trees conn) (adopted : AdoptPost g conn store (Ok tt)) (clean : HasCleanDisk (state g store)) (defined : ConnectionTablesWithDeskNamesAreDeskTables g conn) where
     before : HasCleanDisk (state g conn)
     before = clean_before (state g conn) (state g store) _ (adopted.survives defined) clean
 
@@ -74,7 +74,7 @@ module _ {S : Type 0} (g : Ghosts S) (settled : RecoversOnlyLastCommit g) where
         let can = rows_can_be schema rows (state g conn).now a in
         record {
           represented = record { rows = λ _ _. there; consistent = can };
-          alone = λ left may. ((state g store).now, there, settled store.store left on may ∙ ap (λ (db : Database). db.trees) m.1);
+          crash_exposes_only_base = λ left may. ((state g store).now, there, settled store.store left on may ∙ ap (λ (db : Database). db.trees) m.1);
         }
 
     pub adopted_stands : (schema : known.Schema) (rows : Tables) → StoresRowsWithAuditResult (abstract_schema schema) rows (state g conn).now None → RepresentsDurableBase g store (base_of_tables rows)
@@ -86,7 +86,7 @@ module _ {S : Type 0} (g : Ghosts S) (settled : RecoversOnlyLastCommit g) where
       | inr on ↦ moved_stands schema rows a on
     ]
 
-    pub takes_over : RepresentsPassingRowsDurably g conn store
+    pub takes_over : RepresentsAuditedRowsDurably g conn store
     takes_over = let told = adopted.answered clean defined in (told.0, told.1.0, told.1.1, adopted_stands told.0 told.1.0 told.1.1)
 
   -- ---- a stop within an adoption
@@ -99,7 +99,7 @@ module _ {S : Type 0} (g : Ghosts S) (settled : RecoversOnlyLastCommit g) where
 
     -- the rows are there as they were
     module _ (same : again.0 ≡ trees) where
-      defined : StoreNamedTablesMatchDeskDefinitions g conn
+      defined : ConnectionTablesWithDeskNamesAreDeskTables g conn
       defined good on = defined_whole (abstract_schema schema) rows (state g conn).now (there good).0
         where
           there : HasCleanDisk (state g conn) → StoresRowsWithAuditResult (abstract_schema schema) rows (state g conn).now None
@@ -128,7 +128,7 @@ module _ {S : Type 0} (g : Ghosts S) (settled : RecoversOnlyLastCommit g) where
     -- the upgraded rows are there
     upgraded_already : (base : Base) → base ≡ base_of_tables rows → IsDiskContentOfRows (sheets base) again.0 → AdoptsBaseWithoutDamage g store result (base_of_tables rows)
     upgraded_already base same are =
-        let t : IsRecovered g store result (λ b. b ≡ base_of_tables rows) =
+        let t : FindsBaseWithoutDamage g store result (λ b. b ≡ base_of_tables rows) =
         taken_over g settled again.0 conn store result again.2 adopts after (base_of_tables rows) (rows_can_be schema rows (state g first).now answered) (subst (λ b. IsDiskContentOfRows (sheets b) again.0) same are) (λ b. b ≡ base_of_tables rows) refl in
         record { undamaged = t.undamaged; represented = whichever result (subst (RepresentsDurableBase g store) t.may t.represented) }
       where

@@ -1,7 +1,7 @@
 -- The postconditions of a desk's calls: a query, a run and an audit. The postcondition of a command
--- is `CallPost` of brk_commit. `g` is the specification of the storage `S`; `old` and `new` are the
--- connection before and after a call. `brk_store/specs/Holds.antt` explains the other terms of the
--- clauses: `state`, `HasCleanDisk`, `is_open`, `Survives` and disk contents (`Trees`). A clause
+-- is `CommandPost` of brk_commit. `g` is the specification of the storage `S`; `old` and `new` are
+-- the connection before and after a call. `brk_store/specs/Holds.antt` explains the other terms of
+-- the clauses: `state`, `HasCleanDisk`, `is_open`, `Survives` and disk contents (`Trees`). A clause
 -- with the premise `HasCleanDisk` for the new state, and the promise on crashes in `survives`, are
 -- vacuous if some read up to the return of the call did not return what was written.
 use Rattle.brk_model.specs.Form.{has_utf8_texts}
@@ -33,7 +33,7 @@ use Rattle.brk_queries.specs.QueryResults.{model_query_result}
 use Rattle.brk_view.specs.Carried.{HasRowsOfQuery}
 use Rattle.brk_view.specs.Queries.{abstract_query}
 use Rattle.brk_view.specs.declared.view.View.{View}
-use Rattle.brk_commit.specs.Booked.{CallPost, PreservesRepresentation}
+use Rattle.brk_commit.specs.Booked.{CommandPost, PreservesRepresentation}
 use Rattle.brk_desk.specs.Answers.{outcome_of_command, model_outcome, outcome_of_query}
 use Rattle.brk_commands.specs.Commands.{abstract_command}
 use Rattle.brk_commit.specs.Keys.{optional_model_key}
@@ -65,17 +65,17 @@ pub record AskPost {S : Type 0} (g : Ghosts S) (old new : Held S) (query : Query
   pub survives : Survives (state g old) (state g new) (λ _. ⊥)
   -- If the database is open after the call, it was open before the call, and the call did not
   -- change it.
-  pub same : HasCleanDisk (state g new) → IsTrue (state g new).is_open → WasOpenAndIsUnchanged (state g old) (state g new)
+  pub unchanged_if_open : HasCleanDisk (state g new) → IsTrue (state g new).is_open → WasOpenAndIsUnchanged (state g old) (state g new)
   -- If the disk assumption holds after the call, it held before.
   pub clean : HasCleanDisk (state g new) → HasCleanDisk (state g old)
 
 -- The call `call`, a command or a query, was executed at the clock reading `now`, changed the state
 -- `old` to the state `new`, and had the outcome `outcome`: the call returned a result with this
--- outcome that satisfies its postcondition, `CallPost` for a command and `AskPost` for a query.
+-- outcome that satisfies its postcondition, `CommandPost` for a command and `AskPost` for a query.
 abbrev pub OutcomePost : {S : Type 0} → Ghosts S → Held S → Held S → ℕ → Call → Outcome → Type 0
 OutcomePost g old new now (call.Do command key) outcome =
     (result : Result CommandAnswer Fault) × (outcome ≡ outcome_of_command result)
-    × CallPost g old new now (abstract_command command) (optional_model_key key) result
+    × CommandPost g old new now (abstract_command command) (optional_model_key key) result
 OutcomePost g old new now (call.Ask query) outcome =
     (result : Result (Result View Refusal) Fault) × (outcome ≡ outcome_of_query result) × AskPost g old new (abstract_query query) result
 
@@ -93,16 +93,16 @@ FailsOnlyWithMemoryOrStore _ = Unit {0}
 -- expose after the calls from `base` (`CrashMayExposeBase`), and the texts of these tables are
 -- UTF-8. That base has the change of every acknowledged command, and of at most one command more,
 -- which returned a fault and after which no change was acknowledged.
-abbrev pub IsRecoverableDiskContent : Base → List (ℕ × Call) → List Outcome → Trees → Type 0
-IsRecoverableDiskContent base calls outcomes trees =
+abbrev pub HasAcknowledgedCommands : Base → List (ℕ × Call) → List Outcome → Trees → Type 0
+HasAcknowledgedCommands base calls outcomes trees =
     (after : Base) × CrashMayExposeBase base (map model_call calls) (map model_outcome outcomes) after × IsDiskContentOfRows (sheets after) trees
     × IsTrue (has_utf8_texts (sheets after))
 
 -- The store was open before the calls, and for each base that it represented, `trees` are disk
--- contents that a crash may expose after the calls from this base (`IsRecoverableDiskContent`).
+-- contents that a crash may expose after the calls from this base (`HasAcknowledgedCommands`).
 abbrev pub CrashMayExposeDiskContent : {S : Type 0} → Ghosts S → Held S → List (ℕ × Call) → List Outcome → Trees → Type 0
 CrashMayExposeDiskContent g old calls outcomes trees =
-    IsTrue (state g old).is_open × ((base : Base) → Represents g old base → IsRecoverableDiskContent base calls outcomes trees)
+    IsTrue (state g old).is_open × ((base : Base) → Represents g old base → HasAcknowledgedCommands base calls outcomes trees)
 
 -- The postcondition of a sequence of calls that were executed in order, from the state `old` to the
 -- state `new`. For every base that the store represented, the calls with their outcomes are a run
@@ -118,49 +118,50 @@ pub record RunPost {S : Type 0} (g : Ghosts S) (old new : Held S) (calls : List 
   pub fault : AllByRecursion FailsOnlyWithMemoryOrStore outcomes
   -- If no outcome is `Done` and the database is open after the calls, it was open before and is
   -- unchanged.
-  pub same : HasCleanDisk (state g new) → IsTrue (state g new).is_open → OutcomesAcknowledgeNothing outcomes → WasOpenAndIsUnchanged (state g old) (state g new)
+  pub unchanged_if_open : HasCleanDisk (state g new) → IsTrue (state g new).is_open → OutcomesAcknowledgeNothing outcomes → WasOpenAndIsUnchanged (state g old) (state g new)
   -- If the store is open after the calls, it was open before.
-  pub opened : HasCleanDisk (state g new) → IsTrue (state g new).is_open → IsTrue (state g old).is_open
+  pub was_open : HasCleanDisk (state g new) → IsTrue (state g new).is_open → IsTrue (state g old).is_open
   -- Crash safety: a crash after the calls exposes a state that a crash before them could expose or,
-  -- only if the store was open, recoverable contents (`IsRecoverableDiskContent`).
+  -- only if the store was open, recoverable contents (`HasAcknowledgedCommands`).
   pub survives : Survives (state g old) (state g new) (CrashMayExposeDiskContent g old calls outcomes)
   -- If some outcome is `Done`, a crash after the calls exposes only recoverable contents
-  -- (`IsRecoverableDiskContent`).
+  -- (`HasAcknowledgedCommands`).
   pub durable : HasCleanDisk (state g new) → (base : Base) → Represents g old base → ¬ OutcomesAcknowledgeNothing outcomes
-      → CrashStatesSatisfy g new (IsRecoverableDiskContent base calls outcomes)
+      → CrashStatesSatisfy g new (HasAcknowledgedCommands base calls outcomes)
   -- If a crash before the calls exposes only the tables of `base`, a crash after them exposes only
-  -- recoverable contents (`IsRecoverableDiskContent`).
+  -- recoverable contents (`HasAcknowledgedCommands`).
   pub stays_durable : HasCleanDisk (state g new) → (base : Base) → Represents g old base → CrashStatesSatisfy g old (IsDiskContentOfRows (sheets base))
-      → CrashStatesSatisfy g new (IsRecoverableDiskContent base calls outcomes)
+      → CrashStatesSatisfy g new (HasAcknowledgedCommands base calls outcomes)
   -- If the disk assumption holds after the calls, it held before.
   pub clean : HasCleanDisk (state g new) → HasCleanDisk (state g old)
   -- The commands and their keys are well-formed, as all values of their types are.
-  pub in_form : AllByRecursion CallMeetsAuditFormats (map model_call calls)
+  pub well_formed : AllByRecursion CallMeetsAuditFormats (map model_call calls)
 
 -- After the calls from `base` the store represents some base `after` whose tables pass the audit of
 -- schema 3. The calls with their outcomes are a run of the model from `base` to `after`; the broker
 -- totals, balances and summaries of `after` equal the sums of their rows; and the row of each trade
 -- that an accepted `CompleteTrade` completed has the tax of its completion, on exactly the shares
 -- that it closed (`IsRunWithSumsAndTaxes`).
-abbrev pub ReachesAuditedState : {S : Type 0} → Ghosts S → Held S → Base → List (ℕ × Call) → List Outcome → Type 0
-ReachesAuditedState g new base calls outcomes =
+abbrev pub ReachesBasePassingAudit : {S : Type 0} → Ghosts S → Held S → Base → List (ℕ × Call) → List Outcome → Type 0
+ReachesBasePassingAudit g new base calls outcomes =
     (after : Base) × Represents g new after × PassesAudit third_schema (sheets after)
     × IsRunWithSumsAndTaxes base (map model_call calls) (map model_outcome outcomes) after
 
--- The guarantee of a run for the books. Under the disk assumption the calls reach an audited state
--- (`ReachesAuditedState`) from any base that the store represented, from tables without rows, and
--- from rows in UTF-8 of any schema that pass their audit and were upgraded to schema 3.
+-- The guarantee of a run for the books. Under the disk assumption the calls reach a base that
+-- passes the audit (`ReachesBasePassingAudit`) from any base that the store represented, from
+-- tables without rows, and from rows in UTF-8 of any schema that pass their audit and were upgraded
+-- to schema 3.
 pub record RunGuarantee {S : Type 0} (g : Ghosts S) (old new : Held S) (calls : List (ℕ × Call)) (outcomes : List Outcome) : Type 0 where
   -- From any base that the store represented before the calls.
-  pub from_represented_base : HasCleanDisk (state g new) → (base : Base) → Represents g old base → ReachesAuditedState g new base calls outcomes
+  pub from_represented_base : HasCleanDisk (state g new) → (base : Base) → Represents g old base → ReachesBasePassingAudit g new base calls outcomes
   -- From the empty base, if the tables had no rows before the calls.
-  pub from_empty_tables : HasCleanDisk (state g new) → HoldsRows g old tables_without_rows → ReachesAuditedState g new empty_base calls outcomes
+  pub from_empty_tables : HasCleanDisk (state g new) → HoldsRows g old tables_without_rows → ReachesBasePassingAudit g new empty_base calls outcomes
   -- From the base that the rows `rows` of any schema determine, if the store held these rows
   -- upgraded to schema 3, and the rows before the upgrade pass the audit of their schema and have
   -- texts in UTF-8.
   pub from_audited_rows : HasCleanDisk (state g new) → (schema : known.Schema) (rows : Tables)
       → HoldsRows g old (tables_upgraded_from_schema (abstract_schema schema) rows) → IsTrue (has_utf8_texts rows) → PassesAudit (abstract_schema schema) rows
-      → ReachesAuditedState g new (base_of_tables rows) calls outcomes
+      → ReachesBasePassingAudit g new (base_of_tables rows) calls outcomes
 
 -- The postcondition of an audit of the desk's store, which writes nothing: that of an audit of a
 -- store (`AuditPost`); and if the store represents a base, it still does after the audit, and the

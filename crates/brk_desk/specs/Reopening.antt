@@ -19,7 +19,7 @@ pub record RepresentsDurableBase {S : Type 0} (g : Ghosts S) (store : Held S) (b
   -- The store represents the base.
   pub represented : Represents g store base
   -- A crash exposes only the tables of the base.
-  pub alone : CrashStatesSatisfy g store (IsDiskContentOfRows (sheets base))
+  pub crash_exposes_only_base : CrashStatesSatisfy g store (IsDiskContentOfRows (sheets base))
 
 -- `conn` is in the state of a new connection to a database with the disk contents `trees`. Under
 -- the disk assumption it is as after `sqlite3_open`: it is open, in autocommit mode, without
@@ -33,15 +33,15 @@ pub record IsNewConnectionToDiskContent {S : Type 0} (g : Ghosts S) (trees : Tre
   pub opens : HasCleanDisk (state g conn) → Opens (state g conn)
 
 -- `conn` is in the state of a new connection (`IsNewConnectionToDiskContent`) to disk contents that
--- a crash may expose when the connection of a store is in the state `left`.
+-- a crash may expose when the connection of a store is in the state `at_crash`.
 abbrev pub IsNewConnectionAfterCrash : {S : Type 0} → Ghosts S → Held S → Held S → Type 0
-IsNewConnectionAfterCrash g left conn = (trees : Trees) × (state g left).may_leave trees × IsNewConnectionToDiskContent g trees conn
+IsNewConnectionAfterCrash g at_crash conn = (trees : Trees) × (state g at_crash).may_leave trees × IsNewConnectionToDiskContent g trees conn
 
 -- The database of `conn` has rows of some schema that pass the audit of this schema, with texts in
 -- UTF-8. `store` represents the base that these rows determine, and a crash exposes only the tables
 -- of this base.
-abbrev pub RepresentsPassingRowsDurably : {S : Type 0} → Ghosts S → Held S → Held S → Type 0
-RepresentsPassingRowsDurably g conn store =
+abbrev pub RepresentsAuditedRowsDurably : {S : Type 0} → Ghosts S → Held S → Held S → Type 0
+RepresentsAuditedRowsDurably g conn store =
     (schema : known.Schema) × (rows : Tables) × StoresRowsWithAuditResult (abstract_schema schema) rows (state g conn).now None
     × RepresentsDurableBase g store (base_of_tables rows)
 
@@ -57,7 +57,7 @@ pub record AdoptsBaseWithoutDamage {S : Type 0} (g : Ghosts S) (store : Held S) 
 -- The adoption with the result `result` did not fail with `Damaged`. `store` is the store at `Ok`,
 -- and at `Memory` or `Store` the returned connection. It represents a base that satisfies `May`,
 -- and a crash exposes only the tables of this base.
-pub record IsRecovered {S : Type 0} (g : Ghosts S) (store : Held S) (result : Result (Unit {0}) Fault) (May : Base → Type 0) : Type 0 where
+pub record FindsBaseWithoutDamage {S : Type 0} (g : Ghosts S) (store : Held S) (result : Result (Unit {0}) Fault) (May : Base → Type 0) : Type 0 where
   -- The base that is represented after the adoption.
   pub base : Base
   -- It is one of the bases that may be recovered.

@@ -63,7 +63,7 @@ impl<S: Alter> Desk<S> {
     ghost use Rattle.std.specs.Option.{option_copied};
     ghost use Rattle.brk_commands.specs.Commands.{abstract_command};
     ghost use Rattle.brk_commit.specs.Keys.{optional_model_key};
-    ghost use Rattle.brk_commit.specs.Booked.{CallPost};
+    ghost use Rattle.brk_commit.specs.Booked.{CommandPost};
     ghost use Rattle.brk_desk.specs.CallPosts.{AskPost, DeskAuditPost, OutcomePost};
     ghost use Rattle.brk_desk.specs.Runs.{IsRunWithOutcomes};
     ghost use Rattle.brk_desk.specs.declared.call.Outcome as came;
@@ -116,7 +116,7 @@ impl<S: Alter> Desk<S> {
         command: &Command,
         key: Option<&Key>,
     ) -> Result<CommandAnswer, Fault>
-        ensures called { CallPost S.Store self.old self.new now (abstract_command command.now) (optional_model_key (option_copied key.entry)) result }
+        ensures called { CommandPost S.Store self.old self.new now (abstract_command command.now) (optional_model_key (option_copied key.entry)) result }
     {
         execute_and_commit_command(alloc, &mut self.store, now, command, key)
     }
@@ -190,13 +190,14 @@ impl<S: Alter> Desk<S> {
     ///
     /// A crash after the call exposes only states that a crash before the call could expose.
     ///
-    /// The result is specified only if the database satisfies `StoreNamedTablesMatchThirdSchema`
-    /// (see `Store::audit`). The store of every desk that represents a base satisfies it.
+    /// The result is specified only if the database satisfies
+    /// `ConnectionTablesWithThirdSchemaNamesAreDeskTables` (see `Store::audit`). The store of every
+    /// desk that represents a base satisfies it.
     #[tactic(auto, using(crate::proofs::Audits::audits))]
     pub fn audit(&mut self, alloc: Global) -> Result<(), Fault>
         ensures audited { DeskAuditPost S.Store self.old self.new result }
         // The fault is never `Damaged(NotEmpty)`, which only the creation of tables returns.
-        ensures never_not_empty { IfErr result (λ fault. fault ≢ Damaged NotEmpty) }
+        ensures condition { IfErr result (λ fault. fault ≢ Damaged NotEmpty) }
     {
         self.store.audit(alloc)
     }
@@ -227,11 +228,7 @@ impl<S: Alter> Desk<S> {
     /// cash rows overflows. If the database is still open, it is unchanged, whatever the result.
     ///
     /// A crash after the call exposes only states that a crash before the call could expose.
-    pub fn trade_explanation_rows(
-        &mut self,
-        alloc: Global,
-        trade: Id,
-    ) -> Result<Option<TradeDetails>, Fault>
+    pub fn trade_details(&mut self, alloc: Global, trade: Id) -> Result<Option<TradeDetails>, Fault>
         ensures read { ReadPost S.Store self.old self.new result (AreDetailsOfTrade trade) }
         ensures fault { IfErr result IsCallFault }
     {
@@ -245,7 +242,7 @@ impl<S: Alter> Desk<S> {
     /// If the database is still open, it is unchanged, whatever the result.
     ///
     /// A crash after the call exposes only states that a crash before the call could expose.
-    pub fn account_explanation_rows(
+    pub fn account_details(
         &mut self,
         alloc: Global,
         account: Id,
@@ -267,7 +264,7 @@ impl<S: Alter> Desk<S> {
     /// still open, it is unchanged, whatever the result.
     ///
     /// A crash after the call exposes only states that a crash before the call could expose.
-    pub fn holding_explanation_rows(
+    pub fn holding_details(
         &mut self,
         alloc: Global,
         account: Id,
@@ -286,7 +283,7 @@ impl<S: Alter> Desk<S> {
     /// whatever the result.
     ///
     /// A crash after the call exposes only states that a crash before the call could expose.
-    pub fn broker_explanation_rows(
+    pub fn broker_details(
         &mut self,
         alloc: Global,
         broker: Id,
@@ -308,7 +305,7 @@ impl<S: Alter> Desk<S> {
     /// visitors before and after the walk satisfy the relation `leads` that the visitor defines.
     ///
     /// A crash after the call exposes only states that a crash before the call could expose.
-    pub fn visit_completed_trades<E, V: Visitor<TradeRow, E>>(
+    pub fn visit_completed_trades_of_broker<E, V: Visitor<TradeRow, E>>(
         &mut self,
         alloc: Global,
         broker: Id,

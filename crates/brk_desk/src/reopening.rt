@@ -8,10 +8,10 @@ ghost use Rattle.sqlite_trees.specs.Tree.{Trees};
 ghost use Rattle.brk_money.specs.declared.fault.Fault as faults;
 ghost use Rattle.brk_desk.specs.Answers.{model_outcome};
 ghost use Rattle.brk_desk.specs.Commands.{model_call};
-ghost use Rattle.brk_commit.specs.Booked.{CallPost, base_after_call};
+ghost use Rattle.brk_commit.specs.Booked.{CommandPost, base_after_keyed_command};
 ghost use Rattle.brk_desk.specs.CallPosts.{RunPost};
-ghost use Rattle.brk_desk.specs.Reopening.{RepresentsPassingRowsDurably, IsNewConnectionToDiskContent, AdoptsBaseWithoutDamage};
-ghost use Rattle.brk_desk.specs.Reopening.{IsNewConnectionAfterCrash, IsRecovered, RepresentsDurableBase};
+ghost use Rattle.brk_desk.specs.Reopening.{RepresentsAuditedRowsDurably, IsNewConnectionToDiskContent, AdoptsBaseWithoutDamage};
+ghost use Rattle.brk_desk.specs.Reopening.{IsNewConnectionAfterCrash, FindsBaseWithoutDamage, RepresentsDurableBase};
 ghost use Rattle.brk_desk.specs.CrashBases.{CrashMayExposeBase};
 ghost use Rattle.brk_commit.specs.Answers.{CommandAnswer};
 ghost use Rattle.brk_desk.specs.declared.call.Call as made;
@@ -23,7 +23,7 @@ ghost use Rattle.brk_model.specs.Records.{Key};
 ghost use Rattle.brk_model.specs.Tables.{Tables};
 ghost use Rattle.brk_changes.specs.Schemas.{abstract_schema};
 ghost use Rattle.brk_changes.specs.declared.schema.Schema.{Schema};
-ghost use Rattle.brk_store.specs.Audited.{StoresRowsWithAuditResult, AdoptPost, StoreNamedTablesMatchDeskDefinitions};
+ghost use Rattle.brk_store.specs.Audited.{StoresRowsWithAuditResult, AdoptPost, ConnectionTablesWithDeskNamesAreDeskTables};
 ghost use Rattle.brk_store.specs.Holds.{CreatePost};
 
 use sqlite::Alter;
@@ -41,45 +41,45 @@ pub fn recovery_never_reports_damage<S: Alter>()
     ensures created { (conn store : Held S) → CreatePost S.Store conn store (Ok tt) → HasCleanDisk (state S.Store store)
         → RepresentsDurableBase S.Store store empty_base }
     // After the adoption of a newly opened database that satisfies
-    // `StoreNamedTablesMatchDeskDefinitions`, the store represents the base that its rows
+    // `ConnectionTablesWithDeskNamesAreDeskTables`, the store represents the base that its rows
     // determine, and a crash exposes only the tables of this base.
     ensures adopted { (trees : Trees) (conn store : Held S) → IsNewConnectionToDiskContent S.Store trees conn
-        → StoreNamedTablesMatchDeskDefinitions S.Store conn → AdoptPost S.Store conn store (Ok tt)
-        → HasCleanDisk (state S.Store store) → RepresentsPassingRowsDurably S.Store conn store }
+        → ConnectionTablesWithDeskNamesAreDeskTables S.Store conn → AdoptPost S.Store conn store (Ok tt)
+        → HasCleanDisk (state S.Store store) → RepresentsAuditedRowsDurably S.Store conn store }
     // After a crash that follows the adoption of a newly opened database whose rows pass the audit
     // of their schema, perhaps an older one, a later adoption does not fail with `Damaged`. If it
     // succeeds, the store represents the base that the same rows determine.
-    ensures crash_in_adoption { (trees : Trees) (first left conn store : Held S)
-        (stopped result : Result (Unit {0}) faults.Fault) (schema : Schema) (rows : Tables)
-        → IsNewConnectionToDiskContent S.Store trees first → StoresRowsWithAuditResult (abstract_schema schema) rows (state S.Store first).now None
-        → AdoptPost S.Store first left stopped → HasCleanDisk (state S.Store left)
-        → IsNewConnectionAfterCrash S.Store left conn → AdoptPost S.Store conn store result → HasCleanDisk (state S.Store store)
-        → AdoptsBaseWithoutDamage S.Store store result (base_of_tables rows) }
+    ensures crash_after_adoption { (trees : Trees) (before at_crash reopened adopted : Held S)
+        (interrupted result : Result (Unit {0}) faults.Fault) (schema : Schema) (rows : Tables)
+        → IsNewConnectionToDiskContent S.Store trees before → StoresRowsWithAuditResult (abstract_schema schema) rows (state S.Store before).now None
+        → AdoptPost S.Store before at_crash interrupted → HasCleanDisk (state S.Store at_crash)
+        → IsNewConnectionAfterCrash S.Store at_crash reopened → AdoptPost S.Store reopened adopted result → HasCleanDisk (state S.Store adopted)
+        → AdoptsBaseWithoutDamage S.Store adopted result (base_of_tables rows) }
     // After a crash that follows the creation of the tables, the adopted store represents the empty
     // base. Nothing is specified for a state that a crash before the creation could expose.
-    ensures crash_in_creation { (first left conn store : Held S) (created result : Result (Unit {0}) faults.Fault) (trees : Trees)
-        → CreatePost S.Store first left created
-        → HasCleanDisk (state S.Store left) → (state S.Store left).may_leave trees → IsNewConnectionToDiskContent S.Store trees conn
-        → AdoptPost S.Store conn store result
-        → HasCleanDisk (state S.Store store) → (state S.Store first).may_leave trees ⊎ IsRecovered S.Store store result (λ base. base ≡ empty_base) }
+    ensures crash_after_creation { (before at_crash reopened adopted : Held S) (created result : Result (Unit {0}) faults.Fault) (trees : Trees)
+        → CreatePost S.Store before at_crash created
+        → HasCleanDisk (state S.Store at_crash) → (state S.Store at_crash).may_leave trees → IsNewConnectionToDiskContent S.Store trees reopened
+        → AdoptPost S.Store reopened adopted result
+        → HasCleanDisk (state S.Store adopted) → (state S.Store before).may_leave trees ⊎ FindsBaseWithoutDamage S.Store adopted result (λ base. base ≡ empty_base) }
     // Suppose that a store represents a base and that a crash exposes only the tables of this base
     // (`RepresentsDurableBase`), as after a creation or an adoption. After a crash that follows a
     // call of this store, the adopted store represents the base before the command or the base
     // after it. A crash then exposes only the tables of the base that it represents, so this clause
     // and the next one apply again after each further crash.
-    ensures crash_after_call { (first left conn store : Held S) (base : Base) (result : Result (Unit {0}) faults.Fault)
+    ensures crash_after_call { (before at_crash reopened adopted : Held S) (base : Base) (result : Result (Unit {0}) faults.Fault)
         (now : ℕ) (command : Command) (key : Option Key)
-        (answer : Result CommandAnswer faults.Fault) → RepresentsDurableBase S.Store first base → CallPost S.Store first left now command key answer
-        → HasCleanDisk (state S.Store left)
-        → IsNewConnectionAfterCrash S.Store left conn → AdoptPost S.Store conn store result → HasCleanDisk (state S.Store store)
-        → IsRecovered S.Store store result (λ stood. (stood ≡ base) ⊎ (stood ≡ base_after_call base now command key)) }
+        (answer : Result CommandAnswer faults.Fault) → RepresentsDurableBase S.Store before base → CommandPost S.Store before at_crash now command key answer
+        → HasCleanDisk (state S.Store at_crash)
+        → IsNewConnectionAfterCrash S.Store at_crash reopened → AdoptPost S.Store reopened adopted result → HasCleanDisk (state S.Store adopted)
+        → FindsBaseWithoutDamage S.Store adopted result (λ found. (found ≡ base) ⊎ (found ≡ base_after_keyed_command base now command key)) }
     // For a store as in `crash_after_call`, after a crash that follows a run, the adopted store
     // represents the base with every acknowledged command, or with one command more
     // (`CrashMayExposeBase`).
-    ensures crash_after_run { (first left conn store : Held S) (base : Base) (result : Result (Unit {0}) faults.Fault) (calls : List (ℕ
+    ensures crash_after_run { (before at_crash reopened adopted : Held S) (base : Base) (result : Result (Unit {0}) faults.Fault) (calls : List (ℕ
         × made.Call)) (outcomes : List came.Outcome)
-        → RepresentsDurableBase S.Store first base → RunPost S.Store first left calls outcomes → HasCleanDisk (state S.Store left)
-        → IsNewConnectionAfterCrash S.Store left conn
-        → AdoptPost S.Store conn store result → HasCleanDisk (state S.Store store)
-        → IsRecovered S.Store store result (CrashMayExposeBase base (map model_call calls) (map model_outcome outcomes)) }
+        → RepresentsDurableBase S.Store before base → RunPost S.Store before at_crash calls outcomes → HasCleanDisk (state S.Store at_crash)
+        → IsNewConnectionAfterCrash S.Store at_crash reopened
+        → AdoptPost S.Store reopened adopted result → HasCleanDisk (state S.Store adopted)
+        → FindsBaseWithoutDamage S.Store adopted result (CrashMayExposeBase base (map model_call calls) (map model_outcome outcomes)) }
 {}

@@ -36,7 +36,7 @@ fn write_trade_explanation<W: Write, S: Alter>(
 ) -> Result<(), ReportFault>
     ensures told { WriteLinesPost S.Store desk.old desk.new (λ t. explanation t (TradeOf trade)) (W.contents writer.old) (W.contents writer.new) result }
 {
-    let details = match desk.trade_explanation_rows(alloc, trade) {
+    let details = match desk.trade_details(alloc, trade) {
         Ok(Some(details)) => details,
         Ok(None) => return Err(ReportFault::Refused(Refusal::NoTrade)),
         Err(fault) => return Err(ReportFault::Desk(fault)),
@@ -84,7 +84,7 @@ fn write_account_explanation<W: Write, S: Alter>(
 ) -> Result<(), ReportFault>
     ensures told { WriteLinesPost S.Store desk.old desk.new (λ t. explanation t (AccountOf account)) (W.contents writer.old) (W.contents writer.new) result }
 {
-    let details = match desk.account_explanation_rows(alloc, account) {
+    let details = match desk.account_details(alloc, account) {
         Ok(Some(details)) => details,
         Ok(None) => return Err(ReportFault::Refused(Refusal::NoAccount)),
         Err(fault) => return Err(ReportFault::Desk(fault)),
@@ -108,7 +108,7 @@ fn write_holding_explanation<W: Write, S: Alter>(
     ensures told { WriteLinesPost S.Store desk.old desk.new (λ t. explanation t (HoldingOf account symbol.now))
         (W.contents writer.old) (W.contents writer.new) result }
 {
-    let details = match desk.holding_explanation_rows(alloc, account, symbol) {
+    let details = match desk.holding_details(alloc, account, symbol) {
         Ok(Ok(details)) => details,
         Ok(Err(refusal)) => return Err(ReportFault::Refused(refusal)),
         Err(fault) => return Err(ReportFault::Desk(fault)),
@@ -154,7 +154,7 @@ fn write_broker_explanation<W: Write, S: Alter>(
 ) -> Result<(), ReportFault>
     ensures told { WriteLinesPost S.Store desk.old desk.new (λ t. explanation t (BrokerOf broker)) (W.contents writer.old) (W.contents writer.new) result }
 {
-    let details = match desk.broker_explanation_rows(alloc, broker) {
+    let details = match desk.broker_details(alloc, broker) {
         Ok(Some(details)) => details,
         Ok(None) => return Err(ReportFault::Refused(Refusal::NoBroker)),
         Err(fault) => return Err(ReportFault::Desk(fault)),

@@ -95,7 +95,7 @@ pub(crate) fn write_trade_commission_lines<W: Write, S: Alter>(
         total: Wide::new(0),
         count: 0,
     };
-    match desk.visit_completed_trades(alloc, broker, &mut rows) {
+    match desk.visit_completed_trades_of_broker(alloc, broker, &mut rows) {
         Ok(()) => Ok(rows.count),
         Err(ended) => Err(fault_from_walk_error(ended)),
     }

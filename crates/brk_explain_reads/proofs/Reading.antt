@@ -16,9 +16,9 @@ module _ {S : Type 0} (g : Ghosts S) (old mid end : Held S) where
       let on = read_after g old mid end v out P Q first second in
       record {
         answered = λ clean t holds. tell t (first.answered (disk_was_clean_before_reads mid end (single_read_changes_nothing mid end out Q second) clean) t holds) (on.answered clean t holds);
-        opened = on.opened;
+        was_open = on.was_open;
         same_rows = on.same_rows;
-        same = on.same;
+        unchanged_if_open = on.unchanged_if_open;
         survives = on.survives;
       }
 
@@ -27,4 +27,4 @@ module _ {S : Type 0} (g : Ghosts S) (old mid end : Held S) where
       → ReadPost {E = E} g old mid (Ok v) P → ReadPost g mid end r Q → ReadPost {E = H} g old end (Err e) R
   read_failed v r e P Q R first second =
       let on = read_after g old mid end v r P Q first second in
-      record { answered = λ clean. tt; opened = λ clean. tt; same_rows = on.same_rows; same = on.same; survives = on.survives }
+      record { answered = λ clean. tt; was_open = λ clean. tt; same_rows = on.same_rows; unchanged_if_open = on.unchanged_if_open; survives = on.survives }

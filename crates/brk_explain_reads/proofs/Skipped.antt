@@ -117,9 +117,9 @@ walk_none g old new of list takes stops v fault Q may read = record {
   all = λ clean. tt;
   early = λ clean. (may, ([], refl, λ t holds. (list t, refl)));
   fault = may;
-  opened = λ clean. tt;
+  was_open = λ clean. tt;
   same_rows = read.same_rows;
-  same = read.same;
+  unchanged_if_open = read.unchanged_if_open;
   survives = read.survives;
 }
 
@@ -148,10 +148,10 @@ module _ {S A X M V W E : Type 0} (g : Ghosts S) (old mid new : Held S) (of : X 
   module _ {Y F : Type 0} (before after : W) (result : Result (Unit {0}) (WalkError E)) (w : WalkPost g mid new of all TakesOn StopsOn before after result) (y : Y) (Q : Y → Tables → Type 0) (first : ReadPost {E = F} g old mid (Ok y) Q) (pick : Tables → M → Bool)
       (passes : (t : Tables) → HasDeskTables t (state g old).now → Q y t → (x : X) → test (keep before) x ≡ pick t (of x)) (picked : (t : Tables) → filter (pick t) (all t) ≡ list t) where
     kept_on : IsUnchangedByReads g mid new
-    kept_on = record { same_rows = w.same_rows; same = w.same; survives = w.survives }
+    kept_on = record { same_rows = w.same_rows; unchanged_if_open = w.unchanged_if_open; survives = w.survives }
 
     passes_at : HasCleanDisk (state g mid) → (t : Tables) → HoldsRows g old t → (x : X) → test (keep before) x ≡ pick t (of x)
-    passes_at clean t holds = passes t (holds (disk_was_clean_before_reads old mid (single_read_changes_nothing old mid (Ok y) Q first) clean) (first.opened clean)) (first.answered clean t holds)
+    passes_at clean t holds = passes t (holds (disk_was_clean_before_reads old mid (single_read_changes_nothing old mid (Ok y) Q first) clean) (first.was_open clean)) (first.answered clean t holds)
 
     all_on : HasCleanDisk (state g mid) → (xs : List X) → EqualsStoredList g mid all (map of xs) → EqualsStoredList g old list (map of (filter (test (keep before)) xs))
     all_on clean xs h t holds = map_kept of (test (keep before)) (pick t) (passes_at clean t holds) xs ∙ ap (filter (pick t)) (h t (first.same_rows t holds)) ∙ picked t
@@ -188,7 +188,7 @@ module _ {S A X M V W E : Type 0} (g : Ghosts S) (old mid new : Held S) (of : X 
     ends_on (Err (Cause e)) h = (inner h.0, h.1, h.2.1)
 
     opens_on : (r : Result (Unit {0}) (WalkError E)) → HasCleanDisk (state g mid) → OnOk r (IsTrue (state g old).is_open)
-    opens_on (Ok u) clean = first.opened clean
+    opens_on (Ok u) clean = first.was_open clean
     opens_on (Err stop) clean = tt
 
     pub walk_on : WalkPost g old new of list takes stops (inner before) (inner after) result
@@ -198,8 +198,8 @@ module _ {S A X M V W E : Type 0} (g : Ghosts S) (old mid new : Held S) (of : X 
           all = λ clean. let late = disk_was_clean_before_reads mid new kept_on clean in done_on result late (w.all clean);
           early = λ clean. let late = disk_was_clean_before_reads mid new kept_on clean in breaks_on result late (w.early clean);
           fault = ends_on result w.fault;
-          opened = λ clean. opens_on result (disk_was_clean_before_reads mid new kept_on clean);
+          was_open = λ clean. opens_on result (disk_was_clean_before_reads mid new kept_on clean);
           same_rows = whole.same_rows;
-          same = whole.same;
+          unchanged_if_open = whole.unchanged_if_open;
           survives = whole.survives;
         }

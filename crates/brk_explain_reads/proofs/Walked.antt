@@ -26,9 +26,9 @@ module _ {S X M V E F : Type 0} (g : Ghosts S) (old new : Held S) (of : X → M)
       → WalkPost g old new of list takes stops before after (Ok u) → ReadPost {E = F} g old new (Ok y) R
   walk_told u y R tell walked = record {
     answered = λ clean t holds. let h = walked.all clean in tell t h.0 h.1 (h.2 t holds);
-    opened = walked.opened;
+    was_open = walked.was_open;
     same_rows = walked.same_rows;
-    same = walked.same;
+    unchanged_if_open = walked.unchanged_if_open;
     survives = walked.survives;
   }
 
@@ -36,9 +36,9 @@ module _ {S X M V E F : Type 0} (g : Ghosts S) (old new : Held S) (of : X → M)
   pub walk_failed : {Y : Type 0} (stop : WalkError E) (fault : F) (R : Y → Tables → Type 0) → WalkPost g old new of list takes stops before after (Err stop) → ReadPost {E = F} g old new (Err fault) R
   walk_failed stop fault R walked = record {
     answered = λ clean. tt;
-    opened = λ clean. tt;
+    was_open = λ clean. tt;
     same_rows = walked.same_rows;
-    same = walked.same;
+    unchanged_if_open = walked.unchanged_if_open;
     survives = walked.survives;
   }
 

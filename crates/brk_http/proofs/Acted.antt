@@ -10,7 +10,7 @@ use Rattle.brk_model.specs.Base.{Base}
 use Rattle.brk_model.specs.Run.{IsOutcomeOfCall, Ask, Call, Did, Do, Failed, Outcome}
 use Rattle.brk_ref.specs.declared.key.Key.{Key}
 use Rattle.brk_commit.specs.Answers.{CommandAnswer, model_answer}
-use Rattle.brk_commit.specs.Booked.{CallPost}
+use Rattle.brk_commit.specs.Booked.{CommandPost}
 use Rattle.brk_store.specs.Audited.{Represents}
 use Rattle.brk_commit.specs.Keys.{optional_model_key}
 use Rattle.brk_plans.specs.Replies.{abstract_reply}
@@ -36,15 +36,15 @@ seen_is (Ok (Err refusal)) = refl
 seen_is (Err fault) = refl
 
 module _ {S : Type 0} (g : Ghosts S) (old new : Held S) (now : ℕ) where
-  did : (command : Command) (key : Option Key) (answer : CommandAnswer) → CallPost g old new now (abstract_command command) (optional_model_key key) (Ok answer)
+  did : (command : Command) (key : Option Key) (answer : CommandAnswer) → CommandPost g old new now (abstract_command command) (optional_model_key key) (Ok answer)
       → DeskCallHasOutcome g old now (Do (abstract_command command) (optional_model_key key)) (Did (model_answer answer)) new
   did command key answer h = record { made = made.Do command key; came = came.Did answer; call_is = refl; outcome_is = refl; is_made = (Ok answer, refl, h) }
 
-  failed : (command : Command) (key : Option Key) (fault : Fault) → CallPost g old new now (abstract_command command) (optional_model_key key) (Err fault)
+  failed : (command : Command) (key : Option Key) (fault : Fault) → CommandPost g old new now (abstract_command command) (optional_model_key key) (Err fault)
       → DeskCallHasOutcome g old now (Do (abstract_command command) (optional_model_key key)) (Failed fault) new
   failed command key fault h = record { made = made.Do command key; came = came.Failed fault; call_is = refl; outcome_is = refl; is_made = (Err fault, refl, h) }
 
-  pub has_outcome : (command : Command) (key : Option Key) (result : Result CommandAnswer Fault) → CallPost g old new now (abstract_command command) (optional_model_key key) result
+  pub has_outcome : (command : Command) (key : Option Key) (result : Result CommandAnswer Fault) → CommandPost g old new now (abstract_command command) (optional_model_key key) result
       → DeskCallHasOutcome g old now (Do (abstract_command command) (optional_model_key key)) (abstract_command_outcome abstract_reply result) new
   has_outcome command key (Ok answer) h = did command key answer h
   has_outcome command key (Err fault) h = failed command key fault h

@@ -173,7 +173,7 @@ module _ {S C : Type 0} (g : Ghosts S) (rests : RecoversOnlyLastCommit g) (form 
       → IsBatchCrashSafe (λ desk. HasCleanDisk (state g desk)) (λ desk. Represents g desk) (CrashExposesOnlyOneOf g) form step_of_row gives (Some text) first left one result
       → HasCleanDisk (state g left) → (trees : Trees) → (state g left).may_leave trees → IsExposedBase trees
   found first left result at leaves clean trees may =
-      let l = leaves clean base at.represented (λ t m. inl (at.alone t m)) in
+      let l = leaves clean base at.represented (λ t m. inl (at.crash_exposes_only_base t m)) in
       found_at left trees may l.0 l.1 (by_result result l.0 l.2) result l.3
 
   -- ---- the retry

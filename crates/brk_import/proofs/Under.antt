@@ -14,7 +14,7 @@ use Rattle.brk_model.specs.Run.{Did, Failed}
 use Rattle.brk_model.specs.Sheets.{sheets}
 use Rattle.brk_store.specs.Holds.{IsDiskContentOfRows}
 use Rattle.brk_commit.specs.Answers.{CommandAnswer, model_answer}
-use Rattle.brk_commit.specs.Booked.{CallPost}
+use Rattle.brk_commit.specs.Booked.{CommandPost}
 use Rattle.brk_store.specs.Audited.{Represents, IsConsistent}
 use Rattle.brk_commit.specs.Keys.{optional_model_key}
 use Rattle.brk_commands.specs.Commands.{abstract_command}
@@ -34,7 +34,7 @@ use Rattle.brk_import.specs.Rows.{RowCallHasOutcome}
 
 module _ {S : Type 0} (g : Ghosts S) (old new : Held S) (now : ℕ) (command : Command) where
   -- after a call that committed nothing, a crash exposes what it exposed before
-  quiet_left : (key : Key) (answer : CommandAnswer) → ((base after : Base) → step_of_row base now command key ≡ (model_answer answer, after) → after ≡ base) → CallPost g old new now command (Some key) (Ok answer)
+  quiet_left : (key : Key) (answer : CommandAnswer) → ((base after : Base) → step_of_row base now command key ≡ (model_answer answer, after) → after ≡ base) → CommandPost g old new now command (Some key) (Ok answer)
       → CallRefinesStep (λ desk. HasCleanDisk (state g desk)) (RepresentsDurably (λ desk. Represents g desk) (CrashExposesOnlyOneOf g) true) step_of_row old new now command key (model_answer answer)
   quiet_left key answer quiet called clean base sure =
       let told = called.answered clean base sure.0 in
@@ -55,7 +55,7 @@ module _ {S : Type 0} (g : Ghosts S) (old new : Held S) (now : ℕ) (command : C
       either trees base (inl are) = are
       either trees base (inr are) = are.0
 
-  answered_left : (key : Key) (answer : CommandAnswer) → CallPost g old new now command (Some key) (Ok answer)
+  answered_left : (key : Key) (answer : CommandAnswer) → CommandPost g old new now command (Some key) (Ok answer)
       → CallRefinesStep (λ desk. HasCleanDisk (state g desk)) (RepresentsDurably (λ desk. Represents g desk) (CrashExposesOnlyOneOf g) true) step_of_row old new now command key (model_answer answer)
   answered_left key (given.Done reply) called = λ clean base sure.
       let told = called.answered clean base sure.0 in
@@ -67,44 +67,44 @@ module _ {S : Type 0} (g : Ghosts S) (old new : Held S) (now : ℕ) (command : C
   answered_left key (given.Again line) called = quiet_left key (given.Again line) (λ base after e. quiet_leaves base now command (Some key) (model_answer (given.Again line)) after e tt) called
   answered_left key (given.Refused refusal) called = quiet_left key (given.Refused refusal) (λ base after e. quiet_leaves base now command (Some key) (model_answer (given.Refused refusal)) after e tt) called
 
-  acts : (key : Key) (answer : CommandAnswer) → CallPost g old new now command (Some key) (Ok answer) → (sure : Bool)
+  acts : (key : Key) (answer : CommandAnswer) → CommandPost g old new now command (Some key) (Ok answer) → (sure : Bool)
       → CallRefinesStep (λ desk. HasCleanDisk (state g desk)) (RepresentsDurably (λ desk. Represents g desk) (CrashExposesOnlyOneOf g) sure) step_of_row old new now command key (model_answer answer)
   acts key answer called false = called.answered
   acts key answer called true = answered_left key answer called
 
   -- the call failed
-  may_act : (key : Key) (fault : Fault) → CallPost g old new now command (Some key) (Err fault)
+  may_act : (key : Key) (fault : Fault) → CommandPost g old new now command (Some key) (Err fault)
       → IsFailedCallCrashSafe (λ desk. HasCleanDisk (state g desk)) (λ desk. Represents g desk) (CrashExposesOnlyOneOf g) step_of_row old new now command key
   may_act key fault called clean base keeps alone trees may = elim (called.survives.crash clean trees may) [
     | inl earlier ↦ elim (alone trees earlier) [ inl are ↦ inl are | inr are ↦ inl are.0 ]
     | inr come ↦ inr (come.1 base keeps, booked_can_be g old new base now command (Some key) (Err fault) trees called keeps come)
   ]
 
-  pub acts_if_ok : (key : Key) (result : Result CommandAnswer Fault) → CallPost g old new now command (Some key) result
+  pub acts_if_ok : (key : Key) (result : Result CommandAnswer Fault) → CommandPost g old new now command (Some key) result
       → IfOk result (λ answer. (sure : Bool)
       → CallRefinesStep (λ desk. HasCleanDisk (state g desk)) (RepresentsDurably (λ desk. Represents g desk) (CrashExposesOnlyOneOf g) sure) step_of_row old new now command key (model_answer answer))
   acts_if_ok key (Ok answer) called = acts key answer called
   acts_if_ok key (Err fault) called = tt
 
-  pub may_act_if_err : (key : Key) (result : Result CommandAnswer Fault) → CallPost g old new now command (Some key) result
+  pub may_act_if_err : (key : Key) (result : Result CommandAnswer Fault) → CommandPost g old new now command (Some key) result
       → OnErr result (IsFailedCallCrashSafe (λ desk. HasCleanDisk (state g desk)) (λ desk. Represents g desk) (CrashExposesOnlyOneOf g) step_of_row old new now command key)
   may_act_if_err key (Ok answer) called = tt
   may_act_if_err key (Err fault) called = may_act key fault called
 
-  pub represented_if_err : (key : Key) (result : Result CommandAnswer Fault) → CallPost g old new now command (Some key) result
+  pub represented_if_err : (key : Key) (result : Result CommandAnswer Fault) → CommandPost g old new now command (Some key) result
       → OnErr result (PreservesRepresentedBases (λ desk. HasCleanDisk (state g desk)) (λ desk. Represents g desk) old new)
   represented_if_err key (Ok answer) called = tt
   represented_if_err key (Err fault) called = λ clean. called.same_bases_at_error
 
 -- one call was made, and nothing else
 module _ {S : Type 0} (g : Ghosts S) (old new : Held S) (now : ℕ) (command : commands.Command) (key : keys.Key) where
-  did : (answer : CommandAnswer) → CallPost g old new now (abstract_command command) (optional_model_key (Some key)) (Ok answer) → RowCallHasOutcome g old now (abstract_command command, abstract_key key) (Did (model_answer answer)) new
+  did : (answer : CommandAnswer) → CommandPost g old new now (abstract_command command) (optional_model_key (Some key)) (Ok answer) → RowCallHasOutcome g old now (abstract_command command, abstract_key key) (Did (model_answer answer)) new
   did answer h = record { made = made.Do command (Some key); came = came.Did answer; call_is = refl; outcome_is = refl; is_made = (Ok answer, refl, h) }
 
-  failed : (fault : Fault) → CallPost g old new now (abstract_command command) (optional_model_key (Some key)) (Err fault) → RowCallHasOutcome g old now (abstract_command command, abstract_key key) (Failed fault) new
+  failed : (fault : Fault) → CommandPost g old new now (abstract_command command) (optional_model_key (Some key)) (Err fault) → RowCallHasOutcome g old now (abstract_command command, abstract_key key) (Failed fault) new
   failed fault h = record { made = made.Do command (Some key); came = came.Failed fault; call_is = refl; outcome_is = refl; is_made = (Err fault, refl, h) }
 
-  pub has_outcome : (result : Result CommandAnswer Fault) → CallPost g old new now (abstract_command command) (optional_model_key (Some key)) result
+  pub has_outcome : (result : Result CommandAnswer Fault) → CommandPost g old new now (abstract_command command) (optional_model_key (Some key)) result
       → RowCallHasOutcome g old now (abstract_command command, abstract_key key) (abstract_command_outcome abstract_reply result) new
   has_outcome (Ok answer) h = did answer h
   has_outcome (Err fault) h = failed fault h

@@ -17,23 +17,23 @@ module _ {S : Type 0} (g : Ghosts S) where
   pub keeps_still : (store : Held S) → PreservesDesk g store store
   keeps_still store = record {
     same_rows = λ t holds. holds;
-    same = λ clean o. record { was_open = o; now = refl; committed = refl };
+    unchanged_if_open = λ clean o. record { was_open = o; now = refl; committed = refl };
     survives = record { clean = omega arith; shield = λ x. x; counts = omega arith; limit = refl; closes = λ _ o. inl o; crash = λ _ db may. inl may };
   }
 
   pub keeps_read : {V E : Type 0} (old new : Held S) (result : Result V E) (P : V → Tables → Type 0) → ReadPost g old new result P → PreservesDesk g old new
-  keeps_read old new result P read = record { same_rows = read.same_rows; same = read.same; survives = read.survives }
+  keeps_read old new result P read = record { same_rows = read.same_rows; unchanged_if_open = read.unchanged_if_open; survives = read.survives }
 
   pub keeps_walked : {X M V E : Type 0} (old new : Held S) (of : X → M) (list : Tables → _) (takes : V → X → V → Type 0) (stops : V → X → E → V → Type 0) (before after : V) (result : Result (Unit {0}) (WalkError E))
       → WalkPost g old new of list takes stops before after result → PreservesDesk g old new
-  keeps_walked old new of list takes stops before after result walked = record { same_rows = walked.same_rows; same = walked.same; survives = walked.survives }
+  keeps_walked old new of list takes stops before after result walked = record { same_rows = walked.same_rows; unchanged_if_open = walked.unchanged_if_open; survives = walked.survives }
 
   pub keeps_then : (old mid new : Held S) → PreservesDesk g old mid → PreservesDesk g mid new → PreservesDesk g old new
   keeps_then old mid new a b = record {
     same_rows = λ t holds. b.same_rows t (a.same_rows t holds);
-    same = λ clean o.
-        let s = b.same clean o in
-        let r = a.same (clean_before (state g mid) (state g new) b.survives clean) s.was_open in
+    unchanged_if_open = λ clean o.
+        let s = b.unchanged_if_open clean o in
+        let r = a.unchanged_if_open (clean_before (state g mid) (state g new) b.survives clean) s.was_open in
         record { was_open = r.was_open; now = s.now ∙ r.now; committed = s.committed ∙ r.committed };
     survives = survives_then (state g old) (state g mid) (state g new) (λ _. ⊥) (λ _. ⊥) (λ _. ⊥) (λ _ db none. none) (λ _ db none. none) a.survives b.survives;
   }

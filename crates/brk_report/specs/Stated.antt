@@ -24,7 +24,7 @@ pub record PreservesDesk {S : Type 0} (g : Ghosts S) (old new : Held S) : Type 0
   pub same_rows : (t : Tables) → HoldsRows g old t → HoldsRows g new t
   -- If the database is open after the call, it was open before and is unchanged. Vacuous if the
   -- disk assumption fails.
-  pub same : HasCleanDisk (state g new) → IsTrue (state g new).is_open → WasOpenAndIsUnchanged (state g old) (state g new)
+  pub unchanged_if_open : HasCleanDisk (state g new) → IsTrue (state g new).is_open → WasOpenAndIsUnchanged (state g old) (state g new)
   -- A crash after the call exposes only states that a crash before the call could expose. Vacuous
   -- if the disk assumption fails.
   pub survives : Survives (state g old) (state g new) (λ _. ⊥)

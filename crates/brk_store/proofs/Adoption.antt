@@ -39,9 +39,9 @@ use Rattle.brk_sql.specs.Desk.{HasNoWritingForeignKeysAt}
 use Rattle.brk_tables_schema.specs.Desk.{DeskTable}
 use Rattle.brk_tables_schema.specs.Made.{HasDeskTables, IsTableOfSchema}
 use Rattle.brk_tables_upgrade.specs.Upgrade.{PreservesTablesOutside, UpgradesTables}
-use Rattle.brk_tables_scan.specs.Schemas.{DatabaseHasSchema, NamedTablesMatchDeskDefinitions, NamedTablesMatchSchemaDefinitions}
+use Rattle.brk_tables_scan.specs.Schemas.{DatabaseHasSchema, TablesWithDeskNamesAreDeskTables, TablesWithSchemaNamesAreDeskTables}
 use Rattle.brk_tables_scan.proofs.Defined.{desk_is_there}
-use Rattle.brk_store.specs.Audited.{IsUpgradedDiskContent, StoresRowsWithAuditResult, IsDatabaseAuditResult, IsDatabaseAuditResultBySchema, UpgradesPassingRows, StoreHasThirdSchema, AdoptPost, AuditPost, StoreNamedTablesMatchDeskDefinitions, AuditAnswerSatisfies}
+use Rattle.brk_store.specs.Audited.{IsUpgradedDiskContent, StoresRowsWithAuditResult, IsDatabaseAuditResult, IsDatabaseAuditResultBySchema, UpgradesAuditedRows, ConnectionHasThirdSchema, AdoptPost, AuditPost, ConnectionTablesWithDeskNamesAreDeskTables, AuditAnswerSatisfies}
 use Rattle.brk_store.specs.AuditResult.{IsTrueAuditResult}
 use Rattle.brk_store.specs.Holds.{HoldsRows, WasOpenAndIsUnchanged}
 use Rattle.brk_store.specs.ReadSequences.{no_reads_change_nothing}
@@ -59,13 +59,13 @@ use Rattle.brk_store.proofs.Texts.{upgraded_texts}
 -- rows of `schema` that pass their audit; and `b` is `a` after the upgrade of its tables from
 -- `schema`.
 abbrev pub HasPassingRowsAndUpgrades : known.Schema → Database → Database → Type 0
-HasPassingRowsAndUpgrades schema a b = (NamedTablesMatchDeskDefinitions a → (t : Tables) × StoresRowsWithAuditResult (abstract_schema schema) t a None) × UpgradesTables (abstract_schema schema) a b
+HasPassingRowsAndUpgrades schema a b = (TablesWithDeskNamesAreDeskTables a → (t : Tables) × StoresRowsWithAuditResult (abstract_schema schema) t a None) × UpgradesTables (abstract_schema schema) a b
 
 -- what was made of rows that passed are the tables of their base
 as_tables : (schema : known.Schema) (t : Tables) → PassesAudit (abstract_schema schema) t → tables_upgraded_from_schema (abstract_schema schema) t ≡ sheets (base_of_tables t)
 as_tables schema t passes = let h = rows_upgraded_from (abstract_schema schema) t passes in h.0 ∙ h.1
 
-made_upgraded : (schema : known.Schema) (a b : Database) → HasPassingRowsAndUpgrades schema a b → NamedTablesMatchDeskDefinitions a → UpgradesPassingRows a b
+made_upgraded : (schema : known.Schema) (a b : Database) → HasPassingRowsAndUpgrades schema a b → TablesWithDeskNamesAreDeskTables a → UpgradesAuditedRows a b
 made_upgraded schema a b made defined =
     let passing = made.0 defined in
     let has = passing.1.0 in
@@ -108,7 +108,7 @@ module _ {S : Type 0} (g : Ghosts S) (new : Held S) where
   abbrev pub HoldsPassingRows : Type 0
   HoldsPassingRows = (t : Tables) × HoldsRows g new t × PassesAudit third_schema t × IsTrue (has_utf8_texts t)
 
-  pub rows_held : (db : Database) → (HasCleanDisk (state g new) → IsTrue (state g new).is_open → UpgradesPassingRows db (state g new).now) → HoldsPassingRows
+  pub rows_held : (db : Database) → (HasCleanDisk (state g new) → IsTrue (state g new).is_open → UpgradesAuditedRows db (state g new).now) → HoldsPassingRows
   rows_held db upgraded = go (clean_or_not (state g new).is_clean) (true_or_not (state g new).is_open)
     where
       go : (HasCleanDisk (state g new)) ⊎ (¬ HasCleanDisk (state g new)) → (IsTrue (state g new).is_open) ⊎ (¬ IsTrue (state g new).is_open) → HoldsPassingRows
@@ -123,24 +123,24 @@ module _ {S : Type 0} (g : Ghosts S) (new : Held S) where
 pub unadopted : {S : Type 0} (g : Ghosts S) (conn : Held S) → AdoptPost g conn conn (Err Store)
 unadopted g conn = record {
   answered = λ clean defined. tt;
-  opened = λ clean. tt;
+  was_open = λ clean. tt;
   adopted = λ defined. tt;
   upgraded = λ clean on defined. tt;
   open_after_upgrade = λ clean defined. tt;
-  same = λ clean on. record { was_open = on; now = refl; committed = refl };
+  unchanged_if_open = λ clean on. record { was_open = on; now = refl; committed = refl };
   survives = λ defined. survives_weaker (state g conn) (state g conn) _ _ (λ _ db none. absurd none) (no_reads_change_nothing {g = g} conn).survives;
   audited = λ defined third. record {
     answered = λ clean known. tt;
-    opened = λ clean. tt;
+    was_open = λ clean. tt;
     same_rows = λ t holds. holds;
-    same = λ clean on. record { was_open = on; now = refl; committed = refl };
+    unchanged_if_open = λ clean on. record { was_open = on; now = refl; committed = refl };
     survives = (no_reads_change_nothing {g = g} conn).survives;
   };
 }
 
 -- ---- the answer over all schemas is that of the third, where its desk is there
 
-audited_third : (db : Database) (answer : Option Condition) → NamedTablesMatchSchemaDefinitions third_schema db → DatabaseHasSchema third_schema db → IsDatabaseAuditResult db answer → IsDatabaseAuditResultBySchema third_schema db answer
+audited_third : (db : Database) (answer : Option Condition) → TablesWithSchemaNamesAreDeskTables third_schema db → DatabaseHasSchema third_schema db → IsDatabaseAuditResult db answer → IsDatabaseAuditResultBySchema third_schema db answer
 audited_third db None defined there h = subst (λ s. IsDatabaseAuditResultBySchema (abstract_schema s) db None) (sym (one_desk Third h.0 h.1.0 db there h.1.1.0)) h.1
 audited_third db (Some condition.NotEmpty) defined there h = h
 audited_third db (Some condition.Schema) defined there h = absurd (h Third there)
@@ -158,31 +158,31 @@ module _ {S : Type 0} (g : Ghosts S) (old first : Held S) (settled : IsTrue (sta
     stayed : HasCleanDisk (state g end) → IsTrue (state g end).is_open → WasOpenAndIsUnchanged (state g old) (state g end)
     stayed = rolled_back g old mid end settled out Q (λ _. ⊥) step back late
 
-    module _ (result : Result (Unit {0}) Fault) (told : HasCleanDisk (state g end) → StoreNamedTablesMatchDeskDefinitions g old → AuditAnswerSatisfies result (IsDatabaseAuditResult (state g old).now)) (opened : HasCleanDisk (state g end) → AuditAnswerSatisfies result (λ _. IsTrue (state g old).is_open)) where
-      as_audit : StoreNamedTablesMatchDeskDefinitions g old → StoreHasThirdSchema g old → AuditPost g old end result
+    module _ (result : Result (Unit {0}) Fault) (told : HasCleanDisk (state g end) → ConnectionTablesWithDeskNamesAreDeskTables g old → AuditAnswerSatisfies result (IsDatabaseAuditResult (state g old).now)) (opened : HasCleanDisk (state g end) → AuditAnswerSatisfies result (λ _. IsTrue (state g old).is_open)) where
+      as_audit : ConnectionTablesWithDeskNamesAreDeskTables g old → ConnectionHasThirdSchema g old → AuditPost g old end result
       as_audit defined third = record {
         answered = λ clean _.
             let before = clean_before (state g old) (state g end) (λ _. ⊥) passed clean in
             answer_with result (IsDatabaseAuditResult (state g old).now) (λ _. IsTrue (state g old).is_open) (IsDatabaseAuditResultBySchema third_schema (state g old).now)
             (λ answer h on. audited_third (state g old).now answer (defined before on Third) (third before on) h) (told clean defined) (opened clean);
-        opened = opened;
+        was_open = opened;
         same_rows = still_holds g old mid end settled (λ _. ⊥) passed stayed;
-        same = stayed;
+        unchanged_if_open = stayed;
         survives = passed;
       }
 
-      crashes : StoreNamedTablesMatchDeskDefinitions g old → Survives (state g old) (state g end) (IsUpgradedDiskContent (state g old).now)
+      crashes : ConnectionTablesWithDeskNamesAreDeskTables g old → Survives (state g old) (state g end) (IsUpgradedDiskContent (state g old).now)
       crashes defined = survives_weaker (state g old) (state g end) _ _ (λ _ db none. absurd none) passed
 
-    none_adopted : (fault : Fault) → (HasCleanDisk (state g end) → StoreNamedTablesMatchDeskDefinitions g old → AuditAnswerSatisfies (Err fault) (IsDatabaseAuditResult (state g old).now)) → (HasCleanDisk (state g end) → AuditAnswerSatisfies (Err fault) (λ _. IsTrue (state g old).is_open))
+    none_adopted : (fault : Fault) → (HasCleanDisk (state g end) → ConnectionTablesWithDeskNamesAreDeskTables g old → AuditAnswerSatisfies (Err fault) (IsDatabaseAuditResult (state g old).now)) → (HasCleanDisk (state g end) → AuditAnswerSatisfies (Err fault) (λ _. IsTrue (state g old).is_open))
         → AdoptPost g old end (Err fault)
     none_adopted fault told opened = record {
       answered = told;
-      opened = opened;
+      was_open = opened;
       adopted = λ defined. tt;
       upgraded = λ clean on defined. tt;
       open_after_upgrade = λ clean defined. tt;
-      same = stayed;
+      unchanged_if_open = stayed;
       survives = crashes (Err fault) told opened;
       audited = as_audit (Err fault) told opened;
     }
@@ -202,7 +202,7 @@ module _ {S : Type 0} (g : Ghosts S) (old first : Held S) (settled : IsTrue (sta
     clean_then : (end : Held S) → Survives (state g first) (state g end) (λ _. ⊥) → HasCleanDisk (state g end) → HasCleanDisk (state g old)
     clean_then end late = clean_before (state g old) (state g end) (λ _. ⊥) (through g old first end settled (Ok told) ReturnsTrueAuditResult step late)
 
-    told_at : (end : Held S) (one : AuditResult) → told ≡ one → Survives (state g first) (state g end) (λ _. ⊥) → HasCleanDisk (state g end) → StoreNamedTablesMatchDeskDefinitions g old → IsTrueAuditResult one (state g old).now
+    told_at : (end : Held S) (one : AuditResult) → told ≡ one → Survives (state g first) (state g end) (λ _. ⊥) → HasCleanDisk (state g end) → ConnectionTablesWithDeskNamesAreDeskTables g old → IsTrueAuditResult one (state g old).now
     told_at end one is late clean defined = let l = looked end late clean in subst (λ e. IsTrueAuditResult e (state g old).now) is (l.2 (defined (clean_then end late clean) l.0))
 
     -- a condition fails
@@ -215,11 +215,11 @@ module _ {S : Type 0} (g : Ghosts S) (old first : Held S) (settled : IsTrue (sta
         → AdoptPost g old end (Ok tt)
     passes end schema is rule late back = record {
       answered = now_told;
-      opened = was_open;
+      was_open = was_open;
       adopted = λ defined. rows_held g end (state g old).now (λ clean on. there clean on defined);
       upgraded = λ clean on defined. let k = same_at clean on in (there clean on defined, k.committed ∙ sym (settled k.was_open) ∙ sym k.now);
       open_after_upgrade = λ clean defined. let p = told_at end (Succeeds Third) third late clean defined in inl (λ _ _. desk_is_there third_schema p.0 (state g old).now p.1.0);
-      same = λ clean on. tt;
+      unchanged_if_open = λ clean on. tt;
       survives = crashes first end (Ok told) ReturnsTrueAuditResult step late back (Ok tt) now_told was_open;
       audited = as_audit first end (Ok told) ReturnsTrueAuditResult step late back (Ok tt) now_told was_open;
     }
@@ -227,7 +227,7 @@ module _ {S : Type 0} (g : Ghosts S) (old first : Held S) (settled : IsTrue (sta
         third : told ≡ Succeeds Third
         third = subst (λ s. told ≡ Succeeds s) (third_has_rule schema rule) is
 
-        now_told : HasCleanDisk (state g end) → StoreNamedTablesMatchDeskDefinitions g old → AuditAnswerSatisfies (Ok tt) (IsDatabaseAuditResult (state g old).now)
+        now_told : HasCleanDisk (state g end) → ConnectionTablesWithDeskNamesAreDeskTables g old → AuditAnswerSatisfies (Ok tt) (IsDatabaseAuditResult (state g old).now)
         now_told clean defined = (Third, told_at end (Succeeds Third) third late clean defined)
 
         was_open : HasCleanDisk (state g end) → AuditAnswerSatisfies (Ok tt) (λ _. IsTrue (state g old).is_open)
@@ -236,7 +236,7 @@ module _ {S : Type 0} (g : Ghosts S) (old first : Held S) (settled : IsTrue (sta
         same_at : HasCleanDisk (state g end) → IsTrue (state g end).is_open → WasOpenAndIsUnchanged (state g old) (state g end)
         same_at = stayed first end (Ok told) ReturnsTrueAuditResult step late back
 
-        there : HasCleanDisk (state g end) → IsTrue (state g end).is_open → StoreNamedTablesMatchDeskDefinitions g old → UpgradesPassingRows (state g old).now (state g end).now
+        there : HasCleanDisk (state g end) → IsTrue (state g end).is_open → ConnectionTablesWithDeskNamesAreDeskTables g old → UpgradesAuditedRows (state g old).now (state g end).now
         there clean on defined =
             let p = told_at end (Succeeds Third) third late clean defined in
             let rows : HasDeskTables (tables_upgraded_from_schema third_schema p.0) (state g end).now = subst (HasDeskTables p.0) (sym (same_at clean on).now) (third_rows p.0 (state g old).now p.1.0) in (
@@ -277,14 +277,14 @@ module _ {S : Type 0} (g : Ghosts S) (old first : Held S) (settled : IsTrue (sta
         was_open clean = (looked_at clean).0
 
         -- no desk of the third schema is there
-        never : StoreNamedTablesMatchDeskDefinitions g old → StoreHasThirdSchema g old → HasCleanDisk (state g end) → ⊥
+        never : ConnectionTablesWithDeskNamesAreDeskTables g old → ConnectionHasThirdSchema g old → HasCleanDisk (state g end) → ⊥
         never defined third clean =
             let l = looked_at clean in
             let before = clean_old clean in
             let p = subst (λ e. IsTrueAuditResult e (state g old).now) is (l.2 (defined before l.0)) in
             older_has_none schema older (sym (one_desk Third schema p.0 (state g old).now (third before l.0) p.1.0))
 
-        left : StoreNamedTablesMatchDeskDefinitions g old → Survives (state g old) (state g end) (IsUpgradedDiskContent (state g old).now)
+        left : ConnectionTablesWithDeskNamesAreDeskTables g old → Survives (state g old) (state g end) (IsUpgradedDiskContent (state g old).now)
         unfolding made_upgraded
         left defined =
             survives_weaker (state g old) (state g end) _ _
@@ -292,23 +292,23 @@ module _ {S : Type 0} (g : Ghosts S) (old first : Held S) (settled : IsTrue (sta
             let m = made_upgraded schema (state g old).now h.0 h.1 (defined (clean_old clean) (was_open clean)) in
             (schema, m.1, older_has_none schema older, m.2, (h.0, m.3, h.2))) over
 
-        nothing : (result : Result (Unit {0}) Fault) → (HasCleanDisk (state g end) → AuditAnswerSatisfies result (λ _. IsTrue (state g old).is_open)) → StoreNamedTablesMatchDeskDefinitions g old → StoreHasThirdSchema g old → AuditPost g old end result
+        nothing : (result : Result (Unit {0}) Fault) → (HasCleanDisk (state g end) → AuditAnswerSatisfies result (λ _. IsTrue (state g old).is_open)) → ConnectionTablesWithDeskNamesAreDeskTables g old → ConnectionHasThirdSchema g old → AuditPost g old end result
         nothing result opened defined third = record {
           answered = λ clean known. absurd (never defined third clean);
-          opened = opened;
+          was_open = opened;
           same_rows = λ t holds clean on. absurd (never defined third clean);
-          same = λ clean on. absurd (never defined third clean);
+          unchanged_if_open = λ clean on. absurd (never defined third clean);
           survives = survives_weaker (state g old) (state g end) _ _ (λ clean trees h. never defined third clean) over;
         }
 
         pub commits : (HasCleanDisk (state g end) → IsTrue (state g mid).in_transaction × Shows (state g mid) (state g end) (state g mid).now (state g mid).now false × KeepsCounts (state g mid) (state g end) × ((state g end).marks ≡ [])) → AdoptPost g old end (Ok tt)
         commits done = record {
           answered = λ clean defined. let p = (ends clean).2.0 (defined (clean_old clean) (was_open clean)) in (schema, p);
-          opened = was_open;
+          was_open = was_open;
           adopted = λ defined. rows_held g end (state g old).now (λ clean on. there clean defined);
           upgraded = λ clean on defined. (there clean defined, (ends clean).3);
           open_after_upgrade = λ clean defined. inr (ends clean).1;
-          same = λ clean on. tt;
+          unchanged_if_open = λ clean on. tt;
           survives = left;
           audited = nothing (Ok tt) was_open;
         }
@@ -316,17 +316,17 @@ module _ {S : Type 0} (g : Ghosts S) (old first : Held S) (settled : IsTrue (sta
             ends : (clean : HasCleanDisk (state g end)) → IsTrue (state g old).is_open × IsTrue (state g end).is_open × HasPassingRowsAndUpgrades schema (state g old).now (state g end).now × ((state g end).committed ≡ (state g end).now)
             ends = all g old mid end settled (HasPassingRowsAndUpgrades schema) made late done
 
-            there : HasCleanDisk (state g end) → StoreNamedTablesMatchDeskDefinitions g old → UpgradesPassingRows (state g old).now (state g end).now
+            there : HasCleanDisk (state g end) → ConnectionTablesWithDeskNamesAreDeskTables g old → UpgradesAuditedRows (state g old).now (state g end).now
             there clean defined = made_upgraded schema (state g old).now (state g end).now (ends clean).2 (defined (clean_old clean) (was_open clean))
 
         pub commits_none : (e : Error) → (HasCleanDisk (state g end) → FailsToCommit (state g mid) (state g end) e) → AdoptPost g old end (Err Store)
         commits_none e fails = record {
           answered = λ clean defined. tt;
-          opened = λ clean. tt;
+          was_open = λ clean. tt;
           adopted = λ defined. tt;
           upgraded = λ clean on defined. tt;
           open_after_upgrade = λ clean defined. tt;
-          same = kept_at g old mid end settled (HasPassingRowsAndUpgrades schema) made late e fails;
+          unchanged_if_open = kept_at g old mid end settled (HasPassingRowsAndUpgrades schema) made late e fails;
           survives = left;
           audited = nothing (Err Store) (λ clean. tt);
         }

@@ -23,7 +23,7 @@ use Rattle.brk_sql.proofs.Inside.{step_read, step_then}
 use Rattle.brk_sql.proofs.Order.{map_twice}
 use Rattle.brk_tables_unique.proofs.OneTables.{one_schema}
 use Rattle.brk_tables_schema.specs.Made.{HasDeskTablesInSchema}
-use Rattle.brk_tables_scan.specs.Schemas.{DatabaseHasSchema, NamedTablesMatchSchemaDefinitions}
+use Rattle.brk_tables_scan.specs.Schemas.{DatabaseHasSchema, TablesWithSchemaNamesAreDeskTables}
 use Rattle.brk_tables_scan.specs.KeptKeys.{keys_of_kept_rows, tables_with_whole_kept_rows}
 use Rattle.brk_tables_scan.specs.Whole.{AreSheetsOfDatabase}
 use Rattle.brk_store.specs.Audited.{IsDatabaseAuditResultBySchema}
@@ -78,25 +78,25 @@ rows_are_audited schema db t (Some c) there rows texts h = (t, (rows, texts, h))
 -- `schema`. The result is specified only if tables with the names of the schema's tables have their
 -- definitions.
 abbrev pub ShowsIfHasDesk : known.Schema → Bool → State → State → Type 0
-ShowsIfHasDesk schema has a b = IsTrue a.is_open × (b.now ≡ a.now) × (NamedTablesMatchSchemaDefinitions (abstract_schema schema) a.now → IsTrue has ↔ DatabaseHasSchema (abstract_schema schema) a.now)
+ShowsIfHasDesk schema has a b = IsTrue a.is_open × (b.now ≡ a.now) × (TablesWithSchemaNamesAreDeskTables (abstract_schema schema) a.now → IsTrue has ↔ DatabaseHasSchema (abstract_schema schema) a.now)
 
 -- A read of an open database left it unchanged and returned `read`, the typed rows of its tables of
 -- `schema` (`AreSheetsOfDatabase`). The result is specified only if the database has a desk of
 -- `schema` with the definitions of its tables.
 abbrev pub ReadsSheetsOfSchema : known.Schema → Option Sheets → State → State → Type 0
-ReadsSheetsOfSchema schema read a b = IsTrue a.is_open × (b.now ≡ a.now) × (NamedTablesMatchSchemaDefinitions (abstract_schema schema) a.now → DatabaseHasSchema (abstract_schema schema) a.now → AreSheetsOfDatabase (abstract_schema schema) a.now read)
+ReadsSheetsOfSchema schema read a b = IsTrue a.is_open × (b.now ≡ a.now) × (TablesWithSchemaNamesAreDeskTables (abstract_schema schema) a.now → DatabaseHasSchema (abstract_schema schema) a.now → AreSheetsOfDatabase (abstract_schema schema) a.now read)
 
 -- An audit of an open database left it unchanged and returned `answer`, the result of its audit by
 -- `schema`. The result is specified only if the database has a desk of `schema` with the
 -- definitions of its tables.
 abbrev pub AuditsDeskOfSchema : known.Schema → Option Condition → State → State → Type 0
-AuditsDeskOfSchema schema answer a b = IsTrue a.is_open × (b.now ≡ a.now) × (NamedTablesMatchSchemaDefinitions (abstract_schema schema) a.now → DatabaseHasSchema (abstract_schema schema) a.now → IsDatabaseAuditResultBySchema (abstract_schema schema) a.now answer)
+AuditsDeskOfSchema schema answer a b = IsTrue a.is_open × (b.now ≡ a.now) × (TablesWithSchemaNamesAreDeskTables (abstract_schema schema) a.now → DatabaseHasSchema (abstract_schema schema) a.now → IsDatabaseAuditResultBySchema (abstract_schema schema) a.now answer)
 
 -- An audit of an open database left it unchanged and returned `answer`, the result of its audit by
 -- schema 3. The result is specified only if tables with the names of the schema's tables have their
 -- definitions.
 abbrev pub AuditsByThirdSchema : Option Condition → State → State → Type 0
-AuditsByThirdSchema answer a b = IsTrue a.is_open × (b.now ≡ a.now) × (NamedTablesMatchSchemaDefinitions third_schema a.now → IsDatabaseAuditResultBySchema third_schema a.now answer)
+AuditsByThirdSchema answer a b = IsTrue a.is_open × (b.now ≡ a.now) × (TablesWithSchemaNamesAreDeskTables third_schema a.now → IsDatabaseAuditResultBySchema third_schema a.now answer)
 
 module _ (schema : known.Schema) (a b : State) where
   pub no_form : IsTransactionStep {V = Option Sheets} {E = Fault} a b (Ok None) (ReadsSheetsOfSchema schema) → IsTransactionStep {V = Option Condition} {E = Fault} a b (Ok (Some condition.Form)) (AuditsDeskOfSchema schema)
@@ -135,6 +135,6 @@ desk_told a b c r asked tried =
     (λ answer p q. (
       p.0,
       q.1 ∙ p.1,
-      λ defined. (subst (λ d. NamedTablesMatchSchemaDefinitions third_schema d → DatabaseHasSchema third_schema d → IsDatabaseAuditResultBySchema third_schema d answer) p.1 q.2) defined ((p.2 defined).0 refl),
+      λ defined. (subst (λ d. TablesWithSchemaNamesAreDeskTables third_schema d → DatabaseHasSchema third_schema d → IsDatabaseAuditResultBySchema third_schema d answer) p.1 q.2) defined ((p.2 defined).0 refl),
     ))
     asked tried

@@ -10,7 +10,7 @@ use Rattle.brk_model.specs.Run.{IsCallFault}
 use Rattle.brk_model.specs.Schemas.{third_schema}
 use Rattle.brk_sql.specs.Model.{IsTransactionStep}
 use Rattle.brk_sql.proofs.Inside.{clean_before}
-use Rattle.brk_store.specs.Audited.{IsDatabaseAuditResultBySchema, AuditPost, StoreNamedTablesMatchThirdSchema, AuditAnswerSatisfies}
+use Rattle.brk_store.specs.Audited.{IsDatabaseAuditResultBySchema, AuditPost, ConnectionTablesWithThirdSchemaNamesAreDeskTables, AuditAnswerSatisfies}
 use Rattle.brk_store.specs.Holds.{WasOpenAndIsUnchanged}
 use Rattle.brk_store.proofs.Answering.{AuditsByThirdSchema}
 use Rattle.brk_store.proofs.Ending.{with_transaction_open, rolled_back, still_holds, through}
@@ -47,13 +47,13 @@ module _ {S : Type 0} (g : Ghosts S) (old conn first mid end : Held S) (conn_is 
       subst (λ h. AuditPost g h end result) conn_is
       (record {
         answered = λ clean defined. answers (IsDatabaseAuditResultBySchema third_schema (state g conn).now) (of_told (clean_before (state g conn) (state g end) (λ _. ⊥) whole clean) defined out (told_then clean));
-        opened = λ clean. answers (λ _. IsTrue (state g conn).is_open) (of_open out (told_then clean));
+        was_open = λ clean. answers (λ _. IsTrue (state g conn).is_open) (of_open out (told_then clean));
         same_rows = still_holds g conn mid end settled (λ _. ⊥) whole kept_of_step;
-        same = kept_of_step;
+        unchanged_if_open = kept_of_step;
         survives = whole;
       })
     where
-      of_told : HasCleanDisk (state g conn) → StoreNamedTablesMatchThirdSchema g conn → (o : Result (Option Condition) Fault)
+      of_told : HasCleanDisk (state g conn) → ConnectionTablesWithThirdSchemaNamesAreDeskTables g conn → (o : Result (Option Condition) Fault)
           → IfOk o (λ answer. IsTrue (state g mid).in_transaction × AuditsByThirdSchema answer (state g (with_transaction_open conn)) (state g mid)) → IfOk o (IsDatabaseAuditResultBySchema third_schema (state g conn).now)
       of_told clean defined (Ok answer) h = h.1.2 (defined clean h.1.0)
       of_told clean defined (Err fault) h = tt

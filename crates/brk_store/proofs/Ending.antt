@@ -53,9 +53,9 @@ module _ {S : Type 0} (g : Ghosts S) (old mid end : Held S) (settled : IsTrue (s
       let kept = rolled_back out (λ v. IsUnchangedAndSatisfies desk_tables (P v)) (λ _. ⊥) step back late in
       record {
         answered = λ clean. tells out (clean_before (state g old) (state g end) (λ _. ⊥) whole clean) (step.relates_states (clean_before (state g mid) (state g end) (λ _. ⊥) late clean) refl);
-        opened = λ clean. opens out (step.relates_states (clean_before (state g mid) (state g end) (λ _. ⊥) late clean) refl);
+        was_open = λ clean. opens out (step.relates_states (clean_before (state g mid) (state g end) (λ _. ⊥) late clean) refl);
         same_rows = still_holds _ whole kept;
-        same = kept;
+        unchanged_if_open = kept;
         survives = whole;
       }
     where
@@ -119,10 +119,10 @@ module _ {S : Type 0} (g : Ghosts S) (old mid end : Held S) (settled : IsTrue (s
           let it = all clean in
           let has = holds (clean_before (state g old) (state g end) _ whole clean) it.0 in
           (has.0, (turns _ _ it.2 t has.0 has.1).0);
-      opened = λ clean. let it = all clean in (it.0, it.1, it.3);
-      others = λ clean t tree has. (turns _ _ (all clean).2 t tree has).1;
+      open_and_committed = λ clean. let it = all clean in (it.0, it.1, it.3);
+      other_tables = λ clean t tree has. (turns _ _ (all clean).2 t tree has).1;
       same_rows_at_error = tt;
-      same = λ clean o. tt;
+      unchanged_if_open = λ clean o. tt;
       survives = survives_weaker (state g old) (state g end) _ _ (λ clean db h. ((all clean).0, (λ t has. (h.0, (has.0, (turns _ _ h.1 t has.0 has.1).0), h.2)))) whole;
       durable = λ clean t holds trees may.
           let it = all clean in
@@ -134,12 +134,12 @@ module _ {S : Type 0} (g : Ghosts S) (old mid end : Held S) (settled : IsTrue (s
         → CreatePost g old end (Ok tt)
     creates law tells = record {
       created = λ clean o. (tells _ _ (all clean).2).1.rows;
-      opened = λ clean. let it = all clean in (it.0, it.1, it.3);
-      absent = λ clean. (tells _ _ (all clean).2).0;
-      others = λ clean. (tells _ _ (all clean).2).1.others;
-      taken = λ clean e. absurd (let f = e in cc);
-      occupied = λ clean there. absurd (let none = (tells _ _ (all clean).2).0 in let some = there in cc);
-      same = λ clean o. tt;
+      open_and_committed = λ clean. let it = all clean in (it.0, it.1, it.3);
+      no_table_existed = λ clean. (tells _ _ (all clean).2).0;
+      other_tables = λ clean. (tells _ _ (all clean).2).1.others;
+      not_empty_only_if_existed = λ clean e. absurd (let f = e in cc);
+      fails_if_existed = λ clean there. absurd (let none = (tells _ _ (all clean).2).0 in let some = there in cc);
+      unchanged_if_open = λ clean o. tt;
       survives = survives_weaker (state g old) (state g end) _ _ (λ _ db h. (h.0, (tells _ _ h.1).1.rows, h.2)) whole;
       durable = λ clean trees may. ((state g end).now, (tells _ _ (all clean).2).1.rows, leaves_now law clean trees may);
     }
@@ -149,10 +149,10 @@ module _ {S : Type 0} (g : Ghosts S) (old mid end : Held S) (settled : IsTrue (s
     pub applies_none : (HasCleanDisk (state g mid) → IsTrue (state g old).is_open) → (fault : Fault) (after : Tables → Tables) → ((a b : Database) → made a b → ChangesTablesBy desk_tables after a b) → ApplyPost {V = Unit {0}} {E = Fault} g old end (Err fault) after
     applies_none was_open fault after turns = record {
       applied = tt;
-      opened = λ clean. tt;
-      others = λ clean. tt;
+      open_and_committed = λ clean. tt;
+      other_tables = λ clean. tt;
       same_rows_at_error = still_holds g old mid end settled _ whole (kept_at e fails);
-      same = kept_at e fails;
+      unchanged_if_open = kept_at e fails;
       survives = survives_weaker (state g old) (state g end) _ _
           (λ clean db h. (was_open (clean_before (state g mid) (state g end) _ late clean), (λ t has. (h.0, (has.0, (turns _ _ h.1 t has.0 has.1).0), h.2)))) whole;
       durable = λ clean. tt;
@@ -161,12 +161,12 @@ module _ {S : Type 0} (g : Ghosts S) (old mid end : Held S) (settled : IsTrue (s
     pub commits_none : ((a b : Database) → made a b → (has_table_of_desk a.schema ≡ false) × CreatesDeskTables a b) → CreatePost g old end (Err Store)
     commits_none tells = record {
       created = tt;
-      opened = λ clean. tt;
-      absent = λ clean. tt;
-      others = λ clean. tt;
-      taken = λ clean e. absurd (let f = e in cc);
-      occupied = λ clean there. inr refl;
-      same = kept_at e fails;
+      open_and_committed = λ clean. tt;
+      no_table_existed = λ clean. tt;
+      other_tables = λ clean. tt;
+      not_empty_only_if_existed = λ clean e. absurd (let f = e in cc);
+      fails_if_existed = λ clean there. inr refl;
+      unchanged_if_open = kept_at e fails;
       survives = survives_weaker (state g old) (state g end) _ _ (λ _ db h. (h.0, (tells _ _ h.1).1.rows, h.2)) whole;
       durable = λ clean. tt;
     }

@@ -14,10 +14,10 @@ module _ {S : Type 0} (g : Ghosts S) where
   pub retold_of : (old end : Held S) {V X E H : Type 0} (v : V) (x : X) (P : V → Tables → Type 0) (R : X → Tables → Type 0)
       → ((t : Tables) → HasDeskTables t (state g old).now → P v t → R x t) → ReadPost {E = E} g old end (Ok v) P → ReadPost {E = H} g old end (Ok x) R
   retold_of old end v x P R tell read = record {
-    answered = λ clean t holds. tell t (holds (clean_before (state g old) (state g end) (λ _. ⊥) read.survives clean) (read.opened clean)) (read.answered clean t holds);
-    opened = read.opened;
+    answered = λ clean t holds. tell t (holds (clean_before (state g old) (state g end) (λ _. ⊥) read.survives clean) (read.was_open clean)) (read.answered clean t holds);
+    was_open = read.was_open;
     same_rows = read.same_rows;
-    same = read.same;
+    unchanged_if_open = read.unchanged_if_open;
     survives = read.survives;
   }
 
@@ -30,9 +30,9 @@ module _ {S : Type 0} (g : Ghosts S) where
   pub read_after : (old mid end : Held S) {V W E F : Type 0} (v : V) (r : Result W F) (P : V → Tables → Type 0) (Q : W → Tables → Type 0) → ReadPost {E = E} g old mid (Ok v) P → ReadPost g mid end r Q → ReadPost g old end r Q
   read_after old mid end {V} {W} {E} {F} v r P Q first next = record {
     answered = λ clean. tells r (next.answered clean);
-    opened = λ clean. opens r (first.opened (before clean)) (next.opened clean);
+    was_open = λ clean. opens r (first.was_open (before clean)) (next.was_open clean);
     same_rows = both.same_rows;
-    same = both.same;
+    unchanged_if_open = both.unchanged_if_open;
     survives = both.survives;
   }
     where

@@ -12,7 +12,7 @@ use Rattle.brk_sql.proofs.Grown.{all_there, some_there}
 use Rattle.brk_tables_schema.specs.Desk.{DeskTable, TheDesk, CashMoves, SettleRules, desk_tables_of_schema}
 use Rattle.brk_tables_schema.specs.Shapes.{desk_row_table}
 use Rattle.brk_tables_schema.specs.Made.{HasDeskTables, HasDeskTablesInSchema, IsTableOfSchema}
-use Rattle.brk_tables_scan.specs.Schemas.{DatabaseHasSchema, NamedTablesMatchDeskDefinitions, NamedTablesMatchSchemaDefinitions, HasDeskDefinitions, IsOneDeskRowOfSchema}
+use Rattle.brk_tables_scan.specs.Schemas.{DatabaseHasSchema, TablesWithDeskNamesAreDeskTables, TablesWithSchemaNamesAreDeskTables, HasDeskDefinitions, IsOneDeskRowOfSchema}
 use Rattle.brk_tables_scan.proofs.Defined.{desk_is_defined, desk_is_there}
 
 -- in the third schema all tables are there
@@ -42,7 +42,7 @@ narrowed schema db m = record {
   keyed = λ w of. m.keyed w (of_third w);
 }
 
-pub rows_defined : (t : Tables) (db : Database) → HasDeskTables t db → NamedTablesMatchDeskDefinitions db
+pub rows_defined : (t : Tables) (db : Database) → HasDeskTables t db → TablesWithDeskNamesAreDeskTables db
 rows_defined t db has schema tables =
     let third = rows_third t db has in
     narrowed (abstract_schema schema) db (desk_is_defined third_schema t db third (desk_is_there third_schema t db third).tables)
@@ -73,7 +73,7 @@ one_desk a b t db there has =
     (said_alike (abstract_schema a) (abstract_schema b) _ (there.row (has.1.place TheDesk) (has.0 TheDesk) stands) ((desk_is_there (abstract_schema b) t db has).row (has.1.place TheDesk) (has.0 TheDesk) stands))
 
 -- where its tables are there as a desk makes them
-pub two_desks : (b : known.Schema) (db : Database) → NamedTablesMatchSchemaDefinitions third_schema db → DatabaseHasSchema third_schema db → DatabaseHasSchema (abstract_schema b) db → Third ≡ b
+pub two_desks : (b : known.Schema) (db : Database) → TablesWithSchemaNamesAreDeskTables third_schema db → DatabaseHasSchema third_schema db → DatabaseHasSchema (abstract_schema b) db → Third ≡ b
 two_desks b db defined there other =
     let alike = defined there.tables in
     let first = there.tables.0 in

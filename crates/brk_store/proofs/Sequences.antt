@@ -29,9 +29,9 @@ module _ {S : Type 0} (g : Ghosts S) where
   pub reads_are_read : (old end : Held S) {V E : Type 0} (v : V) (P : V → Tables → Type 0) → (HasCleanDisk (state g end) → IsTrue (state g old).is_open) → ReadSequencePost {E = E} g old end (Ok v) P → ReadPost {E = E} g old end (Ok v) P
   reads_are_read old end v P opened reads = record {
     answered = reads.answered;
-    opened = opened;
+    was_open = opened;
     same_rows = reads.unchanged.same_rows;
-    same = reads.unchanged.same;
+    unchanged_if_open = reads.unchanged.unchanged_if_open;
     survives = reads.unchanged.survives;
   }
 
@@ -39,9 +39,9 @@ module _ {S : Type 0} (g : Ghosts S) where
   pub none_read : (old end : Held S) {X H : Type 0} (e : H) (R : X → Tables → Type 0) → IsUnchangedByReads g old end → ReadPost {V = X} g old end (Err e) R
   none_read old end e R unchanged = record {
     answered = λ clean. tt;
-    opened = λ clean. tt;
+    was_open = λ clean. tt;
     same_rows = unchanged.same_rows;
-    same = unchanged.same;
+    unchanged_if_open = unchanged.unchanged_if_open;
     survives = unchanged.survives;
   }
 
@@ -58,7 +58,7 @@ module _ {S : Type 0} (g : Ghosts S) where
     pub read_with_reads : {V W X E F H : Type 0} (v : V) (w : W) (x : X) (P : V → Tables → Type 0) (Q : W → Tables → Type 0) (R : X → Tables → Type 0)
         → ((t : Tables) → P v t → Q w t → R x t) → ReadPost {E = E} g old mid (Ok v) P → ReadSequencePost {E = F} g mid end (Ok w) Q → ReadPost {E = H} g old end (Ok x) R
     read_with_reads v w x P Q R tell first next =
-        reads_are_read old end x R (λ clean. first.opened (disk_was_clean_before_reads mid end next.unchanged clean))
+        reads_are_read old end x R (λ clean. first.was_open (disk_was_clean_before_reads mid end next.unchanged clean))
         (reads_both v w x P Q R tell (one_read old mid (Ok v) P first) next)
 
     -- a read, and one after it

@@ -28,7 +28,7 @@ use Rattle.brk_sql.proofs.Inside.{clean_before}
 use Rattle.brk_tables_schema.specs.Made.{HasDeskTablesInSchema}
 use Rattle.brk_tables_scan.specs.Schemas.{DatabaseHasSchema}
 use Rattle.brk_tables_scan.proofs.Defined.{desk_is_there}
-use Rattle.brk_store.specs.Audited.{StoresRowsWithAuditResult, IsDatabaseAuditResult, IsDatabaseAuditResultBySchema, IsSchemaOfDatabase, UpgradesPassingRows, StoreHasThirdSchema, Represents, AdoptPost, AuditPost, StoreNamedTablesMatchDeskDefinitions, StoreNamedTablesMatchThirdSchema, AuditAnswerSatisfies}
+use Rattle.brk_store.specs.Audited.{StoresRowsWithAuditResult, IsDatabaseAuditResult, IsDatabaseAuditResultBySchema, IsSchemaOfDatabase, UpgradesAuditedRows, ConnectionHasThirdSchema, Represents, AdoptPost, AuditPost, ConnectionTablesWithDeskNamesAreDeskTables, ConnectionTablesWithThirdSchemaNamesAreDeskTables, AuditAnswerSatisfies}
 use Rattle.brk_store.specs.Holds.{HoldsRows}
 use Rattle.brk_store.proofs.Adoption.{upgraded_pass, upgraded_read}
 use Rattle.brk_store.proofs.Answering.{one_failing}
@@ -106,13 +106,13 @@ one_answer db a b h k = one_of_answers db a b (answer_of db a h) (answer_of db b
 
 -- ---- a store
 
-pub defined_in : {S : Type 0} (g : Ghosts S) (held : Held S) (t : Tables) → HoldsRows g held t → StoreNamedTablesMatchDeskDefinitions g held
+pub defined_in : {S : Type 0} (g : Ghosts S) (held : Held S) (t : Tables) → HoldsRows g held t → ConnectionTablesWithDeskNamesAreDeskTables g held
 defined_in g held t holds clean on = rows_defined t (state g held).now (holds clean on)
 
-third_defined_in : {S : Type 0} (g : Ghosts S) (held : Held S) (t : Tables) → HoldsRows g held t → StoreNamedTablesMatchThirdSchema g held
+third_defined_in : {S : Type 0} (g : Ghosts S) (held : Held S) (t : Tables) → HoldsRows g held t → ConnectionTablesWithThirdSchemaNamesAreDeskTables g held
 third_defined_in g held t holds clean on = rows_defined t (state g held).now (holds clean on) Third
 
-pub third_in : {S : Type 0} (g : Ghosts S) (held : Held S) (t : Tables) → HoldsRows g held t → StoreHasThirdSchema g held
+pub third_in : {S : Type 0} (g : Ghosts S) (held : Held S) (t : Tables) → HoldsRows g held t → ConnectionHasThirdSchema g held
 third_in g held t holds clean on = desk_of_rows t (state g held).now (holds clean on)
 
 module _ {S : Type 0} (g : Ghosts S) (old new : Held S) (result : Result (Unit {0}) Fault) where
@@ -121,7 +121,7 @@ module _ {S : Type 0} (g : Ghosts S) (old new : Held S) (result : Result (Unit {
     tells_of_rows t holds texts clean =
         answer_with result (IsDatabaseAuditResultBySchema third_schema (state g old).now) (λ _. IsTrue (state g old).is_open) (IsAuditResult third_schema t)
         (λ answer h on. rows_answer Third (state g old).now t answer (rows_third t (state g old).now (holds (clean_before (state g old) (state g new) (λ _. ⊥) audited.survives clean) on)) texts h)
-        (audited.answered clean (third_defined_in g old t holds)) (audited.opened clean)
+        (audited.answered clean (third_defined_in g old t holds)) (audited.was_open clean)
 
     pub sound_books_pass : (base : Base) → Represents g old base → HasCleanDisk (state g new) → AuditAnswerSatisfies result (λ answer. answer ≡ None)
     sound_books_pass base holds clean =
@@ -150,7 +150,7 @@ passing_books_held g store t holds passes texts =
       consistent = record { books = passing_books third_schema t passes; sound = passing_sound t passes; texts = subst (λ u. IsTrue (has_utf8_texts u)) (sym e) texts };
     }
 
-pub adopted_books : {S : Type 0} (g : Ghosts S) (old new : Held S) → AdoptPost g old new (Ok tt) → StoreNamedTablesMatchDeskDefinitions g old → (base : Base) × Represents g new base
+pub adopted_books : {S : Type 0} (g : Ghosts S) (old new : Held S) → AdoptPost g old new (Ok tt) → ConnectionTablesWithDeskNamesAreDeskTables g old → (base : Base) × Represents g new base
 adopted_books g old new is defined = let a = is.adopted defined in (base_of_tables a.0, passing_books_held g new a.0 a.1 a.2 a.3)
 
 -- the books that a move leaves are those of the rows that passed
@@ -159,11 +159,11 @@ upgraded_base First t p = let m = upgraded_rows (abstract_schema First) t first_
 upgraded_base Second t p = let m = upgraded_rows (abstract_schema Second) t second_narrower p in sym (ap base_of_tables m.tables) ∙ m.base
 upgraded_base Third t p = ap base_of_tables (passing_tables third_schema t p)
 
-pub upgraded_books : {S : Type 0} (g : Ghosts S) (new : Held S) (db : Database) → (m : UpgradesPassingRows db (state g new).now) → Represents g new (base_of_tables m.1)
+pub upgraded_books : {S : Type 0} (g : Ghosts S) (new : Held S) (db : Database) → (m : UpgradesAuditedRows db (state g new).now) → Represents g new (base_of_tables m.1)
 upgraded_books g new db m =
     subst (Represents g new) (upgraded_base m.0 m.1 m.2.2)
     (passing_books_held g new (sheets (base_of_tables m.1)) (λ _ _. m.3) (upgraded_pass m.0 m.1 m.2.2) (upgraded_read m.0 m.1 m.2.2 m.2.1))
 
-pub held_after : {S : Type 0} (g : Ghosts S) (old new : Held S) → AdoptPost g old new (Ok tt) → StoreNamedTablesMatchDeskDefinitions g old → HasCleanDisk (state g new) → IsTrue (state g new).is_open
+pub held_after : {S : Type 0} (g : Ghosts S) (old new : Held S) → AdoptPost g old new (Ok tt) → ConnectionTablesWithDeskNamesAreDeskTables g old → HasCleanDisk (state g new) → IsTrue (state g new).is_open
     → (schema : known.Schema) × (rows : Tables) × StoresRowsWithAuditResult (abstract_schema schema) rows (state g old).now None × Represents g new (base_of_tables rows)
 held_after g old new is defined clean on = let m = (is.upgraded clean on defined).0 in (m.0, m.1, m.2, upgraded_books g new (state g old).now m)

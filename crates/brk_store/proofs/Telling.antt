@@ -11,7 +11,7 @@ use Rattle.brk_changes.specs.declared.schema.Schema.TheVariants.{First, Second, 
 use Rattle.brk_changes.specs.Schemas.{abstract_schema}
 use Rattle.brk_sql.specs.Model.{IsTransactionStep}
 use Rattle.brk_sql.proofs.Inside.{step_then, step_read}
-use Rattle.brk_tables_scan.specs.Schemas.{DatabaseHasSchema, NamedTablesMatchDeskDefinitions}
+use Rattle.brk_tables_scan.specs.Schemas.{DatabaseHasSchema, TablesWithDeskNamesAreDeskTables}
 use Rattle.brk_store.specs.Audited.{IsDatabaseAuditResult, IsDatabaseAuditResultBySchema, IsSchemaOfDatabase}
 use Rattle.brk_store.specs.AuditResult.{IsTrueAuditResult}
 use Rattle.brk_store.specs.declared.examining.AuditResult.{AuditResult}
@@ -42,12 +42,12 @@ audited_of schema db c there h = (schema, h)
 -- or `None`. The result is specified only if tables with the names of a desk's tables have their
 -- definitions.
 abbrev pub FindsSchemaOfDatabase : Option known.Schema → State → State → Type 0
-FindsSchemaOfDatabase found a b = IsTrue a.is_open × (b.now ≡ a.now) × (NamedTablesMatchDeskDefinitions a.now → IsSchemaOfDatabase found a.now)
+FindsSchemaOfDatabase found a b = IsTrue a.is_open × (b.now ≡ a.now) × (TablesWithDeskNamesAreDeskTables a.now → IsSchemaOfDatabase found a.now)
 
 -- A read of an open database left it unchanged and showed that it satisfies `before_first_trade`.
 -- This is specified only if tables with the names of a desk's tables have their definitions.
 abbrev ShowsDatabaseSatisfies : (Database → Type 0) → Unit {0} → State → State → Type 0
-ShowsDatabaseSatisfies none _ a b = IsTrue a.is_open × (b.now ≡ a.now) × (NamedTablesMatchDeskDefinitions a.now → none a.now)
+ShowsDatabaseSatisfies none _ a b = IsTrue a.is_open × (b.now ≡ a.now) × (TablesWithDeskNamesAreDeskTables a.now → none a.now)
 
 sure : (schema : known.Schema) (a b : State) (has : Bool) → has ≡ true → IsTransactionStep {V = Bool} {E = Fault} a b (Ok has) (ShowsIfHasDesk schema) → IsTransactionStep {V = Option known.Schema} {E = Fault} a b (Ok (Some schema)) FindsSchemaOfDatabase
 sure schema a b has is step =
@@ -60,11 +60,11 @@ denied schema a b has is step = step_read a b has (Ok tt) (ShowsIfHasDesk schema
 also : (P Q : Database → Type 0) (a b c : State) → IsTransactionStep {V = Unit {0}} {E = Fault} a b (Ok tt) (ShowsDatabaseSatisfies P) → IsTransactionStep {V = Unit {0}} {E = Fault} b c (Ok tt) (ShowsDatabaseSatisfies Q) → IsTransactionStep {V = Unit {0}} {E = Fault} a c (Ok tt) (ShowsDatabaseSatisfies (λ db. P db × Q db))
 also P Q a b c one two =
     step_then a b c tt (Ok tt) (ShowsDatabaseSatisfies P) (ShowsDatabaseSatisfies Q) (ShowsDatabaseSatisfies (λ db. P db × Q db))
-    (λ _ p q. (p.0, q.1 ∙ p.1, λ defined. (p.2 defined, (subst (λ d. NamedTablesMatchDeskDefinitions d → Q d) p.1 q.2) defined))) one two
+    (λ _ p q. (p.0, q.1 ∙ p.1, λ defined. (p.2 defined, (subst (λ d. TablesWithDeskNamesAreDeskTables d → Q d) p.1 q.2) defined))) one two
 
 later : (P : Database → Type 0) (a b c : State) (found : Option known.Schema) → IsTransactionStep {V = Unit {0}} {E = Fault} a b (Ok tt) (ShowsDatabaseSatisfies P) → IsTransactionStep {V = Option known.Schema} {E = Fault} b c (Ok found) FindsSchemaOfDatabase → IsTransactionStep {V = Option known.Schema} {E = Fault} a c (Ok found) FindsSchemaOfDatabase
 later P a b c found one two =
-    step_then a b c tt (Ok found) (ShowsDatabaseSatisfies P) FindsSchemaOfDatabase FindsSchemaOfDatabase (λ f p q. (p.0, q.1 ∙ p.1, subst (λ d. NamedTablesMatchDeskDefinitions d → IsSchemaOfDatabase f d) p.1 q.2)) one two
+    step_then a b c tt (Ok found) (ShowsDatabaseSatisfies P) FindsSchemaOfDatabase FindsSchemaOfDatabase (λ f p q. (p.0, q.1 ∙ p.1, subst (λ d. TablesWithDeskNamesAreDeskTables d → IsSchemaOfDatabase f d) p.1 q.2)) one two
 
 module _ (a b c d : State) (third second first : Bool) (one : IsTransactionStep {V = Bool} {E = Fault} a b (Ok third) (ShowsIfHasDesk Third)) where
   pub found_third : third ≡ true → IsTransactionStep {V = Option known.Schema} {E = Fault} a b (Ok (Some Third)) FindsSchemaOfDatabase
@@ -93,7 +93,7 @@ module _ (a b c d : State) (third second first : Bool) (one : IsTransactionStep 
 -- database is true. The result is specified only if tables with the names of a desk's tables have
 -- their definitions.
 abbrev pub ReturnsTrueAuditResult : AuditResult → State → State → Type 0
-ReturnsTrueAuditResult told a b = IsTrue a.is_open × (b.now ≡ a.now) × (NamedTablesMatchDeskDefinitions a.now → IsTrueAuditResult told a.now)
+ReturnsTrueAuditResult told a b = IsTrue a.is_open × (b.now ≡ a.now) × (TablesWithDeskNamesAreDeskTables a.now → IsTrueAuditResult told a.now)
 
 pub tells_none : (a b : State) → IsTransactionStep {V = Option known.Schema} {E = Fault} a b (Ok None) FindsSchemaOfDatabase → IsTransactionStep {V = AuditResult} {E = Fault} a b (Ok (Fails condition.Schema)) ReturnsTrueAuditResult
 tells_none a b step =
@@ -111,7 +111,7 @@ module _ (a b c : State) (schema : known.Schema) (there : IsTransactionStep {V =
         q.1.1 ∙ p.1,
         λ defined.
             let desk = p.2 defined in
-            tells a.now desk ((subst (λ d. NamedTablesMatchDeskDefinitions d → DatabaseHasSchema (abstract_schema schema) d → IsDatabaseAuditResultBySchema (abstract_schema schema) d answer) p.1 (λ all. q.1.2 (all schema))) defined desk),
+            tells a.now desk ((subst (λ d. TablesWithDeskNamesAreDeskTables d → DatabaseHasSchema (abstract_schema schema) d → IsDatabaseAuditResultBySchema (abstract_schema schema) d answer) p.1 (λ all. q.1.2 (all schema))) defined desk),
       ))
       there
       (step_read b c answer (Ok told) (AuditsDeskOfSchema schema) (λ seen x y. (told ≡ seen) × AuditsDeskOfSchema schema answer x y) (λ seen e p. (let same : told ≡ seen = cc in same, p)) step)

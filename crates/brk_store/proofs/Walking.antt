@@ -34,9 +34,9 @@ module _ {S X M V E : Type 0} (g : Ghosts S) (old new : Held S) (of : X → M) (
     all = λ clean. done result (clean_at result w clean) (w.all clean);
     early = λ clean. broken result (clean_at result w clean) (w.early clean);
     fault = w.fault;
-    opened = λ clean. opens result (w.all clean);
-    same_rows = λ t holds clean o. let k = w.same clean o in subst (HasDeskTables t) (sym k.1) (holds (clean_at result w clean) k.0);
-    same = λ clean o. let k = w.same clean o in record { was_open = k.0; now = k.1; committed = k.2 };
+    was_open = λ clean. opens result (w.all clean);
+    same_rows = λ t holds clean o. let k = w.unchanged_if_open clean o in subst (HasDeskTables t) (sym k.1) (holds (clean_at result w clean) k.0);
+    unchanged_if_open = λ clean o. let k = w.unchanged_if_open clean o in record { was_open = k.0; now = k.1; committed = k.2 };
     survives = w.survives;
   }
     where
@@ -64,9 +64,9 @@ is_walked_by {S} {X} {M} {V} {W} {E} g old new of list inner takes stops before 
   all = λ clean. done result (w.all clean);
   early = λ clean. broken result (w.early clean);
   fault = ends result w.fault;
-  opened = w.opened;
+  was_open = w.was_open;
   same_rows = w.same_rows;
-  same = w.same;
+  unchanged_if_open = w.unchanged_if_open;
   survives = w.survives;
 }
   where

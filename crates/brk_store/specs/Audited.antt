@@ -27,7 +27,7 @@ use Rattle.brk_changes.specs.declared.schema.Schema.TheVariants.{Third}
 use Rattle.brk_changes.specs.Schemas.{abstract_schema}
 use Rattle.brk_tables_schema.specs.Made.{HasDeskTables, HasDeskTablesInSchema, IsTableOfSchema}
 use Rattle.brk_tables_upgrade.specs.Upgrade.{PreservesTablesOutside}
-use Rattle.brk_tables_scan.specs.Schemas.{DatabaseHasSchema, NamedTablesMatchDeskDefinitions, NamedTablesMatchSchemaDefinitions}
+use Rattle.brk_tables_scan.specs.Schemas.{DatabaseHasSchema, TablesWithDeskNamesAreDeskTables, TablesWithSchemaNamesAreDeskTables}
 use Rattle.brk_book_theorems.specs.Books.{BooksInvariant}
 use Rattle.brk_audit_theorems.specs.Passing.{PassesAudit}
 use Rattle.brk_invariant_theorems.specs.Sound.{AuditInvariant}
@@ -83,23 +83,23 @@ AuditAnswerSatisfies (Err Store) P = ⊤
 
 -- For each schema: if the current database of the connection `held` has all tables of the schema,
 -- by name and with exactly their columns, they are defined as a desk defines them, with its types,
--- keys and foreign keys (`NamedTablesMatchDeskDefinitions`). A database without these tables, for
+-- keys and foreign keys (`TablesWithDeskNamesAreDeskTables`). A database without these tables, for
 -- example an empty one, satisfies this premise. Vacuous if the disk assumption fails, or once the
 -- database is closed.
-abbrev pub StoreNamedTablesMatchDeskDefinitions : {S : Type 0} → Ghosts S → Held S → Type 0
-StoreNamedTablesMatchDeskDefinitions g held = HasCleanDisk (state g held) → IsTrue (state g held).is_open → NamedTablesMatchDeskDefinitions (state g held).now
+abbrev pub ConnectionTablesWithDeskNamesAreDeskTables : {S : Type 0} → Ghosts S → Held S → Type 0
+ConnectionTablesWithDeskNamesAreDeskTables g held = HasCleanDisk (state g held) → IsTrue (state g held).is_open → TablesWithDeskNamesAreDeskTables (state g held).now
 
 -- If the current database of the connection `held` has all tables of schema 3, by name and with
 -- exactly their columns, they are defined as a desk defines them, with its types, keys and foreign
 -- keys. Vacuous if the disk assumption fails, or once the database is closed.
-abbrev pub StoreNamedTablesMatchThirdSchema : {S : Type 0} → Ghosts S → Held S → Type 0
-StoreNamedTablesMatchThirdSchema g held =
-    HasCleanDisk (state g held) → IsTrue (state g held).is_open → NamedTablesMatchSchemaDefinitions third_schema (state g held).now
+abbrev pub ConnectionTablesWithThirdSchemaNamesAreDeskTables : {S : Type 0} → Ghosts S → Held S → Type 0
+ConnectionTablesWithThirdSchemaNamesAreDeskTables g held =
+    HasCleanDisk (state g held) → IsTrue (state g held).is_open → TablesWithSchemaNamesAreDeskTables third_schema (state g held).now
 
 -- The current database of the connection `held` has schema 3 (`DatabaseHasSchema`). Vacuous if the
 -- disk assumption fails, or once the database is closed.
-abbrev pub StoreHasThirdSchema : {S : Type 0} → Ghosts S → Held S → Type 0
-StoreHasThirdSchema g held = HasCleanDisk (state g held) → IsTrue (state g held).is_open → DatabaseHasSchema third_schema (state g held).now
+abbrev pub ConnectionHasThirdSchema : {S : Type 0} → Ghosts S → Held S → Type 0
+ConnectionHasThirdSchema g held = HasCleanDisk (state g held) → IsTrue (state g held).is_open → DatabaseHasSchema third_schema (state g held).now
 
 -- ---- an audit
 
@@ -108,15 +108,15 @@ StoreHasThirdSchema g held = HasCleanDisk (state g held) → IsTrue (state g hel
 pub record AuditPost {S : Type 0} (g : Ghosts S) (old new : Held S) (result : Result (Unit {0}) Fault) : Type 0 where
   -- `Ok` is returned only if the rows pass the audit, and `Damaged` only with the first condition
   -- that fails. Vacuous if some read up to the return of the call did not return what was written,
-  -- or if the old database does not satisfy `StoreNamedTablesMatchThirdSchema`.
-  pub answered : HasCleanDisk (state g new) → StoreNamedTablesMatchThirdSchema g old
+  -- or if the old database does not satisfy `ConnectionTablesWithThirdSchemaNamesAreDeskTables`.
+  pub answered : HasCleanDisk (state g new) → ConnectionTablesWithThirdSchemaNamesAreDeskTables g old
       → AuditAnswerSatisfies result (IsDatabaseAuditResultBySchema third_schema (state g old).now)
   -- `Ok` and `Damaged` are returned only if the database was open before the call.
-  pub opened : HasCleanDisk (state g new) → AuditAnswerSatisfies result (λ _. IsTrue (state g old).is_open)
+  pub was_open : HasCleanDisk (state g new) → AuditAnswerSatisfies result (λ _. IsTrue (state g old).is_open)
   -- The store holds after the call the rows that it held before, whatever the result.
   pub same_rows : (t : Tables) → HoldsRows g old t → HoldsRows g new t
   -- If the database is open after the call, it was open before and is unchanged.
-  pub same : HasCleanDisk (state g new) → IsTrue (state g new).is_open → WasOpenAndIsUnchanged (state g old) (state g new)
+  pub unchanged_if_open : HasCleanDisk (state g new) → IsTrue (state g new).is_open → WasOpenAndIsUnchanged (state g old) (state g new)
   -- A crash after the call exposes only states that a crash before the call could expose.
   pub survives : Survives (state g old) (state g new) (λ _. ⊥)
 
@@ -126,8 +126,8 @@ pub record AuditPost {S : Type 0} (g : Ghosts S) (old new : Held S) (result : Re
 -- schema. The database `after` contains the tables of schema 3 with the rows of the base that these
 -- rows determine. Every other table of `db` is in `after` with its rows, unless a foreign key of
 -- this table changes or deletes the rows by CASCADE, SET NULL or SET DEFAULT.
-abbrev pub UpgradesPassingRows : Database → Database → Type 0
-UpgradesPassingRows db after =
+abbrev pub UpgradesAuditedRows : Database → Database → Type 0
+UpgradesAuditedRows db after =
     (schema : known.Schema) × (t : Tables) × (passed : StoresRowsWithAuditResult (abstract_schema schema) t db None)
     × HasDeskTables (sheets (base_of_tables t)) after × PreservesTablesOutside (IsTableOfSchema (abstract_schema schema)) passed.0.0 db after
 
@@ -142,34 +142,34 @@ IsUpgradedDiskContent db trees =
 -- The postcondition of an adoption: an audit by the conditions of the schema that the database has
 -- and, at `Ok`, a store that holds the rows, converted to schema 3. `old` is the connection before
 -- the call, and `new` the connection or the store after it. The clauses with the premise
--- `StoreNamedTablesMatchDeskDefinitions` promise nothing of a database whose tables have the names
--- and columns of a desk's, but another definition.
+-- `ConnectionTablesWithDeskNamesAreDeskTables` promise nothing of a database whose tables have the
+-- names and columns of a desk's, but another definition.
 pub record AdoptPost {S : Type 0} (g : Ghosts S) (old new : Held S) (result : Result (Unit {0}) Fault) : Type 0 where
   -- `Ok` is returned only if the rows pass the audit, and `Damaged` only with the first condition
   -- that fails. Vacuous if some read up to the return of the call did not return what was written,
-  -- or if the old database does not satisfy `StoreNamedTablesMatchDeskDefinitions`.
-  pub answered : HasCleanDisk (state g new) → StoreNamedTablesMatchDeskDefinitions g old → AuditAnswerSatisfies result (IsDatabaseAuditResult (state g old).now)
+  -- or if the old database does not satisfy `ConnectionTablesWithDeskNamesAreDeskTables`.
+  pub answered : HasCleanDisk (state g new) → ConnectionTablesWithDeskNamesAreDeskTables g old → AuditAnswerSatisfies result (IsDatabaseAuditResult (state g old).now)
   -- `Ok` and `Damaged` are returned only if the database was open before the call.
-  pub opened : HasCleanDisk (state g new) → AuditAnswerSatisfies result (λ _. IsTrue (state g old).is_open)
+  pub was_open : HasCleanDisk (state g new) → AuditAnswerSatisfies result (λ _. IsTrue (state g old).is_open)
   -- At `Ok` the store holds rows that pass the audit of schema 3, with texts in UTF-8. Vacuous if
-  -- the old database does not satisfy `StoreNamedTablesMatchDeskDefinitions`.
-  pub adopted : StoreNamedTablesMatchDeskDefinitions g old
+  -- the old database does not satisfy `ConnectionTablesWithDeskNamesAreDeskTables`.
+  pub adopted : ConnectionTablesWithDeskNamesAreDeskTables g old
       → OnOk result ((t : Tables) × HoldsRows g new t × PassesAudit third_schema t × IsTrue (has_utf8_texts t))
   -- At `Ok`, if the store is open, it contains the tables of the base that the old rows determine,
   -- and they are committed: by this call, if the database had an older schema.
-  pub upgraded : HasCleanDisk (state g new) → IsTrue (state g new).is_open → StoreNamedTablesMatchDeskDefinitions g old
-      → OnOk result (UpgradesPassingRows (state g old).now (state g new).now × ((state g new).committed ≡ (state g new).now))
+  pub upgraded : HasCleanDisk (state g new) → IsTrue (state g new).is_open → ConnectionTablesWithDeskNamesAreDeskTables g old
+      → OnOk result (UpgradesAuditedRows (state g old).now (state g new).now × ((state g new).committed ≡ (state g new).now))
   -- At `Ok` the store is open, unless the database had schema 3.
-  pub open_after_upgrade : HasCleanDisk (state g new) → StoreNamedTablesMatchDeskDefinitions g old
-      → OnOk result (StoreHasThirdSchema g old ⊎ IsTrue (state g new).is_open)
+  pub open_after_upgrade : HasCleanDisk (state g new) → ConnectionTablesWithDeskNamesAreDeskTables g old
+      → OnOk result (ConnectionHasThirdSchema g old ⊎ IsTrue (state g new).is_open)
   -- At an error: if the database is open after the call, it was open before and is unchanged.
-  pub same : HasCleanDisk (state g new) → IsTrue (state g new).is_open → OnErr result (WasOpenAndIsUnchanged (state g old) (state g new))
+  pub unchanged_if_open : HasCleanDisk (state g new) → IsTrue (state g new).is_open → OnErr result (WasOpenAndIsUnchanged (state g old) (state g new))
   -- A crash after the call exposes a state that a crash before the call could expose or, if the
   -- rows of an older schema pass their audit, the tables after the upgrade to schema 3.
-  pub survives : StoreNamedTablesMatchDeskDefinitions g old → Survives (state g old) (state g new) (IsUpgradedDiskContent (state g old).now)
+  pub survives : ConnectionTablesWithDeskNamesAreDeskTables g old → Survives (state g old) (state g new) (IsUpgradedDiskContent (state g old).now)
   -- If the database had schema 3, the adoption satisfies the postcondition of an audit by schema 3,
   -- which writes nothing.
-  pub audited : StoreNamedTablesMatchDeskDefinitions g old → StoreHasThirdSchema g old → AuditPost g old new result
+  pub audited : ConnectionTablesWithDeskNamesAreDeskTables g old → ConnectionHasThirdSchema g old → AuditPost g old new result
 
 -- The base satisfies the books invariant and the audit invariant, and the texts of its tables are
 -- UTF-8.

@@ -71,11 +71,11 @@ pub record ReadPost {S V E : Type 0} (g : Ghosts S) (old new : Held S) (result :
   -- some read up to the return of the call did not return what was written.
   pub answered : HasCleanDisk (state g new) → IfOk result (λ answer. (t : Tables) → HoldsRows g old t → Told answer t)
   -- A value is returned only if the store was open before the call.
-  pub opened : HasCleanDisk (state g new) → OnOk result (IsTrue (state g old).is_open)
+  pub was_open : HasCleanDisk (state g new) → OnOk result (IsTrue (state g old).is_open)
   -- The store holds after the call the rows that it held before, whatever the result.
   pub same_rows : (t : Tables) → HoldsRows g old t → HoldsRows g new t
   -- If the database is open after the call, it was open before and is unchanged.
-  pub same : HasCleanDisk (state g new) → IsTrue (state g new).is_open → WasOpenAndIsUnchanged (state g old) (state g new)
+  pub unchanged_if_open : HasCleanDisk (state g new) → IsTrue (state g new).is_open → WasOpenAndIsUnchanged (state g old) (state g new)
   -- A crash after the call exposes only states that a crash before the call could expose.
   pub survives : Survives (state g old) (state g new) (λ _. ⊥)
 
@@ -85,18 +85,18 @@ pub record ApplyPost {S V E : Type 0} (g : Ghosts S) (old new : Held S) (result 
   -- At `Ok` the store holds the tables with all changes.
   pub applied : OnOk result ((t : Tables) → HoldsRows g old t → HoldsRows g new (after t))
   -- At `Ok` the store was open, is open, and has committed its current state.
-  pub opened : HasCleanDisk (state g new)
+  pub open_and_committed : HasCleanDisk (state g new)
       → OnOk result (IsTrue (state g old).is_open × IsTrue (state g new).is_open × ((state g new).committed ≡ (state g new).now))
   -- At `Ok` the SQLite schema of the database is unchanged. The rows of each table that is not the
   -- desk's are unchanged too, unless a foreign key of that table changes or deletes them by
   -- CASCADE, SET NULL or SET DEFAULT.
-  pub others : HasCleanDisk (state g new)
+  pub other_tables : HasCleanDisk (state g new)
       → OnOk result ((t : Tables) (tree : DeskTable → ℕ) → HasTables desk_tables t tree (state g old).now
       → PreservesUnrelatedTables tree (state g old).now (state g new).now)
   -- At an error the store holds the rows that it held before.
   pub same_rows_at_error : OnErr result ((t : Tables) → HoldsRows g old t → HoldsRows g new t)
   -- At an error: if the database is open after the call, it was open before and is unchanged.
-  pub same : HasCleanDisk (state g new) → IsTrue (state g new).is_open → OnErr result (WasOpenAndIsUnchanged (state g old) (state g new))
+  pub unchanged_if_open : HasCleanDisk (state g new) → IsTrue (state g new).is_open → OnErr result (WasOpenAndIsUnchanged (state g old) (state g new))
   -- A crash after the call exposes a state that a crash before the call could expose, or the tables
   -- with all changes; the latter only if the store was open.
   pub survives : Survives (state g old) (state g new) (λ trees. IsTrue (state g old).is_open
@@ -110,20 +110,20 @@ pub record CreatePost {S : Type 0} (g : Ghosts S) (old new : Held S) (result : R
   -- At `Ok` the store holds the tables of schema 3 without rows, except for the one row of DESK.
   pub created : OnOk result (HoldsRows g new tables_without_rows)
   -- At `Ok` the store was open, is open, and has committed its current state.
-  pub opened : HasCleanDisk (state g new)
+  pub open_and_committed : HasCleanDisk (state g new)
       → OnOk result (IsTrue (state g old).is_open × IsTrue (state g new).is_open × ((state g new).committed ≡ (state g new).now))
   -- At `Ok` no table with the name of a desk's table existed.
-  pub absent : HasCleanDisk (state g new) → OnOk result (has_table_of_desk (state g old).now.schema ≡ false)
+  pub no_table_existed : HasCleanDisk (state g new) → OnOk result (has_table_of_desk (state g old).now.schema ≡ false)
   -- At `Ok` each table that existed still exists, with its rows.
-  pub others : HasCleanDisk (state g new) → OnOk result (PreservesAllTables (state g old).now (state g new).now)
+  pub other_tables : HasCleanDisk (state g new) → OnOk result (PreservesAllTables (state g old).now (state g new).now)
   -- The error is `Damaged(NotEmpty)` only if a table with the name of a desk's table existed.
-  pub taken : HasCleanDisk (state g new) → result ≡ Err (Damaged NotEmpty) → has_table_of_desk (state g old).now.schema ≡ true
+  pub not_empty_only_if_existed : HasCleanDisk (state g new) → result ≡ Err (Damaged NotEmpty) → has_table_of_desk (state g old).now.schema ≡ true
   -- If a table with the name of a desk's table existed, the error is `Damaged(NotEmpty)`, or
   -- `Store`.
-  pub occupied : HasCleanDisk (state g new) → has_table_of_desk (state g old).now.schema ≡ true
+  pub fails_if_existed : HasCleanDisk (state g new) → has_table_of_desk (state g old).now.schema ≡ true
       → (result ≡ Err (Damaged NotEmpty)) ⊎ (result ≡ Err Store)
   -- At an error: if the database is open after the call, it was open before and is unchanged.
-  pub same : HasCleanDisk (state g new) → IsTrue (state g new).is_open → OnErr result (WasOpenAndIsUnchanged (state g old) (state g new))
+  pub unchanged_if_open : HasCleanDisk (state g new) → IsTrue (state g new).is_open → OnErr result (WasOpenAndIsUnchanged (state g old) (state g new))
   -- A crash after the call exposes a state that a crash before the call could expose, or the tables
   -- without rows.
   pub survives : Survives (state g old) (state g new) (IsDiskContentOfRows tables_without_rows)

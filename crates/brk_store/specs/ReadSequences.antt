@@ -15,7 +15,7 @@ use Rattle.brk_store.specs.Holds.{HoldsRows, ReadPost, WasOpenAndIsUnchanged}
 -- is promised if some read up to the return of the last one did not return what was written.
 pub record IsUnchangedByReads {S : Type 0} (g : Ghosts S) (old new : Held S) : Type 0 where
   pub same_rows : (t : Tables) → HoldsRows g old t → HoldsRows g new t
-  pub same : HasCleanDisk (state g new) → IsTrue (state g new).is_open → WasOpenAndIsUnchanged (state g old) (state g new)
+  pub unchanged_if_open : HasCleanDisk (state g new) → IsTrue (state g new).is_open → WasOpenAndIsUnchanged (state g old) (state g new)
   pub survives : Survives (state g old) (state g new) (λ _. ⊥)
 
 -- The postcondition of a call that makes any number of reads, or none, and writes nothing. `Told`
@@ -37,9 +37,9 @@ module _ {S : Type 0} {g : Ghosts S} where
   pub joined_reads_change_nothing : (p q r : Held S) → IsUnchangedByReads g p q → IsUnchangedByReads g q r → IsUnchangedByReads g p r
   joined_reads_change_nothing p q r a b = record {
     same_rows = λ t h. b.same_rows t (a.same_rows t h);
-    same = λ clean o.
-        let late = b.same clean o in
-        let early = a.same (disk_was_clean_before_reads q r b clean) late.was_open in
+    unchanged_if_open = λ clean o.
+        let late = b.unchanged_if_open clean o in
+        let early = a.unchanged_if_open (disk_was_clean_before_reads q r b clean) late.was_open in
         record { was_open = early.was_open; now = late.now ∙ early.now; committed = late.committed ∙ early.committed };
     survives = survives_then (state g p) (state g q) (state g r) (λ _. ⊥) (λ _. ⊥) (λ _. ⊥) (λ _ db none. none) (λ _ db none. none) a.survives b.survives;
   }
@@ -47,13 +47,13 @@ module _ {S : Type 0} {g : Ghosts S} where
   -- A read that satisfies `ReadPost` satisfies `IsUnchangedByReads`.
   pub single_read_changes_nothing : {V E : Type 0} (old new : Held S) (result : _) (Told : _) → ReadPost {V = V} {E = E} g old new result Told
       → IsUnchangedByReads g old new
-  single_read_changes_nothing old new result Told r = record { same_rows = r.same_rows; same = r.same; survives = r.survives }
+  single_read_changes_nothing old new result Told r = record { same_rows = r.same_rows; unchanged_if_open = r.unchanged_if_open; survives = r.survives }
 
 -- The empty sequence of reads, after which the store is `old` as before, satisfies
 -- `IsUnchangedByReads`.
 pub no_reads_change_nothing : {S : Type 0} {g : Ghosts S} (old : Held S) → IsUnchangedByReads g old old
 no_reads_change_nothing {S} {g} old = record {
   same_rows = λ t h. h;
-  same = λ clean o. record { was_open = o; now = refl; committed = refl };
+  unchanged_if_open = λ clean o. record { was_open = o; now = refl; committed = refl };
   survives = record { clean = le_refl _; shield = λ s. s; counts = le_refl _; limit = refl; closes = λ clean o. inl o; crash = λ clean db h. inl h };
 }

@@ -15,8 +15,8 @@ ghost use Rattle.brk_model.specs.Tables.{Tables};
 ghost use Rattle.brk_changes.specs.declared.schema.Schema.{Schema};
 ghost use Rattle.brk_changes.specs.Schemas.{abstract_schema};
 ghost use Rattle.brk_audit_theorems.specs.Passing.{PassesAudit};
-ghost use Rattle.brk_store.specs.Audited.{StoresRowsWithAuditResult, IsDatabaseAuditResult, IsDatabaseAuditResultBySchema, StoreHasThirdSchema};
-ghost use Rattle.brk_store.specs.Audited.{Represents, AdoptPost, AuditPost, StoreNamedTablesMatchDeskDefinitions, AuditAnswerSatisfies};
+ghost use Rattle.brk_store.specs.Audited.{StoresRowsWithAuditResult, IsDatabaseAuditResult, IsDatabaseAuditResultBySchema, ConnectionHasThirdSchema};
+ghost use Rattle.brk_store.specs.Audited.{Represents, AdoptPost, AuditPost, ConnectionTablesWithDeskNamesAreDeskTables, AuditAnswerSatisfies};
 ghost use Rattle.brk_store.specs.Holds.{HoldsRows};
 
 use sqlite::Alter;
@@ -30,10 +30,10 @@ pub fn audit_results_are_unique()
 {}
 
 /// Proves that the database of a store that holds the tables of schema 3 with any rows satisfies
-/// the premise of an adoption (`StoreNamedTablesMatchDeskDefinitions`) and has schema 3.
+/// the premise of an adoption (`ConnectionTablesWithDeskNamesAreDeskTables`) and has schema 3.
 pub fn stores_with_rows_have_desk_definitions<S: Alter>()
-    ensures defined { (held : Held S) (t : Tables) → HoldsRows S.Store held t → StoreNamedTablesMatchDeskDefinitions S.Store held }
-    ensures has_tables { (held : Held S) (t : Tables) → HoldsRows S.Store held t → StoreHasThirdSchema S.Store held }
+    ensures defined { (held : Held S) (t : Tables) → HoldsRows S.Store held t → ConnectionTablesWithDeskNamesAreDeskTables S.Store held }
+    ensures has_tables { (held : Held S) (t : Tables) → HoldsRows S.Store held t → ConnectionHasThirdSchema S.Store held }
 {}
 
 /// Proves, under the disk assumption, that an audit of a store that holds rows with texts in UTF-8
@@ -58,8 +58,8 @@ pub fn adoption_of_third_schema_is_audit<S: Alter>()
 /// Proves that a store represents the base that its rows determine, if these pass the audit of
 /// schema 3 and their texts are UTF-8 (`rows`).
 ///
-/// `adopted`: a store that was adopted under the premise `StoreNamedTablesMatchDeskDefinitions`
-/// represents some base.
+/// `adopted`: a store that was adopted under the premise
+/// `ConnectionTablesWithDeskNamesAreDeskTables` represents some base.
 ///
 /// `base_of_old_rows`: if this store is open, then under the disk assumption the old database
 /// contained rows of some schema that pass their audit, and the store represents the base that
@@ -67,9 +67,9 @@ pub fn adoption_of_third_schema_is_audit<S: Alter>()
 pub fn adopted_stores_represent_a_base<S: Alter>()
     ensures rows { (store : Held S) (t : Tables) → HoldsRows S.Store store t → PassesAudit third_schema t → IsTrue (has_utf8_texts t)
         → Represents S.Store store (base_of_tables t) }
-    ensures adopted { (old new : Held S) → AdoptPost S.Store old new (Ok tt) → StoreNamedTablesMatchDeskDefinitions S.Store old
+    ensures adopted { (old new : Held S) → AdoptPost S.Store old new (Ok tt) → ConnectionTablesWithDeskNamesAreDeskTables S.Store old
         → (base : Base) × Represents S.Store new base }
-    ensures base_of_old_rows { (old new : Held S) → AdoptPost S.Store old new (Ok tt) → StoreNamedTablesMatchDeskDefinitions S.Store old
+    ensures base_of_old_rows { (old new : Held S) → AdoptPost S.Store old new (Ok tt) → ConnectionTablesWithDeskNamesAreDeskTables S.Store old
         → HasCleanDisk (state S.Store new) → IsTrue (state S.Store new).is_open
         → (schema : Schema) × (rows : Tables) × StoresRowsWithAuditResult (abstract_schema schema) rows (state S.Store old).now None
         × Represents S.Store new (base_of_tables rows) }

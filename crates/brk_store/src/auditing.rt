@@ -8,7 +8,7 @@ ghost use Rattle.brk_model.specs.Schemas.{third_schema};
 ghost use Rattle.brk_changes.specs.Schemas.{abstract_schema};
 ghost use Rattle.brk_sql.specs.Model.{IsConnectionStep};
 ghost use Rattle.brk_store.specs.Audited.{IsDatabaseAuditResultBySchema, AuditPost};
-ghost use Rattle.brk_tables_scan.specs.Schemas.{DatabaseHasSchema, NamedTablesMatchSchemaDefinitions};
+ghost use Rattle.brk_tables_scan.specs.Schemas.{DatabaseHasSchema, TablesWithSchemaNamesAreDeskTables};
 
 use crate::Store;
 use crate::beginning::begin_transaction;
@@ -22,7 +22,7 @@ use std::alloc::Global;
 /// Returns the first condition of `schema` that the rows of its tables fail, or `None` if they
 /// pass. If the database is still open, it is unchanged. Fails with `Memory` or `Store` only. The
 /// result is specified only if the database has the schema (`DatabaseHasSchema`) and its tables
-/// have the definitions of the desk's tables (`NamedTablesMatchSchemaDefinitions`).
+/// have the definitions of the desk's tables (`TablesWithSchemaNamesAreDeskTables`).
 pub(crate) fn audit_rows_of_schema<S: Alter>(
     tx: &mut Transaction<'_, S>,
     alloc: Global,
@@ -30,7 +30,7 @@ pub(crate) fn audit_rows_of_schema<S: Alter>(
 ) -> Result<Option<Condition>, Fault>
     ensures same_reference { tx.new.conn.ghost_name ≡ tx.old.conn.ghost_name }
     ensures step { IsConnectionStep S.Store tx.old tx.new result (λ answer a b. IsTrue a.is_open × (b.now ≡ a.now)
-        × (NamedTablesMatchSchemaDefinitions (abstract_schema schema) a.now → DatabaseHasSchema (abstract_schema schema) a.now
+        × (TablesWithSchemaNamesAreDeskTables (abstract_schema schema) a.now → DatabaseHasSchema (abstract_schema schema) a.now
         → IsDatabaseAuditResultBySchema (abstract_schema schema) a.now answer)) }
     ensures condition { IfOk result (λ answer. answer ≢ Some NotEmpty) }
     ensures fault { IfErr result IsCallFault }
@@ -44,14 +44,14 @@ pub(crate) fn audit_rows_of_schema<S: Alter>(
 // Returns the first condition of schema 3 that the database fails, or `None` if it passes. If the
 // database is still open, it is unchanged. Fails with `Memory` or `Store` only. The result is
 // specified only if tables with the names and columns of schema 3 have the definitions of the
-// desk's tables (`NamedTablesMatchSchemaDefinitions`).
+// desk's tables (`TablesWithSchemaNamesAreDeskTables`).
 fn first_failing_condition<S: Alter>(
     tx: &mut Transaction<'_, S>,
     alloc: Global,
 ) -> Result<Option<Condition>, Fault>
     ensures same_reference { tx.new.conn.ghost_name ≡ tx.old.conn.ghost_name }
     ensures step { IsConnectionStep S.Store tx.old tx.new result (λ answer a b. IsTrue a.is_open × (b.now ≡ a.now)
-        × (NamedTablesMatchSchemaDefinitions third_schema a.now → IsDatabaseAuditResultBySchema third_schema a.now answer)) }
+        × (TablesWithSchemaNamesAreDeskTables third_schema a.now → IsDatabaseAuditResultBySchema third_schema a.now answer)) }
     ensures condition { IfOk result (λ answer. answer ≢ Some NotEmpty) }
     ensures fault { IfErr result IsCallFault }
 {
@@ -86,10 +86,10 @@ impl<S: Alter> Store<S> {
     ///
     /// A crash after the call exposes only states that a crash before the call could expose.
     ///
-    /// The result is specified only if the database satisfies `StoreNamedTablesMatchThirdSchema`:
-    /// if it has all tables of schema 3, by their names and columns, these have the definitions of
-    /// the desk's tables. Every store that holds rows satisfies this premise
-    /// (`stores_with_rows_have_desk_definitions`).
+    /// The result is specified only if the database satisfies
+    /// `ConnectionTablesWithThirdSchemaNamesAreDeskTables`: if it has all tables of schema 3, by
+    /// their names and columns, these have the definitions of the desk's tables. Every store that
+    /// holds rows satisfies this premise (`stores_with_rows_have_desk_definitions`).
     pub fn audit(&mut self, alloc: Global) -> Result<(), Fault>
         ensures audited { AuditPost S.Store self.old self.new result }
         ensures condition { IfErr result (λ f. f ≢ fault.Damaged NotEmpty) }

@@ -8,7 +8,7 @@ ghost use Rattle.brk_sql.specs.Model.{IsConnectionStep};
 ghost use Rattle.brk_store.specs.Audited.{IsSchemaOfDatabase};
 ghost use Rattle.brk_store.specs.AuditResult.{IsTrueAuditResult};
 ghost use Rattle.brk_store.specs.declared.examining.AuditResult.TheVariants as told;
-ghost use Rattle.brk_tables_scan.specs.Schemas.{NamedTablesMatchDeskDefinitions};
+ghost use Rattle.brk_tables_scan.specs.Schemas.{TablesWithDeskNamesAreDeskTables};
 
 use crate::auditing::audit_rows_of_schema;
 use brk_changes::Schema;
@@ -28,11 +28,11 @@ pub enum AuditResult {
 
 // Returns the schema that the database has, or `None` if it has none of the three. If the database
 // is still open, it is unchanged. Fails with `Store` only. The result is specified only if the
-// database satisfies `NamedTablesMatchDeskDefinitions`.
+// database satisfies `TablesWithDeskNamesAreDeskTables`.
 fn schema_of_database<S: Alter>(tx: &mut Transaction<'_, S>) -> Result<Option<Schema>, Fault>
     ensures same_reference { tx.new.conn.ghost_name ≡ tx.old.conn.ghost_name }
     ensures step { IsConnectionStep S.Store tx.old tx.new result (λ found a b. IsTrue a.is_open × (b.now ≡ a.now)
-        × (NamedTablesMatchDeskDefinitions a.now → IsSchemaOfDatabase found a.now)) }
+        × (TablesWithDeskNamesAreDeskTables a.now → IsSchemaOfDatabase found a.now)) }
     ensures fault { OnErr result (result ≡ Err fault.Store) }
 {
     if database_has_schema(tx, Schema::Third)? {
@@ -50,14 +50,14 @@ fn schema_of_database<S: Alter>(tx: &mut Transaction<'_, S>) -> Result<Option<Sc
 /// Audits the database by the conditions of the schema that it has, and returns the result: `Fails`
 /// with the condition `Schema` if it has none of the three schemas. If the database is still open,
 /// it is unchanged. Fails with `Memory` or `Store` only. The result is specified only if the
-/// database satisfies `NamedTablesMatchDeskDefinitions`.
+/// database satisfies `TablesWithDeskNamesAreDeskTables`.
 pub(crate) fn audit_by_own_schema<S: Alter>(
     tx: &mut Transaction<'_, S>,
     alloc: Global,
 ) -> Result<AuditResult, Fault>
     ensures same_reference { tx.new.conn.ghost_name ≡ tx.old.conn.ghost_name }
     ensures step { IsConnectionStep S.Store tx.old tx.new result (λ examined a b. IsTrue a.is_open × (b.now ≡ a.now)
-        × (NamedTablesMatchDeskDefinitions a.now → IsTrueAuditResult examined a.now)) }
+        × (TablesWithDeskNamesAreDeskTables a.now → IsTrueAuditResult examined a.now)) }
     ensures condition { IfOk result (λ examined. examined ≢ told.Fails NotEmpty) }
     ensures fault { IfErr result IsCallFault }
 {

@@ -57,13 +57,13 @@ impl<S: Alter> Store<S> {
     ///
     /// The result, the rows of the store, the crash states, and that a database of schema 3 is not
     /// written, are specified only if the database satisfies
-    /// `StoreNamedTablesMatchDeskDefinitions`: if it has all tables of some schema, by their names
-    /// and columns, then these tables have the definitions of the desk's tables, with the same
-    /// types, keys and foreign keys, and no foreign key with CASCADE, SET NULL or SET DEFAULT. A
-    /// database without such tables, for example an empty one, satisfies this premise.
+    /// `ConnectionTablesWithDeskNamesAreDeskTables`: if it has all tables of some schema, by their
+    /// names and columns, then these tables have the definitions of the desk's tables, with the
+    /// same types, keys and foreign keys, and no foreign key with CASCADE, SET NULL or SET DEFAULT.
+    /// A database without such tables, for example an empty one, satisfies this premise.
     pub fn adopt(alloc: Global, mut conn: Connection<S>) -> Result<Store<S>, (Connection<S>, Fault)>
         ensures adopted { MatchResult result (λ store. AdoptPost S.Store conn store (Ok tt)) (λ e. AdoptPost S.Store conn e.0 (Err e.1)) }
-        ensures never_not_empty { IfErr result (λ e. e.1 ≢ fault.Damaged NotEmpty) }
+        ensures condition { IfErr result (λ e. e.1 ≢ fault.Damaged NotEmpty) }
         ensures no_transaction_open { IfErr result (λ e. conn.in_transaction ≡ false → e.0.in_transaction ≡ false) }
         ensures fails_in_transaction { conn.in_transaction ≡ true → result ≡ Err (conn, fault.Store) }
     {

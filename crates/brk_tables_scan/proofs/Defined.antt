@@ -20,7 +20,7 @@ use Rattle.brk_tables_schema.specs.Desk.{DeskTable, TheDesk, all_tables, schema_
 use Rattle.brk_tables_schema.specs.Made.{HasDeskTablesInSchema, IsTableOfSchema}
 use Rattle.brk_tables_schema.specs.Shapes.{desk_row_table}
 use Rattle.brk_tables_create.specs.Made.{tables_of_later_schemas}
-use Rattle.brk_tables_scan.specs.Schemas.{DatabaseHasSchema, HasTableWithNames, NamedTablesMatchSchemaDefinitions, HasDistinctRowids, IsOneDeskRowOfSchema, table_and_column_names}
+use Rattle.brk_tables_scan.specs.Schemas.{DatabaseHasSchema, HasTableWithNames, TablesWithSchemaNamesAreDeskTables, HasDistinctRowids, IsOneDeskRowOfSchema, table_and_column_names}
 use Rattle.brk_tables_scan.proofs.Listed.{names_alike}
 
 some_same : {X : Type 0} (x y : X) → Some x ≡ Some y → x ≡ y
@@ -87,7 +87,7 @@ module _ (desk : Schema) (t : Tables) (db : Database) (has : HasDeskTablesInSche
     row = the_row;
   }
 
-  pub desk_is_defined : NamedTablesMatchSchemaDefinitions desk db
+  pub desk_is_defined : TablesWithSchemaNamesAreDeskTables desk db
   desk_is_defined _ = record {
     sound = has.1.sound;
     shaped = λ w of at table named found.

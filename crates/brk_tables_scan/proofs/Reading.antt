@@ -18,7 +18,7 @@ use Rattle.brk_tables_schema.specs.Desk.{DeskTable, all_tables, encoded_row, sch
 use Rattle.brk_tables_schema.specs.Made.{HasDeskTablesInSchema, IsTableOfSchema}
 use Rattle.brk_tables_schema.proofs.Which.{all_listed}
 use Rattle.brk_tables_create.specs.Made.{tables_of_later_schemas}
-use Rattle.brk_tables_scan.specs.Schemas.{DatabaseHasSchema, HasTableWithNames, NamedTablesMatchSchemaDefinitions, HasDeskDefinitions, table_and_column_names}
+use Rattle.brk_tables_scan.specs.Schemas.{DatabaseHasSchema, HasTableWithNames, TablesWithSchemaNamesAreDeskTables, HasDeskDefinitions, table_and_column_names}
 use Rattle.brk_tables_scan.specs.Whole.{ShowsRowsIfPresent}
 use Rattle.brk_tables_scan.specs.Raw.{RawSheets, raw_rows_of_table}
 use Rattle.brk_tables_scan.specs.Decoded.{are_raw_sheets_well_formed}
@@ -30,7 +30,7 @@ pub unshown : {X : Type 0} (f : X → Row) (xs : List X) → map f xs ≡ [] →
 unshown f [] e = refl
 unshown f (x ∷ xs) e = absurd (let g = e in cc)
 
-module _ (desk : Schema) (db : Database) (has : DatabaseHasSchema desk db) (defined : NamedTablesMatchSchemaDefinitions desk db) where
+module _ (desk : Schema) (db : Database) (has : DatabaseHasSchema desk db) (defined : TablesWithSchemaNamesAreDeskTables desk db) where
   pub table_of : (w : DeskTable) → IsTableOfSchema desk w → HasTableWithNames db.schema (table_and_column_names (table_definition_at w 0))
   table_of w of = all_has (λ w. HasTableWithNames db.schema (table_and_column_names (table_definition_at w 0))) (tables_in_schema desk) w has.tables (has_kept (schema_has_table desk) all_tables w (all_listed w) of)
 

@@ -14,7 +14,7 @@ use Rattle.brk_sql.specs.Rows.{cells_in_column_order}
 use Rattle.brk_tables_schema.specs.Cells.{natural_as_value}
 use Rattle.brk_tables_schema.specs.Desk.{TheDesk, table_definition_at}
 use Rattle.brk_tables_schema.specs.Shapes.{desk_row_table}
-use Rattle.brk_tables_scan.specs.Schemas.{DatabaseHasSchema, HasTablesOfSchema, NamedTablesMatchSchemaDefinitions, LacksTablesOfLaterSchemas, IsOneDeskRowOfSchema}
+use Rattle.brk_tables_scan.specs.Schemas.{DatabaseHasSchema, HasTablesOfSchema, TablesWithSchemaNamesAreDeskTables, LacksTablesOfLaterSchemas, IsOneDeskRowOfSchema}
 use Rattle.brk_tables_scan.specs.Whole.{ShowsAllRows}
 use Rattle.brk_tables_scan.proofs.Defined.{one_row}
 use Rattle.brk_tables_scan.proofs.Listed.{same_name_at}
@@ -25,7 +25,7 @@ module _ (desk : Schema) (db : Database) where
   desk_is_not has b told e other = ((λ sure. absurd (let f = sym other ∙ sure in cc)), (λ (there : DatabaseHasSchema desk db). absurd (let f = sym e ∙ told.1 (there.tables, there.later) in cc)))
 
   -- where they are, DESK tells by its row
-  pub row_tells : NamedTablesMatchSchemaDefinitions desk db → HasTablesOfSchema desk db.schema × LacksTablesOfLaterSchemas desk db.schema → (b : Bool) (rows : List Row) → ShowsAllRows TheDesk rows db → (b ≡ true → IsOneDeskRowOfSchema desk rows) → (b ≡ false → IsOneDeskRowOfSchema desk rows → ⊥) → IsTrue b ↔ DatabaseHasSchema desk db
+  pub row_tells : TablesWithSchemaNamesAreDeskTables desk db → HasTablesOfSchema desk db.schema × LacksTablesOfLaterSchemas desk db.schema → (b : Bool) (rows : List Row) → ShowsAllRows TheDesk rows db → (b ≡ true → IsOneDeskRowOfSchema desk rows) → (b ≡ false → IsOneDeskRowOfSchema desk rows → ⊥) → IsTrue b ↔ DatabaseHasSchema desk db
   row_tells defined tables b rows shown first other = (there, back)
     where
       there : IsTrue b → DatabaseHasSchema desk db

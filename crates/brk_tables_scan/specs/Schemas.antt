@@ -97,11 +97,11 @@ pub record HasDeskDefinitions (desk : Schema) (db : Database) : Type 0 where
 -- If the database has each table of the schema `desk`, by its name and with exactly its columns,
 -- these tables are defined as a desk defines them (`HasDeskDefinitions`). Vacuous if one of these
 -- tables or columns is missing, or if one of the tables has another column.
-abbrev pub NamedTablesMatchSchemaDefinitions : Schema → Database → Type 0
-NamedTablesMatchSchemaDefinitions desk db = HasTablesOfSchema desk db.schema → HasDeskDefinitions desk db
+abbrev pub TablesWithSchemaNamesAreDeskTables : Schema → Database → Type 0
+TablesWithSchemaNamesAreDeskTables desk db = HasTablesOfSchema desk db.schema → HasDeskDefinitions desk db
 
 -- For each schema of a desk: if the database has each of its tables, by name and with exactly its
 -- columns, these tables are defined as a desk defines them. This is the premise on a database that
 -- another program may have created; an empty database satisfies it.
-abbrev pub NamedTablesMatchDeskDefinitions : Database → Type 0
-NamedTablesMatchDeskDefinitions db = (schema : known.Schema) → NamedTablesMatchSchemaDefinitions (abstract_schema schema) db
+abbrev pub TablesWithDeskNamesAreDeskTables : Database → Type 0
+TablesWithDeskNamesAreDeskTables db = (schema : known.Schema) → TablesWithSchemaNamesAreDeskTables (abstract_schema schema) db

@@ -4,7 +4,7 @@ ghost use Rattle.sqlite_value.specs.Order.{column};
 ghost use Rattle.brk_money.specs.declared.fault.Fault.TheVariants.{Store};
 ghost use Rattle.brk_changes.specs.Schemas.{abstract_schema};
 ghost use Rattle.brk_sql.specs.Model.{IsConnectionStep};
-ghost use Rattle.brk_tables_scan.specs.Schemas.{DatabaseHasSchema, NamedTablesMatchSchemaDefinitions, IsDeskRowOfSchema, IsOneDeskRowOfSchema};
+ghost use Rattle.brk_tables_scan.specs.Schemas.{DatabaseHasSchema, TablesWithSchemaNamesAreDeskTables, IsDeskRowOfSchema, IsOneDeskRowOfSchema};
 
 use crate::columns::has_exact_tables_and_columns;
 use crate::rows::desk_rows;
@@ -67,14 +67,15 @@ fn has_one_desk_row_of_schema(schema: Schema, rows: &[Row]) -> bool
 /// the schema. Changes nothing.
 ///
 /// Fails with `Store` only. The result is specified only if the tables with these names and
-/// columns, if all exist, are defined as a desk defines them (`NamedTablesMatchSchemaDefinitions`).
+/// columns, if all exist, are defined as a desk defines them
+/// (`TablesWithSchemaNamesAreDeskTables`).
 pub fn database_has_schema<S: Alter>(
     tx: &mut Transaction<'_, S>,
     schema: Schema,
 ) -> Result<bool, Fault>
     ensures same_reference { tx.new.conn.ghost_name ≡ tx.old.conn.ghost_name }
     ensures step { IsConnectionStep S.Store tx.old tx.new result (λ has a b. IsTrue a.is_open × (b.now ≡ a.now)
-        × (NamedTablesMatchSchemaDefinitions (abstract_schema schema) a.now → IsTrue has ↔ DatabaseHasSchema (abstract_schema schema) a.now)) }
+        × (TablesWithSchemaNamesAreDeskTables (abstract_schema schema) a.now → IsTrue has ↔ DatabaseHasSchema (abstract_schema schema) a.now)) }
     ensures fault { OnErr result (result ≡ Err Store) }
 {
     if !has_exact_tables_and_columns(tx, schema)? {

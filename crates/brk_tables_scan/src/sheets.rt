@@ -2,7 +2,7 @@ ghost use Rattle.std.specs.Prelude.{◌≡◌, IfErr, IsTrue};
 ghost use Rattle.brk_model.specs.Run.{IsCallFault};
 ghost use Rattle.brk_changes.specs.Schemas.{abstract_schema};
 ghost use Rattle.brk_sql.specs.Model.{IsConnectionStep};
-ghost use Rattle.brk_tables_scan.specs.Schemas.{DatabaseHasSchema, NamedTablesMatchSchemaDefinitions};
+ghost use Rattle.brk_tables_scan.specs.Schemas.{DatabaseHasSchema, TablesWithSchemaNamesAreDeskTables};
 ghost use Rattle.brk_tables_scan.specs.Whole.{AreSheetsOfDatabase};
 
 use crate::all_tables::read_all_tables;
@@ -26,7 +26,7 @@ pub fn read_sheets<S: Alter>(
 ) -> Result<Option<Sheets>, Fault>
     ensures same_reference { tx.new.conn.ghost_name ≡ tx.old.conn.ghost_name }
     ensures step { IsConnectionStep S.Store tx.old tx.new result (λ read a b. IsTrue a.is_open × (b.now ≡ a.now)
-        × (NamedTablesMatchSchemaDefinitions (abstract_schema schema) a.now → DatabaseHasSchema (abstract_schema schema) a.now
+        × (TablesWithSchemaNamesAreDeskTables (abstract_schema schema) a.now → DatabaseHasSchema (abstract_schema schema) a.now
         → AreSheetsOfDatabase (abstract_schema schema) a.now read)) }
     ensures fault { IfErr result IsCallFault }
 {

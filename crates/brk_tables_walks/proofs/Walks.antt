@@ -50,7 +50,7 @@ module _ {X M : Type 0} (of : X → M) (cells : M → Row) (back : Row → M) (i
       all = λ clean. done result (all clean);
       early = λ clean. broken result (early clean);
       fault = fault;
-      same = λ clean o. same_at settled (kept clean) o;
+      unchanged_if_open = λ clean o. same_at settled (kept clean) o;
       survives = survives;
     }
       where

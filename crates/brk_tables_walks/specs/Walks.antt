@@ -52,7 +52,7 @@ pub record TableWalkPost {S X M V E : Type 0} (g : Ghosts S) (old new : Held S) 
   -- holds.
   pub fault : IfErr result (IsWalkError stops after)
   -- If the database is open after the walk, it was open before and is unchanged.
-  pub same : HasCleanDisk (state g new) → IsTrue (state g new).is_open
+  pub unchanged_if_open : HasCleanDisk (state g new) → IsTrue (state g new).is_open
       → IsTrue (state g old).is_open × ((state g new).now ≡ (state g old).now) × ((state g new).committed ≡ (state g old).committed)
   -- A crash after the call exposes only states that a crash before the call could expose.
   pub survives : Survives (state g old) (state g new) (λ _. ⊥)

@@ -8,12 +8,12 @@ returns-clause-created g c = made_stands g.S.Store
 pub returns-clause-adopted : goal.returns-clause-adopted
 returns-clause-adopted g c = λ trees conn store opened defined adopted clean. takes_over g.S.Store g.met.S.Store.settled trees conn store opened adopted clean defined
 
-pub returns-clause-crash_in_adoption : goal.returns-clause-crash_in_adoption
-returns-clause-crash_in_adoption g c = λ trees first left conn store stopped result schema rows opened answered adopted clean again adopts after.
+pub returns-clause-crash_after_adoption : goal.returns-clause-crash_after_adoption
+returns-clause-crash_after_adoption g c = λ trees first left conn store stopped result schema rows opened answered adopted clean again adopts after.
     upgrade_taken_over g.S.Store g.met.S.Store.settled trees first left conn store stopped result opened schema rows answered adopted clean again adopts after
 
-pub returns-clause-crash_in_creation : goal.returns-clause-crash_in_creation
-returns-clause-crash_in_creation g c = making_taken_over g.S.Store g.met.S.Store.settled
+pub returns-clause-crash_after_creation : goal.returns-clause-crash_after_creation
+returns-clause-crash_after_creation g c = making_taken_over g.S.Store g.met.S.Store.settled
 
 pub returns-clause-crash_after_call : goal.returns-clause-crash_after_call
 returns-clause-crash_after_call g c = λ first left conn store base result now command key answer at called clean again adopted after.
