@@ -41,18 +41,18 @@ fn prove_command_and_key_are_well_formed(command: &Command, key: Option<&Key>)
 /// - `Refused` with refusal 19, if another command was accepted before under `key`;
 /// - `Refused` with the first reason that applies, if the command is refused.
 ///
-/// Fails with `Memory` or `Store` only; with `Store` also if a row that another row requires does
-/// not exist, a lot has no shares, a number or a sum is out of range, or no number is left for a
-/// cash row. A refusal, a stored reply or a fault changes nothing in a store that is still open,
-/// and records no key.
+/// Fails with `Memory` or `Store` only; with `Store` also if the `sqlite` crate runs out of memory,
+/// a row that another row requires does not exist, a lot has no shares, a number or a sum is out of
+/// range, or no number is left for a cash row; none of these closes the store. A refusal, a stored
+/// reply or a fault changes nothing in a store that is still open, and records no key.
 ///
 /// A crash after the call exposes a state that a crash before the call could expose, or the tables
 /// after the command; after `Done` only the latter.
 ///
 /// After a fault that closed the store, too, a crash may expose the command as committed. Retry
-/// after a fault: if it closed the store, first open and adopt the file again. Under the same key
-/// the command is executed at most once. Without a key a retry may execute it twice, so before it
-/// read the tables, the reopened ones if the store was closed.
+/// after a fault: after `Store`, which may have closed the store, first drop it, and open and adopt
+/// the file again. Under the same key the command is executed at most once. Without a key a retry
+/// may execute it twice, so before it read the tables, after `Store` those of the reopened file.
 pub fn execute_and_commit_command<S: Alter>(
     alloc: Global,
     store: &mut Store<S>,

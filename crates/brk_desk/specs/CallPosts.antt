@@ -139,8 +139,9 @@ pub record RunPost {S : Type 0} (g : Ghosts S) (old new : Held S) (calls : List 
 
 -- After the calls from `base` the store represents some base `after` whose tables pass the audit of
 -- schema 3. The calls with their outcomes are a run of the model from `base` to `after`; the broker
--- totals, balances and summaries of `after` equal the sums of their rows; and the row of each trade
--- that an accepted `CompleteTrade` completed has the tax of its completion, on exactly the shares
+-- totals, balances (with the opening balance) and summaries of `after` equal the sums over the
+-- completed trades, cash rows and lots from which they are computed; and the row of each trade that
+-- an accepted command `Complete` completed has the tax of its completion, on exactly the shares
 -- that it closed (`IsRunWithSumsAndTaxes`).
 abbrev pub ReachesBasePassingAudit : {S : Type 0} → Ghosts S → Held S → Base → List (ℕ × Call) → List Outcome → Type 0
 ReachesBasePassingAudit g new base calls outcomes =

@@ -14,11 +14,12 @@ use Rattle.brk_changes.specs.declared.schema.Schema as known
 use Rattle.brk_store.specs.Audited.{StoresRowsWithAuditResult, AuditAnswerSatisfies, Represents}
 use Rattle.brk_store.specs.Holds.{IsDiskContentOfRows, IsConnectionToDiskContent, CrashStatesSatisfy}
 
--- The store represents the base, and a crash exposes only the tables of this base.
+-- The store represents the base, and a crash exposes, in the desk's tables, only the rows of this
+-- base.
 pub record RepresentsDurableBase {S : Type 0} (g : Ghosts S) (store : Held S) (base : Base) : Type 0 where
   -- The store represents the base.
   pub represented : Represents g store base
-  -- A crash exposes only the tables of the base.
+  -- A crash exposes, in the desk's tables, only the rows of the base.
   pub crash_exposes_only_base : CrashStatesSatisfy g store (IsDiskContentOfRows (sheets base))
 
 -- `conn` is in the state of a new connection to a database with the disk contents `trees`. Under
@@ -38,25 +39,25 @@ abbrev pub IsNewConnectionAfterCrash : {S : Type 0} → Ghosts S → Held S → 
 IsNewConnectionAfterCrash g at_crash conn = (trees : Trees) × (state g at_crash).may_leave trees × IsNewConnectionToDiskContent g trees conn
 
 -- The database of `conn` has rows of some schema that pass the audit of this schema, with texts in
--- UTF-8. `store` represents the base that these rows determine, and a crash exposes only the tables
--- of this base.
+-- UTF-8. `store` represents the base that these rows determine, and a crash exposes, in the desk's
+-- tables, only the rows of this base.
 abbrev pub RepresentsAuditedRowsDurably : {S : Type 0} → Ghosts S → Held S → Held S → Type 0
 RepresentsAuditedRowsDurably g conn store =
     (schema : known.Schema) × (rows : Tables) × StoresRowsWithAuditResult (abstract_schema schema) rows (state g conn).now None
     × RepresentsDurableBase g store (base_of_tables rows)
 
 -- The adoption with the result `result` did not fail with `Damaged`; at `Ok` the store represents
--- `base`, and a crash exposes only the tables of `base`. If the adoption failed with `Memory` or
--- `Store`, nothing is specified of the store.
+-- `base`, and a crash exposes, in the desk's tables, only the rows of `base`. If the adoption
+-- failed with `Memory` or `Store`, nothing is specified of the store.
 pub record AdoptsBaseWithoutDamage {S : Type 0} (g : Ghosts S) (store : Held S) (result : Result (Unit {0}) Fault) (base : Base) : Type 0 where
   -- The adoption did not fail with `Damaged`.
   pub undamaged : AuditAnswerSatisfies result (λ failing. failing ≡ None)
-  -- At `Ok` the store represents `base`, and a crash exposes only its tables.
+  -- At `Ok` the store represents `base`, and a crash exposes, in the desk's tables, only its rows.
   pub represented : OnOk result (RepresentsDurableBase g store base)
 
 -- The adoption with the result `result` did not fail with `Damaged`. `store` is the store at `Ok`,
 -- and at `Memory` or `Store` the returned connection. It represents a base that satisfies `May`,
--- and a crash exposes only the tables of this base.
+-- and a crash exposes, in the desk's tables, only the rows of this base.
 pub record FindsBaseWithoutDamage {S : Type 0} (g : Ghosts S) (store : Held S) (result : Result (Unit {0}) Fault) (May : Base → Type 0) : Type 0 where
   -- The base that is represented after the adoption.
   pub base : Base
@@ -64,5 +65,5 @@ pub record FindsBaseWithoutDamage {S : Type 0} (g : Ghosts S) (store : Held S) (
   pub may : May base
   -- The adoption did not fail with `Damaged`.
   pub undamaged : AuditAnswerSatisfies result (λ failing. failing ≡ None)
-  -- The store represents this base, and a crash exposes only its tables.
+  -- The store represents this base, and a crash exposes, in the desk's tables, only its rows.
   pub represented : RepresentsDurableBase g store base

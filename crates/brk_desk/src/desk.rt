@@ -19,18 +19,21 @@ use std::alloc::Global;
 use std::marker::Model;
 
 /// A desk, which executes commands and answers queries over one store. A *base* is the abstract
-/// state of a brokerage; a desk *represents* it if its tables are those of the base. A command is
-/// *acknowledged* once its call has returned `Done`; `Again` returns a stored reply and
-/// acknowledges nothing.
+/// state of a brokerage; a desk *represents* it if its tables are those of the base and the base is
+/// consistent. A command is *acknowledged* once its call has returned `Done`; `Again` returns a
+/// stored reply and acknowledges nothing.
 ///
 /// A *crash* is the end of the process or the machine. It *exposes* what the next open of the
 /// database finds, after the `sqlite` crate has recovered the log. The clauses specify a crash
 /// after a call has returned; no clause covers a crash within a call (docs/PROMISES.md, "Trusted
-/// parts").
+/// parts"). The clauses use the toolchain's model of a crash (`may_leave`), which supposes that a
+/// successful sync has reached the disk, and limits what a torn write leaves. The disk assumption
+/// does not include this model.
 ///
-/// A desk is *open* until its disk fails (`Store`). Under the disk assumption: a desk that is still
-/// open after a fault is unchanged, and a crash exposes only its last commit; if the fault closed
-/// the desk, a crash may expose the command as committed.
+/// A desk is *open* while its store is: only an I/O error, a full disk or file, or a corrupt page
+/// can close it, and not each does. No function of this crate returns whether it is open. Under the
+/// disk assumption: a desk that is still open after a fault is unchanged, and a crash exposes only
+/// its last commit; if the fault closed the desk, a crash may expose the command as committed.
 ///
 /// In contracts the value of a desk is the connection of its store (`Held S`), and `t` are the rows
 /// that the store holds.
@@ -97,18 +100,21 @@ impl<S: Alter> Desk<S> {
     /// - `Refused` with refusal 19, if another command was accepted before under `key`;
     /// - `Refused` with the first reason that applies, if the command is refused.
     ///
-    /// Fails with `Memory` or `Store` only; `Store` may also mean that a row that another row
-    /// requires does not exist, that a lot has no shares, that a number or a sum is out of range,
-    /// or that no number is left for a cash row. A refusal, a stored reply or a fault changes
-    /// nothing in a store that is still open, and records no key. After a fault that closed the
-    /// store a crash may expose the command as committed (`Desk`).
+    /// Fails with `Memory` or `Store` only. `Memory` means that an allocation of the desk's own
+    /// code was refused. `Store` may also mean that the `sqlite` crate ran out of memory, that a
+    /// row that another row requires does not exist, that a lot has no shares, that a number or a
+    /// sum is out of range, or that no number is left for a cash row; none of these closes the
+    /// store. A refusal, a stored reply or a fault changes nothing in a store that is still open,
+    /// and records no key. After a fault that closed the store a crash may expose the command as
+    /// committed (`Desk`).
     ///
     /// A crash after the call exposes a state that a crash before the call could expose, or the
     /// tables after the command; after `Done` it exposes only the tables after the command.
     ///
-    /// Retry after a fault: if the fault closed the store, first open and adopt the file again.
-    /// Under the same key the command is accepted at most once. Without a key a retry may accept it
-    /// twice, so before it read the tables, the reopened ones if the store was closed.
+    /// Retry after a fault: after `Store`, which may have closed the store, first drop the desk,
+    /// and open and adopt the file again. Under the same key the command is accepted at most once.
+    /// Without a key a retry may accept it twice, so before it read the tables, after `Store` those
+    /// of the reopened file.
     pub fn call(
         &mut self,
         alloc: Global,
@@ -254,10 +260,10 @@ impl<S: Alter> Desk<S> {
     }
 
     /// Returns the facts that the explanation of the holding of an account in a security reads: the
-    /// rows of the account and of the security, the completed trades of the account in the
-    /// security, the lots that they opened, the quantity and the last price. Refuses with
-    /// `NoAccount` if the account does not exist, and with `NoSecurity` if the account exists and
-    /// the security does not.
+    /// rows of the account and of the security; the completed trades of the account in the
+    /// security; every lot that they opened, closed ones too, each with its later changes; the
+    /// number of shares held; the last price. Refuses with `NoAccount` if the account does not
+    /// exist, and with `NoSecurity` if the account exists and the security does not.
     ///
     /// Fails with `Memory` or `Store` only; `Store` may also mean that the security has no last
     /// price, or that a trade that changed a lot does not exist or has no price. If the database is

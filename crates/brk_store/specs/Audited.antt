@@ -48,9 +48,8 @@ abbrev pub IsDatabaseAuditResultBySchema : Schema → Database → Option Condit
 IsDatabaseAuditResultBySchema schema db (Some condition.NotEmpty) = ⊥
 -- `Schema`: the database does not have the schema (`DatabaseHasSchema`).
 IsDatabaseAuditResultBySchema schema db (Some condition.Schema) = ¬ DatabaseHasSchema schema db
--- `Form`: the database has the schema, and either it contains no rows with texts in UTF-8 that can
--- be read as rows of the schema (for example a text is not UTF-8), or the audit of its rows returns
--- `Form`.
+-- `Form`: the database has the schema, and either not all of its rows can be read as rows of the
+-- schema with texts in UTF-8, or the audit of its rows returns `Form`.
 IsDatabaseAuditResultBySchema schema db (Some condition.Form) =
     DatabaseHasSchema schema db × ((t : Tables) → HasDeskTablesInSchema schema t db → IsTrue (has_utf8_texts t) → IsAuditResult schema t (Some condition.Form))
 -- Any other result, `None` included, is that of the audit of the rows that the database contains.
@@ -159,7 +158,8 @@ pub record AdoptPost {S : Type 0} (g : Ghosts S) (old new : Held S) (result : Re
   -- and they are committed: by this call, if the database had an older schema.
   pub upgraded : HasCleanDisk (state g new) → IsTrue (state g new).is_open → ConnectionTablesWithDeskNamesAreDeskTables g old
       → OnOk result (UpgradesAuditedRows (state g old).now (state g new).now × ((state g new).committed ≡ (state g new).now))
-  -- At `Ok` the store is open, unless the database had schema 3.
+  -- At `Ok` of an upgrade the store is open. For a database of schema 3 no clause promises it, as
+  -- for a read (`ReadPost`).
   pub open_after_upgrade : HasCleanDisk (state g new) → ConnectionTablesWithDeskNamesAreDeskTables g old
       → OnOk result (ConnectionHasThirdSchema g old ⊎ IsTrue (state g new).is_open)
   -- At an error: if the database is open after the call, it was open before and is unchanged.

@@ -8,10 +8,13 @@
 --   commit; `may_leave` holds of the disk contents that a crash may expose.
 -- - `Trees`: disk contents, the rows of each table and index of a database, by the number of its
 --   tree (compare SQLite's root page).
--- - A store, its connection and its database are *open* (`is_open`) until a fault of the disk
---   closes them: an I/O error, a full disk or a corrupt page (SQLITE_CORRUPT). Nothing else closes
---   them.
--- - *Disk assumption* (`HasCleanDisk`): every read so far returned what was written.
+-- - A store, its connection and its database are *open* (`is_open`) until a failure of their disk
+--   closes them. Only an I/O error, a full disk or file, or a corrupt page (SQLITE_CORRUPT) can do
+--   so, and not each does. In clauses `is_open` is also false once the disk assumption has failed,
+--   so it implies that assumption.
+-- - *Disk assumption* (`HasCleanDisk`): every read so far returned what was written. It does not
+--   include the toolchain's model of a crash (`may_leave`), which supposes that a successful sync
+--   has reached the disk, and limits what a torn write leaves.
 -- - `Survives old new P`: a crash in the state `new` exposes contents that a crash in the state
 --   `old` could expose, or contents that satisfy `P`. With `λ _. ⊥` for `P`: only the former. It
 --   also states that only a fault of the disk closes an open connection, and that a disk assumption

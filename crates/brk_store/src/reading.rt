@@ -49,8 +49,8 @@ impl<S: Alter> Store<S> {
         brk_tables_reference::customer_by_id(&mut tx, id)
     }
 
-    /// Returns the customer with the tax id `tax_id`, or `None` if there is none. If the database
-    /// is still open, it is unchanged. Fails with `Store` only.
+    /// Returns the customer with the tax number `tax_id` (C_TAX_ID), or `None` if there is none. If
+    /// the database is still open, it is unchanged. Fails with `Store` only.
     pub fn customer_by_tax_id(&mut self, tax_id: &TaxId) -> Result<Option<Customer>, Fault>
         ensures read { ReadPost S.Store self.old self.new result (IsFirstMatch Customers abstract_customer (λ r. bytes_eq r.tax_id tax_id.now)) }
         ensures fault { OnErr result (result ≡ Err fault.Store) }

@@ -8,13 +8,17 @@ use std::marker::Model;
 /// have; the type itself ensures only that the connection is in autocommit mode between calls. In
 /// contracts the value of a store is its connection (`Held S`).
 ///
-/// A store, its connection and its database are *open* until their disk fails: an I/O error, a full
-/// disk or a corrupt page (SQLITE_CORRUPT) closes them.
+/// A store, its connection and its database are *open* until a failure of their disk closes them.
+/// Only an I/O error, a full disk or file, or a corrupt page (SQLITE_CORRUPT) can do so, and not
+/// each does. No function of this crate returns whether a store is open: after the fault `Store`,
+/// drop the store, and open and adopt its file again.
 ///
 /// A *crash* is the end of the process or the machine. It *exposes* what the next open of the
 /// database finds, after the `sqlite` crate has recovered the log. The clauses specify a crash
 /// after a call has returned; no clause covers a crash within a call (docs/PROMISES.md, "Trusted
-/// parts").
+/// parts"). The clauses use the toolchain's model of a crash (`may_leave`), which supposes that a
+/// successful sync has reached the disk, and limits what a torn write leaves. The disk assumption
+/// is on reads alone, and does not include this model.
 ///
 /// Under the disk assumption: a store that is still open after a fault is unchanged, and a crash
 /// exposes only its last commit (`crash_of_open_store_exposes_last_commit`); if the fault closed
@@ -78,16 +82,19 @@ impl<S: Alter> Store<S> {
         }
     }
 
-    /// Applies `changes` in order, in one transaction, and commits them. The rows of each table
+    /// Applies `changes` in order, in one transaction, and commits them. A change that updates or
+    /// deletes a row that does not exist changes nothing and is no error. The rows of each table
     /// that is not the desk's are unchanged, unless a foreign key of that table changes or deletes
-    /// them by CASCADE, SET NULL or SET DEFAULT.
+    /// them by CASCADE, SET NULL or SET DEFAULT. The `sqlite` crate runs no trigger, and does not
+    /// write a table that has one.
     ///
     /// Fails with `Store` only, which may also mean that a row to add exists or breaks another
-    /// constraint of its table. The rows and the open database are then unchanged.
+    /// constraint of its table, or that the `sqlite` crate ran out of memory; none of these closes
+    /// the store. At an error the rows and the open database are unchanged.
     ///
-    /// A crash after the call exposes a state that a crash before the call could expose, or the
-    /// tables with all changes; after `Ok` only the latter. After an error it may expose the tables
-    /// with all changes only if the store is closed.
+    /// A crash after the call exposes a state that a crash before the call could expose or, in the
+    /// desk's tables, the rows with all changes; after `Ok` only the latter. After an error it may
+    /// expose the rows with all changes only if the store is closed.
     pub fn apply(&mut self, changes: &[Change]) -> Result<(), Fault>
         ensures applied { ApplyPost S.Store self.old self.new result (tables_after_changes changes.now) }
         ensures fault { OnErr result (result ≡ Err fault.Store) }

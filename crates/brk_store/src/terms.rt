@@ -21,8 +21,9 @@ use std::alloc::Global;
 
 #[tactic(auto, using(crate::proofs::Ending::is_read_of))]
 impl<S: Alter> Store<S> {
-    /// Returns the permission of an account for a tax id, or `None` if there is none. If the
-    /// database is still open, it is unchanged. Fails with `Store` only.
+    /// Returns the permission for a person to order for an account, by the person's tax number
+    /// (AP_TAX_ID), or `None` if there is none. If the database is still open, it is unchanged.
+    /// Fails with `Store` only.
     pub fn permission(&mut self, account: Id, tax_id: &TaxId) -> Result<Option<Permission>, Fault>
         ensures read { ReadPost S.Store self.old self.new result (IsFirstMatch Permissions abstract_permission (λ r. (r.account == account)
             && bytes_eq r.tax_id tax_id.now)) }

@@ -53,9 +53,10 @@ impl<S: Alter> Store<S> {
         brk_tables_trading::submitted_trades(&mut tx, alloc)
     }
 
-    /// Returns the requests (TRADE_REQUEST: pending trades) of a symbol and a trade type with a bid
-    /// of at least `price`, in cents, sorted by trade, ascending. If the database is still open, it
-    /// is unchanged. Fails with `Memory` or `Store`.
+    /// Returns the requests (TRADE_REQUEST: pending trades) of a symbol and a trade type with an
+    /// order price (TR_BID_PRICE: the limit or stop price) of at least `price`, in cents, sorted by
+    /// trade, ascending. If the database is still open, it is unchanged. Fails with `Memory` or
+    /// `Store`.
     pub fn requests_at_or_above(
         &mut self,
         alloc: Global,
@@ -71,9 +72,10 @@ impl<S: Alter> Store<S> {
         brk_tables_trading::requests_with_bid_at_least(&mut tx, alloc, symbol, kind, price)
     }
 
-    /// Returns the requests (TRADE_REQUEST: pending trades) of a symbol and a trade type with a bid
-    /// of at most `price`, in cents, sorted by trade, ascending. If the database is still open, it
-    /// is unchanged. Fails with `Memory` or `Store`.
+    /// Returns the requests (TRADE_REQUEST: pending trades) of a symbol and a trade type with an
+    /// order price (TR_BID_PRICE: the limit or stop price) of at most `price`, in cents, sorted by
+    /// trade, ascending. If the database is still open, it is unchanged. Fails with `Memory` or
+    /// `Store`.
     pub fn requests_at_or_below(
         &mut self,
         alloc: Global,

@@ -17,8 +17,8 @@ ghost use Rattle.brk_trade_theorems.specs.MovePlans.{PlanMovementPrecondition, P
 ghost use Rattle.brk_trade_theorems.specs.Plans.{PlanImplementsCommand};
 
 /// Proves, under `PlanMovementPrecondition`, that the checks of a deposit or a withdrawal against
-/// the facts refuse it exactly as the model does, and that the plan of the movement implements the
-/// command.
+/// the facts, followed by the check that a later stamp exists (`later_stamp_check`), refuse it
+/// exactly as the model does, and that the plan of the movement implements the command.
 pub fn movement_plans_implement_commands()
     ensures first { (base : Base) (m : Movement) (found : MovementPlanFacts) (last : Option ℕ) (now : ℕ) → PlanMovementPrecondition base m found last now
         → first_refusal (movement_checks m found ++ later_stamp_check last now ∷ []) ≡ refusal_of_command base now (movement_command m) }

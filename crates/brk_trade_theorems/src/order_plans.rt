@@ -35,9 +35,10 @@ pub fn terms_from_order_facts_match_the_base()
         → first_refusal (order_checks found) ≡ None → AreOrderTermsInBase base (abstract_order order) (terms_of_order order found) }
 {}
 
-/// Proves, under `PlanOrderPrecondition`, that the checks of an order against the facts refuse it
-/// exactly as the model does, and that the plan of an order from the lots of its account and symbol
-/// implements the command.
+/// Proves, under `PlanOrderPrecondition`, that the checks of an order against the facts, followed
+/// by the checks that a free trade id (`free_trade_id_check`) and a later stamp
+/// (`later_stamp_check`) exist, refuse it exactly as the model does, and that the plan of an order
+/// from the lots of its account and symbol implements the command.
 pub fn order_plans_implement_commands()
     ensures first { (base : Base) (order : Order) (found : OrderPlanFacts) (last : Option ℕ) (now : ℕ) → PlanOrderPrecondition base order found last now
         → first_refusal (order_checks found ++ free_trade_id_check found.last_trade ∷ later_stamp_check last now ∷ [])

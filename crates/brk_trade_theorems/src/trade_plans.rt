@@ -26,7 +26,8 @@ ghost use Rattle.brk_trade_theorems.specs.TradePlans.{AreQuotesOfTicks, IsQuoteO
 ghost use Rattle.brk_book_theorems.specs.TradeReads.{last_trade_row_of_symbol};
 
 /// Proves, under `PlanCancelPrecondition`, that the checks of a cancel against the status of its
-/// trade refuse it exactly as the model does, and that the plan of a cancel implements the command.
+/// trade, followed by the check that a later stamp exists (`later_stamp_check`), refuse it exactly
+/// as the model does, and that the plan of a cancel implements the command.
 pub fn cancel_plans_implement_commands()
     ensures first { (base : Base) (id : ℕ) (found : Option Status) (last : Option ℕ) (now : ℕ) → PlanCancelPrecondition base id found last now
         → first_refusal (cancel_checks found ++ later_stamp_check last now ∷ []) ≡ refusal_of_command base now (CancelTrade id) }
@@ -38,8 +39,8 @@ pub fn cancel_plans_implement_commands()
 {}
 
 /// Proves, under `PlanFeedPrecondition`, that the checks of a feed against the quotes of its
-/// symbols, at any stamp, refuse it exactly as the model does, and that the plan of a feed
-/// implements the command.
+/// symbols, at any stamp, followed by the check that a later stamp exists (`later_stamp_check`),
+/// refuse it exactly as the model does, and that the plan of a feed implements the command.
 pub fn feed_plans_implement_commands()
     ensures first { (base : Base) (stamp : ℕ) (ticks : List Tick) (quotes : List SymbolState) (last : Option ℕ) (now : ℕ)
         → PlanFeedPrecondition base ticks quotes last now
