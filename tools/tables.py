@@ -165,7 +165,7 @@ use Rattle.sqlite_draft.specs.declared.join.Step.TheVariants.{{Inner}}
 use Rattle.sqlite_draft.specs.declared.query.Draft.{{Draft}}
 use Rattle.sqlite_draft.specs.Query.{{query_of}}
 use Rattle.sqlite_tied.specs.Compute.{{everything}}
-use Rattle.brk_sql.specs.Partly.{{lowering}}
+use Rattle.brk_sql.specs.Partly.{{sql_lowering_definitions}}
 use Rattle.brk_sql.specs.Desk.{{integer_column, text_column, nullable_integer_column, IsTableAt}}
 use Rattle.brk_sql.proofs.Meant.{{meant, inserts, updates_or, deletes_or, reads_or}}
 use Rattle.brk_sql.proofs.Pick.{{selection, whole_page}}
@@ -261,7 +261,7 @@ abbrev pub draft : ℕ → Draft
 draft tree = simple (Inner tree ∷ []) terms project
 
 draft_is : (schema : Schema) (at tree : ℕ) → slice_get schema.tables at ≡ Some ({t}_table tree) → updated schema at ({t}_table tree) sets (Some test) ≡ Ok (draft tree)
-unfolding lowering
+unfolding sql_lowering_definitions
 draft_is schema at tree found = rw ({", ".join(test_lemmas(t, tests, '[]', False))})
 
 pub understood_as : (schema : Schema) (at tree : ℕ) → IsTableAt schema ({t}_table tree) at
@@ -292,7 +292,7 @@ abbrev pub draft : ℕ → Draft
 draft tree = simple (Inner tree ∷ []) terms project
 
 draft_is : (schema : Schema) (at tree : ℕ) → slice_get schema.tables at ≡ Some ({t}_table tree) → deleted schema at ({t}_table tree) test ≡ Ok (draft tree)
-unfolding lowering
+unfolding sql_lowering_definitions
 draft_is schema at tree found = {proof}
 
 pub understood_as : (schema : Schema) (at tree : ℕ) → IsTableAt schema ({t}_table tree) at
@@ -413,17 +413,17 @@ module _ (schema : Schema) (at tree : ℕ) (h : IsTableAt schema ({t}_table tree
   found = h.found
 
   shows : result lower (outermost schema) (level_one ({q(sql)}) at []) core (fresh 2 max_budget) ≡ Ok (columns, after {n1} {last1})
-  unfolding lowering
+  unfolding sql_lowering_definitions
   shows =
       rw ({shows})
 
   matches : matching lower (outermost schema) (level_one ({q(sql)}) at columns) core (after {n1} {last1})
       ≡ Ok (record {{ steps = Inner tree ∷ []; filter = terms }}, after {n2} {last2})
-  unfolding lowering
+  unfolding sql_lowering_definitions
   matches = {matches}
 
   sorted : sorts lower (inside schema (level_one ({q(sql)}) at columns) false) columns by (after {n2} {last2}) ≡ Ok ((draft tree).order, after {n3} {last3})
-  unfolding lowering
+  unfolding sql_lowering_definitions
   sorted =
       rw ({sorts_l})
 
@@ -806,9 +806,9 @@ def by_schema():
     added = {word: tables for word, tables in since()}
     lacking = lambda tables: [d for d in DATA if d not in tables]
     return [
-        ('in_first', 'the tables of the first schema', lacking(added['second'])),
-        ('in_second', 'the tables of the second schema', lacking(added['third'])),
-        ('in_third', 'the tables of the third schema', DATA),
+        ('tables_of_first_schema', 'the tables of the first schema', lacking(added['second'])),
+        ('tables_of_second_schema', 'the tables of the second schema', lacking(added['third'])),
+        ('tables_of_third_schema', 'the tables of the third schema', DATA),
         ('added_after_first', 'the tables that the second and the third schema add', added['second']),
         ('added_after_second', 'the tables that the third schema adds', added['third']),
     ]

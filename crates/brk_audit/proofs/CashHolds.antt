@@ -21,10 +21,10 @@ use Rattle.brk_changes.specs.declared.move_row.MoveRow as move
 use Rattle.brk_changes.specs.declared.cash_row.CashRow as cash
 use Rattle.brk_audit_sums.specs.AccountTerms.{account_tax_status_in_terms}
 use Rattle.brk_audit_sums.specs.Conditions.{HasValidStatuses}
-use Rattle.brk_audit.specs.Posted.{abstract_posted_figures}
+use Rattle.brk_audit.specs.CashMoveFigures.{abstract_posted_figures}
 use Rattle.brk_audit_sums.specs.Settling.{MoveRowFigures, settlement_amount_at_tax_status, is_completed_cash_trade, is_numbered_by_stamp, posted_figures_of_trade, posted_figures_of_row, account_tax_status_or_untaxed}
 use Rattle.brk_audit_sums.specs.declared.account_terms.AccountTerms.{AccountTerms}
-use Rattle.brk_audit.specs.declared.cash.Posted as code
+use Rattle.brk_audit.specs.declared.cash.CashMoveFigures as code
 use Rattle.brk_audit_sums.proofs.AccountTerms.{HasTerms, same_tax_statuses}
 use Rattle.brk_audit.proofs.CashMoves.{cash_by_moves}
 
@@ -48,13 +48,13 @@ pub record IsSortedOwn (s : Sheets) (own : List MoveRowFigures) : Type 0 where
   pub permutation : IsPermutation (filter_map posted_figures_of_row (abstract_sheets s).moves) own
   pub order : Ascends (λ p. p.trade) own
 
-pub sorted_own : (s : Sheets) (rows sorted : List code.Posted) (ms : List move.MoveRow) → ms ≡ s.moves.items → map abstract_posted_figures rows ≡ filter_map (λ r. posted_figures_of_row (abstract_move_row r)) ms
-    → IsPermutation rows sorted → IsNonDecreasingBy (λ (p : code.Posted). p.trade) sorted → IsSortedOwn s (map abstract_posted_figures sorted)
+pub sorted_own : (s : Sheets) (rows sorted : List code.CashMoveFigures) (ms : List move.MoveRow) → ms ≡ s.moves.items → map abstract_posted_figures rows ≡ filter_map (λ r. posted_figures_of_row (abstract_move_row r)) ms
+    → IsPermutation rows sorted → IsNonDecreasingBy (λ (p : code.CashMoveFigures). p.trade) sorted → IsSortedOwn s (map abstract_posted_figures sorted)
 sorted_own s rows sorted ms e a p n =
     let all : map abstract_posted_figures rows ≡ filter_map posted_figures_of_row (map abstract_move_row s.moves.items) = a ∙ ap (filter_map (λ r. posted_figures_of_row (abstract_move_row r))) e ∙ posted_rows s.moves.items in
     record {
       permutation = subst (λ (xs : List MoveRowFigures). IsPermutation xs (map abstract_posted_figures sorted)) all (IsPermutation-map abstract_posted_figures rows sorted p);
-      order = ascends_map (λ (p : MoveRowFigures). p.trade) abstract_posted_figures sorted (ascends (λ (p : code.Posted). p.trade) sorted n);
+      order = ascends_map (λ (p : MoveRowFigures). p.trade) abstract_posted_figures sorted (ascends (λ (p : code.CashMoveFigures). p.trade) sorted n);
     }
 
 pub record AreTold (s : Sheets) (terms : BTreeMap ℕ AccountTerms) (own : List MoveRowFigures) (ms : List move.MoveRow) (ts : List trade.TradeRow) : Type 0 where

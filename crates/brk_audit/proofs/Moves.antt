@@ -11,7 +11,7 @@ use Rattle.brk_model.specs.Tables.{HoldingHistoryRow, holding_history_row}
 use Rattle.brk_lots.specs.HistoryRows.{row_changes_quantity, holding_history_rows_of_deals}
 use Rattle.brk_lots.specs.Chains.{lot_changes_of_deal, opening_touch, lot_changes_of_deals}
 use Rattle.brk_lots.specs.Deals.{AreAscendingDeals, IsLaterDeal}
-use Rattle.brk_lots.specs.Lots.{list_in_closing_order}
+use Rattle.brk_lots.specs.Lots.{list_reversed_if_lifo}
 use Rattle.brk_lots.proofs.Changes.{all_firsts}
 use Rattle.brk_lots.proofs.Deals.{IsOlder, all_after, older_after}
 use Rattle.brk_lots.proofs.History.{history_rows}
@@ -160,7 +160,7 @@ without_firsts (u ∷ us) t e = by_test (u.trade == t) refl (without_firsts us t
 abbrev pub by_lot : (HoldingHistoryRow → ℕ) → Deal → List Share → ℕ → ℕ
 by_lot f d us t = cond (changes_lot_quantity (touch_of_lot t d us)) (f (holding_history_row d.trade (touch_of_lot t d us))) 0
 
-sum_end : {X : Type 0} (f : X → ℕ) (b : Bool) (xs : List X) → sum_by f (list_in_closing_order b xs) ≡ sum_by f xs
+sum_end : {X : Type 0} (f : X → ℕ) (b : Bool) (xs : List X) → sum_by f (list_reversed_if_lifo b xs) ≡ sum_by f xs
 sum_end f true xs = permuted xs (reverse xs) (IsPermutation-reverse xs) f
 sum_end f false xs = refl
 
@@ -178,8 +178,8 @@ deal_sum ks u d us fresh m f =
     let h : Touch → ℕ = λ t. f (holding_history_row d.trade t) in
     let opened : List Touch = map opening_touch (lots_of_shares (opened_shares d us)) in
     let ws : List Share = us ++ shares_after_deal us d in
-    sum_map f (holding_history_row d.trade) (list_in_closing_order d.is_lifo (touches_of_existing_lots d us) ++ opened)
-    ∙ sum_append h (list_in_closing_order d.is_lifo (touches_of_existing_lots d us)) opened
+    sum_map f (holding_history_row d.trade) (list_reversed_if_lifo d.is_lifo (touches_of_existing_lots d us) ++ opened)
+    ∙ sum_append h (list_reversed_if_lifo d.is_lifo (touches_of_existing_lots d us)) opened
     ∙ ap (λ n. n + sum_by h opened) (sum_end h d.is_lifo (touches_of_existing_lots d us))
     ∙ sym (sum_append h (touches_of_existing_lots d us) opened)
     ∙ ap (sum_by h) (sym (history_rows d us fresh))

@@ -1,3 +1,3 @@
+pub mod CashMoveFigures
 pub mod Positions
-pub mod Posted
 pub mod Statuses

@@ -1,5 +1,5 @@
 ghost use Rattle.std.specs.List.{filter_map};
-ghost use Rattle.brk_audit.specs.Posted.{abstract_posted_figures};
+ghost use Rattle.brk_audit.specs.CashMoveFigures.{abstract_posted_figures};
 ghost use Rattle.std.specs.Prelude.{◌≡◌, ◌↔◌, ◌==◌, ◌&&◌, map, filter, nat_le, option_map, IfErr, IfOk, IsTrue, MatchOption};
 ghost use Rattle.brk_money.specs.declared.fault.Condition.TheVariants.{Cash, Form};
 ghost use Rattle.brk_money.specs.declared.fault.Fault.TheVariants.{Memory};
@@ -92,7 +92,7 @@ fn cash_rows_match_trades(
 
 // The account, the trade, the stamp and the amount of a row of CASH_MOVE that belongs to a trade.
 #[derive(Clone, Copy, Drop)]
-struct Posted {
+struct CashMoveFigures {
     account: Id,
     trade: Id,
     stamp: Stamp,
@@ -101,11 +101,11 @@ struct Posted {
 
 // Returns the account, the trade, the stamp and the amount of the row of CASH_MOVE, or `None` if it
 // belongs to no trade.
-fn posted_figures_of_move_row(row: &MoveRow) -> Option<Posted>
+fn posted_figures_of_move_row(row: &MoveRow) -> Option<CashMoveFigures>
     ensures { option_map abstract_posted_figures result ≡ posted_figures_of_row (abstract_move_row row.now) }
 {
     let trade = row.trade?;
-    Some(Posted {
+    Some(CashMoveFigures {
         account: row.account,
         trade,
         stamp: row.stamp,
@@ -115,7 +115,10 @@ fn posted_figures_of_move_row(row: &MoveRow) -> Option<Posted>
 
 // Returns the account, the trade, the stamp and the amount of each row of CASH_MOVE that belongs to
 // a trade, in the order of the rows. Fails with `Memory` only.
-fn posted_figures_of_move_rows(alloc: Global, moves: &[MoveRow]) -> Result<Vec<Posted>, Fault>
+fn posted_figures_of_move_rows(
+    alloc: Global,
+    moves: &[MoveRow],
+) -> Result<Vec<CashMoveFigures>, Fault>
     ensures all { IfOk result (λ all. map abstract_posted_figures all.items ≡ filter_map (λ r. posted_figures_of_row (abstract_move_row r)) moves.now) }
     ensures fault { IfErr result (λ fault. fault ≡ Memory) }
 {
@@ -130,7 +133,7 @@ fn posted_figures_of_move_rows(alloc: Global, moves: &[MoveRow]) -> Result<Vec<P
 
 // Returns true if the figures of a row of CASH_MOVE are the account, the id and the stamp of the
 // completed trade, and its settlement amount at the tax status `tax_status`.
-fn has_figures_of_trade(row: Posted, trade: &TradeRow, tax_status: TaxStatus) -> bool
+fn has_figures_of_trade(row: CashMoveFigures, trade: &TradeRow, tax_status: TaxStatus) -> bool
     ensures { IsTrue result
         ↔ ((row.account ≡ trade.now.account) × (row.trade ≡ trade.now.id) × (row.stamp ≡ trade.now.stamp)
         × (row.amount ≡ settlement_amount_at_tax_status tax_status (abstract_trade_row trade.now))) }
@@ -145,10 +148,10 @@ fn has_figures_of_trade(row: Posted, trade: &TradeRow, tax_status: TaxStatus) ->
 // completed cash trade. Returns `None` if `trade` is a completed cash trade and `rows` does not
 // begin with its figures.
 fn posted_rows_after_trade<'a>(
-    rows: &'a [Posted],
+    rows: &'a [CashMoveFigures],
     trade: &TradeRow,
     terms: &BTreeMap<u64, AccountTerms>,
-) -> Option<&'a [Posted]>
+) -> Option<&'a [CashMoveFigures]>
     ensures { MatchOption result
         (RowsCannotMatchTrades (λ p. p) (posted_figures_of_trade (account_tax_status_in_terms terms.now)) is_completed_cash_trade
         (map abstract_posted_figures rows.now) (abstract_trade_row trade.now))
@@ -170,8 +173,8 @@ fn posted_rows_after_trade<'a>(
 
 // Returns true if the figures of rows of CASH_MOVE are exactly the figures of the completed cash
 // trades, in the order of the trades.
-fn posted_rows_match_trades(
-    rows: &[Posted],
+fn cash_move_figures_match_trades(
+    rows: &[CashMoveFigures],
     trades: &[TradeRow],
     terms: &BTreeMap<u64, AccountTerms>,
 ) -> bool
@@ -235,6 +238,6 @@ pub(crate) fn cash_condition_holds(
     rows.sort_unstable_by_key(|row| row.trade.get());
     let no_others = sheets.cash.is_empty();
     let in_turn = move_rows_are_numbered_by_stamp(&sheets.moves);
-    let posted = posted_rows_match_trades(&rows, &sheets.trades, &terms);
+    let posted = cash_move_figures_match_trades(&rows, &sheets.trades, &terms);
     Ok(all_three_true(no_others, in_turn, posted))
 }

@@ -158,7 +158,10 @@ fn move_row_is_well_formed(alloc: Global, sheets: &Sheets, row: &MoveRow) -> Res
 
 /// Returns true if each row of CASH_TRANSACTION is well-formed (`cash_row_is_well_formed`). The
 /// tables must be sorted by key. Fails with `Memory` only.
-pub(crate) fn all_cash_rows_well_formed(alloc: Global, sheets: &Sheets) -> Result<bool, Fault>
+pub(crate) fn all_cash_transaction_rows_well_formed(
+    alloc: Global,
+    sheets: &Sheets,
+) -> Result<bool, Fault>
     requires { HasSortedKeys sheets.now }
     ensures value { IfOk result (λ holds. holds
         ≡ list_all (form.is_well_formed_cash_row (abstract_sheets sheets.now)) (map abstract_cash_row sheets.now.cash.items)) }

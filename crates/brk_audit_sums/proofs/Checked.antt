@@ -20,14 +20,14 @@ use Rattle.brk_audit_sums.specs.declared.account_terms.AccountTerms.{AccountTerm
 use Rattle.brk_book_theorems.proofs.Places.{filter-append}
 use Rattle.brk_book_theorems.proofs.Worth.{total-append}
 use Rattle.brk_book_theorems.proofs.Same.{All-map, All-mapped, All-of, filter-same, total_by-same}
-use Rattle.brk_audit_sums.specs.declared.tally.Posting.{Posting}
+use Rattle.brk_audit_sums.specs.declared.tally.KeyedAmount.{KeyedAmount}
 use Rattle.brk_audit_sums.specs.Tally.{sum_at_key, total_amount_at_key}
 use Rattle.brk_audit_sums.proofs.AccountTerms.{HasTerms, same_brokers}
 use Rattle.brk_audit_sums.proofs.Postings.{total_mapped, total_posted}
 
 -- the sum of what is posted of rows in types, as one over the rows that they are
 pub posted_sum : (p : TradeRow → Bool) (k j : TradeRow → ℕ) (a b : TradeRow → ℤ) (rows : List trade.TradeRow) (q : ℕ) → ((r : TradeRow) → k r ≡ j r) → ((r : TradeRow) → a r ≡ b r)
-    → total_amount_at_key nat_cmp (filter_map {Y = Posting ℕ} (λ r. cond (p (abstract_trade_row r)) (Some (record { key = k (abstract_trade_row r); amount = a (abstract_trade_row r) })) None) rows) q
+    → total_amount_at_key nat_cmp (filter_map {Y = KeyedAmount ℕ} (λ r. cond (p (abstract_trade_row r)) (Some (record { key = k (abstract_trade_row r); amount = a (abstract_trade_row r) })) None) rows) q
     ≡ total_by b (filter (λ r. p r && (j r == q)) (map abstract_trade_row rows))
 posted_sum p k j a b rows q e f =
     total_posted nat_cmp (λ r. p (abstract_trade_row r)) (λ r. k (abstract_trade_row r)) (λ r. a (abstract_trade_row r)) rows q
@@ -41,7 +41,7 @@ posted_sum p k j a b rows q e f =
     same_key r = sym (unsigned_ties (k r) q) ∙ ap (λ n. n == q) (e r)
 
 -- the sums of what completed trades post at brokers, as sums over the tables
-pub broker_sums : (s : Sheets) (terms : BTreeMap ℕ AccountTerms) (amount : TradeRow → ℤ) (sums : BTreeMap ℕ ℤ) (postings : List (Posting ℕ)) → HasTerms terms s.accounts.items
+pub broker_sums : (s : Sheets) (terms : BTreeMap ℕ AccountTerms) (amount : TradeRow → ℤ) (sums : BTreeMap ℕ ℤ) (postings : List (KeyedAmount ℕ)) → HasTerms terms s.accounts.items
     → ((q : ℕ) → sum_at_key nat_cmp sums q ≡ total_amount_at_key nat_cmp postings q)
     → postings ≡ filter_map (λ r. broker_posting_of_row (account_broker_in_terms terms) (abstract_trade_row r) (amount (abstract_trade_row r))) s.trades.items
     → (q : ℕ) → sum_at_key nat_cmp sums q ≡ sum_over_broker_trades (abstract_sheets s) amount q
@@ -59,7 +59,7 @@ moved_sum rows q =
     ∙ sym (total_mapped (λ r. r.amount) (λ r. is_none r.trade && (r.account == q)) abstract_move_row rows)
 
 -- the sums of two lists of postings
-pub total_both : (ps qs : List (Posting ℕ)) (q : ℕ) → total_amount_at_key nat_cmp (ps ++ qs) q ≡ total_amount_at_key nat_cmp ps q +ℤ total_amount_at_key nat_cmp qs q
+pub total_both : (ps qs : List (KeyedAmount ℕ)) (q : ℕ) → total_amount_at_key nat_cmp (ps ++ qs) q ≡ total_amount_at_key nat_cmp ps q +ℤ total_amount_at_key nat_cmp qs q
 total_both ps qs q =
     ap (total_by (λ p. p.amount)) (filter-append (λ p. is_eq (nat_cmp p.key q)) ps qs)
     ∙ total-append (λ p. p.amount) (filter (λ p. is_eq (nat_cmp p.key q)) ps) (filter (λ p. is_eq (nat_cmp p.key q)) qs)

@@ -10,23 +10,23 @@ use Rattle.brk_model.specs.Lists.{total_by}
 use Rattle.brk_book_theorems.proofs.SumReading.{total-map}
 use Rattle.brk_book_theorems.proofs.Same.{map-last}
 use Rattle.brk_audit_theorems.proofs.AdoptedBooks.{filter-map}
-use Rattle.brk_audit_sums.specs.declared.tally.Posting.{Posting}
+use Rattle.brk_audit_sums.specs.declared.tally.KeyedAmount.{KeyedAmount}
 use Rattle.brk_audit_sums.specs.Tally.{total_amount_at_key}
 
 pub total_mapped : {X Y : Type 0} (f : Y → ℤ) (p : Y → Bool) (g : X → Y) (xs : List X) → total_by f (filter p (map g xs)) ≡ total_by (λ x. f (g x)) (filter (λ x. p (g x)) xs)
 total_mapped f p g xs = ap (total_by f) (filter-map p g xs) ∙ total-map f g (filter (λ x. p (g x)) xs)
 
 pub total_posted : {K X : Type 0} (cmp : K → K → Ordering) (p : X → Bool) (k : X → K) (a : X → ℤ) (xs : List X) (q : K)
-    → total_amount_at_key cmp (filter_map {Y = Posting K} (λ x. cond (p x) (Some (record { key = k x; amount = a x })) None) xs) q ≡ total_by a (filter (λ x. p x && is_eq (cmp (k x) q)) xs)
+    → total_amount_at_key cmp (filter_map {Y = KeyedAmount K} (λ x. cond (p x) (Some (record { key = k x; amount = a x })) None) xs) q ≡ total_by a (filter (λ x. p x && is_eq (cmp (k x) q)) xs)
 unfolding total_by
 total_posted cmp p k a [] q = refl
 total_posted {K = K} {X = X} cmp p k a (x ∷ xs) q = by_tests (p x) (is_eq (cmp (k x) q)) refl (total_posted cmp p k a xs q)
   where
-    posting : Posting K
+    posting : KeyedAmount K
     posting = record { key = k x; amount = a x }
 
-    rest : List (Posting K)
-    rest = filter_map {Y = Posting K} (λ x. cond (p x) (Some (record { key = k x; amount = a x })) None) xs
+    rest : List (KeyedAmount K)
+    rest = filter_map {Y = KeyedAmount K} (λ x. cond (p x) (Some (record { key = k x; amount = a x })) None) xs
 
     more : List X
     more = filter (λ x. p x && is_eq (cmp (k x) q)) xs

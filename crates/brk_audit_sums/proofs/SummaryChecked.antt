@@ -31,7 +31,7 @@ use Rattle.brk_model_theorems.proofs.Conjunctions.{parts10, parts3}
 use Rattle.brk_audit_sums.specs.Completed.{is_completed_row}
 use Rattle.brk_audit_sums.specs.PositionSums.{SummariesMatchTrades, HasNonzeroQuantity, posting_with_owned_symbol, position_cmp, share_posting_of_trade, share_sum_of_completed_trades, share_sum_of_summaries, share_posting_of_summary}
 use Rattle.brk_audit_sums.specs.Tally.{sum_at_key, total_amount_at_key}
-use Rattle.brk_audit_sums.specs.declared.tally.Posting.{Posting}
+use Rattle.brk_audit_sums.specs.declared.tally.KeyedAmount.{KeyedAmount}
 use Rattle.brk_audit_sums.proofs.Checked.{rows_back, rows_hold}
 use Rattle.brk_audit_sums.proofs.Postings.{All-filter_map, total_mapped, total_posted}
 use Rattle.brk_audit_sums.specs.Conditions.{IsWellFormedBySomeSchema}
@@ -54,7 +54,7 @@ is_same_place m n s u = both_equal (nat_cmp m n) (slice_cmp nat_cmp s u) ∙ (λ
 
 -- ---- sums
 
-sum_there : (s : Sheets) (ps : List (Posting Place)) (q : Place) → map posting_with_owned_symbol ps ≡ filter_map (λ r. share_posting_of_trade (abstract_trade_row r)) s.trades.items
+sum_there : (s : Sheets) (ps : List (KeyedAmount Place)) (q : Place) → map posting_with_owned_symbol ps ≡ filter_map (λ r. share_posting_of_trade (abstract_trade_row r)) s.trades.items
     → total_amount_at_key position_cmp ps q ≡ share_sum_of_completed_trades (abstract_sheets s) q.0 q.1.now
 unfolding plain_cmp
 sum_there s ps q e =
@@ -68,7 +68,7 @@ sum_there s ps q e =
     (All-of s.trades.items (λ r i. is_completed_row (abstract_trade_row r) && is_same_place (abstract_trade_row r).account q.0 (abstract_trade_row r).symbol q.1.now i)))
     ∙ sym (total_mapped f (λ r. is_completed_row r && ((r.account == q.0) && bytes_eq r.symbol q.1.now)) abstract_trade_row s.trades.items)
 
-told_there : (s : Sheets) (cs : List (Posting Place)) (q : Place) → map posting_with_owned_symbol cs ≡ map (λ r. share_posting_of_summary (abstract_summary_row r)) s.summaries.items
+told_there : (s : Sheets) (cs : List (KeyedAmount Place)) (q : Place) → map posting_with_owned_symbol cs ≡ map (λ r. share_posting_of_summary (abstract_summary_row r)) s.summaries.items
     → total_amount_at_key position_cmp cs q ≡ share_sum_of_summaries (abstract_sheets s).summaries q.0 q.1.now
 unfolding plain_cmp
 told_there s cs q e =
@@ -95,7 +95,7 @@ trade_known schema t r e =
 summary_known : (schema : Schema) (t : Tables) (h : SummaryRow) → is_well_formed_summary_row schema t h ≡ true → IsKnown t h.account h.symbol
 summary_known schema t h e = let p = parts3 (has_account t h.account) (has_security t h.symbol) (nat_le (nat_abs h.qty) schema.greatest_summary) e in (p.0, p.1)
 
-postings_known : (s : Sheets) (ps : List (Posting Place)) → IsWellFormedBySomeSchema (abstract_sheets s) → map posting_with_owned_symbol ps ≡ filter_map (λ r. share_posting_of_trade (abstract_trade_row r)) s.trades.items
+postings_known : (s : Sheets) (ps : List (KeyedAmount Place)) → IsWellFormedBySomeSchema (abstract_sheets s) → map posting_with_owned_symbol ps ≡ filter_map (λ r. share_posting_of_trade (abstract_trade_row r)) s.trades.items
     → AllByRecursion (λ p. IsKnown (abstract_sheets s) p.key.0 p.key.1.now) ps
 postings_known s ps f e =
     let t : Tables = abstract_sheets s in
@@ -106,7 +106,7 @@ postings_known s ps f e =
     (rows_back (λ r. IsKnown t (abstract_trade_row r).account (abstract_trade_row r).symbol) (λ r. is_well_formed_trade_row f.schema t r ≡ true) abstract_trade_row s.trades.items (λ r. trade_known f.schema t (abstract_trade_row r))
     (list_all_true (is_well_formed_trade_row f.schema t) t.trades (form_parts f.schema t f.form).trades))))
 
-claims_known : (s : Sheets) (cs : List (Posting Place)) → IsWellFormedBySomeSchema (abstract_sheets s) → map posting_with_owned_symbol cs ≡ map (λ r. share_posting_of_summary (abstract_summary_row r)) s.summaries.items
+claims_known : (s : Sheets) (cs : List (KeyedAmount Place)) → IsWellFormedBySomeSchema (abstract_sheets s) → map posting_with_owned_symbol cs ≡ map (λ r. share_posting_of_summary (abstract_summary_row r)) s.summaries.items
     → AllByRecursion (λ p. IsKnown (abstract_sheets s) p.key.0 p.key.1.now) cs
 claims_known s cs f e =
     let t : Tables = abstract_sheets s in
@@ -119,21 +119,21 @@ claims_known s cs f e =
 -- ---- where tallies agree
 
 -- two tallies, of what trades leave and of what summaries tell
-pub record Tallied (s : Sheets) (sums told : BTreeMap Place ℤ) (ps cs : List (Posting Place)) : Type 0 where
+pub record Tallied (s : Sheets) (sums told : BTreeMap Place ℤ) (ps cs : List (KeyedAmount Place)) : Type 0 where
   pub posted : map posting_with_owned_symbol ps ≡ filter_map (λ r. share_posting_of_trade (abstract_trade_row r)) s.trades.items
   pub claimed : map posting_with_owned_symbol cs ≡ map (λ r. share_posting_of_summary (abstract_summary_row r)) s.summaries.items
   pub of_trades : (q : Place) → sum_at_key position_cmp sums q ≡ total_amount_at_key position_cmp ps q
   pub of_rows : (q : Place) → sum_at_key position_cmp told q ≡ total_amount_at_key position_cmp cs q
 
-abbrev pub Agree : BTreeMap Place ℤ → BTreeMap Place ℤ → Posting Place → Type 0
+abbrev pub Agree : BTreeMap Place ℤ → BTreeMap Place ℤ → KeyedAmount Place → Type 0
 Agree sums told p = sum_at_key position_cmp sums p.key ≡ sum_at_key position_cmp told p.key
 
 -- what a list of postings does not name has no sum
-none_there : (ps : List (Posting Place)) (q : Place) → is_some (find (λ p. is_eq (position_cmp p.key q)) ps) ≡ false → total_amount_at_key position_cmp ps q ≡ pos 0
+none_there : (ps : List (KeyedAmount Place)) (q : Place) → is_some (find (λ p. is_eq (position_cmp p.key q)) ps) ≡ false → total_amount_at_key position_cmp ps q ≡ pos 0
 unfolding total_by
 none_there ps q e = ap (total_by (λ p. p.amount)) (filter-none (λ p. is_eq (position_cmp p.key q)) ps (find-none (λ p. is_eq (position_cmp p.key q)) ps e))
 
-module _ (s : Sheets) (sums told : BTreeMap Place ℤ) (ps cs : List (Posting Place)) (w : Tallied s sums told ps cs) where
+module _ (s : Sheets) (sums told : BTreeMap Place ℤ) (ps cs : List (KeyedAmount Place)) (w : Tallied s sums told ps cs) where
   abbrev t : Tables
   t = abstract_sheets s
 
@@ -144,10 +144,10 @@ module _ (s : Sheets) (sums told : BTreeMap Place ℤ) (ps cs : List (Posting Pl
   told_is q = w.of_rows q ∙ told_there s cs q w.claimed
 
   -- they agree at a position that one of some postings names
-  named : (xs : List (Posting Place)) (q : Place) → AllByRecursion (Agree sums told) xs → is_some (find (λ p. is_eq (position_cmp p.key q)) xs) ≡ true
+  named : (xs : List (KeyedAmount Place)) (q : Place) → AllByRecursion (Agree sums told) xs → is_some (find (λ p. is_eq (position_cmp p.key q)) xs) ≡ true
       → share_sum_of_completed_trades t q.0 q.1.now ≡ share_sum_of_summaries t.summaries q.0 q.1.now
   named xs q a e =
-      let f : FoundIn (Posting Place) (λ p. is_eq (position_cmp p.key q)) xs = found_in (λ p. is_eq (position_cmp p.key q)) xs e in
+      let f : FoundIn (KeyedAmount Place) (λ p. is_eq (position_cmp p.key q)) xs = found_in (λ p. is_eq (position_cmp p.key q)) xs e in
       let k = and_parts (f.item.key.0 == q.0) (bytes_eq f.item.key.1.now q.1.now) (sym (is_same_place f.item.key.0 q.0 f.item.key.1.now q.1.now) ∙ f.passes) in
       let m : f.item.key.0 ≡ q.0 = eqb-true f.item.key.0 q.0 k.0 in
       let n : f.item.key.1.now ≡ q.1.now = (bytes_eq-Decides f.item.key.1.now q.1.now).0 k.1 in
@@ -170,7 +170,7 @@ module _ (s : Sheets) (sums told : BTreeMap Place ℤ) (ps cs : List (Posting Pl
     nonzero = rows_hold (λ r. is_zero r.qty ≡ false) HasNonzeroQuantity abstract_summary_row s.summaries.items (λ r h. h) n;
   }
 
-  known_agree : (xs : List (Posting Place)) → SummariesMatchTrades t → AllByRecursion (λ p. IsKnown t p.key.0 p.key.1.now) xs → AllByRecursion (Agree sums told) xs
+  known_agree : (xs : List (KeyedAmount Place)) → SummariesMatchTrades t → AllByRecursion (λ p. IsKnown t p.key.0 p.key.1.now) xs → AllByRecursion (Agree sums told) xs
   known_agree xs h k = All-map xs (λ p e. sum_is p.key ∙ h.sums p.key.0 p.key.1.now e.0 e.1 ∙ sym (told_is p.key)) k
 
   pub they_agree : IsWellFormedBySomeSchema t → SummariesMatchTrades t

@@ -9,7 +9,7 @@ use Rattle.std.specs.BTreeMap.{BTreeMap, Updates, get, get_by}
 use Rattle.std.specs.Map.{lookup}
 use Rattle.std.proofs.Math.IntN.{+ℤ_idr}
 use Rattle.std.proofs.lemmas.List.Elements.{filter_more}
-use Rattle.brk_audit_sums.specs.declared.tally.Posting.{Posting}
+use Rattle.brk_audit_sums.specs.declared.tally.KeyedAmount.{KeyedAmount}
 use Rattle.brk_model.specs.Lists.{total_by}
 use Rattle.brk_book_theorems.proofs.Worth.{total-append}
 use Rattle.brk_audit_sums.specs.Tally.{sum_at_key, total_amount_at_key}
@@ -48,7 +48,7 @@ posted_small {K = K} cmp law m n k sum most s h q = by_place (is_eq (cmp k q)) r
     by_place false e f = let g : nat_abs (sum_at_key cmp n q) ≡ nat_abs (sum_at_key cmp m q) = ap nat_abs f in omega arith
 
 -- the sum at a key, with one more posting
-pub total_more : {K : Type 0} (cmp : K → K → Ordering) (ps : List (Posting K)) (i : ℕ) (p : Posting K) (q : K) → i < length ps
+pub total_more : {K : Type 0} (cmp : K → K → Ordering) (ps : List (KeyedAmount K)) (i : ℕ) (p : KeyedAmount K) (q : K) → i < length ps
     → total_amount_at_key cmp (take (i + 1) ps) q ≡ total_amount_at_key cmp (take i ps) q +ℤ cond (is_eq (cmp (get_or ps i p).key q)) (get_or ps i p).amount (pos 0)
 unfolding total_by
 total_more {K = K} cmp ps i p q h =

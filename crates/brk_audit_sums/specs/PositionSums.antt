@@ -12,7 +12,7 @@ use Rattle.brk_model.specs.Lists.{is_zero, total_by}
 use Rattle.brk_model.specs.Shares.{signed_by_side}
 use Rattle.brk_model.specs.Tables.{Tables, SummaryRow, TradeRow}
 use Rattle.brk_audit_sums.specs.Completed.{is_completed_row}
-use Rattle.brk_audit_sums.specs.declared.tally.Posting.{Posting}
+use Rattle.brk_audit_sums.specs.declared.tally.KeyedAmount.{KeyedAmount}
 
 -- The number of shares that remain after the completed trades of the account in the symbol:
 -- purchases minus sales, below 0 if they are sold short.
@@ -41,15 +41,15 @@ abbrev pub position_cmp : ℕ × Bor (List ℕ) → ℕ × Bor (List ℕ) → Or
 position_cmp x y = ordering_then (nat_cmp x.0 y.0) (slice_cmp nat_cmp x.1.now y.1.now)
 
 -- The posting `p` with the bytes of its symbol in place of a reference to them.
-abbrev pub posting_with_owned_symbol : Posting (ℕ × Bor (List ℕ)) → Posting (ℕ × Text)
+abbrev pub posting_with_owned_symbol : KeyedAmount (ℕ × Bor (List ℕ)) → KeyedAmount (ℕ × Text)
 posting_with_owned_symbol p = record { key = (p.key.0, p.key.1.now); amount = p.amount }
 
 -- The quantity of the trade, negated for a sale, as a posting at its account and symbol, or `None`
 -- if the trade is not completed.
-abbrev pub share_posting_of_trade : TradeRow → Option (Posting (ℕ × Text))
+abbrev pub share_posting_of_trade : TradeRow → Option (KeyedAmount (ℕ × Text))
 share_posting_of_trade r =
     if is_completed_row r then Some (record { key = (r.account, r.symbol); amount = signed_by_side (side_of_trade_type r.kind) r.qty }) else None
 
 -- The quantity of the holding summary as a posting at its account and symbol.
-abbrev pub share_posting_of_summary : SummaryRow → Posting (ℕ × Text)
+abbrev pub share_posting_of_summary : SummaryRow → KeyedAmount (ℕ × Text)
 share_posting_of_summary h = record { key = (h.account, h.symbol); amount = h.qty }

@@ -5,7 +5,7 @@ use Rattle.brk_model.specs.Lists.{total_by}
 use Rattle.brk_model.specs.Tables.{MoveRow, Tables, TradeRow}
 use Rattle.brk_audit_sums.specs.Completed.{is_completed_row}
 use Rattle.brk_audit_sums.specs.Settling.{settlement_amount_at_tax_status, account_broker_or_zero, is_completed_cash_trade}
-use Rattle.brk_audit_sums.specs.declared.tally.Posting.{Posting}
+use Rattle.brk_audit_sums.specs.declared.tally.KeyedAmount.{KeyedAmount}
 
 -- The sum of `amount` over the completed trades of the accounts of the broker with the id `broker`.
 abbrev pub sum_over_broker_trades : Tables → (TradeRow → ℤ) → ℕ → ℤ
@@ -17,12 +17,12 @@ sum_over_account_cash_trades t amount account = total_by amount (filter (λ r. i
 
 -- The amount as a posting at the broker of the trade's account, where `brokers` gives the broker of
 -- an account, or `None` if the trade is not completed.
-abbrev pub broker_posting_of_row : (ℕ → ℕ) → TradeRow → ℤ → Option (Posting ℕ)
+abbrev pub broker_posting_of_row : (ℕ → ℕ) → TradeRow → ℤ → Option (KeyedAmount ℕ)
 broker_posting_of_row brokers r amount = if is_completed_row r then Some (record { key = brokers r.account; amount = amount }) else None
 
 -- The trade's settlement amount, in cents, as a posting at its account, where `statuses` returns
 -- the tax status of an account, or `None` if it is not a completed cash trade.
-abbrev pub cash_posting_of_row : (ℕ → TaxStatus) → TradeRow → Option (Posting ℕ)
+abbrev pub cash_posting_of_row : (ℕ → TaxStatus) → TradeRow → Option (KeyedAmount ℕ)
 cash_posting_of_row statuses r =
     if is_completed_cash_trade r then Some (record { key = r.account; amount = settlement_amount_at_tax_status (statuses r.account) r }) else None
 
@@ -33,5 +33,5 @@ movement_sum_of_account t account = total_by (λ r. r.amount) (filter (λ r. is_
 
 -- The amount of the row of CASH_MOVE, in cents, as a posting at its account, or `None` if the row
 -- belongs to a trade.
-abbrev pub movement_posting_of_row : MoveRow → Option (Posting ℕ)
+abbrev pub movement_posting_of_row : MoveRow → Option (KeyedAmount ℕ)
 movement_posting_of_row r = if is_none r.trade then Some (record { key = r.account; amount = r.amount }) else None

@@ -4,7 +4,7 @@ use Rattle.std.specs.declared.cmp.Ordering.{Ordering}
 use Rattle.std.specs.Ordering.{is_eq}
 use Rattle.std.specs.BTreeMap.{BTreeMap, get}
 use Rattle.brk_model.specs.Lists.{total_by}
-use Rattle.brk_audit_sums.specs.declared.tally.Posting.{Posting}
+use Rattle.brk_audit_sums.specs.declared.tally.KeyedAmount.{KeyedAmount}
 
 -- The sum at the key `q` in the map `sums`, or 0 if the map does not contain the key. The keys are
 -- compared by the order `cmp`.
@@ -12,5 +12,5 @@ abbrev pub sum_at_key : {K : Type 0} → (K → K → Ordering) → BTreeMap K �
 sum_at_key cmp sums q = unwrap_or (get cmp sums q) (pos 0)
 
 -- The sum of the amounts of those postings whose key is equal to `q` by the order `cmp`.
-abbrev pub total_amount_at_key : {K : Type 0} → (K → K → Ordering) → List (Posting K) → K → ℤ
+abbrev pub total_amount_at_key : {K : Type 0} → (K → K → Ordering) → List (KeyedAmount K) → K → ℤ
 total_amount_at_key cmp postings q = total_by (λ p. p.amount) (filter (λ p. is_eq (cmp p.key q)) postings)

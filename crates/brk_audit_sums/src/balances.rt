@@ -16,7 +16,7 @@ use crate::account_terms::{AccountTerms, account_tax_status, account_terms_by_id
 use crate::amounts::settlement_amount_of_row;
 use crate::completion::is_completed;
 use crate::keyed_sum::{KeyedSum, all_rows_have_sums, postings_of_trades};
-use crate::tally::{Posting, sum_or_zero_at_key, tally};
+use crate::tally::{KeyedAmount, sum_amounts_by_key, sum_or_zero_at_key};
 use brk_changes::{MoveRow, Sheets, TradeRow};
 use brk_money::Fault;
 use brk_ref::AccountRow;
@@ -25,7 +25,7 @@ use std::collections::BTreeMap;
 
 // Returns the amount of a deposit or a withdrawal as a posting at its account, or `None` if the row
 // of CASH_MOVE belongs to a trade.
-fn posting_of_movement_row(row: &MoveRow) -> Option<Posting<u64>>
+fn posting_of_movement_row(row: &MoveRow) -> Option<KeyedAmount<u64>>
     ensures { result ≡ movement_posting_of_row (abstract_move_row row.now) }
 {
     if row.trade.is_some() {
@@ -33,12 +33,12 @@ fn posting_of_movement_row(row: &MoveRow) -> Option<Posting<u64>>
     }
     let key = row.account.get();
     let amount = row.amount.get();
-    Some(Posting { key, amount })
+    Some(KeyedAmount { key, amount })
 }
 
 // Appends to `all` the amounts, in cents, of the deposits and withdrawals of `moves` as postings at
 // their accounts, in the order of the rows. Fails with `Memory` only.
-fn append_movement_postings(all: &mut Vec<Posting<u64>>, moves: &[MoveRow]) -> Result<(), Fault>
+fn append_movement_postings(all: &mut Vec<KeyedAmount<u64>>, moves: &[MoveRow]) -> Result<(), Fault>
     ensures all { OnOk result (all.new.items ≡ all.old.items ++ filter_map (λ r. movement_posting_of_row (abstract_move_row r)) moves.now) }
     ensures fault { OnErr result (result ≡ Err Memory) }
 {
@@ -86,13 +86,13 @@ impl KeyedSum for Balances {
     fn posting_of_trade(
         terms: &BTreeMap<u64, AccountTerms>,
         trade: &TradeRow,
-    ) -> Option<Posting<u64>> {
+    ) -> Option<KeyedAmount<u64>> {
         if !is_completed(trade.status) || !trade.is_cash {
             return None;
         }
         let key = trade.account.get();
         let amount = settlement_amount_of_row(trade, account_tax_status(terms, trade.account));
-        Some(Posting { key, amount })
+        Some(KeyedAmount { key, amount })
     }
 
     fn row_has_sum(sums: &BTreeMap<u64, i128>, row: &AccountRow) -> bool {
@@ -113,6 +113,6 @@ pub fn balance_condition_holds(alloc: Global, sheets: &Sheets) -> Result<bool, F
     let terms = account_terms_by_id(alloc, &sheets.accounts)?;
     let mut postings = postings_of_trades::<Balances>(alloc, &terms, &sheets.trades)?;
     append_movement_postings(&mut postings, &sheets.moves)?;
-    let sums = tally(alloc, &postings)?;
+    let sums = sum_amounts_by_key(alloc, &postings)?;
     Ok(all_rows_have_sums::<Balances>(&sums, &sheets.accounts))
 }

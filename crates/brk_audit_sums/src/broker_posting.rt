@@ -5,7 +5,7 @@ ghost use Rattle.brk_audit_sums.specs.Sums.{broker_posting_of_row};
 
 use crate::account_terms::{AccountTerms, account_broker_id};
 use crate::completion::is_completed;
-use crate::tally::Posting;
+use crate::tally::KeyedAmount;
 use brk_changes::TradeRow;
 use std::collections::BTreeMap;
 
@@ -15,12 +15,12 @@ pub(crate) fn posting_at_broker(
     terms: &BTreeMap<u64, AccountTerms>,
     trade: &TradeRow,
     amount: i64,
-) -> Option<Posting<u64>>
+) -> Option<KeyedAmount<u64>>
     ensures { result ≡ broker_posting_of_row (account_broker_in_terms terms.now) (abstract_trade_row trade.now) amount }
 {
     if !is_completed(trade.status) {
         return None;
     }
     let key = account_broker_id(terms, trade.account);
-    Some(Posting { key, amount })
+    Some(KeyedAmount { key, amount })
 }

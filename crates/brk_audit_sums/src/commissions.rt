@@ -13,7 +13,7 @@ ghost use Rattle.brk_audit_sums.specs.Tally.{sum_at_key};
 use crate::account_terms::{AccountTerms, account_terms_by_id};
 use crate::broker_posting::posting_at_broker;
 use crate::keyed_sum::{KeyedSum, all_rows_have_sums, postings_of_trades};
-use crate::tally::{Posting, sum_or_zero_at_key, tally};
+use crate::tally::{KeyedAmount, sum_amounts_by_key, sum_or_zero_at_key};
 use brk_changes::{Sheets, TradeRow};
 use brk_money::Fault;
 use brk_ref::BrokerRow;
@@ -34,7 +34,7 @@ impl KeyedSum for Commissions {
     fn posting_of_trade(
         terms: &BTreeMap<u64, AccountTerms>,
         trade: &TradeRow,
-    ) -> Option<Posting<u64>> {
+    ) -> Option<KeyedAmount<u64>> {
         posting_at_broker(terms, trade, trade.commission.get() as i64)
     }
 
@@ -54,6 +54,6 @@ pub fn commission_condition_holds(alloc: Global, sheets: &Sheets) -> Result<bool
 {
     let terms = account_terms_by_id(alloc, &sheets.accounts)?;
     let postings = postings_of_trades::<Commissions>(alloc, &terms, &sheets.trades)?;
-    let sums = tally(alloc, &postings)?;
+    let sums = sum_amounts_by_key(alloc, &postings)?;
     Ok(all_rows_have_sums::<Commissions>(&sums, &sheets.brokers))
 }

@@ -7,10 +7,10 @@ ghost use Rattle.brk_money.specs.declared.fault.Fault.TheVariants.{Memory};
 ghost use Rattle.brk_model.specs.Tables as tables;
 ghost use Rattle.brk_changes.specs.Rows.{abstract_trade_row};
 ghost use Rattle.brk_audit_sums.specs.declared.account_terms.AccountTerms as terms;
-ghost use Rattle.brk_audit_sums.specs.declared.tally.Posting as posting;
+ghost use Rattle.brk_audit_sums.specs.declared.tally.KeyedAmount as posting;
 
 use crate::account_terms::AccountTerms;
-use crate::tally::Posting;
+use crate::tally::KeyedAmount;
 use brk_changes::TradeRow;
 use brk_money::Fault;
 use std::alloc::Global;
@@ -24,7 +24,7 @@ pub(crate) trait KeyedSum {
 
     /// The amount that a row of TRADE posts by the terms of the accounts, or `None` if it posts
     /// none.
-    ghost posting_of: { BTreeMap ℕ terms.AccountTerms → tables.TradeRow → Option (posting.Posting ℕ) };
+    ghost posting_of: { BTreeMap ℕ terms.AccountTerms → tables.TradeRow → Option (posting.KeyedAmount ℕ) };
 
     /// Holds if the total of a row follows from the sum at its key in the map. A key that the map
     /// does not contain has the sum 0.
@@ -35,7 +35,7 @@ pub(crate) trait KeyedSum {
     fn posting_of_trade(
         terms: &BTreeMap<u64, AccountTerms>,
         trade: &TradeRow,
-    ) -> Option<Posting<u64>>
+    ) -> Option<KeyedAmount<u64>>
         ensures { result ≡ posting_of terms.now (abstract_trade_row trade.now) };
 
     /// Returns true if the total of the row follows from the sum at its key in `sums`.
@@ -48,7 +48,7 @@ pub(crate) fn postings_of_trades<S: KeyedSum>(
     alloc: Global,
     terms: &BTreeMap<u64, AccountTerms>,
     trades: &[TradeRow],
-) -> Result<Vec<Posting<u64>>, Fault>
+) -> Result<Vec<KeyedAmount<u64>>, Fault>
     ensures all { IfOk result (λ all. all.items ≡ filter_map (λ r. S.posting_of terms.now (abstract_trade_row r)) trades.now) }
     ensures fault { IfErr result (λ fault. fault ≡ Memory) }
 {

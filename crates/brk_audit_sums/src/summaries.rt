@@ -13,7 +13,7 @@ ghost use Rattle.brk_audit_sums.specs.PositionSums.{HasNonzeroQuantity, posting_
 ghost use Rattle.brk_audit_sums.specs.Tally.{sum_at_key};
 
 use crate::completion::is_completed;
-use crate::tally::{Posting, sum_or_zero_at_key, tally};
+use crate::tally::{KeyedAmount, sum_amounts_by_key, sum_or_zero_at_key};
 use brk_changes::{Sheets, SummaryRow, TradeRow};
 use brk_money::{Fault, Side};
 use std::alloc::Global;
@@ -31,7 +31,7 @@ fn signed_shares(side: Side, qty: u32) -> i64
 
 // Returns the trade's quantity, negated for a sale, as a posting at its account and symbol, or
 // `None` if the trade is not completed.
-fn share_posting_of_row(trade: &TradeRow) -> Option<Posting<(u64, &str)>>
+fn share_posting_of_row(trade: &TradeRow) -> Option<KeyedAmount<(u64, &str)>>
     ensures { option_map posting_with_owned_symbol result ≡ share_posting_of_trade (abstract_trade_row trade.now) }
 {
     if !is_completed(trade.status) {
@@ -39,7 +39,7 @@ fn share_posting_of_row(trade: &TradeRow) -> Option<Posting<(u64, &str)>>
     }
     let key = (trade.account.get(), trade.symbol.as_str());
     let amount = signed_shares(trade.kind.side(), trade.qty.get());
-    Some(Posting { key, amount })
+    Some(KeyedAmount { key, amount })
 }
 
 // Returns the quantities of all completed trades, negated for sales, as postings at their accounts
@@ -47,7 +47,7 @@ fn share_posting_of_row(trade: &TradeRow) -> Option<Posting<(u64, &str)>>
 fn share_postings_of_trades<'a>(
     alloc: Global,
     trades: &'a [TradeRow],
-) -> Result<Vec<Posting<(u64, &'a str)>>, Fault>
+) -> Result<Vec<KeyedAmount<(u64, &'a str)>>, Fault>
     ensures all { IfOk result (λ all. map posting_with_owned_symbol all.items ≡ filter_map (λ r. share_posting_of_trade (abstract_trade_row r)) trades.now) }
     ensures fault { IfErr result (λ fault. fault ≡ Memory) }
 {
@@ -61,12 +61,12 @@ fn share_postings_of_trades<'a>(
 }
 
 // Returns the quantity of the holding summary as a posting at its account and symbol.
-fn posting_of_summary(row: &SummaryRow) -> Posting<(u64, &str)>
+fn posting_of_summary(row: &SummaryRow) -> KeyedAmount<(u64, &str)>
     ensures { posting_with_owned_symbol result ≡ share_posting_of_summary (abstract_summary_row row.now) }
 {
     let key = (row.account.get(), row.symbol.as_str());
     let amount = row.qty;
-    Posting { key, amount }
+    KeyedAmount { key, amount }
 }
 
 // Returns the quantities of all holding summaries as postings at their accounts and symbols, in the
@@ -74,7 +74,7 @@ fn posting_of_summary(row: &SummaryRow) -> Posting<(u64, &str)>
 fn postings_of_summaries<'a>(
     alloc: Global,
     rows: &'a [SummaryRow],
-) -> Result<Vec<Posting<(u64, &'a str)>>, Fault>
+) -> Result<Vec<KeyedAmount<(u64, &'a str)>>, Fault>
     ensures all { IfOk result (λ all. map posting_with_owned_symbol all.items ≡ map (λ r. share_posting_of_summary (abstract_summary_row r)) rows.now) }
     ensures fault { IfErr result (λ fault. fault ≡ Memory) }
 {
@@ -90,7 +90,7 @@ fn postings_of_summaries<'a>(
 fn sums_agree_at_postings<K: Ord + Copy>(
     sums: &BTreeMap<K, i128>,
     told: &BTreeMap<K, i128>,
-    postings: &[Posting<K>],
+    postings: &[KeyedAmount<K>],
 ) -> bool
     ensures { IsTrue result ↔ AllByRecursion (λ p. sum_at_key K.cmp sums.now p.key ≡ sum_at_key K.cmp told.now p.key) postings.now }
 {
@@ -140,8 +140,8 @@ pub fn summary_condition_holds(alloc: Global, sheets: &Sheets) -> Result<bool, F
 {
     let postings = share_postings_of_trades(alloc, &sheets.trades)?;
     let claims = postings_of_summaries(alloc, &sheets.summaries)?;
-    let sums = tally(alloc, &postings)?;
-    let told = tally(alloc, &claims)?;
+    let sums = sum_amounts_by_key(alloc, &postings)?;
+    let told = sum_amounts_by_key(alloc, &claims)?;
     let each_trade = sums_agree_at_postings(&sums, &told, &postings);
     let each_row = sums_agree_at_postings(&sums, &told, &claims);
     let shares = all_summaries_nonzero(&sheets.summaries);

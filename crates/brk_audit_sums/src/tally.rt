@@ -9,9 +9,9 @@ use brk_money::Fault;
 use std::alloc::Global;
 use std::collections::BTreeMap;
 
-/// An amount, and the key at which a tally adds it to a sum.
+/// An amount, and the key to whose sum it is added.
 #[derive(Drop)]
-pub struct Posting<K> {
+pub struct KeyedAmount<K> {
     pub key: K,
     pub amount: i64,
 }
@@ -30,7 +30,7 @@ fn sum_plus_amount(sum: i128, amount: i64) -> i128
 // `Memory` only.
 fn add_posting<K: Ord + Copy>(
     tally: &mut BTreeMap<K, i128>,
-    posting: &Posting<K>,
+    posting: &KeyedAmount<K>,
 ) -> Result<(), Fault>
     requires room { nat_abs (sum_at_key K.cmp tally.old posting.now.key) + 2 ^ 63 < 2 ^ 127 }
     ensures more { OnOk result ((q : K)
@@ -47,9 +47,9 @@ fn add_posting<K: Ord + Copy>(
 
 /// Returns a map from each key of the postings to the sum of the amounts of the postings with this
 /// key. Fails with `Memory` only.
-pub fn tally<K: Ord + Copy>(
+pub fn sum_amounts_by_key<K: Ord + Copy>(
     alloc: Global,
-    postings: &[Posting<K>],
+    postings: &[KeyedAmount<K>],
 ) -> Result<BTreeMap<K, i128>, Fault>
     ensures sums { IfOk result (λ tally. (q : K) → sum_at_key K.cmp tally q ≡ total_amount_at_key K.cmp postings.now q) }
     ensures fault { IfErr result (λ fault. fault ≡ Memory) }

@@ -4,7 +4,7 @@ use Rattle.std.specs.Prelude.{⊤, fold}
 use Rattle.std.specs.List.{AllByRecursion}
 use Rattle.brk_model.specs.Lists.{insert_by, sort_by}
 use Rattle.brk_model.specs.Keys.{KeyPart, rows_sorted_by_key, insert_row_by_key}
-use Rattle.brk_lots.specs.Lots.{list_in_closing_order}
+use Rattle.brk_lots.specs.Lots.{list_reversed_if_lifo}
 use Rattle.brk_lots.proofs.Ends.{reverse_first}
 use Rattle.brk_book_theorems.proofs.Order.{rows_commute}
 use Rattle.brk_book_theorems.proofs.LotReading.{All-sort, all_pass}
@@ -55,7 +55,7 @@ fold_back f [] s = refl
 fold_back f (x ∷ xs) s = ap (fold (λ s x. f x s) s) (reverse_first x xs) ∙ fold_more f (reverse xs) x s ∙ ap (f x) (fold_back f xs s)
 
 -- from either end
-pub fold_end : {X S : Type 0} (f : X → S → S) (from_back : Bool) (xs : List X) (s : S) → AllCommute f xs → fold (λ s x. f x s) s (list_in_closing_order from_back xs) ≡ each f xs s
+pub fold_end : {X S : Type 0} (f : X → S → S) (from_back : Bool) (xs : List X) (s : S) → AllCommute f xs → fold (λ s x. f x s) s (list_reversed_if_lifo from_back xs) ≡ each f xs s
 fold_end f true xs s h = fold_back f xs s
 fold_end f false xs s h = fold_front f xs s h
 

@@ -15,7 +15,7 @@ use Rattle.brk_model.specs.Shares.{Deal, Share, Touch, closed_share_count_of_dea
 use Rattle.brk_model.specs.Keys.{number, rows_sorted_by_key, holding_history_key, insert_row_by_key}
 use Rattle.brk_model.specs.Tables.{HoldingHistoryRow}
 use Rattle.brk_lots.specs.HistoryRows.{row_changes_quantity, changing_rows_of_lot, holding_history_rows_of_deals}
-use Rattle.brk_lots.specs.Lots.{list_in_closing_order}
+use Rattle.brk_lots.specs.Lots.{list_reversed_if_lifo}
 use Rattle.brk_lots.proofs.Counts.{differ}
 use Rattle.brk_lots.proofs.Deals.{all_after}
 use Rattle.brk_book_theorems.specs.Results.{history_row_of_touch, opening_history_row}
@@ -238,7 +238,7 @@ put_changes id touched rows = fold (λ rows touch. insert_row_by_key holding_his
 
 -- as the deal touches them, from its end
 touched_put : (base : Base) (xs : List Trade) (t : Trade) (ys : List Trade) → Completes base xs t ys → (rows : List HoldingHistoryRow)
-    → each (put_at base t) (filter (is_here t) (completed_trades base)) rows ≡ put_changes t.id (list_in_closing_order t.is_lifo (touches_of_existing_lots (deal_of_trade t) (shares_before base t))) rows
+    → each (put_at base t) (filter (is_here t) (completed_trades base)) rows ≡ put_changes t.id (list_reversed_if_lifo t.is_lifo (touches_of_existing_lots (deal_of_trade t) (shares_before base t))) rows
 touched_put base xs t ys c rows =
     let P : List Trade = trades_of_position (completed_trades base) t.account t.symbol in
     let H : List Trade = trades_held base t.account t.symbol in
@@ -306,7 +306,7 @@ apart_keys id x y e f k = let j : x.trade ≡ y.trade = trade_of x.lot x.trade y
 pub histories_after : (base : Base) (xs : List Trade) (t : Trade) (ys : List Trade) → Completes base xs t ys
     → rows_sorted_by_key holding_history_key (flat_map (changing_rows_of_lot (xs ++ t ∷ ys)) (xs ++ t ∷ ys))
     ≡ put_openings (lots_of_shares (opened_shares (deal_of_trade t) (shares_before base t)))
-    (put_changes t.id (list_in_closing_order t.is_lifo (touches_of_existing_lots (deal_of_trade t) (shares_before base t))) (rows_sorted_by_key holding_history_key (flat_map (changing_rows_of_lot (completed_trades base)) (completed_trades base))))
+    (put_changes t.id (list_reversed_if_lifo t.is_lifo (touches_of_existing_lots (deal_of_trade t) (shares_before base t))) (rows_sorted_by_key holding_history_key (flat_map (changing_rows_of_lot (completed_trades base)) (completed_trades base))))
 histories_after base xs t ys c =
     let K = holding_history_key in
     let old : List HoldingHistoryRow = rows_sorted_by_key K (flat_map (changing_rows_of_lot (completed_trades base)) (completed_trades base)) in
@@ -319,7 +319,7 @@ histories_after base xs t ys c =
     (All-filter (Commute put t) (is_here t) xs (All-map xs (λ v e. own v e) (All-front (λ u. (u.id == t.id) ≡ false) xs ys (subst (NonePass (λ u. u.id == t.id)) c.split c.fresh))))
     ∙ ap (λ vs. put t (each put vs old)) (sym (filter-append (is_here t) xs ys) ∙ ap (filter (is_here t)) (sym c.split))
     ∙ ap (put t) (touched_put base xs t ys c old)
-    ∙ opened_put base xs t ys c (put_changes t.id (list_in_closing_order t.is_lifo (touches_of_existing_lots (deal_of_trade t) (shares_before base t))) old)
+    ∙ opened_put base xs t ys c (put_changes t.id (list_reversed_if_lifo t.is_lifo (touches_of_existing_lots (deal_of_trade t) (shares_before base t))) old)
   where
     own : (v : Trade) → (v.id == t.id) ≡ false → Commute (put_at base t) t v
     own v e = commute_if (λ u. put_change t.id (touch_at base t u)) (λ u. changes_lot_quantity (touch_at base t u)) t v (lots_commute base t t v e)

@@ -15,7 +15,7 @@ use Rattle.brk_model.specs.Shares.{Deal, Touch, closed_share_count_of_deal, chan
 use Rattle.brk_model.specs.Keys.{number, rows_sorted_by_key, holding_key, insert_row_by_key, is_row_key_less}
 use Rattle.brk_model.specs.Sheets.{sheets}
 use Rattle.brk_model.specs.Tables.{HoldingRow, holding_row, trade_row}
-use Rattle.brk_lots.specs.Lots.{list_in_closing_order}
+use Rattle.brk_lots.specs.Lots.{list_reversed_if_lifo}
 use Rattle.brk_lots.proofs.Counts.{all_shares}
 use Rattle.brk_lots.proofs.Ends.{all_back, all_end}
 use Rattle.brk_lots.proofs.History.{opened_qty}
@@ -129,7 +129,7 @@ same_qty base t v e = sym (no_difference (lot_quantity (shares_before base t) v.
     no_difference m n e = equal m n (m -ℤ n) refl e
 
 settled_first : (base : Base) (xs : List Trade) (t : Trade) (ys : List Trade) → Completes base xs t ys
-    → Settled (qty_after (xs ++ t ∷ ys)) (qty_before base) (completed_trades base) (list_in_closing_order t.is_lifo (touches_of_existing_lots (deal_of_trade t) (shares_before base t)))
+    → Settled (qty_after (xs ++ t ∷ ys)) (qty_before base) (completed_trades base) (list_reversed_if_lifo t.is_lifo (touches_of_existing_lots (deal_of_trade t) (shares_before base t)))
 settled_first base xs t ys c =
     let H : List Trade = trades_held base t.account t.symbol in
     let T : List Touch = touches_of_existing_lots (deal_of_trade t) (shares_before base t) in
@@ -151,9 +151,9 @@ between_first before after [] = tt
 between_first before after (v ∷ ts) = (inl refl, between_first before after ts)
 
 pub touched_set : (base : Base) (xs : List Trade) (t : Trade) (ys : List Trade) → Completes base xs t ys
-    → set_lots (list_in_closing_order t.is_lifo (touches_of_existing_lots (deal_of_trade t) (shares_before base t))) (sheets base).holdings ≡ rows_with (qty_after (xs ++ t ∷ ys)) (completed_trades base)
+    → set_lots (list_reversed_if_lifo t.is_lifo (touches_of_existing_lots (deal_of_trade t) (shares_before base t))) (sheets base).holdings ≡ rows_with (qty_after (xs ++ t ∷ ys)) (completed_trades base)
 touched_set base xs t ys c =
-    let ends : List Touch = list_in_closing_order t.is_lifo (touches_of_existing_lots (deal_of_trade t) (shares_before base t)) in
+    let ends : List Touch = list_reversed_if_lifo t.is_lifo (touches_of_existing_lots (deal_of_trade t) (shares_before base t)) in
     ap (set_lots ends) (holdings_in_order base c.books.numbered)
     ∙ all_set (qty_before base) (qty_after (xs ++ t ∷ ys)) ends (qty_before base) (completed_trades base)
     (all_end (Fits (qty_before base) (qty_after (xs ++ t ∷ ys)) (completed_trades base)) t.is_lifo (touches_of_existing_lots (deal_of_trade t) (shares_before base t)) (touch_fits base xs t ys c))
@@ -229,7 +229,7 @@ with_own g xs t ys h b e = ap (rows_sorted_by_key holding_key) (parts b e) ∙ b
 
 pub holdings_after : (base : Base) (xs : List Trade) (t : Trade) (ys : List Trade) → Completes base xs t ys
     → rows_sorted_by_key holding_key (filter is_left (map (holding_row (xs ++ t ∷ ys)) (xs ++ t ∷ ys)))
-    ≡ open_lots t (lots_of_shares (opened_shares (deal_of_trade t) (shares_before base t))) (set_lots (list_in_closing_order t.is_lifo (touches_of_existing_lots (deal_of_trade t) (shares_before base t))) (sheets base).holdings)
+    ≡ open_lots t (lots_of_shares (opened_shares (deal_of_trade t) (shares_before base t))) (set_lots (list_reversed_if_lifo t.is_lifo (touches_of_existing_lots (deal_of_trade t) (shares_before base t))) (sheets base).holdings)
 holdings_after base xs t ys c =
     with_own g xs t ys (All-front (λ u. (u.id == t.id) ≡ false) xs ys (subst (NonePass (λ u. u.id == t.id)) c.split c.fresh)) (is_zero (g t)) refl
     ∙ (λ i. cond (is_zero (own i)) (others i) (insert_row_by_key holding_key (record (row_with g t) { qty = own i }) (others i)))
@@ -249,7 +249,7 @@ holdings_after base xs t ys c =
     q = signed_by_side d.side n
 
     rows : List HoldingRow
-    rows = set_lots (list_in_closing_order t.is_lifo (touches_of_existing_lots d (shares_before base t))) (sheets base).holdings
+    rows = set_lots (list_reversed_if_lifo t.is_lifo (touches_of_existing_lots d (shares_before base t))) (sheets base).holdings
 
     own : g t ≡ q
     own = ap (λ shares. lot_quantity shares t.id) (shares_here base xs t ys c t (here_itself t)) ∙ opened_is base xs t ys c

@@ -1,6 +1,6 @@
 -- Lookups in tables for an order, and the lots that a source passes to it.
 use Rattle.std.specs.Prelude.{ℕ, Bool, ◌==◌, ◌&&◌, List, find, reverse, slice_get, IfSome, Option, option_map, bytes_eq}
-use Rattle.brk_lots.specs.Lots.{list_in_closing_order}
+use Rattle.brk_lots.specs.Lots.{list_reversed_if_lifo}
 use Rattle.brk_lots.specs.declared.lot.Lot.{Lot}
 use Rattle.brk_model.specs.Joins.{account_row_with_id}
 use Rattle.brk_model.specs.Records.{Customer}
@@ -40,4 +40,4 @@ lot_of_typed_row r = record { trade = r.trade; price = r.price; qty = r.qty; sta
 -- The lots of the account in the symbol, the newest first if `lifo` is true and otherwise the
 -- oldest first, satisfy `given`.
 abbrev pub PositionLotsSatisfy : Tables → ℕ → Text → Bool → (List Lot → Type 0) → Type 0
-PositionLotsSatisfy t account symbol lifo given = given (list_in_closing_order lifo (lots_of_position t account symbol))
+PositionLotsSatisfy t account symbol lifo given = given (list_reversed_if_lifo lifo (lots_of_position t account symbol))

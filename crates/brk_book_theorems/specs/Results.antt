@@ -10,7 +10,7 @@ use Rattle.brk_model.specs.Derived.{shares_of_position, holding_summary_quantity
 use Rattle.brk_model.specs.Results.{completed_trade, deal_of_result, base_after_result}
 use Rattle.brk_model.specs.Tables.{HoldingHistoryRow, HoldingRow, MoveRow, SettlementRow, SummaryRow}
 use Rattle.brk_model.specs.Tables.{Tables, TradeRow, cash_move_row, settlement_row, trade_row}
-use Rattle.brk_lots.specs.Lots.{list_in_closing_order}
+use Rattle.brk_lots.specs.Lots.{list_reversed_if_lifo}
 use Rattle.brk_changes.specs.Changes.{tables_with_balance, tables_with_broker_totals, tables_with_cash_row, tables_with_trade_completed}
 use Rattle.brk_changes.specs.Changes.{tables_with_history_row, tables_with_lot, tables_with_lot_change, tables_with_lot_quantity, tables_with_settlement}
 use Rattle.brk_changes.specs.Changes.{tables_with_summary, tables_with_summary_quantity, tables_without_lot, tables_without_summary}
@@ -111,7 +111,7 @@ tables_after_result c t =
 abbrev pub result_rows_of_deal : Base → (after : List Trade) → Deal → Trade → ResultRows
 result_rows_of_deal base after d t = record {
   trade = trade_row t;
-  touched = list_in_closing_order d.is_lifo (touches_of_existing_lots d (shares_of_position (completed_trades base) t.account t.symbol));
+  touched = list_reversed_if_lifo d.is_lifo (touches_of_existing_lots d (shares_of_position (completed_trades base) t.account t.symbol));
   opened = lots_of_shares (opened_shares d (shares_of_position (completed_trades base) t.account t.symbol));
   before = holding_summary_quantity (completed_trades base) t.account t.symbol;
   after = holding_summary_quantity after t.account t.symbol;

@@ -18,7 +18,7 @@ pub enum CashType {
 impl CashType {
     /// Returns the settlement text of the cash type, as the column SE_CASH_TYPE stores it and views
     /// show it, such as `Cash Account`.
-    pub fn word(self) -> &'static str
+    pub fn text(self) -> &'static str
         ensures { result.now ≡ cash_type_text self }
     {
         match self {

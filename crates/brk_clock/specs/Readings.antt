@@ -4,8 +4,8 @@ use Rattle.std.specs.Borrow.{Bor}
 use Rattle.std.specs.Time.{system_time_nanos}
 use Rattle.std.specs.declared.time.SystemTime.{SystemTime}
 use Rattle.brk_money.specs.Moments.{greatest_stamp}
-use Rattle.brk_clock.specs.declared.moments.Moments.{Moments}
-use Rattle.brk_clock.specs.declared.moments.Moments.TheVariants as moments
+use Rattle.brk_clock.specs.declared.moments.ProgramClock.{ProgramClock}
+use Rattle.brk_clock.specs.declared.moments.ProgramClock.TheVariants as moments
 
 -- The stamp of a time: its whole milliseconds since 1970-01-01 UTC, or the greatest stamp if it is
 -- smaller.
@@ -14,12 +14,12 @@ stamp_of_time time = min (system_time_nanos time / 1000000) greatest_stamp
 
 -- The clock of the program: one that always returns the given timestamp, or the clock `machine` of
 -- the machine if there is no timestamp.
-abbrev pub program_clock : {R : Type 0} → Bor R → Option ℕ → Moments R
+abbrev pub program_clock : {R : Type 0} → Bor R → Option ℕ → ProgramClock R
 program_clock machine (Some stamp) = moments.At stamp
 program_clock machine None = moments.Machine machine
 
 -- The clock returned the reading `moment` and did not change. A clock with a fixed timestamp
 -- returned this timestamp; a reading of the machine's clock is not specified.
-abbrev pub ReturnsReading : {R : Type 0} → Moments R → ℕ → Moments R → Type 0
+abbrev pub ReturnsReading : {R : Type 0} → ProgramClock R → ℕ → ProgramClock R → Type 0
 ReturnsReading (moments.At stamp) moment new = (moment ≡ stamp) × (new ≡ moments.At stamp)
 ReturnsReading (moments.Machine machine) moment new = new ≡ moments.Machine machine

@@ -3,4 +3,4 @@
 
 pub mod moments;
 
-pub use moments::{Moments, stamp_of_system_time};
+pub use moments::{ProgramClock, stamp_of_system_time};

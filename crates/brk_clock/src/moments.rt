@@ -8,7 +8,7 @@ use std::time::{SystemTime, UNIX_EPOCH};
 
 /// The program's clock.
 #[derive(Drop)]
-pub enum Moments<'a, R> {
+pub enum ProgramClock<'a, R> {
     /// A clock that always returns this timestamp.
     At(Stamp),
     /// The machine's clock.
@@ -38,29 +38,29 @@ fn read_machine_clock<R: rt::Clock>(clock: &R) -> Stamp {
     }
 }
 
-impl<'a, R: rt::Clock> Moments<'a, R> {
+impl<'a, R: rt::Clock> ProgramClock<'a, R> {
     /// Creates a clock that always returns the timestamp `at`, or, without `at`, one that reads the
     /// machine's clock `clock`.
-    pub fn new(clock: &'a R, at: Option<Stamp>) -> Moments<'a, R>
+    pub fn new(clock: &'a R, at: Option<Stamp>) -> ProgramClock<'a, R>
         ensures { result ≡ program_clock clock.entry at }
     {
         match at {
-            Some(stamp) => Moments::At(stamp),
-            None => Moments::Machine(clock),
+            Some(stamp) => ProgramClock::At(stamp),
+            None => ProgramClock::Machine(clock),
         }
     }
 }
 
 /// No contract specifies the time that the machine's clock has. If the clock cannot be read, the
 /// reading is 0.
-impl<R: rt::Clock> Clock for Moments<'_, R> {
+impl<R: rt::Clock> Clock for ProgramClock<'_, R> {
     ghost gives = { ReturnsReading };
 
     /// Returns the fixed timestamp, or a reading of the machine's clock, 0 if that cannot be read.
     fn now(&mut self) -> Stamp {
         match self {
-            Moments::At(stamp) => *stamp,
-            Moments::Machine(clock) => read_machine_clock(*clock),
+            ProgramClock::At(stamp) => *stamp,
+            ProgramClock::Machine(clock) => read_machine_clock(*clock),
         }
     }
 }

@@ -1,6 +1,6 @@
 ghost use Rattle.std.specs.Prelude.{◌≡◌, ◌∷◌};
 ghost use Rattle.brk_model.specs.Commands.{SetOneDay};
-ghost use Rattle.brk_model.specs.Parse.{movement_row_parsers, parse_by_first_field, read_and_wrap, read_movement_command, read_settlement_day};
+ghost use Rattle.brk_model.specs.Parse.{movement_and_settlement_day_row_parsers, parse_by_first_field, read_and_wrap, read_movement_command, read_settlement_day};
 ghost use Rattle.brk_orders.specs.Records.{cash_movement_command};
 ghost use Rattle.brk_ref.specs.Fields.{ParsesAs, texts_of_fields};
 ghost use Rattle.brk_commands.specs.Commands.{abstract_command};
@@ -37,7 +37,7 @@ pub(crate) fn parse_movement_or_settlement_day(
     kind: &[u8],
     fields: &[&[u8]],
 ) -> Result<Command, Refusal>
-    ensures { ParsesAs abstract_command result (parse_by_first_field movement_row_parsers (kind.now ∷ texts_of_fields fields.now)) }
+    ensures { ParsesAs abstract_command result (parse_by_first_field movement_and_settlement_day_row_parsers (kind.now ∷ texts_of_fields fields.now)) }
 {
     if kind == b"deposit".as_slice() {
         return parse_movement_command(Direction::Deposit, fields);

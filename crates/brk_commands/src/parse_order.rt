@@ -1,7 +1,7 @@
 ghost use Rattle.std.specs.Prelude.{◌≡◌, ◌∷◌, ◌++◌, IfOk, OnErr, Err};
 ghost use Rattle.brk_model.specs.Commands.{CancelTrade, FeedTicks, PlaceOrder};
 ghost use Rattle.brk_model.specs.Parse.{order_row_parsers, parse_by_first_field, read_and_wrap, read_canceled_trade_id, read_feed};
-ghost use Rattle.brk_model.specs.Parse.{read_order, read_result_command, result_row_parsers, update_row_parsers, movement_row_parsers};
+ghost use Rattle.brk_model.specs.Parse.{read_order, read_result_command, result_row_parsers, update_row_parsers, movement_and_settlement_day_row_parsers};
 ghost use Rattle.brk_money.specs.declared.fault.Fault.TheVariants.{Memory};
 ghost use Rattle.brk_ref.specs.Fields.{ParsesAs, texts_of_fields};
 ghost use Rattle.brk_commands.specs.Commands.{abstract_command};
@@ -72,7 +72,7 @@ pub(crate) fn parse_trade_or_cash_command(
     fields: &[&[u8]],
 ) -> Planned<Command>
     ensures read { IfOk result (λ read. ParsesAs abstract_command read (parse_by_first_field (order_row_parsers ++ result_row_parsers ++ update_row_parsers
-        ++ movement_row_parsers) (kind.now
+        ++ movement_and_settlement_day_row_parsers) (kind.now
         ∷ texts_of_fields fields.now))) }
     ensures fault { OnErr result (result ≡ Err Memory) }
 {

@@ -1,7 +1,7 @@
 ghost use Rattle.std.specs.Prelude.{◌≡◌, ◌∷◌, ◌++◌, IfOk, OnErr, Err};
 ghost use Rattle.brk_model.specs.Commands.{ChangeExecutors};
 ghost use Rattle.brk_model.specs.Forms.{read_distinct_ids};
-ghost use Rattle.brk_model.specs.Parse.{movement_row_parsers, parse_by_first_field, read_and_wrap};
+ghost use Rattle.brk_model.specs.Parse.{movement_and_settlement_day_row_parsers, parse_by_first_field, read_and_wrap};
 ghost use Rattle.brk_model.specs.Parse.{read_cash_type_update, read_cash_name_update, update_row_parsers};
 ghost use Rattle.brk_money.specs.declared.fault.Fault.TheVariants.{Memory};
 ghost use Rattle.brk_ref.specs.Fields.{ParsesAs, texts_of_fields};
@@ -11,7 +11,7 @@ use crate::command::Command;
 use crate::parse_movement::parse_movement_or_settlement_day;
 use brk_money::{Planned, Refusal};
 use brk_orders::{
-    parse_update_of_cash_texts, parse_update_of_cash_types, parse_update_of_executor_names,
+    parse_update_of_cash_names, parse_update_of_cash_types, parse_update_of_executor_names,
 };
 use std::alloc::Global;
 
@@ -45,7 +45,7 @@ fn parse_cash_text_update_command(alloc: Global, fields: &[&[u8]]) -> Planned<Co
     ensures read { IfOk result (λ read. ParsesAs abstract_command read (read_cash_name_update (texts_of_fields fields.now))) }
     ensures fault { OnErr result (result ≡ Err Memory) }
 {
-    match parse_update_of_cash_texts(alloc, fields)? {
+    match parse_update_of_cash_names(alloc, fields)? {
         Ok(update) => Ok(Ok(Command::Update(update))),
         Err(refusal) => Ok(Err(refusal)),
     }
@@ -59,7 +59,7 @@ pub(crate) fn parse_update_or_movement_command(
     kind: &[u8],
     fields: &[&[u8]],
 ) -> Planned<Command>
-    ensures read { IfOk result (λ read. ParsesAs abstract_command read (parse_by_first_field (update_row_parsers ++ movement_row_parsers) (kind.now
+    ensures read { IfOk result (λ read. ParsesAs abstract_command read (parse_by_first_field (update_row_parsers ++ movement_and_settlement_day_row_parsers) (kind.now
         ∷ texts_of_fields fields.now))) }
     ensures fault { OnErr result (result ≡ Err Memory) }
 {

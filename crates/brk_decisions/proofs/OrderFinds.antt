@@ -25,7 +25,7 @@ use Rattle.brk_trade_theorems.specs.OrderPlans.{EstimateFactsMatchTables, order_
 use Rattle.brk_book_theorems.specs.Reads.{customer_tax_rate_sum}
 use Rattle.brk_book_theorems.specs.TradeReads.{commission_band_of_quantity, permission_list_for_tax_id, summary_row_of_position}
 use Rattle.brk_decisions.specs.OrderFactReads.{EstimateAmountsMatchTables, CustomerOrderFactsMatchTables, IsCustomerWithId, EstimateFactsMatchIfAccountOfOrder, order_facts_with_account, order_facts_without_account, market_value_of_summary}
-use Rattle.brk_decisions.specs.declared.tested.OrderTestFacts.{OrderTestFacts}
+use Rattle.brk_decisions.specs.declared.tested.OrderCheckFacts.{OrderCheckFacts}
 use Rattle.brk_decisions.specs.declared.amounts.Amounts.{Amounts}
 
 not_none : {X : Type 0} (x : X) → Some x ≡ None → ⊥
@@ -59,7 +59,7 @@ passes_found p (y ∷ ys) x e = go (passes_found p ys x) (p y) refl
     go more true k = let f : Some y ≡ Some x = rw k at e in let same : y ≡ x = cc in ap p (sym same) ∙ k
     go more false k = more (rw k at e)
 
-pub all_found : (t : Tables) (order : Order) (a : ref.AccountRow) (c : customer.Customer) (tested : OrderTestFacts) (amounts : Amounts) → IsCustomerWithId t a.account.customer c
+pub all_found : (t : Tables) (order : Order) (a : ref.AccountRow) (c : customer.Customer) (tested : OrderCheckFacts) (amounts : Amounts) → IsCustomerWithId t a.account.customer c
     → CustomerOrderFactsMatchTables t order c tested → EstimateAmountsMatchTables t a order amounts → EstimateFactsMatchIfAccountOfOrder t order a (order_facts_with_account a tested amounts)
 all_found t order a c tested amounts k x y there = record {
   account = ap (option_map order_account_of_row) there;

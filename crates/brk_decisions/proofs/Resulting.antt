@@ -3,7 +3,7 @@ use Rattle.std.proofs.Common.{◌≡◌, ◌≤◌, ◌<◌, ◌∙◌, ℕ, Lis
 use Rattle.std.specs.Prelude.{IfSome, MatchResult}
 use Rattle.sqlite_trees.specs.declared.store.Store.{Ghosts}
 use Rattle.sqlite.specs.Held.{Held}
-use Rattle.brk_lots.specs.Lots.{list_in_closing_order}
+use Rattle.brk_lots.specs.Lots.{list_reversed_if_lifo}
 use Rattle.brk_lots.specs.declared.lot.Lot.{Lot}
 use Rattle.brk_model.specs.Base.{Base}
 use Rattle.brk_model.specs.Commands.{CompleteTrade}
@@ -35,14 +35,14 @@ planned_over (Some found) price given known last now is_given (Ok plan) p = reco
   stamp = p.stamp;
   closed = p.closed;
   stamped = p.stamped;
-  closes = λ ls met. p.closes ls ((is_given (list_in_closing_order found.trade.is_lifo ls) met.0.0, met.0.1), met.1, met.2);
+  closes = λ ls met. p.closes ls ((is_given (list_reversed_if_lifo found.trade.is_lifo ls) met.0.0, met.0.1), met.1, met.2);
   accepted = p.accepted;
   replied = p.replied;
   changes = p.changes;
 }
 planned_over (Some found) price given known last now is_given (Err refusal) p = record {
   early = p.early;
-  late = λ ls stamp met. p.late ls stamp ((is_given (list_in_closing_order found.trade.is_lifo ls) met.0.0, met.0.1), met.1, met.2);
+  late = λ ls stamp met. p.late ls stamp ((is_given (list_reversed_if_lifo found.trade.is_lifo ls) met.0.0, met.0.1), met.1, met.2);
 }
 
 -- and so it is over the lots of whatever tables are held

@@ -16,7 +16,7 @@ use Rattle.brk_trade_theorems.specs.OrderPlans.{EstimateFactsMatchTables}
 use Rattle.brk_book_theorems.specs.OrderReads.{charge_of_type_and_tier, last_price_of_symbol}
 use Rattle.brk_book_theorems.specs.Reads.{customer_tax_rate_sum}
 use Rattle.brk_book_theorems.specs.TradeReads.{commission_band_of_quantity, permission_list_for_tax_id, summary_row_of_position}
-use Rattle.brk_decisions.specs.declared.tested.OrderTestFacts.{OrderTestFacts}
+use Rattle.brk_decisions.specs.declared.tested.OrderCheckFacts.{OrderCheckFacts}
 use Rattle.brk_decisions.specs.declared.amounts.Amounts.{Amounts}
 use Rattle.brk_decisions.specs.declared.amounts.ValuedSummaries.{ValuedSummaries}
 
@@ -27,7 +27,7 @@ IsCustomerWithId t id customer = find (λ r. r.id == id) t.customers ≡ Some (a
 -- The facts `tested` that decide on the order `order` of the customer equal those of the tables
 -- `t`: the last price, whether the executor is permitted, the charge and the commission rate. The
 -- rate is specified only if the security of the order exists.
-pub record CustomerOrderFactsMatchTables (t : Tables) (order : Order) (customer : Customer) (tested : OrderTestFacts) : Type 0 where
+pub record CustomerOrderFactsMatchTables (t : Tables) (order : Order) (customer : Customer) (tested : OrderCheckFacts) : Type 0 where
   pub last_price : tested.last_price ≡ last_price_of_symbol t order.symbol
   pub is_permitted : tested.is_permitted
       ≡ is_customer_or_has_permission (abstract_customer customer) (permission_list_for_tax_id t order.account order.executor.tax_id)
@@ -77,7 +77,7 @@ order_facts_without_account =
 -- The facts for the decision on an order of the account `account`: its broker and its tax status,
 -- the facts `tested`, the amounts `amounts`, and `None` as the greatest trade id, which an estimate
 -- does not need.
-abbrev pub order_facts_with_account : AccountRow → OrderTestFacts → Amounts → OrderPlanFacts
+abbrev pub order_facts_with_account : AccountRow → OrderCheckFacts → Amounts → OrderPlanFacts
 order_facts_with_account account tested amounts = record {
   account = Some (record { broker = account.account.broker; tax_status = account.account.tax_status });
   last_price = tested.last_price;

@@ -1,6 +1,6 @@
 -- The facts in the tables that decide on a result.
 use Rattle.std.specs.Prelude.{◌≡◌, ℕ, ◌+◌, ◌==◌, List, [], find, IfSome, Option, Some, None, option_map, pos}
-use Rattle.brk_lots.specs.Lots.{list_in_closing_order}
+use Rattle.brk_lots.specs.Lots.{list_reversed_if_lifo}
 use Rattle.brk_lots.specs.Sources.{EqualsLots}
 use Rattle.brk_lots.specs.declared.lot.Lot.{Lot}
 use Rattle.brk_model.specs.Joins.{account_row_with_id, security_row_with_symbol, trade_row_with_id}
@@ -72,4 +72,4 @@ pub record AreResultFactsOfTradeWithId (t : Tables) (id : ℕ) (found : Option R
 -- empty.
 abbrev pub AreLotsOfTradedPosition : Tables → Option ResultPlanFacts → List Lot → Type 0
 AreLotsOfTradedPosition t None = EqualsLots []
-AreLotsOfTradedPosition t (Some f) = EqualsLots (list_in_closing_order f.trade.is_lifo (lots_of_position t f.trade.account f.trade.symbol))
+AreLotsOfTradedPosition t (Some f) = EqualsLots (list_reversed_if_lifo f.trade.is_lifo (lots_of_position t f.trade.account f.trade.symbol))

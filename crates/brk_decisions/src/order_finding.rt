@@ -8,7 +8,7 @@ ghost use Rattle.brk_store.specs.Holds.{ReadPost};
 
 use crate::amounts::{Amounts, read_estimate_amounts};
 use crate::known::require_customer;
-use crate::tested::{OrderTestFacts, read_order_test_facts};
+use crate::tested::{OrderCheckFacts, read_order_check_facts};
 use brk_money::{Fault, TaxRate, Wide};
 use brk_orders::Order;
 use brk_ref::AccountRow;
@@ -19,7 +19,7 @@ use std::alloc::Global;
 
 // Returns the facts for an order whose account does not exist: each is `None`, false or 0, because
 // no other fact is read.
-fn facts_without_account() -> OrderPlanFacts
+fn order_facts_without_account() -> OrderPlanFacts
     ensures { result ≡ order_facts_without_account }
 {
     OrderPlanFacts {
@@ -39,7 +39,7 @@ fn facts_without_account() -> OrderPlanFacts
 // `amounts`. The greatest trade id, which an estimate does not need, is `None`.
 fn order_facts_with_account(
     account: &AccountRow,
-    tested: OrderTestFacts,
+    tested: OrderCheckFacts,
     amounts: Amounts,
 ) -> OrderPlanFacts
     ensures { result ≡ order_facts_with_account account.now tested amounts }
@@ -65,7 +65,7 @@ fn order_facts_with_account(
 // held. Changes nothing. Fails with `Memory` or `Store` only; with `Store` also if the account's
 // customer or one of the customer's taxes does not exist, the tax rates total more than the
 // greatest rate, a held symbol has no last price, or a sum overflows.
-fn read_order_account_facts<S: Alter>(
+fn read_estimate_facts_with_account<S: Alter>(
     alloc: Global,
     store: &mut Store<S>,
     order: &Order,
@@ -75,7 +75,7 @@ fn read_order_account_facts<S: Alter>(
     ensures fault { IfErr result IsCallFault }
 {
     let customer = require_customer(store, account.account.customer)?;
-    let tested = read_order_test_facts(alloc, store, order, &customer)?;
+    let tested = read_order_check_facts(alloc, store, order, &customer)?;
     let amounts = read_estimate_amounts(alloc, store, account, order)?;
     Ok(order_facts_with_account(account, tested, amounts))
 }
@@ -94,10 +94,10 @@ pub(crate) fn read_estimate_facts<S: Alter>(
 {
     match store.account(order.account)? {
         Some(account) => {
-            let found = read_order_account_facts(alloc, store, order, &account)?;
+            let found = read_estimate_facts_with_account(alloc, store, order, &account)?;
             Ok(found)
         }
-        None => Ok(facts_without_account()),
+        None => Ok(order_facts_without_account()),
     }
 }
 

@@ -13,7 +13,9 @@ ghost use Rattle.brk_store.specs.Holds.{ReadPost};
 
 use crate::finding::{NO_REFERENCE_FACTS, account_exists, customer_exists};
 use brk_money::{Fault, Id, TaxRate, TradeType};
-use brk_ref::{Band, Charge, CustomerTax, Permission, Symbol, Tax, TaxId, Tier, overlaps, tax_sum};
+use brk_ref::{
+    Band, Charge, CustomerTax, Permission, Symbol, Tax, TaxId, Tier, overlaps_any_band, tax_sum,
+};
 use brk_store::Store;
 use brk_trade::ReferenceFacts;
 use sqlite::Alter;
@@ -68,7 +70,7 @@ pub(crate) fn overlapping_band_exists<S: Alter>(
     ensures fault { IfErr result IsCallFault }
 {
     let bands = store.commission_bands(alloc, band.tier, band.kind, &band.exchange)?;
-    Ok(overlaps(&bands, band))
+    Ok(overlaps_any_band(&bands, band))
 }
 
 // Returns true if the tax with the id `id` exists. Changes nothing. Fails with `Memory` or `Store`

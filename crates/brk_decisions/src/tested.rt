@@ -13,7 +13,9 @@ ghost use Rattle.brk_store.specs.Holds.{ReadPost};
 
 use brk_money::{Fault, Id, Price, Qty, Rate, TradeType};
 use brk_orders::Order;
-use brk_ref::{ChargeAmount, Customer, Exchange, Executor, Symbol, Tier, band_for};
+use brk_ref::{
+    ChargeAmount, Customer, Exchange, Executor, Symbol, Tier, commission_rate_for_quantity,
+};
 use brk_store::Store;
 use brk_trade::permitted;
 use sqlite::Alter;
@@ -21,7 +23,7 @@ use std::alloc::Global;
 
 /// The facts that the checks of an order test, if its account exists.
 #[derive(Clone, Copy)]
-pub struct OrderTestFacts {
+pub struct OrderCheckFacts {
     /// The last price of the order's security, in cents, or `None` if the security does not exist.
     pub last_price: Option<Price>,
     /// True if the order's executor may order for the account.
@@ -99,7 +101,7 @@ pub(crate) fn read_commission_rate_of_band<S: Alter>(
     ensures fault { IfErr result IsCallFault }
 {
     let bands = store.commission_bands(alloc, tier, kind, exchange)?;
-    Ok(band_for(&bands, qty))
+    Ok(commission_rate_for_quantity(&bands, qty))
 }
 
 // Returns the commission rate of an order for a customer tier, in hundredths of a percent, or
@@ -135,12 +137,12 @@ fn read_commission_rate_of_order<S: Alter>(
 // Returns the facts that the checks of an order test, for an order of the customer `customer`,
 // whose account exists: the last price, whether the executor may order, the charge and the
 // commission rate. Changes nothing. Fails with `Memory` or `Store` only.
-pub(crate) fn read_order_test_facts<S: Alter>(
+pub(crate) fn read_order_check_facts<S: Alter>(
     alloc: Global,
     store: &mut Store<S>,
     order: &Order,
     customer: &Customer,
-) -> Result<OrderTestFacts, Fault>
+) -> Result<OrderCheckFacts, Fault>
     ensures read { ReadPost S.Store store.old store.new result (λ tested t. CustomerOrderFactsMatchTables t order.now customer.now tested) }
     ensures fault { IfErr result IsCallFault }
 {
@@ -149,7 +151,7 @@ pub(crate) fn read_order_test_facts<S: Alter>(
     let is_permitted = is_executor_permitted(store, order.account, customer, &order.executor)?;
     let charge = read_charge_of_tier(store, order.order_type.kind(), tier)?;
     let rate = read_commission_rate_of_order(alloc, store, order, tier)?;
-    Ok(OrderTestFacts {
+    Ok(OrderCheckFacts {
         last_price,
         is_permitted,
         charge,

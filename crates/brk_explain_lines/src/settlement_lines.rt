@@ -44,7 +44,7 @@ pub(crate) fn put_settlement_lines(
     put_labeled_text_line(
         out,
         "Cash type",
-        details.settlement.cash_type.word().as_bytes(),
+        details.settlement.cash_type.text().as_bytes(),
     )?;
     Ok(())
 }

@@ -157,7 +157,7 @@ map_reverse {X = X} {Y = Y} f (x ∷ xs) =
     map_last [] = refl
     map_last (y ∷ ys) = ap (λ zs. f y ∷ zs) (map_last ys)
 
-end_map : {X Y : Type 0} (lifo : Bool) (f : X → Y) (xs : List X) → reversed_if_lifo lifo (map f xs) ≡ map f (lots_spec.list_in_closing_order lifo xs)
+end_map : {X Y : Type 0} (lifo : Bool) (f : X → Y) (xs : List X) → reversed_if_lifo lifo (map f xs) ≡ map f (lots_spec.list_reversed_if_lifo lifo xs)
 end_map true f xs = sym (map_reverse f xs)
 end_map false f xs = refl
 
@@ -167,18 +167,18 @@ closing_at tables id touch = recorded_closing tables (holding_history_row id (ab
 
 -- the shares that the deal of a trade takes of the lots before it, from its end
 abbrev pub taken_by : Trade → List Trade → ℕ
-taken_by t front = closed_share_count (deal_of_trade t).side (deal_of_trade t).qty (lots_spec.list_in_closing_order t.is_lifo (lots_by front))
+taken_by t front = closed_share_count (deal_of_trade t).side (deal_of_trade t).qty (lots_spec.list_reversed_if_lifo t.is_lifo (lots_by front))
 
 pub closings_are : (base : Base) (t : Trade) (front back : List Trade) → IsPlaced base t front back
-    → closings_of_trade (sheets base) (trade_row t) ≡ map (closing_at (sheets base) t.id) (touches_of_first_shares (taken_by t front) (lots_spec.list_in_closing_order t.is_lifo (lots_by front)))
+    → closings_of_trade (sheets base) (trade_row t) ≡ map (closing_at (sheets base) t.id) (touches_of_first_shares (taken_by t front) (lots_spec.list_reversed_if_lifo t.is_lifo (lots_by front)))
 closings_are base t front back k =
     ap (reversed_if_lifo t.is_lifo) (sort_map (λ (c : Closing). c.stamp) (recorded_closing T) (filter (is_closing_by t.id) T.holding_history)
     ∙ ap (map (recorded_closing T)) (rows_sorted base t front back k ∙ rows_touched t front first (front_precedes front t back o)))
     ∙ end_map t.is_lifo (recorded_closing T) (map (holding_history_row t.id) (touches_of_existing_lots (deal_of_trade t) us))
     ∙ ap (map (recorded_closing T)) (lots_map t.is_lifo (holding_history_row t.id) (touches_of_existing_lots (deal_of_trade t) us)
-    ∙ ap (map (holding_history_row t.id)) (ap (λ vs. lots_spec.list_in_closing_order t.is_lifo (touches_of_existing_lots (deal_of_trade t) vs)) (sym (lots_shares front first))
+    ∙ ap (map (holding_history_row t.id)) (ap (λ vs. lots_spec.list_reversed_if_lifo t.is_lifo (touches_of_existing_lots (deal_of_trade t) vs)) (sym (lots_shares front first))
     ∙ sym (rows_are (deal_of_trade t) (lots_by front) (walk_of (lots_by front) (lots_position front first)) (lots_new t front (front_precedes front t back o)))))
-    ∙ joined (touches_of_first_shares (taken_by t front) (lots_spec.list_in_closing_order t.is_lifo (lots_by front)))
+    ∙ joined (touches_of_first_shares (taken_by t front) (lots_spec.list_reversed_if_lifo t.is_lifo (lots_by front)))
   where
     T : Tables
     T = sheets base
@@ -192,7 +192,7 @@ closings_are base t front back k =
     first : InOrder front
     first = front_in_order front (t ∷ back) o
 
-    lots_map : {X Y : Type 0} (lifo : Bool) (f : X → Y) (xs : List X) → lots_spec.list_in_closing_order lifo (map f xs) ≡ map f (lots_spec.list_in_closing_order lifo xs)
+    lots_map : {X Y : Type 0} (lifo : Bool) (f : X → Y) (xs : List X) → lots_spec.list_reversed_if_lifo lifo (map f xs) ≡ map f (lots_spec.list_reversed_if_lifo lifo xs)
     lots_map true f xs = sym (map_reverse f xs)
     lots_map false f xs = refl
 

@@ -13,7 +13,7 @@ use Rattle.brk_model.specs.Records.{Trade}
 use Rattle.brk_model.specs.Shares.{Deal, Share, buy_value, closed_share_count_of_deal, sell_value, signed_by_side}
 use Rattle.brk_model.specs.Sheets.{sheets}
 use Rattle.brk_model.specs.Tables.{HoldingHistoryRow, Tables, trade_row}
-use Rattle.brk_lots.specs.Lots.{list_in_closing_order, shares_of_lots}
+use Rattle.brk_lots.specs.Lots.{list_reversed_if_lifo, shares_of_lots}
 use Rattle.brk_lots.specs.Position.{IsPositionInAnyOrder}
 use Rattle.brk_lots.specs.Values.{closing_values_by_side, closing_values_of_deal}
 use Rattle.brk_lots.specs.Walks.{buy_value_by_side, cost_of_first_shares, touches_of_first_shares, sell_value_by_side}
@@ -41,7 +41,7 @@ use Rattle.brk_explain_theorems.proofs.TradeRows.{IsPlaced, done_found, placed_o
 pub price_is : (base : Base) (t : Trade) → trade_with_id base t.id ≡ Some t → trade_price_or_zero (sheets base) t.id ≡ completion_price t
 price_is base t e = ap (λ o. option_map_or completion_price_or_zero o 0) (reads_trade base t.id ∙ ap (option_map trade_row) e)
 
-length_end : {X : Type 0} (lifo : Bool) (xs : List X) → length (list_in_closing_order lifo xs) ≡ length xs
+length_end : {X : Type 0} (lifo : Bool) (xs : List X) → length (list_reversed_if_lifo lifo xs) ≡ length xs
 length_end true xs = length-reverse xs
 length_end false xs = refl
 
@@ -74,7 +74,7 @@ of_placed base t front back k c = record {
     ls = lots_by front
 
     walk : List Lot
-    walk = list_in_closing_order t.is_lifo ls
+    walk = list_reversed_if_lifo t.is_lifo ls
 
     n : ℕ
     n = taken_by t front

@@ -18,7 +18,7 @@ use Rattle.brk_model.specs.Shares.{Share, replay, signed_by_side}
 use Rattle.brk_model.specs.Sheets.{sheets, tables_sorted_by_key}
 use Rattle.brk_model.specs.Tables.{AccountRow, HistoryRow, HoldingHistoryRow, SettlementRow, Tables, account_row, history_rows, tables_of_base_in_schema, trade_row}
 use Rattle.brk_lots.specs.HistoryRows.{row_changes_quantity}
-use Rattle.brk_lots.specs.Lots.{list_in_closing_order, side_of_qty}
+use Rattle.brk_lots.specs.Lots.{list_reversed_if_lifo, side_of_qty}
 use Rattle.brk_lots.specs.Walks.{closed_share_count, touches_of_first_shares}
 use Rattle.brk_lots.specs.declared.lot.Lot.{Lot}
 use Rattle.brk_lots.specs.declared.lot.Touch.{Touch}
@@ -85,12 +85,12 @@ by_lots T id k (l ∷ ls) h = by_test (eqb k 0) (by_lots T id (k - unsigned_abs 
 
 -- the closings of a trade, by the trades before it
 abbrev closings_by : Trade → List Trade → List Closing
-closings_by t front = closings_taken (taken_by t front) (list_in_closing_order t.is_lifo (lots_by front))
+closings_by t front = closings_taken (taken_by t front) (list_reversed_if_lifo t.is_lifo (lots_by front))
 
 closings_told : (base : Base) (t : Trade) (front back : List Trade) → IsPlaced base t front back → closings_of_trade (sheets base) (trade_row t) ≡ closings_by t front
 closings_told base t front back k =
     closings_are base t front back k
-    ∙ by_lots (sheets base) t.id (taken_by t front) (list_in_closing_order t.is_lifo (lots_by front))
+    ∙ by_lots (sheets base) t.id (taken_by t front) (list_reversed_if_lifo t.is_lifo (lots_by front))
     (all_end (IsRead (sheets base)) t.is_lifo (lots_by front) (left_all (IsRead (sheets base)) (left_by front) front (All-map front (λ v e. (stamp_is base v e, price_is base v e)) found)))
   where
     found : AllByRecursion (λ v. trade_with_id base v.id ≡ Some v) front
@@ -115,7 +115,7 @@ lots_core : (ts : List Trade) → lots_by (map core ts) ≡ lots_by ts
 lots_core ts = ap (λ us. lots_left us (map core ts)) (left_core ts) ∙ ap (filter is_some_left) (upon_core (left_by ts) ts)
 
 closings_core : (t : Trade) (ts : List Trade) → closings_by (core t) (map core ts) ≡ closings_by t ts
-closings_core t ts = ap (λ ls. closings_taken (closed_share_count (deal_of_trade t).side (deal_of_trade t).qty (list_in_closing_order t.is_lifo ls)) (list_in_closing_order t.is_lifo ls)) (lots_core ts)
+closings_core t ts = ap (λ ls. closings_taken (closed_share_count (deal_of_trade t).side (deal_of_trade t).qty (list_reversed_if_lifo t.is_lifo ls)) (list_reversed_if_lifo t.is_lifo ls)) (lots_core ts)
 
 -- the row of its own lot, by the shares before it
 abbrev own_by : Trade → List Share → Option HoldingHistoryRow

@@ -1,6 +1,6 @@
 ghost use Rattle.std.specs.Prelude.{◌≡◌, ◌++◌, [], IfOk, OnOk, Bool, codes, decimal, map, string_bytes, unwrap_or};
 ghost use Rattle.http.specs.StatusCode.{reason_phrase};
-ghost use Rattle.brk_http_model.specs.Replies.{FromOutcome, FromProblem, names_allowed_method, response_body, fault_word, head_line, is_fault_response};
+ghost use Rattle.brk_http_model.specs.Replies.{FromOutcome, FromProblem, is_method_not_allowed, response_body, fault_word, head_line, is_fault_response};
 ghost use Rattle.brk_http_model.specs.Replies.{http_status_of_problem, text_of_problem, reply_text, reply_bytes, http_status_of_response, head_line_if};
 ghost use Rattle.brk_model.specs.Commands as model;
 ghost use Rattle.brk_model.specs.Queries as queries;
@@ -74,7 +74,7 @@ fn status_of_response<R, V>(response: &ServiceResponse<R, V>) -> StatusCode
 // Returns true if the response is the problem that the method of the request is not POST, so that
 // the reply names the allowed method.
 fn is_method_refusal<R, V>(response: &ServiceResponse<R, V>) -> bool
-    ensures { (reply : R → model.Reply) (shown : V → queries.View) → result ≡ names_allowed_method (response_in_model reply shown response.now) }
+    ensures { (reply : R → model.Reply) (shown : V → queries.View) → result ≡ is_method_not_allowed (response_in_model reply shown response.now) }
 {
     match response {
         ServiceResponse::Wrong(RequestProblem::NotAllowed) => true,

@@ -80,13 +80,13 @@ response_body (FromProblem problem) = json_error_object (text_of_problem problem
 response_body (FromOutcome outcome) = outcome_body outcome
 
 -- True if the response is the problem `NotAllowed`: only its reply has the field `Allow: POST`.
-abbrev pub names_allowed_method : Response → Bool
-names_allowed_method (FromProblem NotAllowed) = true
-names_allowed_method (FromProblem TooLarge) = false
-names_allowed_method (FromProblem BadRequest) = false
-names_allowed_method (FromProblem NotImplemented) = false
-names_allowed_method (FromProblem NotFound) = false
-names_allowed_method (FromOutcome outcome) = false
+abbrev pub is_method_not_allowed : Response → Bool
+is_method_not_allowed (FromProblem NotAllowed) = true
+is_method_not_allowed (FromProblem TooLarge) = false
+is_method_not_allowed (FromProblem BadRequest) = false
+is_method_not_allowed (FromProblem NotImplemented) = false
+is_method_not_allowed (FromProblem NotFound) = false
+is_method_not_allowed (FromOutcome outcome) = false
 
 -- True if the response is a fault of the desk; its reply ends the stream.
 abbrev pub is_fault_response : Response → Bool
@@ -118,4 +118,4 @@ reply_bytes status asks_post closes body =
 
 -- The bytes of the reply for the response; `closes` is true if it is the last reply of the stream.
 abbrev pub reply_text : Response → Bool → Text
-reply_text response closes = reply_bytes (http_status_of_response response) (names_allowed_method response) closes (response_body response)
+reply_text response closes = reply_bytes (http_status_of_response response) (is_method_not_allowed response) closes (response_body response)

@@ -35,7 +35,7 @@ use Rattle.brk_book_theorems.proofs.References.{no_broker_trades, no_trades_of, 
 use Rattle.brk_book_theorems.proofs.LotReading.{numbered_rise, rise_apart}
 use Rattle.brk_book_theorems.proofs.TradeReading.{reads_trade}
 use Rattle.brk_book_theorems.proofs.Tested.{All-back, All-front}
-use Rattle.brk_audit_theorems.specs.Told.{HasValidStatusSequence, HasNoStrayTexts, HasValidHistories, HasAscendingStatusStamps, broker_id_key}
+use Rattle.brk_audit_theorems.specs.Told.{HasValidStatusSequence, HasTextsOnlyIfCompleted, HasValidHistories, HasAscendingStatusStamps, broker_id_key}
 use Rattle.brk_audit_theorems.proofs.Again.{IsRead, both_all, reads}
 use Rattle.brk_audit_theorems.proofs.Climbs.{Climbs, list_all_true, not_itself, of_all}
 use Rattle.brk_audit_theorems.proofs.Members.{found_in}
@@ -226,7 +226,7 @@ record Read (base : Base) (t : Trade) : Type 0 where
   pub history : AllByRecursion (λ r. is_well_formed_history_row (sheets base) r ≡ true) (history_rows t)
   pub stamps : HasAscendingStatusStamps t
   pub way : HasValidStatusSequence t
-  pub words : HasNoStrayTexts t
+  pub words : HasTextsOnlyIfCompleted t
   pub found : trade_with_id base t.id ≡ Some t
   pub read : IsRead base t
   pub settled : is_completed t ≡ true → is_well_formed_settlement_row (sheets base) (settlement_row base.accounts base.rule t) ≡ true

@@ -7,7 +7,7 @@ use Rattle.brk_money.specs.Spelling.{Text}
 use Rattle.brk_model.specs.Limits.{greatest_id}
 use Rattle.brk_model.specs.Base.{Base}
 use Rattle.brk_model.specs.Batch.{step_of_row}
-use Rattle.brk_model.specs.Answers.{RowsAreAnswered, Fields, ResultOfRows, result_of_rows, row_then_more}
+use Rattle.brk_model.specs.Answers.{RowsAreAnswered, Fields, ResultOfRows, result_of_rows, result_of_row_and_later_rows}
 use Rattle.brk_model.specs.Commands.{Answer, Command}
 use Rattle.brk_model.specs.Form.{is_id}
 use Rattle.brk_model.specs.Formed.{IsWellFormedCommand}
@@ -37,7 +37,7 @@ rows_both batch (row ∷ rows) n base moments e low high h =
     (λ b left k. rows_both batch rows (n + 1) b left e (omega (arith, low)) (omega (arith, high)) k) h
   where
     by_read : (r : ReadResult Command) → IfOk r MeetsAuditFormats → (more : Base → List ℕ → ResultOfRows Base) (base : Base) (moments : List ℕ)
-        → ((b : Base) (left : List ℕ) → Both b → Both (more b left).base) → Both base → Both (row_then_more step_of_row r (record { batch = batch; row = n }) base moments more).base
+        → ((b : Base) (left : List ℕ) → Both b → Both (more b left).base) → Both base → Both (result_of_row_and_later_rows step_of_row r (record { batch = batch; row = n }) base moments more).base
     by_read (Err refusal) form more base moments each h = each base moments h
     by_read (Ok command) form more base [] each h = h
     by_read (Ok command) form more base (moment ∷ moments) each h =

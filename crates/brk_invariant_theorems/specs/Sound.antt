@@ -17,7 +17,7 @@ use Rattle.brk_model.specs.Form.{is_well_formed_kept_row, are_well_formed_listin
 use Rattle.brk_model.specs.Form.{are_well_formed_id_and_name, has_well_formed_permission_texts, are_trade_numbers_in_range, is_settlement_day_in_calendar}
 use Rattle.brk_model.specs.Ways.{is_strictly_ascending}
 use Rattle.brk_model.specs.Keys.{KeyPart, word, charge_key, customer_key, customer_tax_key, kept_key, tax_rate_key}
-use Rattle.brk_audit_theorems.specs.Told.{HasValidStatusSequence, HasNoStrayTexts, HasAscendingStatusStamps, broker_id_key}
+use Rattle.brk_audit_theorems.specs.Told.{HasValidStatusSequence, HasTextsOnlyIfCompleted, HasAscendingStatusStamps, broker_id_key}
 
 -- No two records of the list have the same key, where `key` returns the key of a record.
 abbrev pub HasDistinctKeys : {Row : Type 0} → (Row → List KeyPart) → List Row → Type 0
@@ -79,9 +79,9 @@ has_cash_text_of_security securities t = has_cash_text_with_security_name t (sec
 
 -- The trade satisfies those conditions of the audit invariant that depend on the trade alone: its
 -- numbers are within their limits, its statuses are a valid status sequence with strictly ascending
--- stamps, it has a price if and only if it is completed, it has no stray texts (`HasNoStrayTexts`),
--- and if it is completed, its settlement text is one of the two of a cash trade or of a margin
--- trade.
+-- stamps, it has a price if and only if it is completed, it has no stray texts
+-- (`HasTextsOnlyIfCompleted`), and if it is completed, its settlement text is one of the two of a
+-- cash trade or of a margin trade.
 pub record TradeOnlyAuditInvariant (t : Trade) : Type 0 where
   pub fields : has_trade_numbers_in_range t ≡ true
   -- Its statuses are a valid status sequence, with stamps in ascending order.
@@ -90,7 +90,7 @@ pub record TradeOnlyAuditInvariant (t : Trade) : Type 0 where
   -- It has a price if and only if it is completed, no stray text, and one of the two settlement
   -- texts if it is completed.
   pub priced : has_price_exactly_if_completed t ≡ true
-  pub words : HasNoStrayTexts t
+  pub words : HasTextsOnlyIfCompleted t
   pub cash_type : is_completed t ≡ true → is_cash_type_of_trade t.is_cash t.cash_type ≡ true
 
 -- The trade satisfies the conditions of the audit invariant on a trade: the conditions that depend

@@ -1,4 +1,4 @@
-use brk_clock::Moments;
+use brk_clock::ProgramClock;
 use brk_desk::Desk;
 use brk_exit::Ending;
 use brk_import::run_batch;
@@ -16,7 +16,7 @@ pub(crate) fn execute_batch_job<R: Read + Drop, W: Write, S: Alter>(
     output: &mut W,
     desk: &mut Desk<S>,
 ) -> Ending {
-    let mut clock = Moments::new(rt, at);
+    let mut clock = ProgramClock::new(rt, at);
     match run_batch(rt.alloc(), input, output, &mut clock, desk) {
         Ok(_) => Ending::Done,
         Err(fault) => Ending::Batch(fault),

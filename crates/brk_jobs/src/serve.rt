@@ -1,6 +1,6 @@
 //! The job that serves a desk to programs on the same machine.
 
-use brk_clock::Moments;
+use brk_clock::ProgramClock;
 use brk_desk::Desk;
 use brk_exit::Ending;
 use brk_http::{ListenFault, serve_on};
@@ -22,7 +22,7 @@ pub(crate) fn execute_serve_job<S: Alter>(
     let Ok(mut listener) = TcpListener::bind(rt, ("127.0.0.1", port)) else {
         return Ending::Net;
     };
-    let mut clock = Moments::new(rt, at);
+    let mut clock = ProgramClock::new(rt, at);
     match serve_on(rt.alloc(), &mut listener, streams, &mut clock, desk) {
         Ok(()) => Ending::Done,
         Err(ListenFault::Stream(fault)) => Ending::Serve(fault),

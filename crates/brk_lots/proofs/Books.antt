@@ -10,7 +10,7 @@ use Rattle.brk_money.specs.declared.side.Side.TheVariants.{Buy, Sell}
 use Rattle.brk_model.specs.Lists.{total_by}
 use Rattle.brk_model.specs.Shares.{Share, Deal, signed_by_side, net_share_count, realised_gain, replay, opened_share, closed_share_count_of_deal, shares_after_deal, buy_value}
 use Rattle.brk_lots.specs.declared.lot.Lot.{Lot}
-use Rattle.brk_lots.specs.Lots.{side_of_qty, share_of_lot, shares_of_lots, list_in_closing_order}
+use Rattle.brk_lots.specs.Lots.{side_of_qty, share_of_lot, shares_of_lots, list_reversed_if_lifo}
 use Rattle.brk_lots.specs.Walks.{buy_value_by_side, sell_value_by_side}
 use Rattle.brk_lots.specs.Books.{lot_quantity_sum, lot_cost_basis, share_cost_basis, deal_quantity_sum, realised_gain_sum, purchases_minus_sales}
 use Rattle.brk_lots.proofs.Runs.{cost, without, cost_run, signed_back}
@@ -101,22 +101,22 @@ net_after_one s d us h =
     let e : signed_by_side s (length us - k) +ℤ signed_by_side d.side (d.qty - k) ≡ signed_by_side s (length us) +ℤ signed_by_side d.side d.qty = net_step s d.side (length us) (length us - k) k (d.qty - k) d.qty (omega (arith, f.1)) (omega (arith, f.0)) (count_own d s us h) in
     ap net_share_count (after_is d us) ∙ net_join (without d.is_lifo k us) (replicate (d.qty - k) (opened_share d)) ∙ rw (w, r, net_of s us h) e
 
-gain_is : (d : Deal) (us : List Share) → let k = closed_share_count_of_deal d us in let x = cost (take k (list_in_closing_order d.is_lifo us)) in
+gain_is : (d : Deal) (us : List Share) → let k = closed_share_count_of_deal d us in let x = cost (take k (list_reversed_if_lifo d.is_lifo us)) in
     realised_gain d us ≡ pos (sell_value_by_side d.side (k * d.price) x) -ℤ pos (buy_value_by_side d.side (k * d.price) x)
-gain_is d us = ap (λ n. pos n -ℤ pos (buy_value d us)) (sold_is d us) ∙ ap (λ n. pos (sell_value_by_side d.side (closed_share_count_of_deal d us * d.price) (cost (take (closed_share_count_of_deal d us) (list_in_closing_order d.is_lifo us)))) -ℤ pos n) (bought_is d us)
+gain_is d us = ap (λ n. pos n -ℤ pos (buy_value d us)) (sold_is d us) ∙ ap (λ n. pos (sell_value_by_side d.side (closed_share_count_of_deal d us * d.price) (cost (take (closed_share_count_of_deal d us) (list_reversed_if_lifo d.is_lifo us)))) -ℤ pos n) (bought_is d us)
 
 cost_after_one : (s : Side) (d : Deal) (us : List Share) → OneSide s us → share_cost_basis (shares_after_deal us d) ≡ share_cost_basis us +ℤ (realised_gain d us +ℤ signed_by_side d.side (d.qty * d.price))
 cost_after_one s d us h =
     let k = closed_share_count_of_deal d us in
     let u = opened_share d in
-    let x = cost (take k (list_in_closing_order d.is_lifo us)) in
+    let x = cost (take k (list_reversed_if_lifo d.is_lifo us)) in
     let f = count_fits d us in
     let w : share_cost_basis (without d.is_lifo k us) ≡ signed_by_side s (cost (without d.is_lifo k us)) = cost_of s (without d.is_lifo k us) (stays s d us h) in
     let rc : cost (replicate (d.qty - k) u) ≡ (d.qty - k) * d.price = ap cost (sym (append-nil (replicate (d.qty - k) u))) ∙ cost_run (d.qty - k) u [] ∙ omega arith in
     let r : share_cost_basis (replicate (d.qty - k) u) ≡ signed_by_side d.side ((d.qty - k) * d.price) = cost_of d.side (replicate (d.qty - k) u) (opens d (d.qty - k)) ∙ ap (signed_by_side d.side) rc in
     let total : d.qty * d.price ≡ k * d.price + (d.qty - k) * d.price = parts d.qty k d.price f.0 in
     let e = cost_step s d.side (cost us) (cost (without d.is_lifo k us)) x (k * d.price) ((d.qty - k) * d.price) (d.qty * d.price) (cost_parts d.is_lifo k us) total
-    (λ z. (ap (λ n. cost (take n (list_in_closing_order d.is_lifo us))) (count_own d s us h z), ap (λ n. n * d.price) (count_own d s us h z) ∙ omega arith)) in
+    (λ z. (ap (λ n. cost (take n (list_reversed_if_lifo d.is_lifo us))) (count_own d s us h z), ap (λ n. n * d.price) (count_own d s us h z) ∙ omega arith)) in
     ap share_cost_basis (after_is d us) ∙ cost_join (without d.is_lifo k us) (replicate (d.qty - k) u) ∙ rw (w, r, cost_of s us h, gain_is d us) e where
       parts : (q k p : ℕ) → k ≤ q → q * p ≡ k * p + (q - k) * p
       parts q k p h = let e : q ≡ k + (q - k) = omega arith in ap (λ n. n * p) e ∙ omega arith

@@ -5,7 +5,7 @@ use Rattle.brk_money.specs.Kinds.{is_same_side}
 use Rattle.brk_money.specs.declared.side.Side.{Side}
 use Rattle.brk_model.specs.Shares.{Share, Deal, closed_share_count_of_deal, buy_value, sell_value, touches_of_existing_lots}
 use Rattle.brk_lots.specs.declared.lot.Lot.{Lot}
-use Rattle.brk_lots.specs.Lots.{side_of_qty, shares_of_lots, list_in_closing_order, abstract_touch}
+use Rattle.brk_lots.specs.Lots.{side_of_qty, shares_of_lots, list_reversed_if_lifo, abstract_touch}
 use Rattle.brk_lots.specs.Position.{IsPositionInAnyOrder, AreOpenedByOtherTrades}
 use Rattle.brk_lots.specs.Walks.{closed_share_count, touches_of_first_shares, cost_of_first_shares, buy_value_by_side, sell_value_by_side}
 use Rattle.brk_lots.proofs.Runs.{cost}
@@ -19,24 +19,24 @@ use Rattle.brk_lots.specs.Values.{closing_values_by_side, closing_values_of_deal
 
 -- the shares that the walk takes cost what the shares that the deal closes cost
 paid_is : (d : Deal) (ls : List Lot) → IsPositionInAnyOrder ls
-    → cost_of_first_shares (closed_share_count d.side d.qty (list_in_closing_order d.is_lifo ls)) (list_in_closing_order d.is_lifo ls) ≡ cost (take (closed_share_count_of_deal d (shares_of_lots ls)) (list_in_closing_order d.is_lifo (shares_of_lots ls)))
+    → cost_of_first_shares (closed_share_count d.side d.qty (list_reversed_if_lifo d.is_lifo ls)) (list_reversed_if_lifo d.is_lifo ls) ≡ cost (take (closed_share_count_of_deal d (shares_of_lots ls)) (list_reversed_if_lifo d.is_lifo (shares_of_lots ls)))
 paid_is d ls w =
-    let walk = list_in_closing_order d.is_lifo ls in
+    let walk = list_reversed_if_lifo d.is_lifo ls in
     let k = closed_share_count d.side d.qty walk in
     sym (cost_taken k walk)
     ∙ ap (λ (vs : List Share). cost (take k vs)) (shares_end d.is_lifo ls)
-    ∙ ap (λ n. cost (take n (list_in_closing_order d.is_lifo (shares_of_lots ls)))) (met_closes d ls w)
+    ∙ ap (λ n. cost (take n (list_reversed_if_lifo d.is_lifo (shares_of_lots ls)))) (met_closes d ls w)
 
 -- The buy value `b` and the sell value `s`, as one value.
 abbrev both : ℕ → ℕ → Values
 both b s = record { buy_value = b; sell_value = s }
 
 -- the values of the walk are those of the deal
-pub values_are : (d : Deal) (ls : List Lot) → IsPositionInAnyOrder ls → let walk = list_in_closing_order d.is_lifo ls in let k = closed_share_count d.side d.qty walk in
+pub values_are : (d : Deal) (ls : List Lot) → IsPositionInAnyOrder ls → let walk = list_reversed_if_lifo d.is_lifo ls in let k = closed_share_count d.side d.qty walk in
     closing_values_by_side d.side (k * d.price) (cost_of_first_shares k walk) ≡ closing_values_of_deal d (shares_of_lots ls)
 values_are d ls w =
     let us = shares_of_lots ls in
-    let walk = list_in_closing_order d.is_lifo ls in
+    let walk = list_reversed_if_lifo d.is_lifo ls in
     let k = closed_share_count d.side d.qty walk in
     let same : k * d.price ≡ closed_share_count_of_deal d us * d.price = ap (λ n. n * d.price) (met_closes d ls w) in
     let b : buy_value_by_side d.side (k * d.price) (cost_of_first_shares k walk) ≡ buy_value d us =
@@ -46,15 +46,15 @@ values_are d ls w =
     ap (λ n. both n (sell_value_by_side d.side (k * d.price) (cost_of_first_shares k walk))) b ∙ ap (both (buy_value d us)) s
 
 -- from either end there are as many
-length_end : {X : Type 0} (lifo : Bool) (xs : List X) → length (list_in_closing_order lifo xs) ≡ length xs
+length_end : {X : Type 0} (lifo : Bool) (xs : List X) → length (list_reversed_if_lifo lifo xs) ≡ length xs
 length_end true xs = length-reverse xs
 length_end false xs = refl
 
 -- the walk takes of as many lots as the deal touches
 pub touched_are : (d : Deal) (ls : List Lot) → IsPositionInAnyOrder ls → AreOpenedByOtherTrades d.trade ls
-    → length (touches_of_first_shares (closed_share_count d.side d.qty (list_in_closing_order d.is_lifo ls)) (list_in_closing_order d.is_lifo ls)) ≡ length (touches_of_existing_lots d (shares_of_lots ls))
+    → length (touches_of_first_shares (closed_share_count d.side d.qty (list_reversed_if_lifo d.is_lifo ls)) (list_reversed_if_lifo d.is_lifo ls)) ≡ length (touches_of_existing_lots d (shares_of_lots ls))
 touched_are d ls w fresh =
-    sym (length-map (touches_of_first_shares (closed_share_count d.side d.qty (list_in_closing_order d.is_lifo ls)) (list_in_closing_order d.is_lifo ls)) abstract_touch)
+    sym (length-map (touches_of_first_shares (closed_share_count d.side d.qty (list_reversed_if_lifo d.is_lifo ls)) (list_reversed_if_lifo d.is_lifo ls)) abstract_touch)
     ∙ ap length (rows_are d ls w fresh) ∙ length_end d.is_lifo (touches_of_existing_lots d (shares_of_lots ls))
 
 -- a lot of the other side is one more that is touched

@@ -7,7 +7,7 @@ use Rattle.std.proofs.lemmas.List.{length-reverse, reverse-append, reverse-rever
 use Rattle.brk_model.specs.Shares.{signed_by_side}
 use Rattle.brk_lots.specs.declared.lot.Lot.{Lot}
 use Rattle.brk_lots.specs.declared.lot.Touch.{Touch}
-use Rattle.brk_lots.specs.Lots.{side_of_qty, list_in_closing_order}
+use Rattle.brk_lots.specs.Lots.{side_of_qty, list_reversed_if_lifo}
 use Rattle.brk_lots.specs.Position.{HasSameSideAndOtherTrade, IsPositionInAnyOrder}
 use Rattle.brk_lots.specs.Walks.{touches_of_first_shares, lots_after_touches, lot_with_nonzero_quantity}
 use Rattle.brk_lots.proofs.Runs.{size_positive, signed_back}
@@ -21,7 +21,7 @@ rows_fit k (l ∷ ls) = at (eqb k 0) (rows_fit (k - unsigned_abs l.qty) ls) wher
   at true h = omega arith
   at false h = omega arith
 
-pub rows_fit_end : (lifo : Bool) (k : ℕ) (ls : List Lot) → length (touches_of_first_shares k (list_in_closing_order lifo ls)) ≤ length ls
+pub rows_fit_end : (lifo : Bool) (k : ℕ) (ls : List Lot) → length (touches_of_first_shares k (list_reversed_if_lifo lifo ls)) ≤ length ls
 rows_fit_end true k ls = omega (arith, rows_fit k (reverse ls), length-reverse ls)
 rows_fit_end false k ls = rows_fit k ls
 
@@ -158,7 +158,7 @@ first_row (suc k) (l ∷ ls) t f p e =
 
 -- the first row names the oldest lot where the lots were taken from the front, and of one lot
 -- either way
-pub left_front : (lifo : Bool) (k : ℕ) (ls : List Lot) → IsPositionInAnyOrder ls → (ts : List Touch) → ts ≡ touches_of_first_shares k (list_in_closing_order lifo ls) → 0 < length ts → (s : Touch) (f : Lot) → s ≡ get_or ts 0 s → f ≡ get_or ls 0 f → s.lot ≡ f.trade
+pub left_front : (lifo : Bool) (k : ℕ) (ls : List Lot) → IsPositionInAnyOrder ls → (ts : List Touch) → ts ≡ touches_of_first_shares k (list_reversed_if_lifo lifo ls) → 0 < length ts → (s : Touch) (f : Lot) → s ≡ get_or ts 0 s → f ≡ get_or ls 0 f → s.lot ≡ f.trade
     → (t : Touch) (l : Lot) → t ≡ get_or ts (length ts - 1) t → l ≡ get_or ls (length ts - 1) l → lots_after_touches ts ls ≡ lot_with_nonzero_quantity t.after l ++ drop (length ts) ls
 left_front false k ls w ts e p s f se fe same t l te le = cut_front k ls w ts e p t l te le
 left_front true k ls w ts e p s f se fe same t l te le =
@@ -168,7 +168,7 @@ left_front true k ls w ts e p s f se fe same t l te le =
     let one : reverse ls ≡ ls = only_one ls w f some (sym r ∙ same ∙ ap (λ (x : Lot). x.trade) fe) in
     cut_front k ls w ts (e ∙ ap (touches_of_first_shares k) one) p t l te le
 
-pub left_back : (lifo : Bool) (k : ℕ) (ls : List Lot) → IsPositionInAnyOrder ls → (ts : List Touch) → ts ≡ touches_of_first_shares k (list_in_closing_order lifo ls) → 0 < length ts → (s : Touch) (f : Lot) → s ≡ get_or ts 0 s → f ≡ get_or ls 0 f → s.lot ≢ f.trade
+pub left_back : (lifo : Bool) (k : ℕ) (ls : List Lot) → IsPositionInAnyOrder ls → (ts : List Touch) → ts ≡ touches_of_first_shares k (list_reversed_if_lifo lifo ls) → 0 < length ts → (s : Touch) (f : Lot) → s ≡ get_or ts 0 s → f ≡ get_or ls 0 f → s.lot ≢ f.trade
     → (t : Touch) (l : Lot) → t ≡ get_or ts (length ts - 1) t → l ≡ get_or ls (length ls - length ts) l → lots_after_touches ts ls ≡ take (length ls - length ts) ls ++ lot_with_nonzero_quantity t.after l
 left_back true k ls w ts e p s f se fe other t l te le = cut_back k ls w ts e p t l te le
 left_back false k ls w ts e p s f se fe other t l te le =
@@ -176,11 +176,11 @@ left_back false k ls w ts e p s f se fe other t l te le =
     absurd (other (first_row k ls s f (subst (λ (rs : List Touch). 0 < length rs) e p) s0 ∙ ap (λ (x : Lot). x.trade) (sym fe)))
 
 -- where there are no rows, all lots are left
-pub left_whole : (lifo : Bool) (k : ℕ) (ls : List Lot) → IsPositionInAnyOrder ls → (ts : List Touch) → ts ≡ touches_of_first_shares k (list_in_closing_order lifo ls) → length ts ≡ 0 → lots_after_touches ts ls ≡ ls
+pub left_whole : (lifo : Bool) (k : ℕ) (ls : List Lot) → IsPositionInAnyOrder ls → (ts : List Touch) → ts ≡ touches_of_first_shares k (list_reversed_if_lifo lifo ls) → length ts ≡ 0 → lots_after_touches ts ls ≡ ls
 left_whole lifo k ls w ts e z =
-    let z0 : length (touches_of_first_shares k (list_in_closing_order lifo ls)) ≡ 0 = subst (λ (rs : List Touch). length rs ≡ 0) e z in
-    left_end lifo ts ls ∙ ap (λ (rs : List Touch). list_in_closing_order lifo (lots_after_touches rs (list_in_closing_order lifo ls))) e
-    ∙ ap (list_in_closing_order lifo) (left_kept k (list_in_closing_order lifo ls) (walk_end lifo ls w) ∙ none_taken k (list_in_closing_order lifo ls) (walk_end lifo ls w) z0) ∙ twice lifo where
-      twice : (b : Bool) → list_in_closing_order b (list_in_closing_order b ls) ≡ ls
+    let z0 : length (touches_of_first_shares k (list_reversed_if_lifo lifo ls)) ≡ 0 = subst (λ (rs : List Touch). length rs ≡ 0) e z in
+    left_end lifo ts ls ∙ ap (λ (rs : List Touch). list_reversed_if_lifo lifo (lots_after_touches rs (list_reversed_if_lifo lifo ls))) e
+    ∙ ap (list_reversed_if_lifo lifo) (left_kept k (list_reversed_if_lifo lifo ls) (walk_end lifo ls w) ∙ none_taken k (list_reversed_if_lifo lifo ls) (walk_end lifo ls w) z0) ∙ twice lifo where
+      twice : (b : Bool) → list_reversed_if_lifo b (list_reversed_if_lifo b ls) ≡ ls
       twice true = reverse-reverse ls
       twice false = refl

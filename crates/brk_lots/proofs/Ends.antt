@@ -8,7 +8,7 @@ use Rattle.brk_money.specs.Kinds.{is_same_side}
 use Rattle.brk_money.specs.declared.side.Side.{Side}
 use Rattle.brk_model.specs.Shares.{Share}
 use Rattle.brk_lots.specs.declared.lot.Lot.{Lot}
-use Rattle.brk_lots.specs.Lots.{side_of_qty, share_of_lot, shares_of_lots, list_in_closing_order}
+use Rattle.brk_lots.specs.Lots.{side_of_qty, share_of_lot, shares_of_lots, list_reversed_if_lifo}
 use Rattle.brk_lots.specs.Walks.{closed_share_count}
 use Rattle.brk_lots.specs.Position.{HasSameSideAndOtherTrade, IsPositionInAnyOrder, IsLaterInPosition, IsPosition}
 use Rattle.brk_lots.proofs.Runs.{count_of, cost, without, length_run}
@@ -28,7 +28,7 @@ pub all_reverse : {X : Type 0} (P : X → Type 0) (xs : List X) → AllByRecursi
 all_reverse P [] p = tt
 all_reverse P (x ∷ xs) p = rw (reverse_first x xs) (all_join P (reverse xs) (x ∷ []) (all_reverse P xs p.1) (p.0, tt))
 
-pub all_end : {X : Type 0} (P : X → Type 0) (lifo : Bool) (xs : List X) → AllByRecursion P xs → AllByRecursion P (list_in_closing_order lifo xs)
+pub all_end : {X : Type 0} (P : X → Type 0) (lifo : Bool) (xs : List X) → AllByRecursion P xs → AllByRecursion P (list_reversed_if_lifo lifo xs)
 all_end P true xs p = all_reverse P xs p
 all_end P false xs p = p
 
@@ -47,12 +47,12 @@ pub walk_reverse : (ls : List Lot) → IsPositionInAnyOrder ls → IsPositionInA
 walk_reverse [] w = tt
 walk_reverse (l ∷ ls) w = rw (reverse_first l ls) (walk_push (reverse ls) l (walk_reverse ls w.2) w.0 (all_reverse (HasSameSideAndOtherTrade l) ls w.1))
 
-pub walk_end : (lifo : Bool) (ls : List Lot) → IsPositionInAnyOrder ls → IsPositionInAnyOrder (list_in_closing_order lifo ls)
+pub walk_end : (lifo : Bool) (ls : List Lot) → IsPositionInAnyOrder ls → IsPositionInAnyOrder (list_reversed_if_lifo lifo ls)
 walk_end true ls w = walk_reverse ls w
 walk_end false ls w = w
 
 -- what holds from an end holds from the front
-pub all_back : {X : Type 0} (P : X → Type 0) (lifo : Bool) (xs : List X) → AllByRecursion P (list_in_closing_order lifo xs) → AllByRecursion P xs
+pub all_back : {X : Type 0} (P : X → Type 0) (lifo : Bool) (xs : List X) → AllByRecursion P (list_reversed_if_lifo lifo xs) → AllByRecursion P xs
 all_back P true xs p = subst (AllByRecursion P) (reverse-reverse xs) (all_reverse P (reverse xs) p)
 all_back P false xs p = p
 
@@ -74,7 +74,7 @@ reverse_shares (l ∷ ls) =
     ∙ ap (λ (us : List Share). reverse (shares_of_lots ls) ++ us) (append-nil (replicate (unsigned_abs l.qty) (share_of_lot l)) ∙ sym (reverse_run (unsigned_abs l.qty) (share_of_lot l)))
     ∙ sym (reverse-append (replicate (unsigned_abs l.qty) (share_of_lot l)) (shares_of_lots ls))
 
-pub shares_end : (lifo : Bool) (ls : List Lot) → shares_of_lots (list_in_closing_order lifo ls) ≡ list_in_closing_order lifo (shares_of_lots ls)
+pub shares_end : (lifo : Bool) (ls : List Lot) → shares_of_lots (list_reversed_if_lifo lifo ls) ≡ list_reversed_if_lifo lifo (shares_of_lots ls)
 shares_end true ls = reverse_shares ls
 shares_end false ls = refl
 
@@ -93,7 +93,7 @@ drop_reverse {X} (suc k) (x ∷ xs) =
       cut (suc n) [] h = absurd (omega arith)
       cut (suc n) (y ∷ ys) h = ap (λ (zs : List X). y ∷ zs) (cut n ys (omega arith))
 
-pub without_end : (lifo : Bool) (k : ℕ) (us : List Share) → list_in_closing_order lifo (drop k (list_in_closing_order lifo us)) ≡ without lifo k us
+pub without_end : (lifo : Bool) (k : ℕ) (us : List Share) → list_reversed_if_lifo lifo (drop k (list_reversed_if_lifo lifo us)) ≡ without lifo k us
 without_end true k us = drop_reverse k (reverse us) ∙ rw (length-reverse us, reverse-reverse us) refl
 without_end false k us = refl
 
@@ -116,7 +116,7 @@ met_reverse side q (l ∷ ls) w =
     ∙ ap (λ n. cond (is_same_side s side) 0 (min q n)) len
     ∙ sym (met_all side s q (l ∷ ls) same)
 
-pub met_end : (lifo : Bool) (side : Side) (q : ℕ) (ls : List Lot) → IsPositionInAnyOrder ls → closed_share_count side q (list_in_closing_order lifo ls) ≡ closed_share_count side q ls
+pub met_end : (lifo : Bool) (side : Side) (q : ℕ) (ls : List Lot) → IsPositionInAnyOrder ls → closed_share_count side q (list_reversed_if_lifo lifo ls) ≡ closed_share_count side q ls
 met_end true side q ls w = met_reverse side q ls w
 met_end false side q ls w = refl
 
@@ -135,13 +135,13 @@ cost_reverse (u ∷ us) =
     ∙ omega (arith, cost_reverse us, sum_by-cons (λ (v : Share). v.price) u us, sum_by-cons (λ (v : Share). v.price) u [])
 
 -- the shares that leave and those that stay cost what all did
-pub cost_parts : (lifo : Bool) (k : ℕ) (us : List Share) → cost (without lifo k us) + cost (take k (list_in_closing_order lifo us)) ≡ cost us
+pub cost_parts : (lifo : Bool) (k : ℕ) (us : List Share) → cost (without lifo k us) + cost (take k (list_reversed_if_lifo lifo us)) ≡ cost us
 cost_parts true k us =
     let e : cost (without true k us) ≡ cost (drop k (reverse us)) = ap cost (sym (without_end true k us)) ∙ cost_reverse (drop k (reverse us)) in
     omega (arith, e, cost_reverse us, sum_by-take-drop (λ (v : Share). v.price) (reverse us) k)
 cost_parts false k us = omega (arith, sum_by-take-drop (λ (v : Share). v.price) us k)
 
 -- the first k shares from an end cost what the shares that are without the others cost
-pub cost_end : (lifo : Bool) (k : ℕ) (us : List Share) → cost (take k (list_in_closing_order lifo us)) ≡ cost (cond lifo (drop (length us - k) us) (take k us))
+pub cost_end : (lifo : Bool) (k : ℕ) (us : List Share) → cost (take k (list_reversed_if_lifo lifo us)) ≡ cost (cond lifo (drop (length us - k) us) (take k us))
 cost_end true k us = omega (arith, cost_parts true k us, sum_by-take-drop (λ (v : Share). v.price) us (length us - k))
 cost_end false k us = refl

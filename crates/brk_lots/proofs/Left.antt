@@ -16,7 +16,7 @@ use Rattle.brk_lots.specs.declared.lot.Lot.{Lot}
 use Rattle.brk_lots.specs.declared.lot.Touch.{Touch}
 use Rattle.brk_lots.specs.declared.closing.Closing.{Closing}
 use Rattle.brk_lots.specs.Closing.{IsApplicableClosing}
-use Rattle.brk_lots.specs.Lots.{side_of_qty, share_of_lot, shares_of_lots, list_in_closing_order}
+use Rattle.brk_lots.specs.Lots.{side_of_qty, share_of_lot, shares_of_lots, list_reversed_if_lifo}
 use Rattle.brk_lots.specs.Position.{HasSameSideAndOtherTrade, IsPositionInAnyOrder, IsLaterInPosition, IsPosition, AreOpenedByOtherTrades, AreOpenedBeforeStamp}
 use Rattle.brk_lots.specs.Walks.{closed_share_count, touches_of_first_shares, quantity_after_touches, lot_with_nonzero_quantity, rest_of_lot_after_touches, lots_after_touches}
 use Rattle.brk_lots.proofs.Runs.{without, run_lots, size_positive, signed_back, drop_run, length_run}
@@ -108,17 +108,17 @@ left_reverse ts (l ∷ ls) =
       one true = refl
       one false = refl
 
-pub left_end : (lifo : Bool) (ts : List Touch) (ls : List Lot) → lots_after_touches ts ls ≡ list_in_closing_order lifo (lots_after_touches ts (list_in_closing_order lifo ls))
+pub left_end : (lifo : Bool) (ts : List Touch) (ls : List Lot) → lots_after_touches ts ls ≡ list_reversed_if_lifo lifo (lots_after_touches ts (list_reversed_if_lifo lifo ls))
 left_end true ts ls = sym (reverse-reverse (lots_after_touches ts ls)) ∙ ap reverse (sym (left_reverse ts ls))
 left_end false ts ls = refl
 
 -- the shares of what is left are the shares without those that were closed, from whichever end
-pub shares_left : (lifo : Bool) (k : ℕ) (ls : List Lot) → IsPositionInAnyOrder ls → shares_of_lots (lots_after_touches (touches_of_first_shares k (list_in_closing_order lifo ls)) ls) ≡ without lifo k (shares_of_lots ls)
+pub shares_left : (lifo : Bool) (k : ℕ) (ls : List Lot) → IsPositionInAnyOrder ls → shares_of_lots (lots_after_touches (touches_of_first_shares k (list_reversed_if_lifo lifo ls)) ls) ≡ without lifo k (shares_of_lots ls)
 shares_left lifo k ls w =
-    let walk = list_in_closing_order lifo ls in
-    ap shares_of_lots (left_end lifo (touches_of_first_shares k walk) ls ∙ ap (list_in_closing_order lifo) (left_kept k walk (walk_end lifo ls w)))
+    let walk = list_reversed_if_lifo lifo ls in
+    ap shares_of_lots (left_end lifo (touches_of_first_shares k walk) ls ∙ ap (list_reversed_if_lifo lifo) (left_kept k walk (walk_end lifo ls w)))
     ∙ shares_end lifo (kept k walk)
-    ∙ ap (list_in_closing_order lifo) (shares_kept k walk ∙ ap (drop k) (shares_end lifo ls))
+    ∙ ap (list_reversed_if_lifo lifo) (shares_kept k walk ∙ ap (drop k) (shares_end lifo ls))
     ∙ without_end lifo k (shares_of_lots ls)
 
 -- ---- what is left is a position
@@ -135,7 +135,7 @@ walk_shrinks k (l ∷ ls) w = (
       (λ m b s. (s.0, qty_rest k l m ls b.1 ∙ s.1)) ls w.1 (walk_shrinks (k - unsigned_abs l.qty) ls w.2),
 )
 
-end_shrinks : (lifo : Bool) (k : ℕ) (ls : List Lot) → IsPositionInAnyOrder ls → AllByRecursion (Shrinks (touches_of_first_shares k (list_in_closing_order lifo ls))) ls
+end_shrinks : (lifo : Bool) (k : ℕ) (ls : List Lot) → IsPositionInAnyOrder ls → AllByRecursion (Shrinks (touches_of_first_shares k (list_reversed_if_lifo lifo ls))) ls
 end_shrinks true k ls w = subst (AllByRecursion (Shrinks (touches_of_first_shares k (reverse ls)))) (reverse-reverse ls) (all_reverse (Shrinks (touches_of_first_shares k (reverse ls))) (reverse ls) (walk_shrinks k (reverse ls) (walk_end true ls w)))
 end_shrinks false k ls w = walk_shrinks k ls w
 
@@ -209,7 +209,7 @@ length_without true k us = omega (arith, length-take (length us - k) us)
 length_without false k us = length-drop k us
 
 -- where a lot is opened, it may stand after what is left
-opened_after : (lifo : Bool) (q n : ℕ) (u : Share) (ls : List Lot) → IsPosition ls → AreOpenedByOtherTrades u.trade ls → AllByRecursion (λ l. l.stamp < u.stamp) ls → q - closed_share_count u.side q ls ≡ suc n → AllByRecursion (λ m. IsLaterInPosition m (new_lot u n)) (lots_after_touches (touches_of_first_shares (closed_share_count u.side q ls) (list_in_closing_order lifo ls)) ls)
+opened_after : (lifo : Bool) (q n : ℕ) (u : Share) (ls : List Lot) → IsPosition ls → AreOpenedByOtherTrades u.trade ls → AllByRecursion (λ l. l.stamp < u.stamp) ls → q - closed_share_count u.side q ls ≡ suc n → AllByRecursion (λ m. IsLaterInPosition m (new_lot u n)) (lots_after_touches (touches_of_first_shares (closed_share_count u.side q ls) (list_reversed_if_lifo lifo ls)) ls)
 opened_after lifo q n u [] p f a e = tt
 opened_after lifo q n u (l ∷ ls) p f a e = each (is_same_side (side_of_qty l.qty) u.side) refl where
   k : ℕ
@@ -224,38 +224,38 @@ opened_after lifo q n u (l ∷ ls) p f a e = each (is_same_side (side_of_qty l.q
   met_is : k ≡ cond (is_same_side (side_of_qty l.qty) u.side) 0 (min q (length (shares_of_lots (l ∷ ls))))
   met_is = met_all u.side (side_of_qty l.qty) q (l ∷ ls) one_side
 
-  shrinks : AllByRecursion (Shrinks (touches_of_first_shares k (list_in_closing_order lifo (l ∷ ls)))) (l ∷ ls)
+  shrinks : AllByRecursion (Shrinks (touches_of_first_shares k (list_reversed_if_lifo lifo (l ∷ ls)))) (l ∷ ls)
   shrinks = end_shrinks lifo k (l ∷ ls) w
 
-  each : (b : Bool) → is_same_side (side_of_qty l.qty) u.side ≡ b → AllByRecursion (λ m. IsLaterInPosition m (new_lot u n)) (lots_after_touches (touches_of_first_shares k (list_in_closing_order lifo (l ∷ ls))) (l ∷ ls))
+  each : (b : Bool) → is_same_side (side_of_qty l.qty) u.side ≡ b → AllByRecursion (λ m. IsLaterInPosition m (new_lot u n)) (lots_after_touches (touches_of_first_shares k (list_reversed_if_lifo lifo (l ∷ ls))) (l ∷ ls))
   each true s =
       let side : side_of_qty l.qty ≡ u.side = same_is (side_of_qty l.qty) u.side s in
       let sides : AllByRecursion (λ m. (side_of_qty m.qty ≡ u.side) × (m.stamp < u.stamp)) (l ∷ ls) = all_from (λ m. side_of_qty m.qty ≡ side_of_qty l.qty) (λ m. m.stamp < u.stamp) (λ m. (side_of_qty m.qty ≡ u.side) × (m.stamp < u.stamp)) (λ m b c. (b ∙ side, c)) (l ∷ ls) one_side a in
-      all_left (λ m. IsLaterInPosition m (new_lot u n)) (touches_of_first_shares k (list_in_closing_order lifo (l ∷ ls))) (l ∷ ls) shrinks
+      all_left (λ m. IsLaterInPosition m (new_lot u n)) (touches_of_first_shares k (list_reversed_if_lifo lifo (l ∷ ls))) (l ∷ ls) shrinks
       (all_from (λ m. (side_of_qty m.qty ≡ u.side) × (m.stamp < u.stamp)) (λ m. m.trade ≢ u.trade) (OfShares (λ m. IsLaterInPosition m (new_lot u n)))
       (λ m b c. before m b.0 b.1 c) (l ∷ ls) sides f) where
         before : (m : Lot) → side_of_qty m.qty ≡ u.side → m.stamp < u.stamp → m.trade ≢ u.trade → OfShares (λ m'. IsLaterInPosition m' (new_lot u n)) m
         before m b c d zero = tt
         before m b c d (suc i) = (((side_signed u.side n ∙ sym (side_signed (side_of_qty m.qty) i ∙ b), λ e. d (sym e)), c), tt)
   each false s =
-      let len : length (shares_of_lots (lots_after_touches (touches_of_first_shares k (list_in_closing_order lifo (l ∷ ls))) (l ∷ ls))) ≡ length (shares_of_lots (l ∷ ls)) - k = ap length (shares_left lifo k (l ∷ ls) w) ∙ length_without lifo k (shares_of_lots (l ∷ ls)) in
+      let len : length (shares_of_lots (lots_after_touches (touches_of_first_shares k (list_reversed_if_lifo lifo (l ∷ ls))) (l ∷ ls))) ≡ length (shares_of_lots (l ∷ ls)) - k = ap length (shares_left lifo k (l ∷ ls) w) ∙ length_without lifo k (shares_of_lots (l ∷ ls)) in
       let all : k ≡ min q (length (shares_of_lots (l ∷ ls))) = met_is ∙ ap (λ b. cond b 0 (min q (length (shares_of_lots (l ∷ ls))))) s in
-      let none : lots_after_touches (touches_of_first_shares k (list_in_closing_order lifo (l ∷ ls))) (l ∷ ls) ≡ [] = nothing_left (lots_after_touches (touches_of_first_shares k (list_in_closing_order lifo (l ∷ ls))) (l ∷ ls)) (position_left (touches_of_first_shares k (list_in_closing_order lifo (l ∷ ls))) (l ∷ ls) p shrinks) (omega (arith, len, all, e)) in
+      let none : lots_after_touches (touches_of_first_shares k (list_reversed_if_lifo lifo (l ∷ ls))) (l ∷ ls) ≡ [] = nothing_left (lots_after_touches (touches_of_first_shares k (list_reversed_if_lifo lifo (l ∷ ls))) (l ∷ ls)) (position_left (touches_of_first_shares k (list_reversed_if_lifo lifo (l ∷ ls))) (l ∷ ls) p shrinks) (omega (arith, len, all, e)) in
       subst (AllByRecursion (λ m. IsLaterInPosition m (new_lot u n))) (sym none) tt
 
 -- ---- a deal upon lots leaves lots
 
-lawful : (lifo : Bool) (q : ℕ) (u : Share) (ls : List Lot) → IsPosition ls → AreOpenedByOtherTrades u.trade ls → AreOpenedBeforeStamp u.stamp ls → (n : ℕ) → q - closed_share_count u.side q ls ≡ n → IsPosition (lots_after_touches (touches_of_first_shares (closed_share_count u.side q ls) (list_in_closing_order lifo ls)) ls ++ run_lots n u)
-lawful lifo q u ls p f a zero e = rw (append-nil (lots_after_touches (touches_of_first_shares (closed_share_count u.side q ls) (list_in_closing_order lifo ls)) ls)) (position_left (touches_of_first_shares (closed_share_count u.side q ls) (list_in_closing_order lifo ls)) ls p (end_shrinks lifo (closed_share_count u.side q ls) ls (walk_of ls p)))
+lawful : (lifo : Bool) (q : ℕ) (u : Share) (ls : List Lot) → IsPosition ls → AreOpenedByOtherTrades u.trade ls → AreOpenedBeforeStamp u.stamp ls → (n : ℕ) → q - closed_share_count u.side q ls ≡ n → IsPosition (lots_after_touches (touches_of_first_shares (closed_share_count u.side q ls) (list_reversed_if_lifo lifo ls)) ls ++ run_lots n u)
+lawful lifo q u ls p f a zero e = rw (append-nil (lots_after_touches (touches_of_first_shares (closed_share_count u.side q ls) (list_reversed_if_lifo lifo ls)) ls)) (position_left (touches_of_first_shares (closed_share_count u.side q ls) (list_reversed_if_lifo lifo ls)) ls p (end_shrinks lifo (closed_share_count u.side q ls) ls (walk_of ls p)))
 lawful lifo q u ls p f a (suc n) e =
-    position_push (lots_after_touches (touches_of_first_shares (closed_share_count u.side q ls) (list_in_closing_order lifo ls)) ls) (new_lot u n)
-    (position_left (touches_of_first_shares (closed_share_count u.side q ls) (list_in_closing_order lifo ls)) ls p (end_shrinks lifo (closed_share_count u.side q ls) ls (walk_of ls p)))
+    position_push (lots_after_touches (touches_of_first_shares (closed_share_count u.side q ls) (list_reversed_if_lifo lifo ls)) ls) (new_lot u n)
+    (position_left (touches_of_first_shares (closed_share_count u.side q ls) (list_reversed_if_lifo lifo ls)) ls p (end_shrinks lifo (closed_share_count u.side q ls) ls (walk_of ls p)))
     (signed_differs u.side n)
     (opened_after lifo q n u ls p f a e)
 
 -- The lots of the position `ls` after the deal `d`, with the lot that the deal opens.
 abbrev pub lots_after : Deal → List Lot → List Lot
-lots_after d ls = lots_after_touches (touches_of_first_shares (closed_share_count d.side d.qty ls) (list_in_closing_order d.is_lifo ls)) ls ++ run_lots (d.qty - closed_share_count d.side d.qty ls) (opened_share d)
+lots_after d ls = lots_after_touches (touches_of_first_shares (closed_share_count d.side d.qty ls) (list_reversed_if_lifo d.is_lifo ls)) ls ++ run_lots (d.qty - closed_share_count d.side d.qty ls) (opened_share d)
 
 -- they are a position, and their shares are those of the deal upon the shares before
 pub booked_lots : (d : Deal) (ls : List Lot) → IsPosition ls → AreOpenedByOtherTrades d.trade ls → AreOpenedBeforeStamp d.stamp ls → IsPosition (lots_after d ls) × (shares_of_lots (lots_after d ls) ≡ shares_after_deal (shares_of_lots ls) d)
@@ -264,7 +264,7 @@ booked_lots d ls p f a =
     let k : ℕ = closed_share_count d.side d.qty ls in
     let w = walk_of ls p in (
       lawful d.is_lifo d.qty u ls p f a (d.qty - k) refl,
-      flat_map-append (λ m. replicate (unsigned_abs m.qty) (share_of_lot m)) (lots_after_touches (touches_of_first_shares k (list_in_closing_order d.is_lifo ls)) ls) (run_lots (d.qty - k) u)
+      flat_map-append (λ m. replicate (unsigned_abs m.qty) (share_of_lot m)) (lots_after_touches (touches_of_first_shares k (list_reversed_if_lifo d.is_lifo ls)) ls) (run_lots (d.qty - k) u)
           ∙ ap (λ (us : List Share). us ++ shares_of_lots (run_lots (d.qty - k) u)) (shares_left d.is_lifo k ls w)
           ∙ ap (λ (us : List Share). without d.is_lifo k (shares_of_lots ls) ++ us) (shares_opened (d.qty - k) u)
           ∙ ap (λ n. without d.is_lifo n (shares_of_lots ls) ++ replicate (d.qty - n) u) (met_is d ls w)
@@ -275,7 +275,7 @@ booked_lots d ls p f a =
 pub booked : (d : Deal) (ls : List Lot) (closing : Closing) → IsPosition ls → IsApplicableClosing d ls closing → lots_after_touches closing.touched.items ls ++ option_to_list closing.opened ≡ lots_after d ls
 booked d ls closing p h =
     let w = walk_of ls p in
-    let same : closed_share_count d.side d.qty (list_in_closing_order d.is_lifo ls) ≡ closed_share_count d.side d.qty ls = met_end d.is_lifo d.side d.qty ls w in
-    let rows : closing.touched.items ≡ touches_of_first_shares (closed_share_count d.side d.qty ls) (list_in_closing_order d.is_lifo ls) = rows_back d ls closing w h.fresh h.closes ∙ ap (λ n. touches_of_first_shares n (list_in_closing_order d.is_lifo ls)) same in
+    let same : closed_share_count d.side d.qty (list_reversed_if_lifo d.is_lifo ls) ≡ closed_share_count d.side d.qty ls = met_end d.is_lifo d.side d.qty ls w in
+    let rows : closing.touched.items ≡ touches_of_first_shares (closed_share_count d.side d.qty ls) (list_reversed_if_lifo d.is_lifo ls) = rows_back d ls closing w h.fresh h.closes ∙ ap (λ n. touches_of_first_shares n (list_reversed_if_lifo d.is_lifo ls)) same in
     let opened : option_to_list closing.opened ≡ run_lots (d.qty - closed_share_count d.side d.qty ls) (opened_share d) = opened_back d ls closing h.closes ∙ ap (λ n. run_lots (d.qty - n) (opened_share d)) (sym (met_is d ls w)) in
     rw (rows, opened) refl

@@ -8,7 +8,7 @@ use Rattle.brk_money.specs.declared.side.Side.TheVariants.{Buy, Sell}
 use Rattle.brk_model.specs.Shares as model
 use Rattle.brk_model.specs.Shares.{Share, Deal, signed_by_side, first_shares_of_lots, lots_of_shares, lot_quantity, touches_of_existing_lots, touch_of_lot_with_share, changes_lot_quantity, opened_share, closed_share_count_of_deal, shares_after_deal, closed_value_at_opening_prices, buy_value, sell_value}
 use Rattle.brk_lots.specs.declared.lot.Lot.{Lot}
-use Rattle.brk_lots.specs.Lots.{side_of_qty, share_of_lot, shares_of_lots, list_in_closing_order, abstract_lot, abstract_touch}
+use Rattle.brk_lots.specs.Lots.{side_of_qty, share_of_lot, shares_of_lots, list_reversed_if_lifo, abstract_lot, abstract_touch}
 use Rattle.brk_lots.specs.Position.{IsPositionInAnyOrder}
 use Rattle.brk_lots.specs.Walks.{closed_share_count, buy_value_by_side, sell_value_by_side}
 use Rattle.brk_lots.proofs.Runs.{count_of, cost, without, run_lots, size_positive, signed_back}
@@ -118,14 +118,14 @@ met_is d (l ∷ ls) w = one (unsigned_abs l.qty) (size_positive l.qty w.0) where
 
 -- ---- the values of a deal
 
-pub bought_is : (d : Deal) (us : List Share) → buy_value d us ≡ buy_value_by_side d.side (closed_share_count_of_deal d us * d.price) (cost (take (closed_share_count_of_deal d us) (list_in_closing_order d.is_lifo us)))
+pub bought_is : (d : Deal) (us : List Share) → buy_value d us ≡ buy_value_by_side d.side (closed_share_count_of_deal d us * d.price) (cost (take (closed_share_count_of_deal d us) (list_reversed_if_lifo d.is_lifo us)))
 unfolding buy_value
 bought_is d us = at d.side ∙ ap (buy_value_by_side d.side (closed_share_count_of_deal d us * d.price)) (sym (cost_end d.is_lifo (closed_share_count_of_deal d us) us)) where
   at : (s : Side) → model.buy_value_for_side s d us ≡ buy_value_by_side s (closed_share_count_of_deal d us * d.price) (closed_value_at_opening_prices d us)
   at Buy = refl
   at Sell = refl
 
-pub sold_is : (d : Deal) (us : List Share) → sell_value d us ≡ sell_value_by_side d.side (closed_share_count_of_deal d us * d.price) (cost (take (closed_share_count_of_deal d us) (list_in_closing_order d.is_lifo us)))
+pub sold_is : (d : Deal) (us : List Share) → sell_value d us ≡ sell_value_by_side d.side (closed_share_count_of_deal d us * d.price) (cost (take (closed_share_count_of_deal d us) (list_reversed_if_lifo d.is_lifo us)))
 unfolding sell_value
 sold_is d us = at d.side ∙ ap (sell_value_by_side d.side (closed_share_count_of_deal d us * d.price)) (sym (cost_end d.is_lifo (closed_share_count_of_deal d us) us)) where
   at : (s : Side) → model.sell_value_for_side s d us ≡ sell_value_by_side s (closed_share_count_of_deal d us * d.price) (closed_value_at_opening_prices d us)

@@ -11,7 +11,7 @@ use Rattle.brk_lots.specs.declared.closing.Closing.{Closing}
 use Rattle.brk_lots.specs.declared.lot.Lot.{Lot}
 use Rattle.brk_lots.specs.declared.lot.Touch.{Touch}
 use Rattle.brk_lots.specs.Closing.{AreLotsTouchedByDeal, IsClosingOfDeal}
-use Rattle.brk_lots.specs.Lots.{share_of_lot, shares_of_lots, list_in_closing_order, abstract_lot, abstract_touch}
+use Rattle.brk_lots.specs.Lots.{share_of_lot, shares_of_lots, list_reversed_if_lifo, abstract_lot, abstract_touch}
 use Rattle.brk_lots.specs.Position.{IsPositionInAnyOrder, AreOpenedByOtherTrades}
 use Rattle.brk_lots.specs.Walks.{closed_share_count, touches_of_first_shares}
 use Rattle.brk_lots.proofs.Runs.{count_of, without, run_lots}
@@ -48,7 +48,7 @@ map_reverse {X} {Y} f (u ∷ us) =
     ∙ ap (λ (vs : List Y). vs ++ f u ∷ []) (map_reverse f us) ∙ sym (reverse_first (f u) (map f us))
 
 -- a walk from an end has the rows of the position, from that end
-pub changes_end : (lifo : Bool) (k r : ℕ) (u : Share) (ls : List Lot) → IsPositionInAnyOrder ls → changes (shares_of_lots (list_in_closing_order lifo ls)) (drop k (shares_of_lots (list_in_closing_order lifo ls)) ++ replicate r u) ≡ list_in_closing_order lifo (changes (shares_of_lots ls) (without lifo k (shares_of_lots ls) ++ replicate r u))
+pub changes_end : (lifo : Bool) (k r : ℕ) (u : Share) (ls : List Lot) → IsPositionInAnyOrder ls → changes (shares_of_lots (list_reversed_if_lifo lifo ls)) (drop k (shares_of_lots (list_reversed_if_lifo lifo ls)) ++ replicate r u) ≡ list_reversed_if_lifo lifo (changes (shares_of_lots ls) (without lifo k (shares_of_lots ls) ++ replicate r u))
 changes_end false k r u ls w = refl
 changes_end true k r u ls w =
     let us = shares_of_lots ls in
@@ -70,7 +70,7 @@ changes_end true k r u ls w =
 
 -- ---- what the definitions say of the rows, and back
 
-map_end : {X Y : Type 0} (f : X → Y) (lifo : Bool) (xs : List X) → map f (list_in_closing_order lifo xs) ≡ list_in_closing_order lifo (map f xs)
+map_end : {X Y : Type 0} (f : X → Y) (lifo : Bool) (xs : List X) → map f (list_reversed_if_lifo lifo xs) ≡ list_reversed_if_lifo lifo (map f xs)
 map_end f true xs = map_reverse f xs
 map_end f false xs = refl
 
@@ -95,15 +95,15 @@ lots_same (x ∷ xs) (y ∷ ys) e =
     ap (λ (l : Lot). l ∷ xs) same ∙ ap (λ (ls : List Lot). y ∷ ls) (lots_same xs ys rest)
 
 -- as many shares are met from either end as the deal closes
-pub met_closes : (d : Deal) (ls : List Lot) → IsPositionInAnyOrder ls → closed_share_count d.side d.qty (list_in_closing_order d.is_lifo ls) ≡ closed_share_count_of_deal d (shares_of_lots ls)
+pub met_closes : (d : Deal) (ls : List Lot) → IsPositionInAnyOrder ls → closed_share_count d.side d.qty (list_reversed_if_lifo d.is_lifo ls) ≡ closed_share_count_of_deal d (shares_of_lots ls)
 met_closes d ls w = met_end d.is_lifo d.side d.qty ls w ∙ met_is d ls w
 
 -- the rows that the walk writes are the touches of the deal
 pub rows_are : (d : Deal) (ls : List Lot) → IsPositionInAnyOrder ls → AreOpenedByOtherTrades d.trade ls
-    → map abstract_touch (touches_of_first_shares (closed_share_count d.side d.qty (list_in_closing_order d.is_lifo ls)) (list_in_closing_order d.is_lifo ls)) ≡ list_in_closing_order d.is_lifo (touches_of_existing_lots d (shares_of_lots ls))
+    → map abstract_touch (touches_of_first_shares (closed_share_count d.side d.qty (list_reversed_if_lifo d.is_lifo ls)) (list_reversed_if_lifo d.is_lifo ls)) ≡ list_reversed_if_lifo d.is_lifo (touches_of_existing_lots d (shares_of_lots ls))
 rows_are d ls w fresh =
     let us = shares_of_lots ls in
-    let k = closed_share_count d.side d.qty (list_in_closing_order d.is_lifo ls) in
+    let k = closed_share_count d.side d.qty (list_reversed_if_lifo d.is_lifo ls) in
     let u = opened_share d in
     let same : k ≡ closed_share_count_of_deal d us = met_closes d ls w in
     let side = walk_side ls w in
@@ -111,15 +111,15 @@ rows_are d ls w fresh =
     let left : OneSide side.0 (without d.is_lifo (closed_share_count_of_deal d us) us) = all_without (λ v. v.side ≡ side.0) d.is_lifo (closed_share_count_of_deal d us) us one in
     let after : without d.is_lifo k us ++ replicate (d.qty - k) u ≡ shares_after_deal us d =
     ap (λ n. without d.is_lifo n us ++ replicate (d.qty - n) u) same ∙ sym (after_is d us) in
-    ap (map abstract_touch) (sym (changes_walk k (d.qty - k) u (list_in_closing_order d.is_lifo ls) (walk_end d.is_lifo ls w) (all_end (λ l. l.trade ≢ d.trade) d.is_lifo ls fresh))
+    ap (map abstract_touch) (sym (changes_walk k (d.qty - k) u (list_reversed_if_lifo d.is_lifo ls) (walk_end d.is_lifo ls w) (all_end (λ l. l.trade ≢ d.trade) d.is_lifo ls fresh))
     ∙ changes_end d.is_lifo k (d.qty - k) u ls w
-    ∙ ap (λ (vs : List Share). list_in_closing_order d.is_lifo (changes us vs)) after)
+    ∙ ap (λ (vs : List Share). list_reversed_if_lifo d.is_lifo (changes us vs)) after)
     ∙ map_end abstract_touch d.is_lifo (changes us (shares_after_deal us d))
-    ∙ ap (list_in_closing_order d.is_lifo) (sym (touches_are d side.0 us one left (all_shares (λ v. v.trade ≢ d.trade) ls fresh)))
+    ∙ ap (list_reversed_if_lifo d.is_lifo) (sym (touches_are d side.0 us one left (all_shares (λ v. v.trade ≢ d.trade) ls fresh)))
 
 -- what the loop takes are the lots that the deal touches
 pub lots_closed : (d : Deal) (ls : List Lot) (rows : List Touch) (lot : Option Lot) → IsPositionInAnyOrder ls → AreOpenedByOtherTrades d.trade ls
-    → let walk = list_in_closing_order d.is_lifo ls in let k = closed_share_count d.side d.qty walk in
+    → let walk = list_reversed_if_lifo d.is_lifo ls in let k = closed_share_count d.side d.qty walk in
     rows ≡ touches_of_first_shares k walk
     → map abstract_lot (option_to_list lot) ≡ lots_of_shares (replicate (d.qty - k) (opened_share d))
     → AreLotsTouchedByDeal d ls rows lot
@@ -130,7 +130,7 @@ lots_closed d ls rows lot w fresh taken left = record {
 
 -- and back: the rows and the opened lot of a closing are those that the loop takes
 pub rows_back : (d : Deal) (ls : List Lot) (closing : Closing) → IsPositionInAnyOrder ls → AreOpenedByOtherTrades d.trade ls → IsClosingOfDeal d ls closing
-    → closing.touched.items ≡ touches_of_first_shares (closed_share_count d.side d.qty (list_in_closing_order d.is_lifo ls)) (list_in_closing_order d.is_lifo ls)
+    → closing.touched.items ≡ touches_of_first_shares (closed_share_count d.side d.qty (list_reversed_if_lifo d.is_lifo ls)) (list_reversed_if_lifo d.is_lifo ls)
 rows_back d ls closing w fresh h = touches_same _ _ (h.lots.touched ∙ sym (rows_are d ls w fresh))
 
 pub opened_back : (d : Deal) (ls : List Lot) (closing : Closing) → IsClosingOfDeal d ls closing → option_to_list closing.opened ≡ run_lots (d.qty - closed_share_count_of_deal d (shares_of_lots ls)) (opened_share d)

@@ -5,7 +5,7 @@ use Rattle.brk_model.specs.Shares.{Share, Deal, Lot, Touch, signed_by_side, shar
 use Rattle.brk_model.specs.Tables.{HoldingHistoryRow, holding_history_row}
 use Rattle.brk_lots.specs.HistoryRows.{row_changes_quantity, holding_history_rows_of_deals, touch_of_row}
 use Rattle.brk_lots.specs.declared.replay.DealTouch.{DealTouch}
-use Rattle.brk_lots.specs.Lots.{list_in_closing_order}
+use Rattle.brk_lots.specs.Lots.{list_reversed_if_lifo}
 
 -- The changes of the lot of the trade `trade` by the deals `ds`, applied in sequence to the
 -- position with the shares `us`. A deal that does not change the quantity of the lot has no element
@@ -39,7 +39,7 @@ opening_touch l = record { lot = l.trade; before = pos 0; after = l.qty }
 -- reduces, in the sequence in which it closes them, and then that of the lot that it opens, if any.
 abbrev pub lot_changes_of_deal : Deal → List Share → List HoldingHistoryRow
 lot_changes_of_deal d us =
-    map (holding_history_row d.trade) (list_in_closing_order d.is_lifo (touches_of_existing_lots d us)
+    map (holding_history_row d.trade) (list_reversed_if_lifo d.is_lifo (touches_of_existing_lots d us)
     ++ map opening_touch (lots_of_shares (opened_shares d us)))
 
 -- The HOLDING_HISTORY rows of the deals, applied in sequence to the position with the shares `us`,

@@ -6,7 +6,7 @@ use Rattle.brk_lots.specs.declared.lot.Lot.{Lot}
 use Rattle.brk_lots.specs.declared.lot.Touch.{Touch}
 use Rattle.brk_lots.specs.declared.closing.ClosedLots.{ClosedLots}
 use Rattle.brk_lots.specs.declared.closing.Closing.{Closing}
-use Rattle.brk_lots.specs.Lots.{shares_of_lots, list_in_closing_order, abstract_lot, abstract_touch}
+use Rattle.brk_lots.specs.Lots.{shares_of_lots, list_reversed_if_lifo, abstract_lot, abstract_touch}
 use Rattle.brk_lots.specs.Values.{closing_values_of_deal}
 use Rattle.brk_lots.specs.Position.{AreOpenedByOtherTrades, AreOpenedBeforeStamp}
 
@@ -14,7 +14,7 @@ use Rattle.brk_lots.specs.Position.{AreOpenedByOtherTrades, AreOpenedBeforeStamp
 -- sequence in which it closes them, and `lot` is the lot that it opens, or `None`.
 pub record AreLotsTouchedByDeal (d : Deal) (ls : List Lot) (rows : List Touch) (lot : Option Lot) : Type 0 where
   -- The changes of the lots that it closes or reduces, in the sequence in which it closes them.
-  pub touched : map abstract_touch rows ≡ list_in_closing_order d.is_lifo (touches_of_existing_lots d (shares_of_lots ls))
+  pub touched : map abstract_touch rows ≡ list_reversed_if_lifo d.is_lifo (touches_of_existing_lots d (shares_of_lots ls))
   -- The lot of the shares that it opens, or `None` if it opens no share.
   pub opened : map abstract_lot (option_to_list lot) ≡ lots_of_shares (opened_shares d (shares_of_lots ls))
 

@@ -26,9 +26,9 @@ shares_of_lots ls = flat_map (λ l. replicate (unsigned_abs l.qty) (share_of_lot
 
 -- The list reversed if the first argument is true (last in, first out), otherwise the list
 -- unchanged.
-abbrev pub list_in_closing_order : {X : Type 0} → Bool → List X → List X
-list_in_closing_order true xs = reverse xs
-list_in_closing_order false xs = xs
+abbrev pub list_reversed_if_lifo : {X : Type 0} → Bool → List X → List X
+list_reversed_if_lifo true xs = reverse xs
+list_reversed_if_lifo false xs = xs
 
 -- The model's lot with the values of the lot `l` of the program.
 abbrev pub abstract_lot : Lot → model.Lot

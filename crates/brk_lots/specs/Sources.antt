@@ -1,7 +1,7 @@
 -- The lots that remain in a source.
 use Rattle.std.specs.Prelude.{◌≡◌, Bool, List}
 use Rattle.brk_lots.specs.declared.lot.Lot.{Lot}
-use Rattle.brk_lots.specs.Lots.{list_in_closing_order}
+use Rattle.brk_lots.specs.Lots.{list_reversed_if_lifo}
 use Rattle.brk_lots.specs.Position.{IsPositionInAnyOrder}
 
 -- The lots `ls` are those that a source still yields (`remaining`), and the disk assumption of that
@@ -12,7 +12,7 @@ AreLotsOfFaithfulSource told remaining ls = told × remaining ls
 -- The lots `ls` form a position, in any order, and the list `ls`, reversed if `lifo` is true,
 -- satisfies `given`.
 abbrev pub YieldsPosition : (List Lot → Type 0) → Bool → List Lot → Type 0
-YieldsPosition given lifo ls = given (list_in_closing_order lifo ls) × IsPositionInAnyOrder ls
+YieldsPosition given lifo ls = given (list_reversed_if_lifo lifo ls) × IsPositionInAnyOrder ls
 
 -- The list `ls` equals the list `lots`.
 abbrev pub EqualsLots : List Lot → List Lot → Type 0

@@ -1,6 +1,6 @@
 ghost use Rattle.std.specs.Prelude.{◌≡◌, ◌++◌, ◌+◌, ◌<◌, ◌≤◌, Bool, ℕ, drop, slice_index_or, take, vec_capacity, vec_len};
 ghost use Rattle.brk_lots.specs.declared.lot.Lot.{Lot};
-ghost use Rattle.brk_lots.specs.Lots.{list_in_closing_order};
+ghost use Rattle.brk_lots.specs.Lots.{list_reversed_if_lifo};
 ghost use Rattle.brk_lots.specs.Position.{IsPositionInAnyOrder};
 ghost use Rattle.brk_lots.specs.Walks.{touches_of_first_shares, lots_after_touches, lot_with_nonzero_quantity};
 
@@ -59,7 +59,7 @@ pub(crate) fn apply_touches_to_lots(lots: &mut Vec<Lot>, first: usize, touched: 
     // The lots from `first` on form a position; the changes are those of its shares from one end.
     requires within { first ≤ vec_len lots.old }
     requires walk { IsPositionInAnyOrder (drop first lots.old.items) }
-    requires rows { (lifo : Bool) × (k : ℕ) × (touched.now ≡ touches_of_first_shares k (list_in_closing_order lifo (drop first lots.old.items))) }
+    requires rows { (lifo : Bool) × (k : ℕ) × (touched.now ≡ touches_of_first_shares k (list_reversed_if_lifo lifo (drop first lots.old.items))) }
 
     // The lots from the returned index on are those that remain.
     ensures left { drop result lots.new.items ≡ lots_after_touches touched.now (drop first lots.old.items) }

@@ -1,6 +1,6 @@
 ghost use Rattle.std.specs.Prelude.{◌≡◌, ◌≢◌, ◌≤◌, ◌-◌, ⊤, length, pos};
 ghost use Rattle.std.specs.List.{All};
-ghost use Rattle.brk_lots.specs.Lots.{list_in_closing_order};
+ghost use Rattle.brk_lots.specs.Lots.{list_reversed_if_lifo};
 
 use crate::lot::Lot;
 use crate::source::LotSource;
@@ -22,7 +22,7 @@ impl<'a> PositionEnd<'a> {
     // and otherwise from the first to the last. None of the lots may have 0 shares.
     pub(crate) fn new(lots: &'a [Lot], lifo: bool) -> PositionEnd<'a>
         requires { All (λ l. l.qty ≢ pos 0) lots.now }
-        ensures remaining { ⟦<PositionEnd<'static> as LotSource>⟧.remaining result (list_in_closing_order lifo lots.now) }
+        ensures remaining { ⟦<PositionEnd<'static> as LotSource>⟧.remaining result (list_reversed_if_lifo lifo lots.now) }
         ensures asked { ⟦<PositionEnd<'static> as LotSource>⟧.asked result ≡ 0 }
     {
         PositionEnd {
@@ -34,7 +34,7 @@ impl<'a> PositionEnd<'a> {
 }
 
 impl LotSource for PositionEnd<'_> {
-    ghost remaining = { λ end ls. ls ≡ list_in_closing_order end.lifo end.lots.now };
+    ghost remaining = { λ end ls. ls ≡ list_reversed_if_lifo end.lifo end.lots.now };
 
     ghost reads_faithfully = { λ _. ⊤ };
 

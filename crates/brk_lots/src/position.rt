@@ -1,6 +1,6 @@
 ghost use Rattle.std.specs.Prelude.{◌≡◌, ℕ, List, [], map, IsTrue, ◌↔◌, OnOk, IfErr, MatchOption};
 ghost use Rattle.brk_model.specs.Shares as model;
-ghost use Rattle.brk_lots.specs.Lots.{shares_of_lots, list_in_closing_order, abstract_lot};
+ghost use Rattle.brk_lots.specs.Lots.{shares_of_lots, list_reversed_if_lifo, abstract_lot};
 ghost use Rattle.brk_lots.specs.Position.{IsPosition, IsPositionInAnyOrder, AreOpenedByOtherTrades, AreOpenedBeforeStamp};
 ghost use Rattle.brk_lots.specs.Closing.{IsApplicableClosing};
 
@@ -101,7 +101,7 @@ impl Position {
     /// Returns a source of the lots: the newest first if `lifo`, otherwise the oldest first. Takes
     /// no allocator.
     pub fn from_end(&self, lifo: bool) -> PositionEnd<'_>
-        ensures remaining { ⟦<PositionEnd<'static> as LotSource>⟧.remaining result (list_in_closing_order lifo self.now) }
+        ensures remaining { ⟦<PositionEnd<'static> as LotSource>⟧.remaining result (list_reversed_if_lifo lifo self.now) }
         ensures asked { ⟦<PositionEnd<'static> as LotSource>⟧.asked result ≡ 0 }
         ensures walk { IsPositionInAnyOrder self.now }
     {

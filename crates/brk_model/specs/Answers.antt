@@ -36,10 +36,10 @@ result_of_answer_and_later_rows answered moments more = result_with_answer_in_fr
 -- no clock reading and does not change the base. A command uses the next clock reading, at which
 -- `step` returns its answer and the base after it. If no clock reading is left for a command,
 -- neither it nor a row after it has an answer.
-abbrev pub row_then_more : {B C : Type 0} → RowStep B C → ReadResult C → Key → B → List ℕ → (B → List ℕ → ResultOfRows B) → ResultOfRows B
-row_then_more step (Err refusal) key base moments more = result_of_answer_and_later_rows (Refused refusal, base) moments more
-row_then_more step (Ok command) key base (now ∷ moments) more = result_of_answer_and_later_rows (step base now command key) moments more
-row_then_more step (Ok command) key base [] more = record { answers = []; base = base; moments = [] }
+abbrev pub result_of_row_and_later_rows : {B C : Type 0} → RowStep B C → ReadResult C → Key → B → List ℕ → (B → List ℕ → ResultOfRows B) → ResultOfRows B
+result_of_row_and_later_rows step (Err refusal) key base moments more = result_of_answer_and_later_rows (Refused refusal, base) moments more
+result_of_row_and_later_rows step (Ok command) key base (now ∷ moments) more = result_of_answer_and_later_rows (step base now command key) moments more
+result_of_row_and_later_rows step (Ok command) key base [] more = record { answers = []; base = base; moments = [] }
 
 -- The result of the rows of a batch, parsed by `form` and executed by `step` in sequence, from
 -- `base` on with the clock readings `moments`. The first row has the number `n`, and the key of a
@@ -47,7 +47,7 @@ row_then_more step (Ok command) key base [] more = record { answers = []; base =
 abbrev pub result_of_rows : {B C : Type 0} → (Fields → ReadResult C) → RowStep B C → Text → ℕ → B → List ℕ → List Fields → ResultOfRows B
 result_of_rows form step batch n base moments [] = record { answers = []; base = base; moments = moments }
 result_of_rows form step batch n base moments (row ∷ rows) =
-    row_then_more step (form row) (record { batch = batch; row = n }) base moments (λ after left. result_of_rows form step batch (n + 1) after left rows)
+    result_of_row_and_later_rows step (form row) (record { batch = batch; row = n }) base moments (λ after left. result_of_rows form step batch (n + 1) after left rows)
 
 -- The rows of the batch, numbered from 1 and executed from `base` on, have exactly the answers
 -- `answers`, use all clock readings `moments`, and result in the base `after`. Rows for which no

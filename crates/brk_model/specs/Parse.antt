@@ -206,15 +206,15 @@ update_row_parsers =
 
 -- The parsers of the row kinds for deposits, withdrawals and the settlement day, each with the word
 -- of its kind.
-abbrev pub movement_row_parsers : List (NamedParser Command)
-movement_row_parsers =
+abbrev pub movement_and_settlement_day_row_parsers : List (NamedParser Command)
+movement_and_settlement_day_row_parsers =
     (codes "deposit", read_movement_command (λ a n. DepositCash a n))
     ∷ (codes "withdraw", read_movement_command (λ a n. WithdrawCash a n))
     ∷ (codes "oneday", read_and_wrap SetOneDay read_settlement_day) ∷ []
 
 -- The parsers of all row kinds, each with the word of its kind.
 abbrev pub row_parsers : List (NamedParser Command)
-row_parsers = reference_row_parsers ++ order_row_parsers ++ result_row_parsers ++ update_row_parsers ++ movement_row_parsers
+row_parsers = reference_row_parsers ++ order_row_parsers ++ result_row_parsers ++ update_row_parsers ++ movement_and_settlement_day_row_parsers
 
 -- The value that the parser reads from the fields, or its refusal; the refusal `BadText` if there
 -- is no parser.

@@ -23,5 +23,5 @@ pub use span::{Span, parse_stamp};
 pub use tick::Tick;
 pub use trade_ids::{TradeIds, parse_trade_ids};
 pub use update::{
-    Update, parse_update_of_cash_texts, parse_update_of_cash_types, parse_update_of_executor_names,
+    Update, parse_update_of_cash_names, parse_update_of_cash_types, parse_update_of_executor_names,
 };

@@ -70,7 +70,7 @@ pub fn parse_update_of_cash_types(fields: &[&[u8]]) -> Result<Update, Refusal>
 ///
 /// Refuses with `BadText` (18) if there are not exactly three fields, or if one is malformed or out
 /// of range. Fails with `Memory` only.
-pub fn parse_update_of_cash_texts(alloc: Global, fields: &[&[u8]]) -> Planned<Update>
+pub fn parse_update_of_cash_names(alloc: Global, fields: &[&[u8]]) -> Planned<Update>
     ensures read { IfOk result (λ read. ParsesAs text_update_command read (read_cash_name_update (texts_of_fields fields.now))) }
     ensures fault { OnErr result (result ≡ Err Memory) }
 {

@@ -5,7 +5,7 @@ ghost use Rattle.brk_money.specs.declared.refusal.Refusal.TheVariants.{Exists};
 ghost use Rattle.brk_plans.specs.Reference as spec;
 ghost use Rattle.brk_changes.specs.declared.change.Change.TheVariants as change;
 ghost use Rattle.brk_plans.specs.Reference.{IsReferencePlan, account_checks, band_checks, later_stamp_check, customer_tax_checks};
-ghost use Rattle.brk_plans.specs.Reference.{exceeds_greatest_tax_rate, permission_checks, row_change_adding_record, row_changes_adding_record};
+ghost use Rattle.brk_plans.specs.Reference.{sum_exceeds_greatest_tax_rate, permission_checks, row_change_adding_record, row_changes_adding_record};
 ghost use Rattle.brk_plans.specs.Reference.{reference_checks};
 
 use crate::plan::Plan;
@@ -136,7 +136,7 @@ fn band_refusal(band: &Band, found: ReferenceFacts) -> Option<Refusal>
 // (hundred-thousandths). If `rates` is `None`, the sum exceeds it already, and the function returns
 // true.
 fn sum_exceeds_greatest_tax_rate(rates: Option<TaxRate>, rate: TaxRate) -> bool
-    ensures { result ≡ spec.exceeds_greatest_tax_rate rates (Some rate) }
+    ensures { result ≡ spec.sum_exceeds_greatest_tax_rate rates (Some rate) }
 {
     match rates {
         Some(rates) => rates.get() + rate.get() > TaxRate::GREATEST,

@@ -34,7 +34,9 @@ pub mod volume;
 pub use account::{Account, AccountRow, check_account};
 pub use acl::Acl;
 pub use answer::Answer;
-pub use band::{Band, band_for, bands_share_quantity, check_band, overlaps};
+pub use band::{
+    Band, bands_share_quantity, check_band, commission_rate_for_quantity, overlaps_any_band,
+};
 pub use batch_name::BatchName;
 pub use broker::{Broker, BrokerRow, check_broker};
 pub use charge::{Charge, check_charge};

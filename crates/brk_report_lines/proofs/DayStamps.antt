@@ -1,8 +1,8 @@
 -- The stamps of days.
-use Rattle.std.proofs.Common.{◌≡◌, ℕ, ◌+◌, ◌-◌, ◌*◌, ◌/◌, ◌<◌, ◌≤◌, ◌&&◌, arith, ◌∙◌}
-use Rattle.std.specs.Prelude.{nat_le, nat_lt}
+use Rattle.std.proofs.Common.{◌≡◌, ℕ, ◌+◌, ◌*◌, ◌/◌, ◌≤◌, ◌&&◌, arith}
+use Rattle.std.specs.Prelude.{nat_le}
 use Rattle.std.specs.Cmp.{both_ways}
-use Rattle.std.proofs.lemmas.Bool.{le-leb, leb-true, lt-ltb, ltb-true}
+use Rattle.std.proofs.lemmas.Bool.{le-leb, leb-true}
 use Rattle.brk_money.specs.Moments.{day_of}
 
 le_same : (a b c d : ℕ) → (a ≤ b → c ≤ d) → (c ≤ d → a ≤ b) → nat_le a b ≡ nat_le c d
@@ -17,10 +17,3 @@ to_day to stamp = le_same stamp (to * 86400000 + 86399999) (stamp / 86400000) to
 -- from the first stamp of a day to the last of another
 pub within_days : (from to stamp : ℕ) → (nat_le (from * 86400000) stamp && nat_le stamp (to * 86400000 + 86399999)) ≡ (nat_le from (day_of stamp) && nat_le (day_of stamp) to)
 within_days from to stamp = λ i. from_day from stamp i && to_day to stamp i
-
--- up to the last stamp before a day
-pub before_day : (from stamp : ℕ) → 0 < from → (nat_le 0 stamp && nat_le stamp (from * 86400000 - 1)) ≡ nat_lt (day_of stamp) from
-before_day from stamp some =
-    (λ i. le-leb 0 stamp (omega arith) i && nat_le stamp (from * 86400000 - 1))
-    ∙ both_ways (nat_le stamp (from * 86400000 - 1)) (nat_lt (day_of stamp) from)
-    (λ h. lt-ltb (day_of stamp) from (omega (arith, some, leb-true stamp (from * 86400000 - 1) h))) (λ h. le-leb stamp (from * 86400000 - 1) (omega (arith, some, ltb-true (day_of stamp) from h)))

@@ -1,6 +1,6 @@
 //! The first and the last stamps of days, in milliseconds.
 
-ghost use Rattle.std.specs.Prelude.{◌≡◌, ◌+◌, ◌-◌, ◌*◌, ◌<◌, MatchOption};
+ghost use Rattle.std.specs.Prelude.{◌≡◌, ◌+◌, ◌-◌, ◌*◌};
 ghost use Rattle.brk_money.specs.Moments.{milliseconds_per_day};
 
 use brk_money::{Day, Stamp};
@@ -20,15 +20,4 @@ pub fn last_stamp_of_day(day: Day) -> Stamp
     ensures { result ≡ day * milliseconds_per_day + (milliseconds_per_day - 1) }
 {
     Stamp::nearest(i64::from(day.get()) * MILLISECONDS_PER_DAY + (MILLISECONDS_PER_DAY - 1))
-}
-
-/// Returns the last stamp before a day, in milliseconds since 1970-01-01 UTC, or `None` for
-/// 1970-01-01, before which there is no stamp.
-pub fn last_stamp_before_day(day: Day) -> Option<Stamp>
-    ensures { MatchOption result (day ≡ 0) (λ stamp. (0 < day) × (stamp ≡ day * milliseconds_per_day - 1)) }
-{
-    if day.get() == 0 {
-        return None;
-    }
-    Some(Stamp::nearest(i64::from(day.get()) * MILLISECONDS_PER_DAY - 1))
 }

@@ -9,7 +9,7 @@ pub mod row_lines;
 pub mod writing;
 
 pub use columns::{append_left_aligned, append_right_aligned};
-pub use days::{first_stamp_of_day, last_stamp_before_day, last_stamp_of_day};
+pub use days::{first_stamp_of_day, last_stamp_of_day};
 pub use fault::{LinesFault, ReportFault};
 pub use head_lines::{
     account_name_line, amount_line, first_and_last_day_line, row_counts_line, statement_title_line,

@@ -30,7 +30,7 @@ use Rattle.sqlite_resolve.specs.Compile.{compiled, first}
 use Rattle.sqlite.specs.Listing.{understood, listing_schema}
 use Rattle.sqlite.specs.Steps.{column_names}
 use Rattle.sqlite_tied.specs.Compute.{everything}
-use Rattle.brk_sql.specs.Partly.{lowering}
+use Rattle.brk_sql.specs.Partly.{sql_lowering_definitions}
 use Rattle.brk_sql.proofs.Effects.{same_value}
 use Rattle.brk_sql.proofs.Meant.{meant, known, when_understood, reads_or, reads_off}
 use Rattle.brk_sql.proofs.Selecting.{level_one, named_is, named_off, query_is, query_off, error_of}
@@ -65,11 +65,11 @@ module _ (text : List ℕ) (p : Parsed) (name : Name) (is : first text ≡ Ok p)
 
   module _ (few : nat_lt 2000 (length all) ≡ false) (some : nat_lt 0 (length all) ≡ true) where
     shows : result lower (outermost schema) (level_one name at []) (core name) (fresh 2 max_budget) ≡ Ok (all, fresh 2 max_budget)
-    unfolding lowering
+    unfolding sql_lowering_definitions
     shows = rw (found, few, some)
 
     matches : (columns : List Output) → matching lower (outermost schema) (level_one name at columns) (core name) (fresh 2 max_budget) ≡ Ok (record { steps = Inner table.tree ∷ []; filter = [] }, fresh 2 max_budget)
-    unfolding lowering
+    unfolding sql_lowering_definitions
     matches columns = rw found
 
     meaning_is : meaning schema (star name) ≡ Ok ((ungrouped (Inner table.tree ∷ []) [] all false [] (lit (Int (negsuc 0))) (lit (Int (pos 0))), map (λ o. o.name) all, map (λ o. o.carried.collation) all), [])
@@ -87,11 +87,11 @@ module _ (text : List ℕ) (p : Parsed) (name : Name) (is : first text ≡ Ok p)
       (query_off schema (star name) (core name) (source name) name (lit (Int (negsuc 0)), lit (Int (pos 0))) big refl refl refl refl refl refl (named_off schema (core name) (source name) name at named refl refl refl refl (error_of big) [] _ refused))
 
   too_many : nat_lt 2000 (length all) ≡ true → result lower (outermost schema) (level_one name at []) (core name) (fresh 2 max_budget) ≡ Err TooBig
-  unfolding lowering
+  unfolding sql_lowering_definitions
   too_many many = rw (found, many)
 
   none_at_all : nat_lt 2000 (length all) ≡ false → nat_lt 0 (length all) ≡ false → result lower (outermost schema) (level_one name at []) (core name) (fresh 2 max_budget) ≡ Err NoSuchTable
-  unfolding lowering
+  unfolding sql_lowering_definitions
   none_at_all few none = rw (found, few, none)
 
   never : (big : Bool) (c : Compiled) → compiled schema text ≡ Err (error_of big) → understood schema text ≡ Ok c → ⊥

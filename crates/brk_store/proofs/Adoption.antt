@@ -44,7 +44,7 @@ use Rattle.brk_tables_scan.proofs.Defined.{desk_is_there}
 use Rattle.brk_store.specs.Audited.{IsUpgradedDiskContent, StoresRowsWithAuditResult, IsDatabaseAuditResult, IsDatabaseAuditResultBySchema, UpgradesAuditedRows, ConnectionHasThirdSchema, AdoptPost, AuditPost, ConnectionTablesWithDeskNamesAreDeskTables, AuditAnswerSatisfies}
 use Rattle.brk_store.specs.AuditResult.{IsTrueAuditResult}
 use Rattle.brk_store.specs.Holds.{HoldsRows, WasOpenAndIsUnchanged}
-use Rattle.brk_store.specs.ReadSequences.{no_reads_change_nothing}
+use Rattle.brk_store.specs.ReadSequences.{empty_read_sequence_changes_nothing}
 use Rattle.brk_store.specs.declared.examining.AuditResult.{AuditResult}
 use Rattle.brk_store.specs.declared.examining.AuditResult.TheVariants.{Passes as Succeeds, Fails}
 use Rattle.brk_store.proofs.Closing.{answer_with, on_fault}
@@ -128,13 +128,13 @@ unadopted g conn = record {
   upgraded = λ clean on defined. tt;
   open_after_upgrade = λ clean defined. tt;
   unchanged_if_open = λ clean on. record { was_open = on; now = refl; committed = refl };
-  survives = λ defined. survives_weaker (state g conn) (state g conn) _ _ (λ _ db none. absurd none) (no_reads_change_nothing {g = g} conn).survives;
+  survives = λ defined. survives_weaker (state g conn) (state g conn) _ _ (λ _ db none. absurd none) (empty_read_sequence_changes_nothing {g = g} conn).survives;
   audited = λ defined third. record {
     answered = λ clean known. tt;
     was_open = λ clean. tt;
     same_rows = λ t holds. holds;
     unchanged_if_open = λ clean on. record { was_open = on; now = refl; committed = refl };
-    survives = (no_reads_change_nothing {g = g} conn).survives;
+    survives = (empty_read_sequence_changes_nothing {g = g} conn).survives;
   };
 }
 

@@ -5,12 +5,12 @@ use Rattle.sqlite.specs.Held.{Held, state}
 use Rattle.sqlite.specs.State.{HasCleanDisk}
 use Rattle.brk_model.specs.Tables.{Tables}
 use Rattle.brk_store.specs.Holds.{HoldsRows, ReadPost}
-use Rattle.brk_store.specs.ReadSequences.{IsUnchangedByReads, ReadSequencePost, disk_was_clean_before_reads, joined_reads_change_nothing, no_reads_change_nothing, single_read_changes_nothing}
+use Rattle.brk_store.specs.ReadSequences.{IsUnchangedByReads, ReadSequencePost, disk_was_clean_before_reads, joined_reads_change_nothing, empty_read_sequence_changes_nothing, single_read_changes_nothing}
 
 module _ {S : Type 0} (g : Ghosts S) where
   -- no read
   pub no_reads : (old : Held S) {X H : Type 0} (x : X) (R : X → Tables → Type 0) → ((t : Tables) → R x t) → ReadSequencePost {E = H} g old old (Ok x) R
-  no_reads old x R tell = record { answered = λ clean t holds. tell t; unchanged = no_reads_change_nothing old }
+  no_reads old x R tell = record { answered = λ clean t holds. tell t; unchanged = empty_read_sequence_changes_nothing old }
 
   -- one read
   pub one_read : (old end : Held S) {V E : Type 0} (result : Result V E) (P : V → Tables → Type 0) → ReadPost g old end result P → ReadSequencePost g old end result P

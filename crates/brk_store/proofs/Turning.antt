@@ -6,7 +6,7 @@ use mathlib.Core.List.{reverse-cons}
 use Rattle.std.proofs.lemmas.List.{map-append, take-append-drop, take_all, drop-drop, append-nil, length-map, length-take}
 use Rattle.sqlite_trees.specs.declared.store.Store.{Ghosts}
 use Rattle.sqlite.specs.Held.{Held}
-use Rattle.brk_lots.specs.Lots.{list_in_closing_order}
+use Rattle.brk_lots.specs.Lots.{list_reversed_if_lifo}
 use Rattle.brk_lots.specs.declared.lot.Lot.{Lot}
 use Rattle.brk_book_theorems.specs.OrderReads.{lot_of_typed_row}
 use Rattle.brk_money.specs.Spelling.{Text}
@@ -78,6 +78,6 @@ map_turned {X} {Y} f (x ∷ xs) =
     reverse-cons (f x) (map f xs) ∙ ap (λ (l : List Y). l ++ f x ∷ []) (map_turned f xs)
     ∙ sym (map-append f (reverse xs) (x ∷ [])) ∙ ap (map f) (sym (reverse-cons x xs))
 
-pub map_end : {X Y : Type 0} (lifo : Bool) (f : X → Y) (xs : List X) → list_in_closing_order lifo (map f xs) ≡ map f (list_in_closing_order lifo xs)
+pub map_end : {X Y : Type 0} (lifo : Bool) (f : X → Y) (xs : List X) → list_reversed_if_lifo lifo (map f xs) ≡ map f (list_reversed_if_lifo lifo xs)
 map_end true f xs = map_turned f xs
 map_end false f xs = refl

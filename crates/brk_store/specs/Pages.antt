@@ -2,7 +2,7 @@
 -- pages of them were read.
 use Rattle.std.specs.Prelude.{ℕ, List, [], ◌++◌, Bool, if◌then◌else◌, drop, map}
 use Rattle.brk_lots.specs.declared.lot.Lot.{Lot}
-use Rattle.brk_lots.specs.Lots.{list_in_closing_order}
+use Rattle.brk_lots.specs.Lots.{list_reversed_if_lifo}
 use Rattle.brk_model.specs.Tables.{Tables, HoldingRow}
 use Rattle.brk_money.specs.Spelling.{Text}
 use Rattle.brk_changes.specs.Rows.{abstract_holding_row}
@@ -13,7 +13,7 @@ use Rattle.brk_book_theorems.specs.TradeReads.{lot_of_row}
 -- The rows of the lots of `account` in the security `symbol`, sorted by the stamp of their opening
 -- and then by trade: the newest first if `lifo` is true, otherwise the oldest first.
 abbrev pub lot_rows_in_closing_order : Bool → ℕ → Text → Tables → List HoldingRow
-lot_rows_in_closing_order lifo account symbol t = list_in_closing_order lifo (position_lots_by_age account symbol t)
+lot_rows_in_closing_order lifo account symbol t = list_reversed_if_lifo lifo (position_lots_by_age account symbol t)
 
 -- The elements of `rows` after the first `read`, or no element if `ended` is true.
 abbrev pub unread_rows : Bool → ℕ → List HoldingRow → List HoldingRow

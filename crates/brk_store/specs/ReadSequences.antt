@@ -51,8 +51,8 @@ module _ {S : Type 0} {g : Ghosts S} where
 
 -- The empty sequence of reads, after which the store is `old` as before, satisfies
 -- `IsUnchangedByReads`.
-pub no_reads_change_nothing : {S : Type 0} {g : Ghosts S} (old : Held S) → IsUnchangedByReads g old old
-no_reads_change_nothing {S} {g} old = record {
+pub empty_read_sequence_changes_nothing : {S : Type 0} {g : Ghosts S} (old : Held S) → IsUnchangedByReads g old old
+empty_read_sequence_changes_nothing {S} {g} old = record {
   same_rows = λ t h. h;
   unchanged_if_open = λ clean o. record { was_open = o; now = refl; committed = refl };
   survives = record { clean = le_refl _; shield = λ s. s; counts = le_refl _; limit = refl; closes = λ clean o. inl o; crash = λ clean db h. inl h };

@@ -20,7 +20,7 @@ impl<S: Alter> Store<S> {
     /// Returns the ids of the completed trades of an account in a security, sorted by the stamp of
     /// completion and then by id, the oldest first. If the database is still open, it is unchanged.
     /// Fails with `Memory` or `Store`.
-    pub fn completed_trades_of_holding(
+    pub fn completed_trade_ids_of_holding(
         &mut self,
         alloc: Global,
         account: Id,

@@ -142,7 +142,7 @@ fn lot_of_holding_row(row: &HoldingRow) -> Lot
 
 impl<S: Alter> Store<S> {
     ghost use Rattle.std.specs.Prelude.{◌≡◌};
-    ghost use Rattle.brk_lots.specs.Lots.{list_in_closing_order};
+    ghost use Rattle.brk_lots.specs.Lots.{list_reversed_if_lifo};
     ghost use Rattle.brk_model.specs.Tables.{Tables};
     ghost use Rattle.brk_store.specs.Holds.{HoldsRows};
     ghost use Rattle.brk_store.specs.RemainingLots.{borrowed_store, number_of_rows_read};
@@ -169,7 +169,7 @@ impl<S: Alter> Store<S> {
 
         // All lots of the position remain; none was requested, and no row was read.
         ensures remaining { (t : Tables) → HoldsRows S.Store self.old t
-            → ⟦<Pages<'static, S, Page> as LotSource>⟧.remaining result (list_in_closing_order lifo (lots_of_position t account symbol.now)) }
+            → ⟦<Pages<'static, S, Page> as LotSource>⟧.remaining result (list_reversed_if_lifo lifo (lots_of_position t account symbol.now)) }
         ensures asked { ⟦<Pages<'static, S, Page> as LotSource>⟧.asked result ≡ 0 }
         ensures unread { number_of_rows_read result ≡ 0 }
     {
@@ -305,7 +305,7 @@ impl<S: Alter> LotSource for Pages<'_, S, Page> {
     ghost use Rattle.sqlite.specs.Held.{state};
     ghost use Rattle.sqlite.specs.State.{HasCleanDisk};
     ghost use Rattle.brk_model.specs.Run.{IsCallFault};
-    ghost use Rattle.brk_store.specs.ReadSequences.{IsUnchangedByReads, disk_was_clean_before_reads, no_reads_change_nothing, joined_reads_change_nothing};
+    ghost use Rattle.brk_store.specs.ReadSequences.{IsUnchangedByReads, disk_was_clean_before_reads, empty_read_sequence_changes_nothing, joined_reads_change_nothing};
     ghost use Rattle.brk_store.specs.RemainingLots.{AreRemainingLots};
 
     ghost remaining = { λ p ls. AreRemainingLots S.Store p ls };
@@ -341,7 +341,7 @@ impl<S: Alter> LotSource for Pages<'_, S, Page> {
         }
     }
 
-    ghost reflexive = { λ p. (refl, no_reads_change_nothing p.store.now) };
+    ghost reflexive = { λ p. (refl, empty_read_sequence_changes_nothing p.store.now) };
 
     ghost transitive = { λ p q r a b. (b.0 ∙ a.0, joined_reads_change_nothing p.store.now q.store.now r.store.now a.1 b.1) };
 

@@ -10,7 +10,7 @@ use Rattle.sqlite_resolve.specs.declared.error.CompileError.TheVariants.{Mismatc
 use Rattle.sqlite_draft.specs.declared.join.Step.TheVariants.{Inner}
 use Rattle.sqlite_draft.specs.declared.query.Draft.{Draft}
 use Rattle.sqlite_tied.specs.Compute.{everything}
-use Rattle.brk_sql.specs.Partly.{lowering}
+use Rattle.brk_sql.specs.Partly.{sql_lowering_definitions}
 use Rattle.brk_sql.specs.Desk.{IsTableAt}
 use Rattle.brk_sql.proofs.Meant.{meant, deletes_or}
 use Rattle.brk_sql.proofs.Pick.{selection, whole_page}
@@ -33,7 +33,7 @@ abbrev pub draft : ℕ → Draft
 draft tree = simple (Inner tree ∷ []) terms project
 
 draft_is : (schema : Schema) (at tree : ℕ) → slice_get schema.tables at ≡ Some (cash_table tree) → deleted schema at (cash_table tree) test ≡ Ok (draft tree)
-unfolding lowering
+unfolding sql_lowering_definitions
 draft_is schema at tree found = refl
 
 pub understood_as : (schema : Schema) (at tree : ℕ) → IsTableAt schema (cash_table tree) at

@@ -9,7 +9,7 @@ ghost use Rattle.brk_tables_schema.specs.Desk.{table_definition_at};
 ghost use Rattle.brk_tables_create.specs.Made.{CreatesDeskTables, insert_desk_row_text, tables_of_later_schemas};
 ghost use Rattle.brk_tables_create.specs.Texts.{specified_table};
 
-use crate::table::{ADDED_AFTER_FIRST, ADDED_AFTER_SECOND, IN_THIRD, Table};
+use crate::table::{ADDED_AFTER_FIRST, ADDED_AFTER_SECOND, TABLES_OF_THIRD_SCHEMA, Table};
 use brk_changes::Schema;
 use brk_money::Fault;
 use brk_tables_schema::calls::execute_statement;
@@ -61,7 +61,7 @@ pub fn create_third_schema_tables<S: Alter>(tx: &mut Transaction<'_, S>) -> Resu
     ensures step { IsConnectionStep S.Store tx.old tx.new result (λ _ a b. CreatesDeskTables a.now b.now) }
     ensures fault { OnErr result (result ≡ Err Store) }
 {
-    create_each_table(tx, &IN_THIRD)?;
+    create_each_table(tx, &TABLES_OF_THIRD_SCHEMA)?;
     add_desk_row(tx)
 }
 

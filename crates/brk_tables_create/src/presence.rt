@@ -8,7 +8,10 @@ ghost use Rattle.brk_sql.specs.Model.{IsConnectionStep};
 ghost use Rattle.brk_tables_create.specs.Present.{has_table_of_desk, has_exact_table_names, has_table_named};
 ghost use Rattle.brk_tables_create.specs.Texts.{specified_table};
 
-use crate::table::{ADDED_AFTER_FIRST, ADDED_AFTER_SECOND, IN_FIRST, IN_SECOND, IN_THIRD, Table};
+use crate::table::{
+    ADDED_AFTER_FIRST, ADDED_AFTER_SECOND, TABLES_OF_FIRST_SCHEMA, TABLES_OF_SECOND_SCHEMA,
+    TABLES_OF_THIRD_SCHEMA, Table,
+};
 use brk_changes::Schema;
 use brk_money::Fault;
 use brk_tables_schema::calls::statement_compiles;
@@ -67,7 +70,7 @@ pub fn has_some_desk_table<S: Alter>(tx: &mut Transaction<'_, S>) -> Result<bool
     ensures step { IsConnectionStep S.Store tx.old tx.new result (λ has a b. (b.now ≡ a.now) × (has ≡ has_table_of_desk a.now.schema)) }
     ensures fault { OnErr result (result ≡ Err Store) }
 {
-    has_any_of_tables(tx, &IN_THIRD)
+    has_any_of_tables(tx, &TABLES_OF_THIRD_SCHEMA)
 }
 
 // Returns true if a table with the name of each table of `there` exists, and none with the name of
@@ -102,9 +105,9 @@ fn has_exactly_tables_of_schema<S: Alter>(
     ensures fault { OnErr result (result ≡ Err Store) }
 {
     match schema {
-        Schema::First => has_exactly_tables(tx, &IN_FIRST, &ADDED_AFTER_FIRST),
-        Schema::Second => has_exactly_tables(tx, &IN_SECOND, &ADDED_AFTER_SECOND),
-        Schema::Third => has_exactly_tables(tx, &IN_THIRD, &[]),
+        Schema::First => has_exactly_tables(tx, &TABLES_OF_FIRST_SCHEMA, &ADDED_AFTER_FIRST),
+        Schema::Second => has_exactly_tables(tx, &TABLES_OF_SECOND_SCHEMA, &ADDED_AFTER_SECOND),
+        Schema::Third => has_exactly_tables(tx, &TABLES_OF_THIRD_SCHEMA, &[]),
     }
 }
 

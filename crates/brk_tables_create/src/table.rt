@@ -138,7 +138,7 @@ impl Table {
 }
 
 /// The tables of the first schema.
-pub const IN_FIRST: [Table; 20] = [
+pub const TABLES_OF_FIRST_SCHEMA: [Table; 20] = [
     Table::TheDesk,
     Table::KeptRows,
     Table::Brokers,
@@ -162,7 +162,7 @@ pub const IN_FIRST: [Table; 20] = [
 ];
 
 /// The tables of the second schema.
-pub const IN_SECOND: [Table; 21] = [
+pub const TABLES_OF_SECOND_SCHEMA: [Table; 21] = [
     Table::TheDesk,
     Table::KeptRows,
     Table::Brokers,
@@ -187,7 +187,7 @@ pub const IN_SECOND: [Table; 21] = [
 ];
 
 /// The tables of the third schema.
-pub const IN_THIRD: [Table; 22] = [
+pub const TABLES_OF_THIRD_SCHEMA: [Table; 22] = [
     Table::TheDesk,
     Table::KeptRows,
     Table::Brokers,

@@ -15,7 +15,7 @@ use Rattle.sqlite_resolve.specs.declared.error.CompileError.TheVariants.{Mismatc
 use Rattle.sqlite_draft.specs.declared.join.Step.TheVariants.{Inner}
 use Rattle.sqlite_draft.specs.declared.query.Draft.{Draft}
 use Rattle.sqlite_tied.specs.Compute.{everything}
-use Rattle.brk_sql.specs.Partly.{lowering}
+use Rattle.brk_sql.specs.Partly.{sql_lowering_definitions}
 use Rattle.brk_sql.specs.Desk.{integer_column, text_column, IsTableAt}
 use Rattle.brk_sql.proofs.Meant.{meant, reads_or}
 use Rattle.brk_sql.proofs.Pick.{selection}
@@ -100,7 +100,7 @@ module _ (schema : Schema) (at tree : ℕ) (h : IsTableAt schema (customer_table
   found = h.found
 
   shows : result lower (outermost schema) (level_one (codes "CUSTOMER") at []) core (fresh 2 max_budget) ≡ Ok (columns, after 5 binary)
-  unfolding lowering
+  unfolding sql_lowering_definitions
   shows =
       rw (
         column_is schema at (customer_table tree) found (codes "CUSTOMER") [] [] true true (codes "C_ID") 0 (integer_column (codes "C_ID")) refl refl,
@@ -117,11 +117,11 @@ module _ (schema : Schema) (at tree : ℕ) (h : IsTableAt schema (customer_table
 
   matches : matching lower (outermost schema) (level_one (codes "CUSTOMER") at columns) core (after 5 binary)
       ≡ Ok (record { steps = Inner tree ∷ []; filter = terms }, after 8 nothing)
-  unfolding lowering
+  unfolding sql_lowering_definitions
   matches = rw (found, column_is schema at (customer_table tree) found (codes "CUSTOMER") columns [] false true (codes "C_TAX_ID") 2 (text_column (codes "C_TAX_ID")) refl refl, found)
 
   sorted : sorts lower (inside schema (level_one (codes "CUSTOMER") at columns) false) columns by (after 8 nothing) ≡ Ok ((draft tree).order, after 9 nothing)
-  unfolding lowering
+  unfolding sql_lowering_definitions
   sorted =
       rw (column_is schema at (customer_table tree) found (codes "CUSTOMER") columns [] false true (codes "C_ID") 0 (integer_column (codes "C_ID")) refl refl)
 

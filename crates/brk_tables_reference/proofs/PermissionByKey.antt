@@ -15,7 +15,7 @@ use Rattle.sqlite_resolve.specs.declared.error.CompileError.TheVariants.{Mismatc
 use Rattle.sqlite_draft.specs.declared.join.Step.TheVariants.{Inner}
 use Rattle.sqlite_draft.specs.declared.query.Draft.{Draft}
 use Rattle.sqlite_tied.specs.Compute.{everything}
-use Rattle.brk_sql.specs.Partly.{lowering}
+use Rattle.brk_sql.specs.Partly.{sql_lowering_definitions}
 use Rattle.brk_sql.specs.Desk.{integer_column, text_column, IsTableAt}
 use Rattle.brk_sql.proofs.Meant.{meant, reads_or}
 use Rattle.brk_sql.proofs.Pick.{selection}
@@ -100,7 +100,7 @@ module _ (schema : Schema) (at tree : ℕ) (h : IsTableAt schema (permission_tab
   found = h.found
 
   shows : result lower (outermost schema) (level_one (codes "ACCOUNT_PERMISSION") at []) core (fresh 2 max_budget) ≡ Ok (columns, after 5 binary)
-  unfolding lowering
+  unfolding sql_lowering_definitions
   shows =
       rw (
         column_is schema at (permission_table tree) found (codes "ACCOUNT_PERMISSION") [] [] true true (codes "AP_CA_ID") 0 (integer_column (codes "AP_CA_ID")) refl refl,
@@ -117,11 +117,11 @@ module _ (schema : Schema) (at tree : ℕ) (h : IsTableAt schema (permission_tab
 
   matches : matching lower (outermost schema) (level_one (codes "ACCOUNT_PERMISSION") at columns) core (after 5 binary)
       ≡ Ok (record { steps = Inner tree ∷ []; filter = terms }, after 12 nothing)
-  unfolding lowering
+  unfolding sql_lowering_definitions
   matches = rw (found, column_is schema at (permission_table tree) found (codes "ACCOUNT_PERMISSION") columns [] false true (codes "AP_CA_ID") 0 (integer_column (codes "AP_CA_ID")) refl refl, found, column_is schema at (permission_table tree) found (codes "ACCOUNT_PERMISSION") columns [] false true (codes "AP_TAX_ID") 1 (text_column (codes "AP_TAX_ID")) refl refl, found)
 
   sorted : sorts lower (inside schema (level_one (codes "ACCOUNT_PERMISSION") at columns) false) columns by (after 12 nothing) ≡ Ok ((draft tree).order, after 14 binary)
-  unfolding lowering
+  unfolding sql_lowering_definitions
   sorted =
       rw (
         column_is schema at (permission_table tree) found (codes "ACCOUNT_PERMISSION") columns [] false true (codes "AP_CA_ID") 0 (integer_column (codes "AP_CA_ID")) refl refl,

@@ -15,7 +15,7 @@ use Rattle.sqlite_resolve.specs.declared.error.CompileError.TheVariants.{Mismatc
 use Rattle.sqlite_draft.specs.declared.join.Step.TheVariants.{Inner}
 use Rattle.sqlite_draft.specs.declared.query.Draft.{Draft}
 use Rattle.sqlite_tied.specs.Compute.{everything}
-use Rattle.brk_sql.specs.Partly.{lowering}
+use Rattle.brk_sql.specs.Partly.{sql_lowering_definitions}
 use Rattle.brk_sql.specs.Desk.{integer_column, text_column, IsTableAt}
 use Rattle.brk_sql.proofs.Meant.{meant, reads_or}
 use Rattle.brk_sql.proofs.Pick.{selection}
@@ -100,7 +100,7 @@ module _ (schema : Schema) (at tree : ℕ) (h : IsTableAt schema (tax_rate_table
   found = h.found
 
   shows : result lower (outermost schema) (level_one (codes "TAXRATE") at []) core (fresh 2 max_budget) ≡ Ok (columns, after 3 binary)
-  unfolding lowering
+  unfolding sql_lowering_definitions
   shows =
       rw (
         column_is schema at (tax_rate_table tree) found (codes "TAXRATE") [] [] true true (codes "TX_ID") 0 (integer_column (codes "TX_ID")) refl refl,
@@ -113,11 +113,11 @@ module _ (schema : Schema) (at tree : ℕ) (h : IsTableAt schema (tax_rate_table
 
   matches : matching lower (outermost schema) (level_one (codes "TAXRATE") at columns) core (after 3 binary)
       ≡ Ok (record { steps = Inner tree ∷ []; filter = terms }, after 6 nothing)
-  unfolding lowering
+  unfolding sql_lowering_definitions
   matches = rw (found, column_is schema at (tax_rate_table tree) found (codes "TAXRATE") columns [] false true (codes "TX_ID") 0 (integer_column (codes "TX_ID")) refl refl)
 
   sorted : sorts lower (inside schema (level_one (codes "TAXRATE") at columns) false) columns by (after 6 nothing) ≡ Ok ((draft tree).order, after 7 nothing)
-  unfolding lowering
+  unfolding sql_lowering_definitions
   sorted =
       rw (column_is schema at (tax_rate_table tree) found (codes "TAXRATE") columns [] false true (codes "TX_ID") 0 (integer_column (codes "TX_ID")) refl refl)
 

@@ -12,7 +12,7 @@ use Rattle.sqlite_resolve.specs.declared.error.CompileError.TheVariants.{Mismatc
 use Rattle.sqlite_draft.specs.declared.join.Step.TheVariants.{Inner}
 use Rattle.sqlite_draft.specs.declared.query.Draft.{Draft}
 use Rattle.sqlite_tied.specs.Compute.{everything}
-use Rattle.brk_sql.specs.Partly.{lowering}
+use Rattle.brk_sql.specs.Partly.{sql_lowering_definitions}
 use Rattle.brk_sql.specs.Desk.{integer_column, text_column, IsTableAt}
 use Rattle.brk_sql.proofs.Meant.{meant, reads_or}
 use Rattle.brk_sql.proofs.Pick.{selection}
@@ -97,7 +97,7 @@ module _ (schema : Schema) (at tree : ℕ) (h : IsTableAt schema (account_table 
   found = h.found
 
   shows : result lower (outermost schema) (level_one (codes "CUSTOMER_ACCOUNT") at []) core (fresh 2 max_budget) ≡ Ok (columns, after 7 binary)
-  unfolding lowering
+  unfolding sql_lowering_definitions
   shows =
       rw (
         column_is schema at (account_table tree) found (codes "CUSTOMER_ACCOUNT") [] [] true true (codes "CA_ID") 0 (integer_column (codes "CA_ID")) refl refl,
@@ -118,11 +118,11 @@ module _ (schema : Schema) (at tree : ℕ) (h : IsTableAt schema (account_table 
 
   matches : matching lower (outermost schema) (level_one (codes "CUSTOMER_ACCOUNT") at columns) core (after 7 binary)
       ≡ Ok (record { steps = Inner tree ∷ []; filter = terms }, after 7 binary)
-  unfolding lowering
+  unfolding sql_lowering_definitions
   matches = rw found
 
   sorted : sorts lower (inside schema (level_one (codes "CUSTOMER_ACCOUNT") at columns) false) columns by (after 7 binary) ≡ Ok ((draft tree).order, after 8 nothing)
-  unfolding lowering
+  unfolding sql_lowering_definitions
   sorted =
       rw (column_is schema at (account_table tree) found (codes "CUSTOMER_ACCOUNT") columns [] false true (codes "CA_ID") 0 (integer_column (codes "CA_ID")) refl refl)
 

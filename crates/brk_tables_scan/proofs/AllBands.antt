@@ -12,7 +12,7 @@ use Rattle.sqlite_resolve.specs.declared.error.CompileError.TheVariants.{Mismatc
 use Rattle.sqlite_draft.specs.declared.join.Step.TheVariants.{Inner}
 use Rattle.sqlite_draft.specs.declared.query.Draft.{Draft}
 use Rattle.sqlite_tied.specs.Compute.{everything}
-use Rattle.brk_sql.specs.Partly.{lowering}
+use Rattle.brk_sql.specs.Partly.{sql_lowering_definitions}
 use Rattle.brk_sql.specs.Desk.{integer_column, text_column, IsTableAt}
 use Rattle.brk_sql.proofs.Meant.{meant, reads_or}
 use Rattle.brk_sql.proofs.Pick.{selection}
@@ -97,7 +97,7 @@ module _ (schema : Schema) (at tree : ℕ) (h : IsTableAt schema (band_table tre
   found = h.found
 
   shows : result lower (outermost schema) (level_one (codes "COMMISSION_RATE") at []) core (fresh 2 max_budget) ≡ Ok (columns, after 6 binary)
-  unfolding lowering
+  unfolding sql_lowering_definitions
   shows =
       rw (
         column_is schema at (band_table tree) found (codes "COMMISSION_RATE") [] [] true true (codes "CR_C_TIER") 0 (integer_column (codes "CR_C_TIER")) refl refl,
@@ -116,11 +116,11 @@ module _ (schema : Schema) (at tree : ℕ) (h : IsTableAt schema (band_table tre
 
   matches : matching lower (outermost schema) (level_one (codes "COMMISSION_RATE") at columns) core (after 6 binary)
       ≡ Ok (record { steps = Inner tree ∷ []; filter = terms }, after 6 binary)
-  unfolding lowering
+  unfolding sql_lowering_definitions
   matches = rw found
 
   sorted : sorts lower (inside schema (level_one (codes "COMMISSION_RATE") at columns) false) columns by (after 6 binary) ≡ Ok ((draft tree).order, after 10 binary)
-  unfolding lowering
+  unfolding sql_lowering_definitions
   sorted =
       rw (
         column_is schema at (band_table tree) found (codes "COMMISSION_RATE") columns [] false true (codes "CR_C_TIER") 0 (integer_column (codes "CR_C_TIER")) refl refl,

@@ -12,7 +12,7 @@ use Rattle.sqlite_resolve.specs.declared.error.CompileError.TheVariants.{Mismatc
 use Rattle.sqlite_draft.specs.declared.join.Step.TheVariants.{Inner}
 use Rattle.sqlite_draft.specs.declared.query.Draft.{Draft}
 use Rattle.sqlite_tied.specs.Compute.{everything}
-use Rattle.brk_sql.specs.Partly.{lowering}
+use Rattle.brk_sql.specs.Partly.{sql_lowering_definitions}
 use Rattle.brk_sql.specs.Desk.{integer_column, IsTableAt}
 use Rattle.brk_sql.proofs.Meant.{meant, reads_or}
 use Rattle.brk_sql.proofs.Pick.{selection}
@@ -97,7 +97,7 @@ module _ (schema : Schema) (at tree : ℕ) (h : IsTableAt schema (holding_histor
   found = h.found
 
   shows : result lower (outermost schema) (level_one (codes "HOLDING_HISTORY") at []) core (fresh 2 max_budget) ≡ Ok (columns, after 4 binary)
-  unfolding lowering
+  unfolding sql_lowering_definitions
   shows =
       rw (
         column_is schema at (holding_history_table tree) found (codes "HOLDING_HISTORY") [] [] true true (codes "HH_H_T_ID") 0 (integer_column (codes "HH_H_T_ID")) refl refl,
@@ -112,11 +112,11 @@ module _ (schema : Schema) (at tree : ℕ) (h : IsTableAt schema (holding_histor
 
   matches : matching lower (outermost schema) (level_one (codes "HOLDING_HISTORY") at columns) core (after 4 binary)
       ≡ Ok (record { steps = Inner tree ∷ []; filter = terms }, after 4 binary)
-  unfolding lowering
+  unfolding sql_lowering_definitions
   matches = rw found
 
   sorted : sorts lower (inside schema (level_one (codes "HOLDING_HISTORY") at columns) false) columns by (after 4 binary) ≡ Ok ((draft tree).order, after 6 binary)
-  unfolding lowering
+  unfolding sql_lowering_definitions
   sorted =
       rw (
         column_is schema at (holding_history_table tree) found (codes "HOLDING_HISTORY") columns [] false true (codes "HH_H_T_ID") 0 (integer_column (codes "HH_H_T_ID")) refl refl,

@@ -60,15 +60,15 @@ ReadsRowsIfPresent g old new result desk w = IsConnectionStep g old new result (
 
 -- The database contains the tables of the schema with the typed rows `sheets`, but for the texts of
 -- KEPT: its rows of KEPT are the typed rows `whole`, which have the keys of `sheets`.
-pub record AreSheetsButTexts (desk : Schema) (db : Database) (sheets : Sheets) : Type 0 where
+pub record AreSheetsExceptKeptTexts (desk : Schema) (db : Database) (sheets : Sheets) : Type 0 where
   pub whole : List typed.Kept
   pub keys : keys_of_kept_rows whole ≡ map abstract_key sheets.kept.items
   pub stored : HasDeskTablesInSchema desk (tables_with_whole_kept_rows whole sheets) db
 
 -- The database contains the tables of the schema with the typed rows `sheets`, but for the texts of
--- KEPT (`AreSheetsButTexts`). For `None`: if the database contains the tables of the schema with
--- some rows, a row of them is malformed or a text is not UTF-8. The case `None` is vacuous if it
--- does not contain them.
+-- KEPT (`AreSheetsExceptKeptTexts`). For `None`: if the database contains the tables of the schema
+-- with some rows, a row of them is malformed or a text is not UTF-8. The case `None` is vacuous if
+-- it does not contain them.
 abbrev pub AreSheetsOfDatabase : Schema → Database → Option Sheets → Type 0
-AreSheetsOfDatabase desk db (Some sheets) = AreSheetsButTexts desk db sheets
+AreSheetsOfDatabase desk db (Some sheets) = AreSheetsExceptKeptTexts desk db sheets
 AreSheetsOfDatabase desk db None = (t : Tables) → HasDeskTablesInSchema desk t db → satisfies_form_condition desk t && has_utf8_texts t ≡ false

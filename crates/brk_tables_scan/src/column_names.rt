@@ -3,7 +3,7 @@
 
 /// For each of the tables of the first schema: the statement that selects all of its columns, and
 /// their names, in order.
-pub(crate) const IN_FIRST: [(&str, &[&str]); 20] = [
+pub(crate) const TABLES_OF_FIRST_SCHEMA: [(&str, &[&str]); 20] = [
     ("SELECT * FROM DESK", &["D_ID", "D_SCHEMA", "D_LAST"]),
     ("SELECT * FROM KEPT", &["K_BATCH", "K_N", "K_ROW", "K_LINE"]),
     (
@@ -114,7 +114,7 @@ pub(crate) const IN_FIRST: [(&str, &[&str]); 20] = [
 
 /// For each of the tables of the second schema: the statement that selects all of its columns, and
 /// their names, in order.
-pub(crate) const IN_SECOND: [(&str, &[&str]); 21] = [
+pub(crate) const TABLES_OF_SECOND_SCHEMA: [(&str, &[&str]); 21] = [
     ("SELECT * FROM DESK", &["D_ID", "D_SCHEMA", "D_LAST"]),
     ("SELECT * FROM KEPT", &["K_BATCH", "K_N", "K_ROW", "K_LINE"]),
     (
@@ -231,7 +231,7 @@ pub(crate) const IN_SECOND: [(&str, &[&str]); 21] = [
 
 /// For each of the tables of the third schema: the statement that selects all of its columns, and
 /// their names, in order.
-pub(crate) const IN_THIRD: [(&str, &[&str]); 22] = [
+pub(crate) const TABLES_OF_THIRD_SCHEMA: [(&str, &[&str]); 22] = [
     ("SELECT * FROM DESK", &["D_ID", "D_SCHEMA", "D_LAST"]),
     ("SELECT * FROM KEPT", &["K_BATCH", "K_N", "K_ROW", "K_LINE"]),
     (

@@ -8,7 +8,9 @@ ghost use Rattle.brk_changes.specs.Schemas.{abstract_schema};
 ghost use Rattle.brk_tables_schema.specs.Desk.{tables_in_schema};
 ghost use Rattle.brk_tables_scan.specs.Schemas.{HasTablesOfSchema, LacksTablesOfLaterSchemas};
 
-use crate::column_names::{IN_FIRST, IN_SECOND, IN_THIRD};
+use crate::column_names::{
+    TABLES_OF_FIRST_SCHEMA, TABLES_OF_SECOND_SCHEMA, TABLES_OF_THIRD_SCHEMA,
+};
 use brk_changes::Schema;
 use brk_money::Fault;
 use brk_tables_create::has_exact_tables_by_name;
@@ -45,9 +47,9 @@ fn tables_have_columns<S: Alter>(tx: &mut Transaction<'_, S>, schema: Schema) ->
     ensures fault { OnErr result (result ≡ Err Store) }
 {
     match schema {
-        Schema::First => each_heading_matches(tx, &IN_FIRST),
-        Schema::Second => each_heading_matches(tx, &IN_SECOND),
-        Schema::Third => each_heading_matches(tx, &IN_THIRD),
+        Schema::First => each_heading_matches(tx, &TABLES_OF_FIRST_SCHEMA),
+        Schema::Second => each_heading_matches(tx, &TABLES_OF_SECOND_SCHEMA),
+        Schema::Third => each_heading_matches(tx, &TABLES_OF_THIRD_SCHEMA),
     }
 }
 

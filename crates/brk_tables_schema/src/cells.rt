@@ -348,7 +348,7 @@ pub fn status_in_column(row: &Row, at: usize) -> Result<Status, DecodeError>
 fn is_text_of_cash_type(kind: CashType, bytes: &[u8]) -> bool
     ensures { result ≡ bytes_eq (cash_type_text kind) bytes.now }
 {
-    kind.word().as_bytes() == bytes
+    kind.text().as_bytes() == bytes
 }
 
 // Returns the cash type of a settlement whose text is `bytes`, or `None` if no cash type has this

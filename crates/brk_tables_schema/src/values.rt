@@ -178,7 +178,7 @@ pub fn status_as_parameter<'a>(status: Status) -> ValueRef<'a>
 pub fn cash_type_as_parameter<'a>(cash_type: CashType) -> ValueRef<'a>
     ensures { owned result ≡ Text (cash_type_text cash_type) }
 {
-    ValueRef::Text(cash_type.word().as_bytes())
+    ValueRef::Text(cash_type.text().as_bytes())
 }
 
 /// Converts a day, as the number of days since 1970-01-01, to an INTEGER, as the parameter of a

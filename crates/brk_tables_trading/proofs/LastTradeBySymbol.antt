@@ -15,7 +15,7 @@ use Rattle.sqlite_resolve.specs.declared.error.CompileError.TheVariants.{Mismatc
 use Rattle.sqlite_draft.specs.declared.join.Step.TheVariants.{Inner}
 use Rattle.sqlite_draft.specs.declared.query.Draft.{Draft}
 use Rattle.sqlite_tied.specs.Compute.{everything}
-use Rattle.brk_sql.specs.Partly.{lowering}
+use Rattle.brk_sql.specs.Partly.{sql_lowering_definitions}
 use Rattle.brk_sql.specs.Desk.{integer_column, text_column, IsTableAt}
 use Rattle.brk_sql.proofs.Meant.{meant, reads_or}
 use Rattle.brk_sql.proofs.Pick.{selection}
@@ -100,7 +100,7 @@ module _ (schema : Schema) (at tree : ℕ) (h : IsTableAt schema (last_trade_tab
   found = h.found
 
   shows : result lower (outermost schema) (level_one (codes "LAST_TRADE") at []) core (fresh 2 max_budget) ≡ Ok (columns, after 4 binary)
-  unfolding lowering
+  unfolding sql_lowering_definitions
   shows =
       rw (
         column_is schema at (last_trade_table tree) found (codes "LAST_TRADE") [] [] true true (codes "LT_S_SYMB") 0 (text_column (codes "LT_S_SYMB")) refl refl,
@@ -115,11 +115,11 @@ module _ (schema : Schema) (at tree : ℕ) (h : IsTableAt schema (last_trade_tab
 
   matches : matching lower (outermost schema) (level_one (codes "LAST_TRADE") at columns) core (after 4 binary)
       ≡ Ok (record { steps = Inner tree ∷ []; filter = terms }, after 7 nothing)
-  unfolding lowering
+  unfolding sql_lowering_definitions
   matches = rw (found, column_is schema at (last_trade_table tree) found (codes "LAST_TRADE") columns [] false true (codes "LT_S_SYMB") 0 (text_column (codes "LT_S_SYMB")) refl refl, found)
 
   sorted : sorts lower (inside schema (level_one (codes "LAST_TRADE") at columns) false) columns by (after 7 nothing) ≡ Ok ((draft tree).order, after 8 binary)
-  unfolding lowering
+  unfolding sql_lowering_definitions
   sorted =
       rw (column_is schema at (last_trade_table tree) found (codes "LAST_TRADE") columns [] false true (codes "LT_S_SYMB") 0 (text_column (codes "LT_S_SYMB")) refl refl)
 

@@ -15,7 +15,7 @@ use Rattle.sqlite_resolve.specs.declared.error.CompileError.TheVariants.{Mismatc
 use Rattle.sqlite_draft.specs.declared.join.Step.TheVariants.{Inner}
 use Rattle.sqlite_draft.specs.declared.query.Draft.{Draft}
 use Rattle.sqlite_tied.specs.Compute.{everything}
-use Rattle.brk_sql.specs.Partly.{lowering}
+use Rattle.brk_sql.specs.Partly.{sql_lowering_definitions}
 use Rattle.brk_sql.specs.Desk.{integer_column, IsTableAt}
 use Rattle.brk_sql.proofs.Meant.{meant, deletes_or}
 use Rattle.brk_sql.proofs.Pick.{selection, whole_page}
@@ -39,7 +39,7 @@ abbrev pub draft : ℕ → Draft
 draft tree = simple (Inner tree ∷ []) terms project
 
 draft_is : (schema : Schema) (at tree : ℕ) → slice_get schema.tables at ≡ Some (request_table tree) → deleted schema at (request_table tree) test ≡ Ok (draft tree)
-unfolding lowering
+unfolding sql_lowering_definitions
 draft_is schema at tree found = rw (column_is schema at (request_table tree) found (codes "TRADE_REQUEST") [] [] false true (codes "TR_T_ID") 0 (integer_column (codes "TR_T_ID")) refl refl)
 
 pub understood_as : (schema : Schema) (at tree : ℕ) → IsTableAt schema (request_table tree) at

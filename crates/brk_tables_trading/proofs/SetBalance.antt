@@ -17,7 +17,7 @@ use Rattle.sqlite_resolve.specs.declared.error.CompileError.TheVariants.{Mismatc
 use Rattle.sqlite_draft.specs.declared.join.Step.TheVariants.{Inner}
 use Rattle.sqlite_draft.specs.declared.query.Draft.{Draft}
 use Rattle.sqlite_tied.specs.Compute.{everything}
-use Rattle.brk_sql.specs.Partly.{lowering}
+use Rattle.brk_sql.specs.Partly.{sql_lowering_definitions}
 use Rattle.brk_sql.specs.Desk.{integer_column, IsTableAt}
 use Rattle.brk_sql.proofs.Meant.{meant, updates_or}
 use Rattle.brk_sql.proofs.Pick.{selection, whole_page}
@@ -44,7 +44,7 @@ abbrev pub draft : ℕ → Draft
 draft tree = simple (Inner tree ∷ []) terms project
 
 draft_is : (schema : Schema) (at tree : ℕ) → slice_get schema.tables at ≡ Some (account_table tree) → updated schema at (account_table tree) sets (Some test) ≡ Ok (draft tree)
-unfolding lowering
+unfolding sql_lowering_definitions
 draft_is schema at tree found = rw (column_is schema at (account_table tree) found (codes "CUSTOMER_ACCOUNT") [] [] false true (codes "CA_ID") 0 (integer_column (codes "CA_ID")) refl refl)
 
 pub understood_as : (schema : Schema) (at tree : ℕ) → IsTableAt schema (account_table tree) at

@@ -16,7 +16,7 @@ use Rattle.sqlite_resolve.specs.declared.error.CompileError.TheVariants.{Mismatc
 use Rattle.sqlite_draft.specs.declared.join.Step.TheVariants.{Inner}
 use Rattle.sqlite_draft.specs.declared.query.Draft.{Draft}
 use Rattle.sqlite_tied.specs.Compute.{everything}
-use Rattle.brk_sql.specs.Partly.{lowering}
+use Rattle.brk_sql.specs.Partly.{sql_lowering_definitions}
 use Rattle.brk_sql.specs.Desk.{integer_column, text_column, IsTableAt}
 use Rattle.brk_sql.proofs.Meant.{meant, updates_or}
 use Rattle.brk_sql.proofs.Pick.{selection, whole_page}
@@ -43,7 +43,7 @@ abbrev pub draft : ℕ → Draft
 draft tree = simple (Inner tree ∷ []) terms project
 
 draft_is : (schema : Schema) (at tree : ℕ) → slice_get schema.tables at ≡ Some (summary_table tree) → updated schema at (summary_table tree) sets (Some test) ≡ Ok (draft tree)
-unfolding lowering
+unfolding sql_lowering_definitions
 draft_is schema at tree found = rw (column_is schema at (summary_table tree) found (codes "HOLDING_SUMMARY") [] [] false true (codes "HS_CA_ID") 0 (integer_column (codes "HS_CA_ID")) refl refl, found, column_is schema at (summary_table tree) found (codes "HOLDING_SUMMARY") [] [] false true (codes "HS_S_SYMB") 1 (text_column (codes "HS_S_SYMB")) refl refl, found)
 
 pub understood_as : (schema : Schema) (at tree : ℕ) → IsTableAt schema (summary_table tree) at

@@ -16,7 +16,7 @@ use Rattle.brk_tables_schema.specs.Made.{IsTableOfSchema, LacksOtherDeskTables}
 use Rattle.brk_tables_schema.proofs.Which.{all_listed, split}
 use Rattle.brk_tables_create.specs.Made.{tables_of_later_schemas}
 use Rattle.brk_tables_cash.specs.Upgrade.{SetsSchemaNumberToThree}
-use Rattle.brk_tables_upgrade.specs.Upgrade.{AddsTablesOfLaterSchemas, PreservesTablesOutside, UpgradesTables, HasUpgradedTables, tables_with_all_cash_rows_numbered}
+use Rattle.brk_tables_upgrade.specs.Upgrade.{AddsTablesOfLaterSchemas, PreservesTablesOutside, UpgradesTables, HasUpgradedTables, tables_with_cash_transactions_moved}
 use Rattle.brk_tables_upgrade.proofs.Numbered.{upgraded_is}
 use Rattle.brk_model.specs.Upgraded.{tables_after_upgrade, tables_upgraded_from_schema}
 
@@ -102,7 +102,7 @@ module _ (desk : Schema) where
       subst (λ u. HasUpgradedTables desk tree u a c) same (up t tree h lacks)
 
   -- those that are not are upgraded
-  pub moves_cash : (a c d : Database) → desk.has_cash_move_table ≡ false → AddsTablesOfLaterSchemas desk a c → ChangesTablesBy (desk_tables_of_schema Rattle.brk_model.specs.Schemas.third_schema) tables_with_all_cash_rows_numbered c d → UpgradesTables desk a d
+  pub moves_cash : (a c d : Database) → desk.has_cash_move_table ≡ false → AddsTablesOfLaterSchemas desk a c → ChangesTablesBy (desk_tables_of_schema Rattle.brk_model.specs.Schemas.third_schema) tables_with_cash_transactions_moved c d → UpgradesTables desk a d
   moves_cash a c d off up turns = λ t tree h lacks.
-      let same : tables_with_all_cash_rows_numbered t ≡ tables_upgraded_from_schema desk t = rw off (upgraded_is t (lacks CashMoves off).1) in
-      subst (λ u. HasUpgradedTables desk tree u a d) same (stands_then tree t tables_with_all_cash_rows_numbered a c d (up t tree h lacks) turns)
+      let same : tables_with_cash_transactions_moved t ≡ tables_upgraded_from_schema desk t = rw off (upgraded_is t (lacks CashMoves off).1) in
+      subst (λ u. HasUpgradedTables desk tree u a d) same (stands_then tree t tables_with_cash_transactions_moved a c d (up t tree h lacks) turns)

@@ -8,7 +8,7 @@ use Rattle.brk_model.specs.Derived.{Posting, postings_sorted_by_stamp}
 use Rattle.brk_model.specs.Keys.{insert_row_by_key, is_row_key_less, move_key}
 use Rattle.brk_model.specs.Upgraded.{tables_after_upgrade}
 use Rattle.brk_model.specs.Tables.{Tables, CashRow, MoveRow, cash_move_row, numbered_move_rows}
-use Rattle.brk_tables_upgrade.specs.Upgrade.{cash_transactions_by_stamp, tables_with_cash_rows_numbered_from, tables_with_all_cash_rows_numbered, tables_with_numbered_cash_row}
+use Rattle.brk_tables_upgrade.specs.Upgrade.{cash_transactions_by_stamp, tables_with_cash_rows_numbered_from, tables_with_cash_transactions_moved, tables_with_numbered_cash_row}
 use Rattle.brk_tables_upgrade.proofs.Sorting.{posted_in_turn}
 
 -- ---- one more of a list
@@ -54,7 +54,7 @@ added n (c ∷ cs) t low =
     ∙ ap (λ (xs : List MoveRow). let u : Tables = record t { moves = xs } in u) (Rattle.std.proofs.Common.append_assoc t.moves (r ∷ []) (numbered_move_rows (n + 1) (map (posting_of_cash_row t) cs)))
 
 -- the tables of the first schema with their cash rows upgraded are the upgraded tables
-pub upgraded_is : (t : Tables) → t.moves ≡ [] → tables_with_all_cash_rows_numbered t ≡ tables_after_upgrade t
+pub upgraded_is : (t : Tables) → t.moves ≡ [] → tables_with_cash_transactions_moved t ≡ tables_after_upgrade t
 unfolding tables_after_upgrade
 upgraded_is t none =
     let low : above_all 1 t.moves = Rattle.std.proofs.Common.subst (above_all 1) (sym none) tt in

@@ -14,7 +14,7 @@ use Rattle.brk_sql.specs.Desk.{HasTables, TablesSatisfy, ChangesTablesBy}
 use Rattle.brk_sql.proofs.Strangers.{spares_then}
 use Rattle.brk_tables_schema.specs.Desk.{DeskTable, desk_tables}
 use Rattle.brk_tables_cash.specs.Upgrade.{tables_without_cash_transactions}
-use Rattle.brk_tables_upgrade.specs.Upgrade.{cash_transactions_by_stamp, tables_with_cash_rows_numbered_from, tables_with_all_cash_rows_numbered, tables_with_numbered_cash_row}
+use Rattle.brk_tables_upgrade.specs.Upgrade.{cash_transactions_by_stamp, tables_with_cash_rows_numbered_from, tables_with_cash_transactions_moved, tables_with_numbered_cash_row}
 use Rattle.brk_tables_upgrade.proofs.Numbered.{one_more}
 
 pub turns_none : (a : Database) → ChangesTablesBy desk_tables (λ t. t) a a
@@ -61,5 +61,5 @@ all_added rows a b c still told turns = λ t tree h.
     let turned = subst (λ x. ChangesTablesBy desk_tables (tables_with_cash_rows_numbered_from 1 rows) x c) still turns t tree h in
     (subst (λ rs. HasTables desk_tables (tables_with_cash_rows_numbered_from 1 rs t) tree c) (told t tree h) turned.0, turned.1)
 
-pub all_moved : (a b c : Database) → ChangesTablesBy desk_tables (λ t. tables_with_cash_rows_numbered_from 1 (cash_transactions_by_stamp t) t) a b → ChangesTablesBy desk_tables tables_without_cash_transactions b c → ChangesTablesBy desk_tables tables_with_all_cash_rows_numbered a c
+pub all_moved : (a b c : Database) → ChangesTablesBy desk_tables (λ t. tables_with_cash_rows_numbered_from 1 (cash_transactions_by_stamp t) t) a b → ChangesTablesBy desk_tables tables_without_cash_transactions b c → ChangesTablesBy desk_tables tables_with_cash_transactions_moved a c
 all_moved a b c p q = turns_then (λ t. tables_with_cash_rows_numbered_from 1 (cash_transactions_by_stamp t) t) tables_without_cash_transactions a b c p q

@@ -32,8 +32,8 @@ tables_with_cash_rows_numbered_from n (c ∷ cs) t = tables_with_cash_rows_numbe
 
 -- The tables `t` with all rows of CASH_TRANSACTION inserted into CASH_MOVE, numbered from 1 by
 -- ascending stamp, and with no rows in CASH_TRANSACTION.
-abbrev pub tables_with_all_cash_rows_numbered : Tables → Tables
-tables_with_all_cash_rows_numbered t = tables_without_cash_transactions (tables_with_cash_rows_numbered_from 1 (cash_transactions_by_stamp t) t)
+abbrev pub tables_with_cash_transactions_moved : Tables → Tables
+tables_with_cash_transactions_moved t = tables_without_cash_transactions (tables_with_cash_rows_numbered_from 1 (cash_transactions_by_stamp t) t)
 
 -- Each table of `old` is in `new`, at the same index. Its rows are unchanged if it is at none of
 -- the trees of the tables `w` for which `In w` holds, and none of its own foreign keys changes or

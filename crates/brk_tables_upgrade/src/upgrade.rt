@@ -5,7 +5,7 @@ ghost use Rattle.brk_model.specs.Run.{IsCallFault};
 ghost use Rattle.brk_changes.specs.Schemas.{abstract_schema};
 ghost use Rattle.brk_sql.specs.Model.{IsConnectionStep};
 ghost use Rattle.brk_tables_schema.specs.Statements.{WritesDeskTables};
-ghost use Rattle.brk_tables_upgrade.specs.Upgrade.{AddsTablesOfLaterSchemas, UpgradesTables, tables_with_all_cash_rows_numbered};
+ghost use Rattle.brk_tables_upgrade.specs.Upgrade.{AddsTablesOfLaterSchemas, UpgradesTables, tables_with_cash_transactions_moved};
 
 use crate::numbering::add_numbered_cash_rows;
 use crate::ordering::sort_cash_rows_by_stamp;
@@ -42,7 +42,7 @@ fn move_cash_transactions_to_cash_moves<S: Alter>(
     alloc: Global,
 ) -> Result<(), Fault>
     ensures same_reference { tx.new.conn.ghost_name ≡ tx.old.conn.ghost_name }
-    ensures step { WritesDeskTables S.Store tx.old tx.new result tables_with_all_cash_rows_numbered }
+    ensures step { WritesDeskTables S.Store tx.old tx.new result tables_with_cash_transactions_moved }
     ensures fault { IfErr result IsCallFault }
 {
     let found = cash_transactions_by_trade(tx, alloc)?;

@@ -15,7 +15,7 @@ use Rattle.sqlite_resolve.specs.declared.error.CompileError.TheVariants.{Mismatc
 use Rattle.sqlite_draft.specs.declared.join.Step.TheVariants.{Inner}
 use Rattle.sqlite_draft.specs.declared.query.Draft.{Draft}
 use Rattle.sqlite_tied.specs.Compute.{everything}
-use Rattle.brk_sql.specs.Partly.{lowering}
+use Rattle.brk_sql.specs.Partly.{sql_lowering_definitions}
 use Rattle.brk_sql.specs.Desk.{integer_column, text_column, nullable_integer_column, IsTableAt}
 use Rattle.brk_sql.proofs.Meant.{meant, reads_or}
 use Rattle.brk_sql.proofs.Pick.{selection}
@@ -100,7 +100,7 @@ module _ (schema : Schema) (at tree : ℕ) (h : IsTableAt schema (trade_table tr
   found = h.found
 
   shows : result lower (outermost schema) (level_one (codes "TRADE") at []) core (fresh 2 max_budget) ≡ Ok (columns, after 15 binary)
-  unfolding lowering
+  unfolding sql_lowering_definitions
   shows =
       rw (
         column_is schema at (trade_table tree) found (codes "TRADE") [] [] true true (codes "T_ID") 0 (integer_column (codes "T_ID")) refl refl,
@@ -137,11 +137,11 @@ module _ (schema : Schema) (at tree : ℕ) (h : IsTableAt schema (trade_table tr
 
   matches : matching lower (outermost schema) (level_one (codes "TRADE") at columns) core (after 15 binary)
       ≡ Ok (record { steps = Inner tree ∷ []; filter = terms }, after 18 nothing)
-  unfolding lowering
+  unfolding sql_lowering_definitions
   matches = rw (found, column_is schema at (trade_table tree) found (codes "TRADE") columns [] false true (codes "T_ST_ID") 2 (text_column (codes "T_ST_ID")) refl refl, found)
 
   sorted : sorts lower (inside schema (level_one (codes "TRADE") at columns) false) columns by (after 18 nothing) ≡ Ok ((draft tree).order, after 20 nothing)
-  unfolding lowering
+  unfolding sql_lowering_definitions
   sorted =
       rw (
         column_is schema at (trade_table tree) found (codes "TRADE") columns [] false true (codes "T_DTS") 1 (integer_column (codes "T_DTS")) refl refl,

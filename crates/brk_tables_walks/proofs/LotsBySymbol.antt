@@ -15,7 +15,7 @@ use Rattle.sqlite_resolve.specs.declared.error.CompileError.TheVariants.{Mismatc
 use Rattle.sqlite_draft.specs.declared.join.Step.TheVariants.{Inner}
 use Rattle.sqlite_draft.specs.declared.query.Draft.{Draft}
 use Rattle.sqlite_tied.specs.Compute.{everything}
-use Rattle.brk_sql.specs.Partly.{lowering}
+use Rattle.brk_sql.specs.Partly.{sql_lowering_definitions}
 use Rattle.brk_sql.specs.Desk.{integer_column, text_column, IsTableAt}
 use Rattle.brk_sql.proofs.Meant.{meant, reads_or}
 use Rattle.brk_sql.proofs.Pick.{selection}
@@ -100,7 +100,7 @@ module _ (schema : Schema) (at tree : ℕ) (h : IsTableAt schema (holding_table 
   found = h.found
 
   shows : result lower (outermost schema) (level_one (codes "HOLDING") at []) core (fresh 2 max_budget) ≡ Ok (columns, after 6 binary)
-  unfolding lowering
+  unfolding sql_lowering_definitions
   shows =
       rw (
         column_is schema at (holding_table tree) found (codes "HOLDING") [] [] true true (codes "H_T_ID") 0 (integer_column (codes "H_T_ID")) refl refl,
@@ -119,11 +119,11 @@ module _ (schema : Schema) (at tree : ℕ) (h : IsTableAt schema (holding_table 
 
   matches : matching lower (outermost schema) (level_one (codes "HOLDING") at columns) core (after 6 binary)
       ≡ Ok (record { steps = Inner tree ∷ []; filter = terms }, after 9 nothing)
-  unfolding lowering
+  unfolding sql_lowering_definitions
   matches = rw (found, column_is schema at (holding_table tree) found (codes "HOLDING") columns [] false true (codes "H_CA_ID") 1 (integer_column (codes "H_CA_ID")) refl refl, found)
 
   sorted : sorts lower (inside schema (level_one (codes "HOLDING") at columns) false) columns by (after 9 nothing) ≡ Ok ((draft tree).order, after 12 nothing)
-  unfolding lowering
+  unfolding sql_lowering_definitions
   sorted =
       rw (
         column_is schema at (holding_table tree) found (codes "HOLDING") columns [] false true (codes "H_S_SYMB") 2 (text_column (codes "H_S_SYMB")) refl refl,

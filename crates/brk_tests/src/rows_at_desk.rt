@@ -3,8 +3,8 @@
 
 use crate::desks::Still;
 use crate::files::machine::{
-    Held, Sent, Stop, failing_files_with_bytes, files_with_reference_data, open_desk_in_files,
-    run_batch_until_crash,
+    Held, MachineCrash, Sent, failing_files_with_bytes, files_with_reference_data,
+    open_desk_in_files, run_batch_until_crash,
 };
 use brk_import::run_batch;
 use sqlite::Options;
@@ -36,7 +36,7 @@ fn files_with_hundred_lots(alloc: Global) -> Result<Held, Fail> {
     let Sent { seen, held, .. } = run_batch_until_crash(
         alloc,
         &set,
-        Stop::NEVER,
+        MachineCrash::NEVER,
         batch.as_bytes(),
     )?;
     if !seen.lines.ends_with(b"end,203,0,0\n") {

@@ -1,6 +1,6 @@
 //! Tests of the program's clock.
 
-use brk_clock::Moments;
+use brk_clock::ProgramClock;
 use brk_exit::brk_io::Clock;
 use brk_money::Stamp;
 use std::io::{self, ErrorKind};
@@ -30,7 +30,7 @@ const PAST: i64 = 1_709_251_200_000;
 // Checks that a clock with a fixed timestamp returns it at the first and at the second reading.
 #[test]
 fn a_fixed_clock_returns_its_timestamp(rt: HostRuntime) {
-    let mut clock = Moments::new(&rt, Some(Stamp::nearest(PAST)));
+    let mut clock = ProgramClock::new(&rt, Some(Stamp::nearest(PAST)));
     assert_eq!(rt; clock.now().get(), PAST);
     assert_eq!(rt; clock.now().get(), PAST);
 }
@@ -39,7 +39,7 @@ fn a_fixed_clock_returns_its_timestamp(rt: HostRuntime) {
 #[test]
 fn clock_readings_are_whole_milliseconds(rt: HostRuntime) {
     let machine = Stopped(Some(Duration::new(1_709_251_200, 123_999_999)));
-    let mut clock = Moments::new(&machine, None);
+    let mut clock = ProgramClock::new(&machine, None);
     assert_eq!(rt; clock.now().get(), PAST + 123);
     assert_eq!(rt; clock.now().get(), PAST + 123);
 }
@@ -49,14 +49,14 @@ fn clock_readings_are_whole_milliseconds(rt: HostRuntime) {
 #[test]
 fn clock_readings_end_at_the_greatest_stamp(rt: HostRuntime) {
     let last = Stopped(Some(Duration::new(253_402_300_799, 999_000_000)));
-    assert_eq!(rt; Moments::new(&last, None).now().get(), Stamp::GREATEST);
+    assert_eq!(rt; ProgramClock::new(&last, None).now().get(), Stamp::GREATEST);
     let late = Stopped(Some(Duration::from_secs(253_402_300_800)));
-    assert_eq!(rt; Moments::new(&late, None).now().get(), Stamp::GREATEST);
+    assert_eq!(rt; ProgramClock::new(&late, None).now().get(), Stamp::GREATEST);
 }
 
 // Checks that the reading is the timestamp 0 if the machine's clock cannot be read.
 #[test]
 fn an_unreadable_clock_reads_as_zero(rt: HostRuntime) {
     let machine = Stopped(None);
-    assert_eq!(rt; Moments::new(&machine, None).now().get(), 0);
+    assert_eq!(rt; ProgramClock::new(&machine, None).now().get(), 0);
 }

@@ -122,7 +122,7 @@ fn expect_purchase_reply(
 // Checks that an order after 10^12 - 1 trades is accepted as the trade with the greatest id, 10^12,
 // and that an order after 10^12 trades is refused with 14, `trades`.
 #[test]
-fn an_order_beyond_last_trade_is_refused(rt: HostRuntime) -> Result<(), Fail> {
+fn an_order_beyond_greatest_trade_id_is_refused(rt: HostRuntime) -> Result<(), Fail> {
     let alloc = rt.alloc();
     let last = "1709251200020,1000000000000,SBMT,10.00,0.00,0.00,0.00,10.00,5.00,10000.00";
     expect_purchase_reply(&rt, alloc, 999_999_999_999, last)?;

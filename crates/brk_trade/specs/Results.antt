@@ -4,7 +4,7 @@ use Rattle.std.specs.Prelude.{decimal, length, flat_map, Option, Some, None, opt
 use Rattle.brk_lots.specs.Values.{closing_values_of_deal}
 use Rattle.brk_lots.specs.Closing.{AreLotsClosedByDeal}
 use Rattle.brk_lots.specs.Lots.{shares_of_lots}
-use Rattle.brk_lots.specs.Against.{closes_lots}
+use Rattle.brk_lots.specs.Against.{trade_closes_lots}
 use Rattle.brk_lots.specs.Books.{lot_quantity_sum}
 use Rattle.brk_lots.specs.Position.{AreOpenedByOtherTrades}
 use Rattle.brk_lots.specs.Sources.{YieldsPosition}
@@ -154,7 +154,7 @@ AreLotsBeforeTrade given found ls =
 
 -- The account of the trade of `found` holds no shares that this trade would close.
 abbrev pub ClosesNoHeldShares : ResultPlanFacts → Type 0
-ClosesNoHeldShares found = closes_lots (side_of_trade_type found.trade.kind) (shares_held_before_trade found) ≡ false
+ClosesNoHeldShares found = trade_closes_lots (side_of_trade_type found.trade.kind) (shares_held_before_trade found) ≡ false
 
 -- `plan` completes the trade of `found` at `price` and the stamp of the command, where `given` is
 -- true of each list of lots that the source may return, `last` is the last stamp, and `now` the

@@ -14,7 +14,9 @@ ghost use Rattle.brk_trade.specs.Results.{IsResultRefusal, ClosesNoHeldShares, s
 use crate::completion::create_completion_changes;
 use crate::outcome::{checked_rate_and_summary, checked_result_figures};
 use crate::result_found::ResultPlanFacts;
-use brk_lots::{ClosedLots, LotSource, close_with_amounts, closes_lots, open_lot_without_closing};
+use brk_lots::{
+    ClosedLots, LotSource, close_with_amounts, open_lot_without_closing, trade_closes_lots,
+};
 use brk_money::{Fault, Planned, Price, Refusal, Stamp, stamp_after};
 use brk_plans::{Plan, Reply};
 use std::alloc::Global;
@@ -53,7 +55,7 @@ fn effect_of_trade_on_lots<L: LotSource>(
 {
     let trade = &found.trade;
     let side = trade.kind.side();
-    if closes_lots(side, found.summary.unwrap_or(0)) {
+    if trade_closes_lots(side, found.summary.unwrap_or(0)) {
         close_with_amounts(alloc, source, side, trade.qty, trade.id, price, stamp)
     } else {
         Ok(open_lot_without_closing(alloc, side, trade.qty, trade.id, price, stamp))

@@ -5,7 +5,7 @@ use Rattle.std.specs.Option.{option_map_or}
 use Rattle.std.proofs.lemmas.Int.{ints}
 use Rattle.brk_lots.specs.Closing.{AreLotsClosedByDeal}
 use Rattle.brk_lots.specs.Values.{closing_values_of_deal}
-use Rattle.brk_lots.specs.Lots.{list_in_closing_order, abstract_lot, abstract_touch, shares_of_lots}
+use Rattle.brk_lots.specs.Lots.{list_reversed_if_lifo, abstract_lot, abstract_touch, shares_of_lots}
 use Rattle.brk_lots.specs.declared.closing.ClosedLots.{ClosedLots}
 use Rattle.brk_lots.specs.declared.lot.Lot.{Lot}
 use Rattle.brk_lots.specs.declared.lot.Touch.{Touch}
@@ -125,7 +125,7 @@ record Planned (base : Base) (price : ℕ) (last : Option ℕ) (now : ℕ) (t : 
   pub result : IsResult base stamp price t front back
   pub some_shares : 0 < found.trade.qty
   pub values : closed.values ≡ result_values base stamp price t
-  pub touched : map abstract_touch closed.touched.items ≡ list_in_closing_order t.is_lifo (touches_of_existing_lots (deal_of_result stamp price t) (shares_of_position (completed_trades base) t.account t.symbol))
+  pub touched : map abstract_touch closed.touched.items ≡ list_reversed_if_lifo t.is_lifo (touches_of_existing_lots (deal_of_result stamp price t) (shares_of_position (completed_trades base) t.account t.symbol))
   pub opened : map abstract_lot (option_to_list closed.opened) ≡ lots_of_shares (opened_shares (deal_of_result stamp price t) (shares_of_position (completed_trades base) t.account t.symbol))
   pub one : PassesFirstResultChecks 1 found
   pub rated : is_none found.rate ≡ false
@@ -379,7 +379,7 @@ result_plan_does base id price (Some found) given last now plan k p =
       result = subst (λ (s : ℕ). IsResult base s price t.0 stands.front stands.back) (sym next) stands.result;
       some_shares = k.some_shares;
       values = values;
-      touched = closes.lots.touched ∙ (λ i. list_in_closing_order (deal i).is_lifo (touches_of_existing_lots (deal i) (same i)));
+      touched = closes.lots.touched ∙ (λ i. list_reversed_if_lifo (deal i).is_lifo (touches_of_existing_lots (deal i) (same i)));
       opened = closes.lots.opened ∙ (λ i. lots_of_shares (opened_shares (deal i) (same i)));
       one = passes_status found tests.0;
       rated = tests.1.0;

@@ -97,7 +97,7 @@ fn settlement_texts(alloc: Global, row: SettlementRow) -> Result<Vec<String>, Fa
 {
     let mut texts = Vec::new(alloc);
     texts.push(copy_text(alloc, "settlement")?)?;
-    texts.push(copy_text(alloc, row.cash_type.word())?)?;
+    texts.push(copy_text(alloc, row.cash_type.text())?)?;
     texts.push(day_text(alloc, row.due_day)?)?;
     texts.push(row.amount.to_string(alloc)?)?;
     Ok(texts)

@@ -1,6 +1,8 @@
 //! Tests of desks in files, which are closed, opened again and audited.
 
-use crate::files::machine::{Held, Sent, Stop, files_with_reference_data, run_batch_until_crash};
+use crate::files::machine::{
+    Held, MachineCrash, Sent, files_with_reference_data, run_batch_until_crash,
+};
 use crate::worked::{
     LAST_FIRST_LINES, LAST_FIRST_ROWS, LINES, ROWS, format_batch, lines_if_all_accepted,
     lines_if_all_repeated,
@@ -20,7 +22,7 @@ fn expect_batch_in_files(
     let Sent { seen, held, .. } = run_batch_until_crash(
         alloc,
         held,
-        Stop::NEVER,
+        MachineCrash::NEVER,
         batch.as_bytes(),
     )?;
     if seen.is_sound && seen.lines.as_slice() == lines.as_bytes() {

@@ -25,16 +25,16 @@ pub enum File {
 /// A crash of the machine: the file `file` accepts `calls` calls and fails at each later call.
 /// Bytes that were not synced are lost if `loses` is true, and otherwise stored.
 #[derive(Clone, Copy)]
-pub struct Stop {
+pub struct MachineCrash {
     pub name: &'static str,
     pub file: File,
     pub loses: bool,
     pub calls: u64,
 }
 
-impl Stop {
+impl MachineCrash {
     /// No crash: each file accepts all calls.
-    pub const NEVER: Stop = Stop {
+    pub const NEVER: MachineCrash = MachineCrash {
         name: "no stop",
         file: File::Log,
         loses: false,
@@ -62,17 +62,17 @@ impl Held {
 /// The observation of a batch on a desk: all tables before and after it as text, empty if they
 /// could not be read, the lines of the batch, and true if an audit passed after it.
 #[derive(Drop)]
-pub struct Seen {
+pub struct BatchObservation {
     pub before: String,
     pub lines: Vec<u8>,
     pub is_sound: bool,
     pub after: String,
 }
 
-impl Seen {
+impl BatchObservation {
     /// Returns an empty observation, for a batch that is not yet executed.
-    pub fn before_batch(alloc: Global) -> Seen {
-        Seen {
+    pub fn empty(alloc: Global) -> BatchObservation {
+        BatchObservation {
             before: String::new(alloc),
             lines: Vec::new(alloc),
             is_sound: false,
@@ -121,7 +121,7 @@ pub fn run_batch_on_connection<S: Alter + Drop>(
     alloc: Global,
     mut conn: Connection<S>,
     batch: &[u8],
-    seen: &mut Seen,
+    seen: &mut BatchObservation,
 ) -> Connection<S> {
     if let Ok(tables) = read_all_tables(alloc, &mut conn) {
         seen.before = tables;
@@ -153,7 +153,7 @@ fn run_batch_in_files(
     alloc: Global,
     files: Files<Fuse<Memory>>,
     batch: &[u8],
-    seen: &mut Seen,
+    seen: &mut BatchObservation,
 ) -> Files<Fuse<Memory>> {
     if !files.log.may_be_used() || !files.db.may_be_used() {
         return files;
@@ -225,7 +225,7 @@ fn files_after_crash(
 /// the machine crashed.
 #[derive(Drop)]
 pub struct Sent {
-    pub seen: Seen,
+    pub seen: BatchObservation,
     pub held: Held,
     pub was_stopped: bool,
 }
@@ -236,7 +236,7 @@ pub struct Sent {
 pub fn run_batch_until_crash(
     alloc: Global,
     held: &Held,
-    stop: Stop,
+    stop: MachineCrash,
     batch: &[u8],
 ) -> Result<Sent, Fail> {
     let (log_calls, db_calls) = match stop.file {
@@ -244,7 +244,7 @@ pub fn run_batch_until_crash(
         File::Database => (u64::MAX, stop.calls),
     };
     let files = failing_files_with_bytes(alloc, held, log_calls, db_calls)?;
-    let mut seen = Seen::before_batch(alloc);
+    let mut seen = BatchObservation::empty(alloc);
     let files = run_batch_in_files(alloc, files, batch, &mut seen);
     let (held, was_stopped) = files_after_crash(alloc, files, stop.loses)?;
     Ok(Sent {
@@ -259,7 +259,7 @@ pub fn files_with_reference_data(alloc: Global) -> Result<Held, Fail> {
     let Sent { held, .. } = run_batch_until_crash(
         alloc,
         &Held::empty_files(alloc),
-        Stop::NEVER,
+        MachineCrash::NEVER,
         SET,
     )?;
     Ok(held)

@@ -2,7 +2,7 @@
 //! written, and never the last one.
 
 use crate::files::machine::{
-    Held, Sent, Stop, failing_files_with_bytes, open_desk_in_files, run_batch_until_crash,
+    Held, MachineCrash, Sent, failing_files_with_bytes, open_desk_in_files, run_batch_until_crash,
 };
 use brk_money::{Fault, Id, parse_day};
 use brk_report::{ReportFault, statement};
@@ -79,7 +79,7 @@ fn statements_over_a_failing_disk(rt: HostRuntime) -> Result<(), Fail> {
     let Sent { held, .. } = run_batch_until_crash(
         alloc,
         &Held::empty_files(alloc),
-        Stop::NEVER,
+        MachineCrash::NEVER,
         BATCH,
     )?;
     let (mut faults, mut parts) = (0u64, 0u64);

@@ -4,7 +4,7 @@
 use crate::cuts::batch::{ROWS, all_lines_of_retry};
 use crate::desks::desk_with_reference_data;
 use crate::files::machine::{
-    File, Held, Seen, Sent, Stop, files_after_sql, files_with_reference_data,
+    BatchObservation, File, Held, MachineCrash, Sent, files_after_sql, files_with_reference_data,
     run_batch_on_connection, run_batch_until_crash,
 };
 use crate::worked;
@@ -29,26 +29,26 @@ const SECOND: &str = "UPDATE DESK SET D_SCHEMA = 2; DROP TABLE SETTLE_RULE";
 
 // Crashes at a call of each file, with the bytes that were not synced lost or stored. The tests
 // replace the number of calls.
-const STOPS: [Stop; 4] = [
-    Stop {
+const STOPS: [MachineCrash; 4] = [
+    MachineCrash {
         name: "the log, losing",
         file: File::Log,
         loses: true,
         calls: 0,
     },
-    Stop {
+    MachineCrash {
         name: "the log, keeping",
         file: File::Log,
         loses: false,
         calls: 0,
     },
-    Stop {
+    MachineCrash {
         name: "the database file, losing",
         file: File::Database,
         loses: true,
         calls: 0,
     },
-    Stop {
+    MachineCrash {
         name: "the database file, keeping",
         file: File::Database,
         loses: false,
@@ -57,11 +57,11 @@ const STOPS: [Stop; 4] = [
 ];
 
 // Fails, with the name of the crash, its number of calls and the text `what`, if `is_so` is false.
-fn fail_unless(is_so: bool, stop: Stop, what: &str) -> Result<(), Fail> {
+fn fail_unless(is_so: bool, stop: MachineCrash, what: &str) -> Result<(), Fail> {
     if is_so {
         Ok(())
     } else {
-        let Stop { name, calls, .. } = stop;
+        let MachineCrash { name, calls, .. } = stop;
         Err(Fail::new(format_args!("{name}, call {calls}: {what}")))
     }
 }
@@ -71,9 +71,9 @@ fn fail_unless(is_so: bool, stop: Stop, what: &str) -> Result<(), Fail> {
 fn tables_after_rows(alloc: Global, rows: usize) -> Result<String, Fail> {
     let batch = format_batch(alloc, &ROWS[..rows.min(6)])?;
     let conn = desk_with_reference_data(alloc)?.into_store().into_conn();
-    let mut seen = Seen::before_batch(alloc);
+    let mut seen = BatchObservation::empty(alloc);
     drop(run_batch_on_connection(alloc, conn, batch.as_bytes(), &mut seen));
-    let Seen { after, .. } = seen;
+    let BatchObservation { after, .. } = seen;
     if after.is_empty() {
         return Err("tables that could not be read")?;
     }
@@ -82,7 +82,7 @@ fn tables_after_rows(alloc: Global, rows: usize) -> Result<String, Fail> {
 
 // Returns true if a batch wrote exactly the lines `lines`, its desk passed the audit, and the
 // tables after it are `tables`.
-fn has_lines_audit_and_tables(seen: &Seen, lines: &str, tables: &str) -> bool {
+fn has_lines_audit_and_tables(seen: &BatchObservation, lines: &str, tables: &str) -> bool {
     seen.is_sound && seen.lines.as_slice() == lines.as_bytes() && seen.after.as_str() == tables
 }
 
@@ -92,11 +92,11 @@ fn has_lines_audit_and_tables(seen: &Seen, lines: &str, tables: &str) -> bool {
 // memory runs out.
 fn set_up_desk_after_creation_crash(
     alloc: Global,
-    stop: Stop,
+    stop: MachineCrash,
     tables: &str,
 ) -> Result<(bool, bool), Fail> {
     let first = run_batch_until_crash(alloc, &Held::empty_files(alloc), stop, NO_ROWS)?;
-    let again = run_batch_until_crash(alloc, &first.held, Stop::NEVER, SET)?;
+    let again = run_batch_until_crash(alloc, &first.held, MachineCrash::NEVER, SET)?;
     Ok((
         has_lines_audit_and_tables(&again.seen, SET_LINES, tables),
         first.was_stopped,
@@ -106,7 +106,11 @@ fn set_up_desk_after_creation_crash(
 // Creates a desk until the crash `stop`, and checks that the batch `SET` then completes on the desk
 // in the files, with its lines, the tables `tables` after it, and an audit that passes. Returns
 // true if there was a crash.
-fn expect_creation_crash_recovered(alloc: Global, stop: Stop, tables: &str) -> Result<bool, Fail> {
+fn expect_creation_crash_recovered(
+    alloc: Global,
+    stop: MachineCrash,
+    tables: &str,
+) -> Result<bool, Fail> {
     let (is_set, was_stopped) = set_up_desk_after_creation_crash(alloc, stop, tables)?;
     fail_unless(is_set, stop, "it is not set up")?;
     Ok(was_stopped)
@@ -122,7 +126,7 @@ fn crashes_while_a_store_is_created(rt: HostRuntime) -> Result<(), Fail> {
         for calls in 0..MOST_CALLS {
             was_stopped = expect_creation_crash_recovered(
                 rt.alloc(),
-                Stop { calls, ..stop },
+                MachineCrash { calls, ..stop },
                 tables.as_str(),
             )?;
             if !was_stopped {
@@ -154,10 +158,10 @@ fn committed_rows_after_crash(told: &[u8], found: &str, tables: &[String]) -> Op
 /// The observations of a batch until a crash and of its retry on the desk that is opened after it,
 /// and true if there was a crash.
 #[derive(Drop)]
-struct Twice {
-    first: Seen,
+struct CrashAndRetry {
+    first: BatchObservation,
     was_stopped: bool,
-    again: Seen,
+    again: BatchObservation,
 }
 
 // Executes the batch on the desk in the files `start` until the crash `stop`, and retries it on the
@@ -165,18 +169,18 @@ struct Twice {
 // a crash. Fails if memory runs out.
 fn crash_and_retry_batch(
     alloc: Global,
-    stop: Stop,
+    stop: MachineCrash,
     start: &Held,
     batch: &str,
-) -> Result<Twice, Fail> {
+) -> Result<CrashAndRetry, Fail> {
     let first = run_batch_until_crash(alloc, start, stop, batch.as_bytes())?;
-    let again = run_batch_until_crash(alloc, &first.held, Stop::NEVER, batch.as_bytes())?;
+    let again = run_batch_until_crash(alloc, &first.held, MachineCrash::NEVER, batch.as_bytes())?;
     let Sent {
         seen,
         was_stopped,
         ..
     } = first;
-    Ok(Twice {
+    Ok(CrashAndRetry {
         first: seen,
         was_stopped,
         again: again.seen,
@@ -187,8 +191,8 @@ fn crash_and_retry_batch(
 // without a crash has all of these lines and the tables `last`, and that the retry has the lines
 // `rest` and the tables `last`. The audits after both complete runs must pass.
 fn expect_lines_and_tables(
-    stop: Stop,
-    twice: &Twice,
+    stop: MachineCrash,
+    twice: &CrashAndRetry,
     whole: &str,
     rest: &str,
     last: &str,
@@ -212,8 +216,8 @@ fn expect_lines_and_tables(
 // that the retry completes the batch. `tables` are the tables after each number of rows.
 fn expect_retry_completes(
     alloc: Global,
-    stop: Stop,
-    twice: &Twice,
+    stop: MachineCrash,
+    twice: &CrashAndRetry,
     tables: &[String],
 ) -> Result<(), Fail> {
     let last = tables.last().map(String::as_str).unwrap_or("");
@@ -229,7 +233,7 @@ fn expect_retry_completes(
 // `tables` are the tables after each number of rows. Returns true if there was a crash.
 fn expect_batch_crash_recovered(
     alloc: Global,
-    stop: Stop,
+    stop: MachineCrash,
     start: &Held,
     batch: &str,
     tables: &[String],
@@ -253,7 +257,7 @@ fn crashes_while_a_batch_is_executed(rt: HostRuntime) -> Result<(), Fail> {
     for stop in STOPS {
         let mut was_stopped = true;
         for calls in 0..MOST_CALLS {
-            let stop = Stop { calls, ..stop };
+            let stop = MachineCrash { calls, ..stop };
             was_stopped = expect_batch_crash_recovered(
                 rt.alloc(),
                 stop,
@@ -275,7 +279,7 @@ fn crashes_while_a_batch_is_executed(rt: HostRuntime) -> Result<(), Fail> {
 fn files_after_trades(alloc: Global) -> Result<Sent, Fail> {
     let batch = format_batch(alloc, &worked::ROWS[..6])?;
     let set = files_with_reference_data(alloc)?;
-    run_batch_until_crash(alloc, &set, Stop::NEVER, batch.as_bytes())
+    run_batch_until_crash(alloc, &set, MachineCrash::NEVER, batch.as_bytes())
 }
 
 // Returns the files of a desk of three trades after the SQL statements `change`, which convert it
@@ -283,7 +287,7 @@ fn files_after_trades(alloc: Global) -> Result<Sent, Fail> {
 // read, the statements fail or memory runs out.
 fn files_of_older_schema(alloc: Global, change: &str) -> Result<(Held, String), Fail> {
     let Sent { seen, held, .. } = files_after_trades(alloc)?;
-    let Seen { after, .. } = seen;
+    let BatchObservation { after, .. } = seen;
     if after.is_empty() {
         return Err("tables that could not be read")?;
     }
@@ -293,7 +297,7 @@ fn files_of_older_schema(alloc: Global, change: &str) -> Result<(Held, String), 
 
 // The result of an upgrade until a crash, and of its retry.
 #[derive(Clone, Copy)]
-struct MoveSeen {
+struct UpgradeObservation {
     // True if the upgrade was not begun or was complete after the crash.
     is_whole: bool,
     // True if the upgrade is complete after the retry.
@@ -307,14 +311,14 @@ struct MoveSeen {
 // the desk in schema 3. Fails if memory runs out.
 fn crash_and_retry_upgrade(
     alloc: Global,
-    stop: Stop,
+    stop: MachineCrash,
     start: &Held,
     tables: &str,
-) -> Result<MoveSeen, Fail> {
+) -> Result<UpgradeObservation, Fail> {
     let first = run_batch_until_crash(alloc, start, stop, NO_ROWS)?;
-    let again = run_batch_until_crash(alloc, &first.held, Stop::NEVER, NO_ROWS)?;
+    let again = run_batch_until_crash(alloc, &first.held, MachineCrash::NEVER, NO_ROWS)?;
     let is_older = again.seen.before.is_empty() && first.seen.lines.is_empty();
-    Ok(MoveSeen {
+    Ok(UpgradeObservation {
         is_whole: is_older || again.seen.before.as_str() == tables,
         is_done: has_lines_audit_and_tables(&again.seen, "end,0,0,0\n", tables),
         was_stopped: first.was_stopped,
@@ -327,7 +331,7 @@ fn crash_and_retry_upgrade(
 // those of schema 3. Returns true if there was a crash.
 fn expect_upgrade_crash_recovered(
     alloc: Global,
-    stop: Stop,
+    stop: MachineCrash,
     start: &Held,
     tables: &str,
 ) -> Result<bool, Fail> {
@@ -346,7 +350,7 @@ fn upgrade_with_crash_at_each_call(alloc: Global, change: &str) -> Result<bool, 
     for stop in STOPS {
         let mut was_stopped = true;
         for calls in 0..MOST_CALLS {
-            let stop = Stop { calls, ..stop };
+            let stop = MachineCrash { calls, ..stop };
             was_stopped = expect_upgrade_crash_recovered(alloc, stop, &start, tables.as_str())?;
             if !was_stopped {
                 break;

@@ -4,7 +4,7 @@
 use crate::desks::{Still, desk_with_reference_data};
 use crate::faulty::{Failing, Narrow};
 use crate::http::streams::{
-    Told, format_post_request, format_wanted_reply, serve_stream_in_pieces,
+    WantedReply, format_post_request, format_wanted_reply, serve_stream_in_pieces,
 };
 use crate::tables::expect_all_tables;
 use brk_http::{FaultKind, ServeFault, serve_stream};
@@ -48,12 +48,15 @@ fn three_requests_with_ends(alloc: Global) -> Result<(String, [usize; 3]), Alloc
 // accepted, its stored reply is returned, and the view has no trades. Fails only if memory runs
 // out.
 fn replies_to_three_requests(alloc: Global) -> Result<[String; 3], AllocError> {
-    let first = format_wanted_reply(alloc, Told::Open("200 OK", "{\"ok\":[\"1709251200016\"]}"))?;
+    let first = format_wanted_reply(
+        alloc,
+        WantedReply::Open("200 OK", "{\"ok\":[\"1709251200016\"]}"),
+    )?;
     let second = format_wanted_reply(
         alloc,
-        Told::Open("200 OK", "{\"again\":[\"1709251200016\"]}"),
+        WantedReply::Open("200 OK", "{\"again\":[\"1709251200016\"]}"),
     )?;
-    let third = format_wanted_reply(alloc, Told::Open("200 OK", "{\"view\":[]}"))?;
+    let third = format_wanted_reply(alloc, WantedReply::Open("200 OK", "{\"view\":[]}"))?;
     Ok([first, second, third])
 }
 
@@ -98,7 +101,7 @@ fn streams_cut_at_each_byte(rt: HostRuntime) -> Result<(), Fail> {
     for len in 0..=all.input.len() {
         let (mut wanted, mut done, part) = replies_within_length(alloc, &all, len)?;
         if part {
-            let bad = Told::Last("400 Bad Request", "{\"error\":\"bad request\"}");
+            let bad = WantedReply::Last("400 Bad Request", "{\"error\":\"bad request\"}");
             wanted.push_str(format_wanted_reply(alloc, bad)?.as_str())?;
             done = done.saturating_add(1);
         }

@@ -2,7 +2,7 @@
 
 use crate::files::machine::open_desk_in_files;
 use crate::http::streams::{
-    Told, format_post_request, format_wanted_reply, serve_stream_in_pieces,
+    WantedReply, format_post_request, format_wanted_reply, serve_stream_in_pieces,
 };
 use brk_import::brk_desk::Desk;
 use sqlite::{FileStore, Files, Options};
@@ -30,13 +30,16 @@ fn a_store_fault_is_the_last_reply(rt: HostRuntime) -> Result<(), Fail> {
     input.push_str(format_post_request(alloc, "/ask/submitted", "[]")?.as_str())?;
     let wanted = format_wanted_reply(
         alloc,
-        Told::Last("503 Service Unavailable", "{\"error\":\"store\"}"),
+        WantedReply::Last("503 Service Unavailable", "{\"error\":\"store\"}"),
     )?;
     let mut whole = format_wanted_reply(
         alloc,
-        Told::Open("200 OK", "{\"ok\":[\"1709251200000\"]}"),
+        WantedReply::Open("200 OK", "{\"ok\":[\"1709251200000\"]}"),
     )?;
-    whole.push_str(format_wanted_reply(alloc, Told::Open("200 OK", "{\"view\":[]}"))?.as_str())?;
+    whole.push_str(format_wanted_reply(
+        alloc,
+        WantedReply::Open("200 OK", "{\"view\":[]}"),
+    )?.as_str())?;
     let mut faults = 0u64;
     let mut booked = false;
     for calls in 0..1_000 {

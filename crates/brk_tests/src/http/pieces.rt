@@ -1,32 +1,32 @@
 //! Tests of streams whose bytes arrive in pieces of 4,096, of seven and of one: line ends and
 //! bodies that are split, bytes after a request, and the longest head.
 
-use crate::http::streams::{Told, has_wanted_replies_in_all_pieces};
+use crate::http::streams::{WantedReply, has_wanted_replies_in_all_pieces};
 use std::alloc::{AllocError, Global};
 use std::test::Fail;
 
 // The reply to a request that is too large.
-const LARGE: Told = Told::Last("413 Payload Too Large", "{\"error\":\"too large\"}");
+const LARGE: WantedReply = WantedReply::Last("413 Payload Too Large", "{\"error\":\"too large\"}");
 
 // The reply to a malformed request, which ends its stream.
-const CLOSED: Told = Told::Last("400 Bad Request", "{\"error\":\"bad request\"}");
+const CLOSED: WantedReply = WantedReply::Last("400 Bad Request", "{\"error\":\"bad request\"}");
 
 // The reply to a query for submitted trades on a desk without trades.
-const EMPTY: Told = Told::Open("200 OK", "{\"view\":[]}");
+const EMPTY: WantedReply = WantedReply::Open("200 OK", "{\"view\":[]}");
 
 // The reply to a query for submitted trades in a request of version 1.0, which ends its stream.
-const SAID: Told = Told::Last("200 OK", "{\"view\":[]}");
+const SAID: WantedReply = WantedReply::Last("200 OK", "{\"view\":[]}");
 
 // Streams, each with its replies. Bytes after a reply that ends its stream are not read.
-const STREAMS: [(&str, &[Told]); 7] = [
+const STREAMS: [(&str, &[WantedReply]); 7] = [
     (
         "POST /rows/H/1 HTTP/1.1\r\nContent-Length: 19\r\n\r\n[\"broker\",\"2\",\"Cy\"]\
         POST /rows/H/1 HTTP/1.1\r\nContent-Length: 19\r\n\r\n[\"broker\",\"2\",\"Cy\"]\
         POST /rows HTTP/1.1\r\nContent-Length: 19\r\n\r\n[\"broker\",\"2\",\"Cy\"]",
         &[
-            Told::Open("200 OK", "{\"ok\":[\"1709251200016\"]}"),
-            Told::Open("200 OK", "{\"again\":[\"1709251200016\"]}"),
-            Told::Open("409 Conflict", "{\"no\":[\"15\"]}"),
+            WantedReply::Open("200 OK", "{\"ok\":[\"1709251200016\"]}"),
+            WantedReply::Open("200 OK", "{\"again\":[\"1709251200016\"]}"),
+            WantedReply::Open("409 Conflict", "{\"no\":[\"15\"]}"),
         ],
     ),
     ("\r\n", &[CLOSED]),

@@ -30,7 +30,7 @@ impl Read for Pieces<'_> {
 
 /// A wanted reply: the digits and the phrase of its status, and its body.
 #[derive(Clone, Copy)]
-pub enum Told {
+pub enum WantedReply {
     /// The stream continues after the reply.
     Open(&'static str, &'static str),
     /// The reply ends the stream.
@@ -66,10 +66,10 @@ pub fn format_post_request(alloc: Global, target: &str, body: &str) -> Result<St
 /// Returns the text of a wanted reply: its status line, content type and content length, an `Allow:
 /// POST` line for the status 405, a `Connection: close` line if it ends the stream, and its body.
 /// Fails only if memory runs out.
-pub fn format_wanted_reply(alloc: Global, wanted: Told) -> Result<String, AllocError> {
+pub fn format_wanted_reply(alloc: Global, wanted: WantedReply) -> Result<String, AllocError> {
     let (status, body, close) = match wanted {
-        Told::Open(status, body) => (status, body, ""),
-        Told::Last(status, body) => (status, body, "Connection: close\r\n"),
+        WantedReply::Open(status, body) => (status, body, ""),
+        WantedReply::Last(status, body) => (status, body, "Connection: close\r\n"),
     };
     let allow = if status == "405 Method Not Allowed" {
         "Allow: POST\r\n"
@@ -88,7 +88,7 @@ fn has_wanted_replies(
     alloc: Global,
     out: &[u8],
     ended: Result<u64, ServeFault>,
-    wanted: &[Told],
+    wanted: &[WantedReply],
 ) -> Result<bool, AllocError> {
     let mut bytes = String::new(alloc);
     for told in wanted {
@@ -103,7 +103,7 @@ fn has_wanted_replies(
 pub fn has_wanted_replies_in_all_pieces(
     alloc: Global,
     bytes: &[u8],
-    wanted: &[Told],
+    wanted: &[WantedReply],
 ) -> Result<bool, Fail> {
     for size in [4096usize, 7, 1] {
         let mut desk = desk_with_reference_data(alloc)?;

@@ -5,8 +5,8 @@ use Rattle.brk_audit_sums.specs.AccountTerms.{terms_of_account_row}
 use Rattle.std.specs.List.Sorted.{IsNonDecreasingBy}
 use Rattle.std.proofs.lemmas.List.Sorted.{IsNonDecreasingBy-from_sort_by_key}
 use Rattle.brk_changes.specs.declared.sheets.Sheets.{Sheets}
-use Rattle.brk_audit.specs.Posted.{abstract_posted_figures}
-use Rattle.brk_audit.specs.declared.cash.Posted as code
+use Rattle.brk_audit.specs.CashMoveFigures.{abstract_posted_figures}
+use Rattle.brk_audit.specs.declared.cash.CashMoveFigures as code
 use Rattle.brk_audit_sums.proofs.AccountTerms.{HasTerms}
 use Rattle.brk_audit.proofs.SettlingHolds.{cash_holds}
 use Rattle.brk_changes.specs.Schemas.{abstract_schema}
@@ -27,14 +27,14 @@ returns-clause-value c =
     let s : Sheets = c.args.sheets.now in
     let terms : HasTerms c.in_ok-terms.terms s.accounts.items =
     λ id. c.in_ok-terms.ensures.terms id ∙ ap (λ accounts. option_map terms_of_account_row (find (λ a. a.account.id == id) accounts)) c.deref.ensures.value in
-    let sorted : List code.Posted = c.sort_unstable_by_key.new.self.items in
-    let n : IsNonDecreasingBy (λ (p : code.Posted). p.trade) sorted = IsNonDecreasingBy-from_sort_by_key (λ (p : code.Posted). p.trade) _ c.sort_unstable_by_key.ensures.sorted (λ a r b k. search rules) in
+    let sorted : List code.CashMoveFigures = c.sort_unstable_by_key.new.self.items in
+    let n : IsNonDecreasingBy (λ (p : code.CashMoveFigures). p.trade) sorted = IsNonDecreasingBy-from_sort_by_key (λ (p : code.CashMoveFigures). p.trade) _ c.sort_unstable_by_key.ensures.sorted (λ a r b k. search rules) in
     let own = sorted_own s c.in_ok-rows.rows.items sorted c.deref-2.result.now c.deref-2.ensures.value c.in_ok-rows.ensures.all c.sort_unstable_by_key.ensures.permutation n in
     let law = moves_hold (abstract_schema c.args.schema) s c.in_ok-terms.terms (map abstract_posted_figures sorted) c.deref-3.result.now c.deref-5.result.now (sym c.has_cash_move_table.ensures ∙ c.if-not-has_cash_move_table.false)
     (form_told (abstract_schema c.args.schema) s c.requires.form) c.requires.status terms own c.deref-3.ensures.value c.deref-5.ensures.value in
     let left : map (λ p. p) (map abstract_posted_figures c.deref-4.result.now) ≡ map (λ p. p) (map abstract_posted_figures sorted) = ap (λ rs. map (λ p. p) (map abstract_posted_figures rs)) c.deref-4.ensures.value in (
       (λ b. let h = c.all_three_true.ensures.0 b in
-          law.0 (record { no_others = none_left s.cash.items (sym s.cash.ok.0 ∙ eqb-true _ 0 (sym c.is_empty-no_others.ensures ∙ h.0)); turn = sym c.move_rows_are_numbered_by_stamp-in_turn.ensures ∙ h.1; posted = sym left ∙ c.posted_rows_match_trades-posted.ensures.0 h.2 })),
+          law.0 (record { no_others = none_left s.cash.items (sym s.cash.ok.0 ∙ eqb-true _ 0 (sym c.is_empty-no_others.ensures ∙ h.0)); turn = sym c.move_rows_are_numbered_by_stamp-in_turn.ensures ∙ h.1; posted = sym left ∙ c.cash_move_figures_match_trades-posted.ensures.0 h.2 })),
       (λ k. let m = law.1 k in
-          c.all_three_true.ensures.1 (c.is_empty-no_others.ensures ∙ eq-eqb _ 0 (s.cash.ok.0 ∙ ap length m.no_others), c.move_rows_are_numbered_by_stamp-in_turn.ensures ∙ m.turn, c.posted_rows_match_trades-posted.ensures.1 (left ∙ m.posted))),
+          c.all_three_true.ensures.1 (c.is_empty-no_others.ensures ∙ eq-eqb _ 0 (s.cash.ok.0 ∙ ap length m.no_others), c.move_rows_are_numbered_by_stamp-in_turn.ensures ∙ m.turn, c.cash_move_figures_match_trades-posted.ensures.1 (left ∙ m.posted))),
     )

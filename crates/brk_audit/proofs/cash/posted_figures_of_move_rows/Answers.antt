@@ -1,6 +1,6 @@
 use Rattle.std.proofs.Common.{◌∙◌, ap, map}
 use Rattle.brk_changes.specs.Rows.{abstract_move_row}
-use Rattle.brk_audit.specs.Posted.{abstract_posted_figures}
+use Rattle.brk_audit.specs.CashMoveFigures.{abstract_posted_figures}
 use Rattle.brk_audit_sums.specs.Settling.{posted_figures_of_row}
 use Rattle.brk_audit_sums.proofs.Postings.{none_more, some_more}
 use Rattle.brk_audit.proofs.cash.posted_figures_of_move_rows.Goals as goal

@@ -1,7 +1,7 @@
 use Rattle.std.proofs.Common.{◌≡◌, map, take}
 use Rattle.std.specs.List.{filter_map}
 use Rattle.brk_changes.specs.Rows.{abstract_move_row}
-use Rattle.brk_audit.specs.Posted.{abstract_posted_figures}
+use Rattle.brk_audit.specs.CashMoveFigures.{abstract_posted_figures}
 use Rattle.brk_audit_sums.specs.Settling.{posted_figures_of_row}
 use Rattle.brk_audit.proofs.cash.posted_figures_of_move_rows.Given as goal
 

@@ -8,7 +8,7 @@ use Rattle.brk_changes.specs.declared.sheets.Sheets.{Sheets}
 use Rattle.brk_model.specs.Tables.{Tables}
 use Rattle.brk_audit_sums.specs.PositionSums.{position_cmp, share_posting_of_trade, share_posting_of_summary}
 use Rattle.brk_changes.specs.declared.summary_row.SummaryRow.{SummaryRow}
-use Rattle.brk_audit_sums.specs.declared.tally.Posting.{Posting}
+use Rattle.brk_audit_sums.specs.declared.tally.KeyedAmount.{KeyedAmount}
 use Rattle.brk_audit_sums.specs.Tally.{total_amount_at_key}
 use Rattle.brk_audit_sums.proofs.SummaryChecked.{Agree, Place, Tallied, they_agree, they_hold}
 use Rattle.brk_audit_sums.proofs.SummaryRows.{summaries_by_rows}
@@ -21,8 +21,8 @@ pub returns-clause-value : goal.returns-clause-value
 returns-clause-value c = λ schema.
     let s : Sheets = c.args.sheets.now in
     let t : Tables = abstract_sheets s in
-    let ps : List (Posting Place) = c.in_ok-postings.postings.items in
-    let cs : List (Posting Place) = c.in_ok-claims.claims.items in
+    let ps : List (KeyedAmount Place) = c.in_ok-postings.postings.items in
+    let cs : List (KeyedAmount Place) = c.in_ok-claims.claims.items in
     let sums : BTreeMap Place ℤ = c.in_ok-sums.sums in
     let told : BTreeMap Place ℤ = c.in_ok-told.told in
     let w : Tallied s sums told ps cs = record {

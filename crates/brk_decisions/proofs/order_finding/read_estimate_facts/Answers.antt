@@ -16,7 +16,7 @@ returns-in_ok-found-in-Some-clause-read g c =
     let order = c.args.order.now in
     let account : AccountRow = c.in-Some.account in
     let found = c.in_ok-found-in-Some.found in
-    read_both g.S.Store c.args.store.now c.account.new.self c.read_order_account_facts.new.store {H = Fault} (Some account) found found
+    read_both g.S.Store c.args.store.now c.account.new.self c.read_estimate_facts_with_account.new.store {H = Fault} (Some account) found found
     (λ o (t : Tables). option_map abstract_account_row o ≡ find (λ (r : tables.AccountRow). r.id == order.account) t.accounts)
     (λ found (t : Tables). EstimateFactsMatchIfAccountOfOrder t order account found)
     (λ found (t : Tables). EstimateFactsMatchTables t order found)
@@ -26,8 +26,8 @@ returns-in_ok-found-in-Some-clause-read g c =
 pub returns-in-None-clause-read : goal.returns-in-None-clause-read
 returns-in-None-clause-read g c =
     let order = c.args.order.now in
-    retold g.S.Store c.args.store.now c.account.new.self {V = Option AccountRow} None c.facts_without_account.result
+    retold g.S.Store c.args.store.now c.account.new.self {V = Option AccountRow} None c.order_facts_without_account.result
     (λ o (t : Tables). option_map abstract_account_row o ≡ find (λ (r : tables.AccountRow). r.id == order.account) t.accounts)
     (λ found (t : Tables). EstimateFactsMatchTables t order found)
-    (λ t e. subst (λ found. EstimateFactsMatchTables t order found) (sym c.facts_without_account.ensures) (no_account t order e))
+    (λ t e. subst (λ found. EstimateFactsMatchTables t order found) (sym c.order_facts_without_account.ensures) (no_account t order e))
     (rw c.in-None.is at c.in_ok-account.ensures.read)

@@ -2,7 +2,7 @@ use Rattle.std.proofs.Common.{Some, rules}
 use Rattle.sqlite.specs.Held.{state}
 use Rattle.sqlite.specs.State.{HasCleanDisk}
 use Rattle.brk_store.specs.Holds.{HoldsRows}
-use Rattle.brk_store.specs.ReadSequences.{no_reads_change_nothing}
+use Rattle.brk_store.specs.ReadSequences.{empty_read_sequence_changes_nothing}
 use Rattle.brk_decisions.proofs.Deciding.{kept_at}
 use Rattle.brk_decisions.proofs.Resulting.{none_over, result_over}
 use Rattle.brk_decisions.proofs.result.plan_result_from_facts.Goals as goal
@@ -19,7 +19,7 @@ returns-in-Some-clause-planned g c clean =
     (λ t holds ls e. (was, rw e (c.lot_pages-lots.ensures.remaining t holds))) c.plan_result_over_lots.result c.plan_result_over_lots.ensures.planned)
 
 pub returns-in-None-clause-store_unchanged : goal.returns-in-None-clause-store_unchanged
-returns-in-None-clause-store_unchanged g c = no_reads_change_nothing c.args.store.now
+returns-in-None-clause-store_unchanged g c = empty_read_sequence_changes_nothing c.args.store.now
 
 pub returns-in-None-clause-planned : goal.returns-in-None-clause-planned
 returns-in-None-clause-planned g c clean =

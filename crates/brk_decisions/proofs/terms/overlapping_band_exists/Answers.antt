@@ -14,10 +14,10 @@ pub returns : goal.returns
 returns g c =
     let b = abstract_band c.args.band.now in
     record {
-      read = retold g.S.Store c.args.store.now c.commission_bands.new.self c.in_ok-bands.bands c.overlaps.result
+      read = retold g.S.Store c.args.store.now c.commission_bands.new.self c.in_ok-bands.bands c.overlaps_any_band.result
           (λ all (t : Tables). map abstract_band all.items ≡ filter (λ (r : Band). (r.tier == b.tier) && is_same_trade_type r.kind b.kind && bytes_eq r.exchange b.exchange) t.bands)
           (λ there (t : Tables). there ≡ overlaps_some_band t b)
-          (λ t e. c.overlaps.ensures ∙ ap (λ bands. list_any (bands_overlap b) (map abstract_band bands)) c.deref.ensures.value ∙ ap (list_any (bands_overlap b)) e)
+          (λ t e. c.overlaps_any_band.ensures ∙ ap (λ bands. list_any (bands_overlap b) (map abstract_band bands)) c.deref.ensures.value ∙ ap (list_any (bands_overlap b)) e)
           c.in_ok-bands.ensures.read;
       fault = tt;
     }

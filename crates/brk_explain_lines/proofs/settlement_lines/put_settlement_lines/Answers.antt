@@ -9,7 +9,7 @@ use Rattle.brk_explain_lines.proofs.settlement_lines.put_settlement_lines.Goals 
 pub returns-clause-ok : goal.returns-clause-ok
 unfolding trade_settlement_lines
 returns-clause-ok c =
-    let word = c.as_bytes.ensures.value ∙ c.word.ensures in
+    let word = c.as_bytes.ensures.value ∙ c.text.ensures in
     let o = c.args.out.now.items in
     let x1 = c.put_labeled_amount_line.new.out.items in
     let a1 = line_with_line_feed (labeled_amount (codes "Value") c.signed_trade_value.result) in

@@ -1,6 +1,6 @@
 use Rattle.std.proofs.Common.{arith, ◌≡◌, ◌-◌, ℕ, replicate, ap, ◌∙◌}
 use Rattle.brk_model.specs.Shares.{Deal, Share, lots_of_shares}
-use Rattle.brk_lots.specs.Lots.{list_in_closing_order}
+use Rattle.brk_lots.specs.Lots.{list_reversed_if_lifo}
 use Rattle.brk_lots.specs.Walks.{closed_share_count}
 use Rattle.brk_lots.proofs.Closed.{touched_are, values_are}
 use Rattle.brk_lots.proofs.Ends.{walk_end}
@@ -10,7 +10,7 @@ use Rattle.brk_lots.proofs.closing.close_with_amounts.Goals as goal
 pub returns-clause-closed : goal.returns-clause-closed
 returns-clause-closed g c ls lifo given fresh =
     let d : Deal = record { trade = c.args.trade; side = c.args.side; qty = c.args.qty; price = c.args.price; stamp = c.args.stamp; is_lifo = lifo } in
-    let walk = list_in_closing_order lifo ls in
+    let walk = list_reversed_if_lifo lifo ls in
     let k : ℕ = closed_share_count d.side d.qty walk in
     let u : Share = record { side = d.side; trade = d.trade; price = d.price; stamp = d.stamp } in
     let all = c.in_ok-taken.ensures.taken in
@@ -24,9 +24,9 @@ returns-clause-closed g c ls lifo given fresh =
 pub returns-in_err-taken-clause-requests_at_most_touched : goal.returns-in_err-taken-clause-requests_at_most_touched
 returns-in_err-taken-clause-requests_at_most_touched g c ls lifo given fresh =
     let d : Deal = record { trade = c.args.trade; side = c.args.side; qty = c.args.qty; price = c.args.price; stamp = c.args.stamp; is_lifo = lifo } in
-    omega (arith, c.close_lots_with_values.ensures.requests_at_most_touched (list_in_closing_order lifo ls) given.0 (walk_end lifo ls given.1), touched_are d ls given.1 fresh)
+    omega (arith, c.close_lots_with_values.ensures.requests_at_most_touched (list_reversed_if_lifo lifo ls) given.0 (walk_end lifo ls given.1), touched_are d ls given.1 fresh)
 
 pub returns-clause-requests_at_most_touched : goal.returns-clause-requests_at_most_touched
 returns-clause-requests_at_most_touched g c ls lifo given fresh =
     let d : Deal = record { trade = c.args.trade; side = c.args.side; qty = c.args.qty; price = c.args.price; stamp = c.args.stamp; is_lifo = lifo } in
-    omega (arith, c.close_lots_with_values.ensures.requests_at_most_touched (list_in_closing_order lifo ls) given.0 (walk_end lifo ls given.1), touched_are d ls given.1 fresh)
+    omega (arith, c.close_lots_with_values.ensures.requests_at_most_touched (list_reversed_if_lifo lifo ls) given.0 (walk_end lifo ls given.1), touched_are d ls given.1 fresh)

@@ -4,13 +4,13 @@ use Rattle.std.proofs.lemmas.Int.{to_z-of_z}
 use Rattle.std.proofs.lemmas.List.{drop-append-le, drop-drop, drop-take, get_or-drop, get_or_default, length-drop, length-take}
 use Rattle.brk_lots.specs.declared.lot.Lot.{Lot}
 use Rattle.brk_lots.specs.declared.lot.Touch.{Touch}
-use Rattle.brk_lots.specs.Lots.{list_in_closing_order}
+use Rattle.brk_lots.specs.Lots.{list_reversed_if_lifo}
 use Rattle.brk_lots.specs.Walks.{touches_of_first_shares, lot_with_nonzero_quantity}
 use Rattle.brk_lots.proofs.Cuts.{rows_fit_end, left_front, left_back, left_whole}
 use Rattle.brk_lots.proofs.cutting.apply_touches_to_lots.Goals as goal
 
 -- there are no more rows than lots
-fits : (all : List Lot) (first : ℕ) (rows : List Touch) → (lifo : _) (k : _) → rows ≡ touches_of_first_shares k (list_in_closing_order lifo (drop first all)) → length rows ≤ length all - first
+fits : (all : List Lot) (first : ℕ) (rows : List Touch) → (lifo : _) (k : _) → rows ≡ touches_of_first_shares k (list_reversed_if_lifo lifo (drop first all)) → length rows ≤ length all - first
 fits all first rows lifo k e = let h = subst (λ (rs : List Touch). length rs ≤ length (drop first all)) (sym e) (rows_fit_end lifo k (drop first all)) in omega (arith, h, length-drop first all)
 
 -- the lot at a place, whichever stands in for it elsewhere

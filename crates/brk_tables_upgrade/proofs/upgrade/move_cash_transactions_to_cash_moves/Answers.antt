@@ -10,7 +10,7 @@ use Rattle.brk_sql.specs.Model.{IsUnchangedAndSatisfies}
 use Rattle.brk_sql.proofs.Inside.{step_then}
 use Rattle.brk_tables_schema.specs.Desk.{desk_tables}
 use Rattle.brk_tables_cash.specs.Upgrade.{tables_without_cash_transactions}
-use Rattle.brk_tables_upgrade.specs.Upgrade.{cash_transactions_by_stamp, tables_with_cash_rows_numbered_from, tables_with_all_cash_rows_numbered}
+use Rattle.brk_tables_upgrade.specs.Upgrade.{cash_transactions_by_stamp, tables_with_cash_rows_numbered_from, tables_with_cash_transactions_moved}
 use Rattle.brk_tables_upgrade.proofs.Sorting.{rows_in_order}
 use Rattle.brk_tables_upgrade.proofs.Turning.{all_added, all_moved}
 use Rattle.brk_tables_upgrade.proofs.upgrade.move_cash_transactions_to_cash_moves.Goals as goal
@@ -28,5 +28,5 @@ returns-clause-step g c =
     (λ _ x y. ChangesTablesBy desk_tables (λ t. tables_with_cash_rows_numbered_from 1 (cash_transactions_by_stamp t) t) x.now y.now)
     (λ _ p q. all_added (map abstract_cash_row rows.items) a.now b.now d.now p.1 (λ t tree h. ordered ∙ ap (sort_by_key (λ (r : Cash). r.stamp)) (p.2 t tree h)) q) c.in_ok-found.ensures.step
     (subst (λ (l : List CashRow). Rattle.brk_sql.specs.Model.IsTransactionStep b d (Ok tt) (λ _ x y. ChangesTablesBy desk_tables (tables_with_cash_rows_numbered_from 1 (map abstract_cash_row l)) x.now y.now)) c.deref.ensures.value c.in_ok-add_numbered_cash_rows.ensures.step) in
-    step_then a d e tt c.remove_cash_transactions.result (λ _ x y. ChangesTablesBy desk_tables (λ t. tables_with_cash_rows_numbered_from 1 (cash_transactions_by_stamp t) t) x.now y.now) (λ _ x y. ChangesTablesBy desk_tables tables_without_cash_transactions x.now y.now) (λ _ x y. ChangesTablesBy desk_tables tables_with_all_cash_rows_numbered x.now y.now)
+    step_then a d e tt c.remove_cash_transactions.result (λ _ x y. ChangesTablesBy desk_tables (λ t. tables_with_cash_rows_numbered_from 1 (cash_transactions_by_stamp t) t) x.now y.now) (λ _ x y. ChangesTablesBy desk_tables tables_without_cash_transactions x.now y.now) (λ _ x y. ChangesTablesBy desk_tables tables_with_cash_transactions_moved x.now y.now)
     (λ _ p q. all_moved a.now d.now e.now p q) step c.remove_cash_transactions.ensures.step

@@ -6,7 +6,7 @@ use Rattle.brk_lots.specs.declared.lot.Lot.{Lot}
 use Rattle.brk_lots.specs.declared.lot.Touch.{Touch}
 use Rattle.brk_lots.specs.declared.closing.Closing.{Closing}
 use Rattle.brk_lots.specs.Closing.{IsApplicableClosing}
-use Rattle.brk_lots.specs.Lots.{list_in_closing_order, abstract_lot, shares_of_lots}
+use Rattle.brk_lots.specs.Lots.{list_reversed_if_lifo, abstract_lot, shares_of_lots}
 use Rattle.brk_lots.specs.Position.{IsPosition}
 use Rattle.brk_lots.specs.Walks.{lots_after_touches, closed_share_count, touches_of_first_shares}
 use Rattle.brk_lots.proofs.Ends.{walk_of}
@@ -38,11 +38,11 @@ apply_touches_to_lots-self-inside-requires-clause-rows c =
     let d = c.requires.0 in
     let h = c.requires.1 in
     let p : IsPosition c.args.self.now = rw (← c.self.view_is) c.self.invariant.1 in
-    let taken = λ (ls : List Lot). touches_of_first_shares (closed_share_count d.side d.qty (list_in_closing_order d.is_lifo ls)) (list_in_closing_order d.is_lifo ls) in
+    let taken = λ (ls : List Lot). touches_of_first_shares (closed_share_count d.side d.qty (list_reversed_if_lifo d.is_lifo ls)) (list_reversed_if_lifo d.is_lifo ls) in
     let e = rows_back d c.args.self.now c.args.closing.now (walk_of c.args.self.now p) h.fresh h.closes in
     let all = c.self.inside.lots.items in
-    let k = closed_share_count d.side d.qty (list_in_closing_order d.is_lifo (drop c.self.inside.first all)) in
-    (d.is_lifo, k, c.deref.ensures.value ∙ e ∙ ap taken (sym c.self.view_is) ∙ ap (λ (ls : List Lot). touches_of_first_shares k (list_in_closing_order d.is_lifo (drop c.self.inside.first ls))) (sym c.reserve.ensures.items))
+    let k = closed_share_count d.side d.qty (list_reversed_if_lifo d.is_lifo (drop c.self.inside.first all)) in
+    (d.is_lifo, k, c.deref.ensures.value ∙ e ∙ ap taken (sym c.self.view_is) ∙ ap (λ (ls : List Lot). touches_of_first_shares k (list_reversed_if_lifo d.is_lifo (drop c.self.inside.first ls))) (sym c.reserve.ensures.items))
 
 -- what the cut leaves
 cut : (first : ℕ) (all now ls left : List Lot) (rows touched : List Touch) → left ≡ lots_after_touches rows (drop first now) → rows ≡ touched → now ≡ all → drop first all ≡ ls → left ≡ lots_after_touches touched ls

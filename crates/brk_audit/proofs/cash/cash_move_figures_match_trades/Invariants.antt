@@ -1,9 +1,9 @@
 use Rattle.std.proofs.Common.{drop, map}
 use Rattle.brk_audit_sums.specs.AccountTerms.{account_tax_status_in_terms}
-use Rattle.brk_audit.specs.Posted.{abstract_posted_figures}
+use Rattle.brk_audit.specs.CashMoveFigures.{abstract_posted_figures}
 use Rattle.brk_audit_sums.specs.Settling.{is_completed_cash_trade, posted_figures_of_trade}
 use Rattle.brk_audit.proofs.Beside.{Walked}
-use Rattle.brk_audit.proofs.cash.posted_rows_match_trades.Given as goal
+use Rattle.brk_audit.proofs.cash.cash_move_figures_match_trades.Given as goal
 
 abbrev pub invariant-loop-trade : goal.invariant-loop-trade
 invariant-loop-trade l =

@@ -4,7 +4,7 @@ use Rattle.std.specs.Ordering.{is_eq}
 use Rattle.brk_model.specs.Lists.{total_by}
 use Rattle.brk_audit_sums.specs.Tally.{sum_at_key}
 use Rattle.brk_audit_sums.proofs.Tallies.{none_at, total_more}
-use Rattle.brk_audit_sums.proofs.tally.tally.Goals as goal
+use Rattle.brk_audit_sums.proofs.tally.sum_amounts_by_key.Goals as goal
 
 pub loop-posting-init : goal.loop-posting-init
 unfolding total_by

@@ -4,7 +4,7 @@ use Rattle.std.proofs.lemmas.Iterator.{YieldsList-from_slice}
 use Rattle.std.proofs.lemmas.Iterator.Search.{find_from_yields_List}
 use Rattle.brk_ref.specs.Records.{abstract_band}
 use Rattle.brk_ref.proofs.Lists.{found_mapped}
-use Rattle.brk_ref.proofs.band.band_for.Goals as goal
+use Rattle.brk_ref.proofs.band.commission_rate_for_quantity.Goals as goal
 
 pub returns : goal.returns
 returns c =

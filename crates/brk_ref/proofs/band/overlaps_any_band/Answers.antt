@@ -4,7 +4,7 @@ use Rattle.std.proofs.lemmas.Iterator.Search.{any_from_yields_List}
 use Rattle.brk_model.specs.Tests.{bands_overlap}
 use Rattle.brk_ref.specs.Records.{abstract_band}
 use Rattle.brk_ref.proofs.Lists.{any_mapped}
-use Rattle.brk_ref.proofs.band.overlaps.Goals as goal
+use Rattle.brk_ref.proofs.band.overlaps_any_band.Goals as goal
 
 pub returns : goal.returns
 returns c =

@@ -6,7 +6,7 @@ use Rattle.brk_model.specs.Form.{is_well_formed_cash_row}
 use Rattle.brk_changes.specs.Rows.{abstract_cash_row}
 use Rattle.brk_changes.specs.Sheets.{abstract_sheets}
 use Rattle.brk_audit_form.proofs.CashNames.{all_not}
-use Rattle.brk_audit_form.proofs.cash_names.all_cash_rows_well_formed.Goals as goal
+use Rattle.brk_audit_form.proofs.cash_names.all_cash_transaction_rows_well_formed.Goals as goal
 
 pub returns-then-not-is_formed-clause-value : goal.returns-then-not-is_formed-clause-value
 returns-then-not-is_formed-clause-value c =

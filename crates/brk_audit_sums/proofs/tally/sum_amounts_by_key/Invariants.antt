@@ -1,7 +1,7 @@
 use Rattle.std.proofs.Common.{◌≡◌, ◌≤◌, ◌*◌, ◌^◌, take}
 use Rattle.std.specs.Prelude.{nat_abs}
 use Rattle.brk_audit_sums.specs.Tally.{sum_at_key, total_amount_at_key}
-use Rattle.brk_audit_sums.proofs.tally.tally.Given as goal
+use Rattle.brk_audit_sums.proofs.tally.sum_amounts_by_key.Given as goal
 
 abbrev pub invariant-loop-posting : goal.invariant-loop-posting
 invariant-loop-posting g l = record {
