@@ -1,6 +1,6 @@
 -- A text in which a part is replaced: its first occurrence, and then what follows it.
 use Rattle.std.proofs.Common.{◌≡◌, ℕ, suc, ◌-◌, ◌<◌, ◌≤◌, ◌||◌, Bool, true, false, cond, refl, sym, ap, ◌∙◌, length, [], ◌∷◌, ◌++◌, take, drop, arith}
-use Rattle.std.specs.Prelude.{nat_eq, bytes_eq}
+use Rattle.std.specs.Prelude.{nat_eq}
 use Rattle.std.specs.List.{starts_with}
 use Rattle.std.specs.Str.Pattern.{LacksTextAt}
 use Rattle.std.proofs.lemmas.Bool.{false_from_ne_true}

@@ -1,7 +1,6 @@
 -- The rows of a batch, one after another, have the answers of their calls.
 use Rattle.std.proofs.Common.{◌≡◌, ◌≤◌, ℕ, suc, ◌+◌, List, [], ◌∷◌, length, take, refl, sym, ◌∙◌, ap, subst, arith, Ok, Err}
 use Rattle.brk_money.specs.Spelling.{Text}
-use Rattle.brk_model.specs.Records.{Key}
 use Rattle.brk_model.specs.Forms.{ReadResult}
 use Rattle.brk_model.specs.Commands.{Answer, Refused}
 use Rattle.brk_model.specs.Answers.{Fields, RowStep, ResultOfRows, result_with_answer_in_front, result_of_row_and_later_rows, result_of_rows, RowsAreAnswered}
