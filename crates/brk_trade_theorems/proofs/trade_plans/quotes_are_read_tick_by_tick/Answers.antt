@@ -4,11 +4,9 @@ use Rattle.brk_trade_theorems.proofs.trade_plans.quotes_are_read_tick_by_tick.Go
 pub returns-clause-none : goal.returns-clause-none
 returns-clause-none c = no_quotes
 
-pub returns-clause-again : goal.returns-clause-again
-returns-clause-again c = quoted_before
-
-pub returns-clause-not_listed : goal.returns-clause-not_listed
-returns-clause-not_listed c = not_listed
-
-pub returns-clause-read : goal.returns-clause-read
-returns-clause-read c = quote_read
+pub returns-clause-further : goal.returns-clause-further
+returns-clause-further c = λ t all ticks tick quotes given. record {
+  again = quoted_before t all ticks tick quotes given;
+  not_listed = not_listed t all ticks tick quotes given;
+  read = λ quote. quote_read t all ticks tick quotes quote given;
+}
