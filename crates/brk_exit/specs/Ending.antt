@@ -41,7 +41,7 @@ exit_status_of_report_fault report.Write = 3
 
 -- The exit status of an ending: 0 if the job is done or help was requested, 2 if the arguments are
 -- wrong, 3 if a stream ended early, no stream could be accepted, or the output could not be
--- written, otherwise the exit status of its fault.
+-- written, also to a closed pipe, otherwise the exit status of its fault.
 abbrev pub exit_status : Ending → ℕ
 exit_status ending.Done = 0
 exit_status (ending.Open fault) = exit_status_of_fault fault
@@ -50,6 +50,7 @@ exit_status (ending.Report fault) = exit_status_of_report_fault fault
 exit_status (ending.Serve fault) = 3
 exit_status ending.Net = 3
 exit_status ending.Output = 3
+exit_status ending.ClosedPipe = 3
 exit_status (ending.Usage (usage.Help text)) = 0
 exit_status (ending.Usage (usage.Words text)) = 2
 exit_status (ending.Usage usage.Day) = 2
@@ -89,7 +90,8 @@ error_line_of_usage (usage.Help text) = []
 error_line_of_usage usage.Day = codes "brk: usage: day\n"
 error_line_of_usage usage.Memory = codes "brk: fault: memory\n"
 
--- The bytes that an ending sends to standard error, or no byte for a job that is done and for help.
+-- The bytes that an ending sends to standard error, or no byte for a job that is done, for help and
+-- for a closed pipe.
 abbrev pub error_line : Ending → List ℕ
 error_line ending.Done = []
 error_line (ending.Open fault) = error_line_of_fault fault
@@ -98,4 +100,5 @@ error_line (ending.Report fault) = error_line_of_report fault
 error_line (ending.Serve fault) = error_line_of_stream fault.kind
 error_line ending.Net = codes "brk: fault: net\n"
 error_line ending.Output = codes "brk: fault: write\n"
+error_line ending.ClosedPipe = []
 error_line (ending.Usage fault) = error_line_of_usage fault

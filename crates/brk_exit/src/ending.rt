@@ -30,6 +30,8 @@ pub enum Ending {
     Net,
     /// The requested output could not be printed.
     Output,
+    /// The reader of the explanation or the view closed its pipe before the end of the text.
+    ClosedPipe,
     /// The command-line arguments request no job.
     Usage(UsageFault),
 }
@@ -109,6 +111,7 @@ fn ending_exit_status(ending: &Ending) -> u8
         Ending::Serve(_) => 3,
         Ending::Net => 3,
         Ending::Output => 3,
+        Ending::ClosedPipe => 3,
         Ending::Usage(UsageFault::Help(_)) => 0,
         Ending::Usage(UsageFault::Words(_) | UsageFault::Day) => 2,
         Ending::Usage(UsageFault::Memory) => 3,
@@ -157,8 +160,8 @@ fn send_usage_error_text<S: Sink>(fault: &UsageFault, errors: &mut S) -> Result<
     }
 }
 
-/// Sends the error line of an ending to `errors`, or nothing for a job that is done and for help.
-/// If the sink fails, it has received a prefix of the line.
+/// Sends the error line of an ending to `errors`, or nothing for a job that is done, for help and
+/// for a closed pipe. If the sink fails, it has received a prefix of the line.
 pub fn send_error_line<S: Sink>(ending: &Ending, errors: &mut S) -> Result<(), NotWritten>
     ensures ok { OnOk result (Appends (S.contents errors.old) (S.contents errors.new) (spec.error_line ending.now)) }
     ensures err { OnErr result (SinkFailsWithinText S.contents S.fails errors.old errors.new (spec.error_line ending.now)) }
@@ -171,6 +174,7 @@ pub fn send_error_line<S: Sink>(ending: &Ending, errors: &mut S) -> Result<(), N
         Ending::Serve(fault) => send_line(errors, stream_error_line(fault.kind)),
         Ending::Net => send_line(errors, ("brk: fault: ", "net")),
         Ending::Output => send_line(errors, ("brk: fault: ", "write")),
+        Ending::ClosedPipe => Ok(()),
         Ending::Usage(fault) => send_usage_error_text(fault, errors),
     }
 }

@@ -1,4 +1,5 @@
 use crate::borrowed::bytes_of_arguments;
+use crate::pipe::PipeWriter;
 use brk_ask::{Form, parse_query_and_write_view};
 use brk_desk::Desk;
 use brk_exit::Ending;
@@ -8,8 +9,9 @@ use std::alloc::Global;
 use std::io::Write;
 
 /// Executes the query for the view `view` with these arguments on a desk, and writes its view to
-/// `output` in the format `form`. Returns `Done`, `Report` with the refusal or the fault, or
-/// `Open(Memory)` if memory runs out before the query is parsed.
+/// `output` in the format `form`. Returns `Done`, `Report` with the refusal or the fault,
+/// `ClosedPipe` if the reader of the output closed its pipe, or `Open(Memory)` if memory runs out
+/// before the query is parsed.
 pub(crate) fn execute_ask_job<S: Alter, W: Write>(
     alloc: Global,
     desk: &mut Desk<S>,
@@ -21,8 +23,7 @@ pub(crate) fn execute_ask_job<S: Alter, W: Write>(
     let Ok(arguments) = bytes_of_arguments(alloc, arguments) else {
         return Ending::Open(Fault::Memory);
     };
-    match parse_query_and_write_view(alloc, desk, view, &arguments, form, output) {
-        Ok(()) => Ending::Done,
-        Err(fault) => Ending::Report(fault),
-    }
+    let mut pipe = PipeWriter::new(output);
+    let written = parse_query_and_write_view(alloc, desk, view, &arguments, form, &mut pipe);
+    pipe.ending(written)
 }

@@ -1,4 +1,5 @@
 use crate::borrowed::bytes_of_arguments;
+use crate::pipe::PipeWriter;
 use brk_desk::Desk;
 use brk_exit::Ending;
 use brk_explain::{ReportFault, parse_explain_request, write_explanation};
@@ -9,7 +10,8 @@ use std::io::Write;
 
 /// Parses `words` as a request for the explanation of a trade, an account, a holding or a broker,
 /// and writes this explanation of a desk to `output`. Returns `Done`, `Report` with the refusal or
-/// the fault, or `Open(Memory)` if memory runs out before the desk is read.
+/// the fault, `ClosedPipe` if the reader of the output closed its pipe, or `Open(Memory)` if memory
+/// runs out before the desk is read.
 pub(crate) fn execute_explain_job<S: Alter, W: Write>(
     alloc: Global,
     desk: &mut Desk<S>,
@@ -24,8 +26,7 @@ pub(crate) fn execute_explain_job<S: Alter, W: Write>(
         Ok(Err(refusal)) => return Ending::Report(ReportFault::Refused(refusal)),
         Err(fault) => return Ending::Open(fault),
     };
-    match write_explanation(alloc, desk, &what, output) {
-        Ok(()) => Ending::Done,
-        Err(fault) => Ending::Report(fault),
-    }
+    let mut pipe = PipeWriter::new(output);
+    let written = write_explanation(alloc, desk, &what, &mut pipe);
+    pipe.ending(written)
 }

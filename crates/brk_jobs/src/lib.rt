@@ -8,6 +8,7 @@ mod borrowed;
 mod desk;
 mod explain;
 pub mod jobs;
+mod pipe;
 mod serve;
 mod statement;
 
