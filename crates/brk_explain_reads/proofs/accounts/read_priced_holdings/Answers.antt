@@ -56,13 +56,15 @@ returns-in_err-one-clause-read g c =
     let old = c.args.store.now in
     let mid = c.loop-summary.store in
     let end = c.read_priced_holding.new.store in
+    let left = λ (_ : Unit {0}). AreHeld c.args.account c.loop-summary.rest.items c.loop-summary.held.items in
     let p = err_from_is_err_and c.from_residual-in_err-one.result c.from_residual-in_err-one.ensures.1 in
-    rw p.1 (failed_after g.S.Store old end p.0 _ (both_change_nothing g.S.Store old mid end _ _ _ _ c.loop-summary.invariant c.in_err-one.ensures.read))
+    rw p.1 (failed_after g.S.Store old end p.0 _ (both_change_nothing g.S.Store old mid end _ _ left _ c.loop-summary.invariant c.in_err-one.ensures.read))
 
 pub returns-in_err-push-clause-read : goal.returns-in_err-push-clause-read
 returns-in_err-push-clause-read g c =
     let old = c.args.store.now in
     let mid = c.loop-summary.store in
     let end = c.read_priced_holding.new.store in
+    let left = λ (_ : Unit {0}). AreHeld c.args.account c.loop-summary.rest.items c.loop-summary.held.items in
     let p = err_from_is_err_and c.from_residual-in_err-push.result c.from_residual-in_err-push.ensures.1 in
-    rw p.1 (failed_after g.S.Store old end p.0 _ (both_change_nothing g.S.Store old mid end _ _ _ _ c.loop-summary.invariant c.in_ok-one.ensures.read))
+    rw p.1 (failed_after g.S.Store old end p.0 _ (both_change_nothing g.S.Store old mid end _ _ left _ c.loop-summary.invariant c.in_ok-one.ensures.read))
