@@ -123,7 +123,8 @@ pub fn put_labeled_amount_line(
     end_line(out)
 }
 
-/// Appends to `out` the line of a label and a day in the format YYYY-MM-DD. Fails with `Memory` only.
+/// Appends to `out` the line of a label, left-aligned in 15 places, a space, and a day in the format
+/// YYYY-MM-DD, with its line feed. Fails with `Memory` only.
 #[tactic(auto, unfolding(brk_explain_model::specs::Texts::labeled_text))]
 pub fn put_labeled_day_line(out: &mut Vec<u8>, label: &str, day: Day) -> Result<(), Fault>
     ensures ok { OnOk result (out.new.items ≡ out.old.items ++ line_with_line_feed (texts.labeled_text label.now (day_text day))) }

@@ -1,4 +1,4 @@
-use Rattle.std.proofs.Common.{◌≡◌, ◌∙◌, ◌+◌, ◌++◌, ◌∷◌, [], ℕ, List, Some, ap, map, option_map, refl, sym, take}
+use Rattle.std.proofs.Common.{◌≡◌, ◌∙◌, ◌+◌, ◌++◌, ◌∷◌, [], ℕ, List, Some, ap, map, sym, take}
 use Rattle.std.specs.Prelude.{flat_map, option_to_list}
 use Rattle.std.proofs.lemmas.List.{take_all}
 use Rattle.sqlite.specs.Held.{state}
@@ -13,7 +13,6 @@ use Rattle.brk_explain_model.specs.Holdings as model
 use Rattle.brk_explain_rows.specs.Details.{abstract_lot_details}
 use Rattle.brk_explain_rows.specs.declared.holding_details.LotDetails.{LotDetails}
 use Rattle.brk_explain_reads.specs.HoldingParts.{AreTradesAndLotsOfHolding, IsTradeWithLot, lot_opened_by_trade}
-use Rattle.brk_explain_reads.specs.declared.holding_trades.TradesAndLots.{TradesAndLots}
 use Rattle.brk_explain_reads.proofs.ById.{done_known, flat_one, held_ids, lots_known}
 use Rattle.brk_explain_reads.proofs.Each.{first_more, map_map, one_more}
 use Rattle.brk_explain_reads.proofs.Reading.{read_both, both_change_nothing, failed_after}
