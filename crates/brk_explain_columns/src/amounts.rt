@@ -4,7 +4,7 @@
 ghost use Rattle.std.specs.Prelude.{◌≡◌, ◌*ℤ◌, ◌+ℤ◌, ◌-ℤ◌, IfErr, IfOk, pos};
 ghost use Rattle.brk_model.specs.Run.{IsCallFault};
 
-use brk_money::{Fault, Price, Wide};
+use brk_money::{Cents, Fault, Price, Wide};
 
 /// Returns the sum of two amounts, in cents. Fails with `Store` if the sum overflows.
 pub fn add_amounts(one: Wide, other: Wide) -> Result<Wide, Fault>
@@ -37,6 +37,33 @@ pub fn value_of_shares_at_price(shares: i64, price: Price) -> Result<Wide, Fault
 {
     match i128::from(shares).checked_mul(i128::from(price.get())) {
         Some(value) => Ok(Wide::new(value)),
+        None => Err(Fault::Store),
+    }
+}
+
+/// Returns `cents` as an amount of the signed type `Wide`. Fails with `Store` if `cents` exceeds
+/// the greatest value of `i128`.
+pub fn wide_amount_of_cents(cents: u128) -> Result<Wide, Fault>
+    ensures amount { IfOk result (λ amount. amount ≡ pos cents) }
+    ensures fault { IfErr result IsCallFault }
+{
+    match i128::try_from(cents) {
+        Ok(cents) => Ok(Wide::new(cents)),
+        Err(_) => Err(Fault::Store),
+    }
+}
+
+/// Returns the amount, in cents, as a value of the narrower type `Cents`. Fails with `Store` if its
+/// absolute value exceeds the greatest amount.
+pub fn cents_within_limits(amount: Wide) -> Result<Cents, Fault>
+    ensures cents { IfOk result (λ cents. cents ≡ amount) }
+    ensures fault { IfErr result IsCallFault }
+{
+    let Ok(cents) = i64::try_from(amount.get()) else {
+        return Err(Fault::Store);
+    };
+    match Cents::new(cents) {
+        Some(cents) => Ok(cents),
         None => Err(Fault::Store),
     }
 }

@@ -1,13 +1,12 @@
 //! The texts of stamps as date and time. The functions fail with `Memory` only.
 
-ghost use Rattle.std.specs.Prelude.{◌≡◌, ◌++◌, ◌<◌, Err, IfOk, OnErr, OnOk};
+ghost use Rattle.std.specs.Prelude.{◌≡◌, ◌++◌, ◌<◌, Err, OnErr, OnOk};
 ghost use Rattle.brk_explain_model.specs.Texts.{time_of_day_text, timestamp_text};
 ghost use Rattle.brk_money.specs.Moments.{milliseconds_per_day};
 ghost use Rattle.brk_money.specs.Spelling.{padded_decimal};
 ghost use Rattle.brk_money.specs.declared.fault.Fault.TheVariants.{Memory};
 
 use brk_money::{Fault, Stamp, day_of, write_day};
-use std::alloc::Global;
 
 // Appends to `out` a number below 100 in two decimal digits. Fails with `Memory` only.
 #[tactic(auto, using(crate::proofs::Padded::two))]
@@ -54,16 +53,14 @@ fn put_time_of_day(out: &mut Vec<u8>, millis: u32) -> Result<(), Fault>
     put_three_digits(out, (millis % 1000) as u16)
 }
 
-/// Returns the text of a stamp as date and time in UTC, such as `2024-03-01 09:05:00.021`. Fails
-/// with `Memory` only.
+/// Appends to `out` the text of a stamp as date and time in UTC, such as `2024-03-01 09:05:00.021`.
+/// Fails with `Memory` only.
 #[tactic(auto, unfolding(brk_explain_model::specs::Texts::timestamp_text))]
-pub fn format_timestamp(alloc: Global, stamp: Stamp) -> Result<Vec<u8>, Fault>
-    ensures ok { IfOk result (λ text. text.items ≡ timestamp_text stamp) }
+pub fn put_timestamp(out: &mut Vec<u8>, stamp: Stamp) -> Result<(), Fault>
+    ensures ok { OnOk result (out.new.items ≡ out.old.items ++ timestamp_text stamp) }
     ensures fault { OnErr result (result ≡ Err Memory) }
 {
-    let mut text = Vec::new(alloc);
-    write_day(&mut text, day_of(stamp))?;
-    text.push(b' ')?;
-    put_time_of_day(&mut text, (stamp.get() as u64 % 86_400_000) as u32)?;
-    Ok(text)
+    write_day(out, day_of(stamp))?;
+    out.push(b' ')?;
+    put_time_of_day(out, (stamp.get() as u64 % 86_400_000) as u32)
 }

@@ -1,44 +1,93 @@
 //! The columns of rows. The functions fail with `Memory` only.
 
-ghost use Rattle.std.specs.Prelude.{◌≡◌, ◌++◌, Err, OnErr, OnOk};
-ghost use Rattle.brk_explain_model.specs.Texts.{amount_column, leading_row_columns, shares_column, value_column};
+ghost use Rattle.std.specs.Fmt.{signed_decimal};
+ghost use Rattle.std.specs.Prelude.{◌≡◌, ◌++◌, ◌∷◌, Err, OnErr, OnOk, decimal};
+ghost use Rattle.brk_explain_model.specs.Texts.{amount_column, blank_timestamp_text, leading_row_columns, shares_column, timestamp_text, value_column};
+ghost use Rattle.brk_model.specs.Rows.{nonnegative_cents_text};
+ghost use Rattle.brk_model.specs.Statement.{left_aligned_text, right_aligned_text};
 ghost use Rattle.brk_money.specs.declared.fault.Fault.TheVariants.{Memory};
 
-use brk_money::{Fault, Id, Price, Wide, write_cents};
-use brk_report_lines::{append_left_aligned, append_right_aligned};
-use itoa::Buffer;
+use crate::moments::put_timestamp;
+use crate::pieces::{put_cents_column, put_integer_column, put_number_column, put_spaced_text};
+use brk_money::{Fault, Id, Price, Stamp, Wide};
+use brk_report_lines::append_left_aligned;
 use std::alloc::Global;
 
+/// Appends to `out` a word, left-aligned in 6 places, a space, and the text of a stamp. Fails with
+/// `Memory` only.
+pub fn put_word_and_timestamp(out: &mut Vec<u8>, word: &str, stamp: Stamp) -> Result<(), Fault>
+    ensures ok { OnOk result (out.new.items ≡ out.old.items ++ left_aligned_text 6 word.now ++ 32 ∷ timestamp_text stamp) }
+    ensures fault { OnErr result (result ≡ Err Memory) }
+{
+    append_left_aligned(out, 6, word.as_bytes())?;
+    out.push(b' ')?;
+    put_timestamp(out, stamp)
+}
+
+// Appends to `out` a space, and spaces in place of the text of a stamp. Fails with `Memory` only.
+fn put_blank_timestamp(out: &mut Vec<u8>) -> Result<(), Fault>
+    ensures ok { OnOk result (out.new.items ≡ out.old.items ++ 32 ∷ blank_timestamp_text) }
+    ensures fault { OnErr result (result ≡ Err Memory) }
+{
+    put_spaced_text(out, b"                       ")
+}
+
+// Appends to `out`, each after a space and right-aligned, an id in 13 places, a number of shares in
+// 11, and a price with two decimal places in 10 places. Fails with `Memory` only.
+fn put_id_shares_and_price(
+    alloc: Global,
+    out: &mut Vec<u8>,
+    id: Id,
+    shares: i128,
+    price: Price,
+) -> Result<(), Fault>
+    ensures ok { OnOk result (out.new.items
+        ≡ out.old.items ++ 32 ∷ right_aligned_text 13 (decimal id) ++ 32 ∷ right_aligned_text 11 (signed_decimal shares) ++ 32
+        ∷ right_aligned_text 10 (nonnegative_cents_text price)) }
+    ensures fault { OnErr result (result ≡ Err Memory) }
+{
+    put_number_column(out, 13, id.get())?;
+    put_integer_column(out, 11, shares)?;
+    put_cents_column(alloc, out, 10, Wide::from(price))
+}
+
 /// Appends to `out` the first columns of a row about a trade or a lot, separated by spaces: a word,
-/// left-aligned in 6 places, the text `moment` of a timestamp, and, right-aligned, an id in 13, a
-/// number of shares in 11 and a price with two decimal places in 10 places. Fails with `Memory`
-/// only.
+/// left-aligned in 6 places, the text of a stamp, and, right-aligned, an id in 13, a number of
+/// shares in 11 and a price with two decimal places in 10 places. Fails with `Memory` only.
 #[tactic(auto, unfolding(brk_explain_model::specs::Texts::leading_row_columns))]
 pub fn put_leading_row_columns(
     alloc: Global,
     out: &mut Vec<u8>,
     word: &str,
-    moment: &[u8],
+    stamp: Stamp,
     id: Id,
     shares: i128,
     price: Price,
 ) -> Result<(), Fault>
-    ensures ok { OnOk result (out.new.items ≡ out.old.items ++ leading_row_columns word.now moment.now id shares price) }
+    ensures ok { OnOk result (out.new.items ≡ out.old.items ++ leading_row_columns word.now (timestamp_text stamp) id shares price) }
     ensures fault { OnErr result (result ≡ Err Memory) }
 {
-    let mut cents = Vec::new(alloc);
-    write_cents(&mut cents, Wide::from(price))?;
-    let mut number = Buffer::new();
-    let mut qty = Buffer::new();
+    put_word_and_timestamp(out, word, stamp)?;
+    put_id_shares_and_price(alloc, out, id, shares, price)
+}
+
+/// Appends to `out` the first columns of a row without a stamp: as `put_leading_row_columns`, with
+/// spaces in place of the text of a stamp. Fails with `Memory` only.
+#[tactic(auto, unfolding(brk_explain_model::specs::Texts::leading_row_columns))]
+pub fn put_leading_columns_without_stamp(
+    alloc: Global,
+    out: &mut Vec<u8>,
+    word: &str,
+    id: Id,
+    shares: i128,
+    price: Price,
+) -> Result<(), Fault>
+    ensures ok { OnOk result (out.new.items ≡ out.old.items ++ leading_row_columns word.now blank_timestamp_text id shares price) }
+    ensures fault { OnErr result (result ≡ Err Memory) }
+{
     append_left_aligned(out, 6, word.as_bytes())?;
-    out.push(b' ')?;
-    out.extend_from_slice(moment)?;
-    out.push(b' ')?;
-    append_right_aligned(out, 13, number.format(id.get()).as_bytes())?;
-    out.push(b' ')?;
-    append_right_aligned(out, 11, qty.format(shares).as_bytes())?;
-    out.push(b' ')?;
-    append_right_aligned(out, 10, cents.as_slice())
+    put_blank_timestamp(out)?;
+    put_id_shares_and_price(alloc, out, id, shares, price)
 }
 
 /// Appends to `out` a space, and an amount in cents, written with two decimal places and
@@ -48,10 +97,7 @@ pub fn put_value_column(alloc: Global, out: &mut Vec<u8>, amount: Wide) -> Resul
     ensures ok { OnOk result (out.new.items ≡ out.old.items ++ value_column amount) }
     ensures fault { OnErr result (result ≡ Err Memory) }
 {
-    let mut cents = Vec::new(alloc);
-    write_cents(&mut cents, amount)?;
-    out.push(b' ')?;
-    append_right_aligned(out, 16, cents.as_slice())
+    put_cents_column(alloc, out, 16, amount)
 }
 
 /// Appends to `out` a space, and an amount in cents, written with two decimal places and
@@ -61,10 +107,7 @@ pub fn put_amount_column(alloc: Global, out: &mut Vec<u8>, amount: Wide) -> Resu
     ensures ok { OnOk result (out.new.items ≡ out.old.items ++ amount_column amount) }
     ensures fault { OnErr result (result ≡ Err Memory) }
 {
-    let mut cents = Vec::new(alloc);
-    write_cents(&mut cents, amount)?;
-    out.push(b' ')?;
-    append_right_aligned(out, 22, cents.as_slice())
+    put_cents_column(alloc, out, 22, amount)
 }
 
 /// Appends to `out` a space, and a number of shares, right-aligned in 11 places. Fails with
@@ -74,7 +117,5 @@ pub fn put_shares_column(out: &mut Vec<u8>, shares: i64) -> Result<(), Fault>
     ensures ok { OnOk result (out.new.items ≡ out.old.items ++ shares_column shares) }
     ensures fault { OnErr result (result ≡ Err Memory) }
 {
-    let mut qty = Buffer::new();
-    out.push(b' ')?;
-    append_right_aligned(out, 11, qty.format(shares).as_bytes())
+    put_integer_column(out, 11, i128::from(shares))
 }

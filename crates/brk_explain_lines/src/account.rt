@@ -1,108 +1,133 @@
 //! The lines of the explanation of an account.
 
-ghost use Rattle.std.specs.Prelude.{◌≡◌, ◌++◌, Err, IfErr, IfOk, OnErr, OnOk, map};
+ghost use Rattle.std.specs.Prelude.{◌≡◌, ◌++◌, ◌∷◌, Err, IfErr, IfOk, OnErr, OnOk, codes, map};
 ghost use Rattle.brk_changes.specs.Rows.{abstract_holding_row, abstract_move_row};
 ghost use Rattle.brk_explain_model.specs.AccountLines as lines;
 ghost use Rattle.brk_explain_rows.specs.Details.{abstract_priced_holding};
 ghost use Rattle.brk_model.specs.Run.{IsCallFault};
-ghost use Rattle.brk_model.specs.Statement.{right_aligned_text, text_of_lines};
+ghost use Rattle.brk_model.specs.Statement.{left_aligned_text, right_aligned_text, text_of_lines};
 ghost use Rattle.brk_money.specs.declared.fault.Fault.TheVariants.{Memory};
 ghost use Rattle.brk_ref.specs.Records.{abstract_account_row};
 ghost use Rattle.brk_report_lines.specs.Written.{line_with_line_feed};
 
 use brk_changes::{HoldingRow, MoveRow};
 use brk_explain_columns::{
-    add_amounts, format_timestamp, put_amount_column, put_labeled_amount_line,
-    put_labeled_number_line, put_labeled_text_line, put_number, put_text_line,
+    add_amounts, end_line, put_amount_column, put_cents_column, put_column, put_integer_column,
+    put_labeled_amount_line, put_labeled_number_line, put_labeled_text_line, put_number_column,
+    put_spaced_text, put_spaced_text_line, put_text, put_text_and_number, put_text_line,
+    put_title_line, put_word_and_timestamp, value_of_shares_at_price,
 };
 use brk_explain_rows::PricedHolding;
-use brk_money::{Cents, Fault, Id, Price, Wide, write_cents};
+use brk_money::{Cents, Fault, Id, Price, Wide};
 use brk_ref::AccountRow;
-use brk_report_lines::{append_left_aligned, append_right_aligned, lot_line};
-use itoa::Buffer;
+use brk_report_lines::{append_left_aligned, lot_line};
 use std::alloc::Global;
+
+// Appends to `out` the first lines of the explanation of an account. Fails with `Memory` only.
+#[tactic(auto, unfolding(brk_explain_model::specs::AccountLines::account_header_lines))]
+fn put_account_header(alloc: Global, out: &mut Vec<u8>, row: &AccountRow) -> Result<(), Fault>
+    ensures ok { OnOk result (out.new.items ≡ out.old.items ++ text_of_lines (lines.account_header_lines (abstract_account_row row.now))) }
+    ensures fault { OnErr result (result ≡ Err Memory) }
+{
+    let account = &row.account;
+    put_title_line(out, "Account ", account.id)?;
+    put_labeled_text_line(out, "Name", account.name.as_str().as_bytes())?;
+    put_labeled_number_line(out, "Customer", account.customer.get())?;
+    put_labeled_number_line(out, "Broker", account.broker.get())?;
+    put_labeled_number_line(out, "Tax status", u64::from(account.tax_status.number()))?;
+    put_labeled_amount_line(alloc, out, "Opening", Wide::from(account.opening))?;
+    put_text_line(
+        out,
+        b"#      posted                       cash row         trade                 amount                balance name",
+    )
+}
 
 /// Returns the first lines of the explanation of an account: the title, the name, the customer, the
 /// broker, the tax status, the opening balance, and the column headings of the cash rows. Fails
 /// with `Memory` only.
-#[tactic(auto, unfolding(brk_explain_model::specs::AccountLines::account_header_lines))]
 pub fn account_header_text(alloc: Global, row: &AccountRow) -> Result<Vec<u8>, Fault>
     ensures text { IfOk result (λ text. text.items ≡ text_of_lines (lines.account_header_lines (abstract_account_row row.now))) }
     ensures fault { OnErr result (result ≡ Err Memory) }
 {
-    let account = &row.account;
-    let mut text = Vec::from_slice(alloc, b"Account ")?;
-    put_number(&mut text, account.id.get())?;
-    text.extend_from_slice(b", times in UTC\n")?;
-    put_labeled_text_line(&mut text, "Name", account.name.as_str().as_bytes())?;
-    put_labeled_number_line(&mut text, "Customer", account.customer.get())?;
-    put_labeled_number_line(&mut text, "Broker", account.broker.get())?;
-    put_labeled_number_line(
-        &mut text,
-        "Tax status",
-        u64::from(account.tax_status.number()),
-    )?;
-    put_labeled_amount_line(alloc, &mut text, "Opening", Wide::from(account.opening))?;
-    put_text_line(
-        &mut text,
-        b"#      posted                       cash row         trade                 amount                balance name",
-    )?;
+    let mut text = Vec::new(alloc);
+    put_account_header(alloc, &mut text, row)?;
     Ok(text)
 }
 
-// Appends to `out` the id of a trade, or a hyphen if it is `None`, right-aligned in 13 places.
-// Fails with `Memory` only.
+// Appends to `out` a space, and the id of a trade, or a hyphen if it is `None`, right-aligned in 13
+// places. Fails with `Memory` only.
 fn put_trade_id_or_hyphen(out: &mut Vec<u8>, trade: Option<Id>) -> Result<(), Fault>
-    ensures ok { OnOk result (out.new.items ≡ out.old.items ++ right_aligned_text 13 (lines.trade_id_or_hyphen trade)) }
+    ensures ok { OnOk result (out.new.items ≡ out.old.items ++ 32 ∷ right_aligned_text 13 (lines.trade_id_or_hyphen trade)) }
     ensures fault { OnErr result (result ≡ Err Memory) }
 {
-    let mut buffer = Buffer::new();
     match trade {
-        Some(trade) => append_right_aligned(out, 13, buffer.format(trade.get()).as_bytes()),
-        None => append_right_aligned(out, 13, b"-"),
+        Some(trade) => put_number_column(out, 13, trade.get()),
+        None => put_column(out, 13, b"-"),
     }
+}
+
+// Appends to `out` the line of `cash_posting_text`. Fails with `Memory` only.
+#[tactic(auto, unfolding(brk_explain_model::specs::AccountLines::cash_posting_line))]
+fn put_cash_posting(
+    alloc: Global,
+    out: &mut Vec<u8>,
+    row: &MoveRow,
+    balance: Wide,
+) -> Result<(), Fault>
+    ensures ok { OnOk result (out.new.items ≡ out.old.items ++ line_with_line_feed (lines.cash_posting_line (abstract_move_row row.now) balance)) }
+    ensures fault { OnErr result (result ≡ Err Memory) }
+{
+    put_word_and_timestamp(out, "Posted", row.stamp)?;
+    put_number_column(out, 13, row.id.get())?;
+    put_trade_id_or_hyphen(out, row.trade)?;
+    put_amount_column(alloc, out, Wide::from(row.amount))?;
+    put_amount_column(alloc, out, balance)?;
+    put_spaced_text_line(out, row.name.as_bytes())
 }
 
 /// Returns the line of a cash row, with a line feed: the word `Posted`, its timestamp, its id, the
 /// id of its trade or a hyphen, its amount, `balance`, which is the balance after it, and its name.
 /// Fails with `Memory` only.
-#[tactic(auto, unfolding(brk_explain_model::specs::AccountLines::cash_posting_line))]
 pub fn cash_posting_text(alloc: Global, row: &MoveRow, balance: Wide) -> Result<Vec<u8>, Fault>
     ensures line { IfOk result (λ line. line.items ≡ line_with_line_feed (lines.cash_posting_line (abstract_move_row row.now) balance)) }
     ensures fault { OnErr result (result ≡ Err Memory) }
 {
-    let mut id = Buffer::new();
-    let moment = format_timestamp(alloc, row.stamp)?;
     let mut line = Vec::new(alloc);
-    append_left_aligned(&mut line, 6, b"Posted")?;
-    line.push(b' ')?;
-    line.extend_from_slice(&moment)?;
-    line.push(b' ')?;
-    append_right_aligned(&mut line, 13, id.format(row.id.get()).as_bytes())?;
-    line.push(b' ')?;
-    put_trade_id_or_hyphen(&mut line, row.trade)?;
-    put_amount_column(alloc, &mut line, Wide::from(row.amount))?;
-    put_amount_column(alloc, &mut line, balance)?;
-    line.push(b' ')?;
-    line.extend_from_slice(row.name.as_bytes())?;
-    line.push(b'\n')?;
+    put_cash_posting(alloc, &mut line, row, balance)?;
     Ok(line)
+}
+
+// Appends to `out` the lines of `balance_header_text`. Fails with `Memory` only.
+#[tactic(auto, unfolding(brk_explain_model::specs::AccountLines::balance_header_lines))]
+fn put_balance_header(alloc: Global, out: &mut Vec<u8>, row: &AccountRow) -> Result<(), Fault>
+    ensures ok { OnOk result (out.new.items ≡ out.old.items ++ text_of_lines (lines.balance_header_lines (abstract_account_row row.now))) }
+    ensures fault { OnErr result (result ≡ Err Memory) }
+{
+    put_labeled_amount_line(alloc, out, "Balance", Wide::from(row.balance))?;
+    put_text_line(
+        out,
+        b"#      symbol                    lot      shares      price                  worth",
+    )
 }
 
 /// Returns the line of the balance of an account and the line of the column headings of its lots
 /// and holdings. Fails with `Memory` only.
-#[tactic(auto, unfolding(brk_explain_model::specs::AccountLines::balance_header_lines))]
 pub fn balance_header_text(alloc: Global, row: &AccountRow) -> Result<Vec<u8>, Fault>
     ensures text { IfOk result (λ text. text.items ≡ text_of_lines (lines.balance_header_lines (abstract_account_row row.now))) }
     ensures fault { OnErr result (result ≡ Err Memory) }
 {
     let mut text = Vec::new(alloc);
-    put_labeled_amount_line(alloc, &mut text, "Balance", Wide::from(row.balance))?;
-    put_text_line(
-        &mut text,
-        b"#      symbol                    lot      shares      price                  worth",
-    )?;
+    put_balance_header(alloc, &mut text, row)?;
     Ok(text)
+}
+
+// Appends to `out` the word `Lot` and a space, and then `lot`. Fails with `Memory` only.
+fn put_word_before_lot(out: &mut Vec<u8>, lot: &[u8]) -> Result<(), Fault>
+    ensures ok { OnOk result (out.new.items ≡ out.old.items ++ left_aligned_text 6 (codes "Lot") ++ 32 ∷ lot.now) }
+    ensures fault { OnErr result (result ≡ Err Memory) }
+{
+    append_left_aligned(out, 6, b"Lot")?;
+    put_spaced_text(out, lot)
 }
 
 /// Returns the line of a lot of an account: the word `Lot`, its symbol, the trade that opened it,
@@ -114,9 +139,7 @@ pub fn open_lot_text(alloc: Global, row: &HoldingRow) -> Result<Vec<u8>, Fault>
 {
     let lot = lot_line(alloc, row)?;
     let mut line = Vec::new(alloc);
-    append_left_aligned(&mut line, 6, b"Lot")?;
-    line.push(b' ')?;
-    line.extend_from_slice(&lot)?;
+    put_word_before_lot(&mut line, &lot)?;
     Ok(line)
 }
 
@@ -126,10 +149,7 @@ fn market_value_of_holding(held: &PricedHolding) -> Result<Wide, Fault>
     ensures worth { IfOk result (λ worth. worth ≡ lines.market_value_of_holding (abstract_priced_holding held.now)) }
     ensures fault { IfErr result IsCallFault }
 {
-    match i128::from(held.summary.qty).checked_mul(i128::from(held.price.get())) {
-        Some(worth) => Ok(Wide::new(worth)),
-        None => Err(Fault::Store),
-    }
+    value_of_shares_at_price(held.summary.qty, held.price)
 }
 
 // Returns the sum of the market values of the holdings, in cents. Fails with `Store` if a value or
@@ -153,12 +173,9 @@ fn put_holding_line_start(out: &mut Vec<u8>, symbol: &[u8]) -> Result<(), Fault>
     ensures ok { OnOk result (out.new.items ≡ out.old.items ++ lines.holding_line_start symbol.now) }
     ensures fault { OnErr result (result ≡ Err Memory) }
 {
-    append_left_aligned(out, 6, b"Held")?;
-    out.push(b' ')?;
+    put_text(out, b"Held   ")?;
     append_left_aligned(out, 15, symbol)?;
-    out.push(b' ')?;
-    append_right_aligned(out, 13, b"")?;
-    Ok(())
+    put_column(out, 13, b"")
 }
 
 // Appends to `out` a quantity, right-aligned in 11 places, and a price, right-aligned in 10 places,
@@ -173,14 +190,8 @@ fn put_quantity_and_price(
     ensures ok { OnOk result (out.new.items ≡ out.old.items ++ lines.quantity_and_price_columns qty price) }
     ensures fault { OnErr result (result ≡ Err Memory) }
 {
-    let mut number = Buffer::new();
-    let mut cents = Vec::new(alloc);
-    write_cents(&mut cents, Wide::from(price))?;
-    out.push(b' ')?;
-    append_right_aligned(out, 11, number.format(qty).as_bytes())?;
-    out.push(b' ')?;
-    append_right_aligned(out, 10, cents.as_slice())?;
-    Ok(())
+    put_integer_column(out, 11, i128::from(qty))?;
+    put_cents_column(alloc, out, 10, Wide::from(price))
 }
 
 // Appends to `out` the line of a holding: the word `Held`, its symbol, its quantity, its last price
@@ -194,12 +205,10 @@ fn put_holding_line(alloc: Global, out: &mut Vec<u8>, held: &PricedHolding) -> R
     put_holding_line_start(out, held.summary.symbol.as_str().as_bytes())?;
     put_quantity_and_price(alloc, out, held.summary.qty, held.price)?;
     put_amount_column(alloc, out, worth)?;
-    out.push(b'\n')?;
-    Ok(())
+    end_line(out)
 }
 
-// Appends to `out` a line for each holding, with its symbol, quantity, last price and market value.
-// Fails with `Memory` or `Store`; with `Store` if a market value overflows.
+// Appends to `out` the line of each holding. Fails as `put_holding_line` does.
 fn put_holding_lines(alloc: Global, out: &mut Vec<u8>, all: &[PricedHolding]) -> Result<(), Fault>
     ensures ok { OnOk result (out.new.items ≡ out.old.items ++ text_of_lines (map lines.holding_line (map abstract_priced_holding all.now))) }
     ensures fault { IfErr result IsCallFault }
@@ -221,14 +230,10 @@ fn put_account_counts_line(
     ensures ok { OnOk result (out.new.items ≡ out.old.items ++ line_with_line_feed (lines.account_counts_line cash lots symbols)) }
     ensures fault { OnErr result (result ≡ Err Memory) }
 {
-    out.extend_from_slice(b"Cash rows ")?;
-    put_number(out, cash)?;
-    out.extend_from_slice(b", lots ")?;
-    put_number(out, lots)?;
-    out.extend_from_slice(b", symbols ")?;
-    put_number(out, symbols as u64)?;
-    out.push(b'\n')?;
-    Ok(())
+    put_text_and_number(out, "Cash rows ", cash)?;
+    put_text_and_number(out, ", lots ", lots)?;
+    put_text_and_number(out, ", symbols ", symbols as u64)?;
+    end_line(out)
 }
 
 // Appends to `out` the lines of the market value of the holdings, of the assets, and of the numbers
@@ -250,8 +255,25 @@ fn put_account_total_lines(
     let assets = add_amounts(Wide::from(balance), holdings)?;
     put_labeled_amount_line(alloc, out, "Holdings", holdings)?;
     put_labeled_amount_line(alloc, out, "Assets", assets)?;
-    put_account_counts_line(out, cash, lots, symbols)?;
-    Ok(())
+    put_account_counts_line(out, cash, lots, symbols)
+}
+
+// Appends to `out` the lines of `holding_and_total_text`. Fails as it does.
+fn put_holdings_and_totals(
+    alloc: Global,
+    out: &mut Vec<u8>,
+    row: &AccountRow,
+    held: &[PricedHolding],
+    cash: u64,
+    lots: u64,
+) -> Result<(), Fault>
+    ensures ok { OnOk result (out.new.items
+        ≡ out.old.items ++ text_of_lines (lines.holding_and_total_lines (abstract_account_row row.now) (map abstract_priced_holding held.now) cash lots)) }
+    ensures fault { IfErr result IsCallFault }
+{
+    let holdings = market_value_of_holdings(held)?;
+    put_holding_lines(alloc, out, held)?;
+    put_account_total_lines(alloc, out, row.balance, holdings, cash, lots, held.len())
 }
 
 /// Returns the last lines of the explanation of an account: one for each holding, the market value
@@ -268,17 +290,7 @@ pub fn holding_and_total_text(
         ≡ text_of_lines (lines.holding_and_total_lines (abstract_account_row row.now) (map abstract_priced_holding held.now) cash lots)) }
     ensures fault { IfErr result IsCallFault }
 {
-    let holdings = market_value_of_holdings(held)?;
     let mut text = Vec::new(alloc);
-    put_holding_lines(alloc, &mut text, held)?;
-    put_account_total_lines(
-        alloc,
-        &mut text,
-        row.balance,
-        holdings,
-        cash,
-        lots,
-        held.len(),
-    )?;
+    put_holdings_and_totals(alloc, &mut text, row, held, cash, lots)?;
     Ok(text)
 }

@@ -12,7 +12,8 @@ ghost use Rattle.brk_report_lines.specs.Written.{line_with_line_feed};
 use crate::sums::balance_change_of_trade;
 use brk_changes::MoveRow;
 use brk_explain_columns::{
-    add_amounts, put_labeled_amount_line, put_labeled_number, put_labeled_value_line, put_number,
+    add_amounts, end_line, put_labeled_amount_line, put_labeled_number, put_labeled_value_line,
+    put_spaced_text_line, put_text_and_number,
 };
 use brk_explain_rows::{OrderDetails, ResultDetails};
 use brk_money::{Fault, Wide};
@@ -29,10 +30,7 @@ fn put_cash_row_line(out: &mut Vec<u8>, row: &Option<MoveRow>) -> Result<(), Fau
         return put_labeled_value_line(out, "Cash row", b"none");
     };
     put_labeled_number(out, "Cash row", row.id.get())?;
-    out.push(b' ')?;
-    out.extend_from_slice(row.name.as_bytes())?;
-    out.push(b'\n')?;
-    Ok(())
+    put_spaced_text_line(out, row.name.as_bytes())
 }
 
 /// Appends to `out` the lines of the cash row of a completed trade, of the opening balance, of the
@@ -75,14 +73,10 @@ fn put_trade_counts_line(
     ensures ok { OnOk result (out.new.items ≡ out.old.items ++ line_with_line_feed (lines.trade_counts_line statuses lots cash)) }
     ensures fault { OnErr result (result ≡ Err Memory) }
 {
-    out.extend_from_slice(b"Statuses ")?;
-    put_number(out, statuses as u64)?;
-    out.extend_from_slice(b", lots closed ")?;
-    put_number(out, lots as u64)?;
-    out.extend_from_slice(b", cash rows before ")?;
-    put_number(out, cash)?;
-    out.push(b'\n')?;
-    Ok(())
+    put_text_and_number(out, "Statuses ", statuses as u64)?;
+    put_text_and_number(out, ", lots closed ", lots as u64)?;
+    put_text_and_number(out, ", cash rows before ", cash)?;
+    end_line(out)
 }
 
 /// Appends to `out` the last line of the explanation of the completed trade `order` with the
@@ -103,6 +97,5 @@ pub(crate) fn put_counts_of_completed_trade(
         order.statuses.len(),
         details.closings.len(),
         details.cash_rows,
-    )?;
-    Ok(())
+    )
 }

@@ -11,13 +11,13 @@ ghost use Rattle.brk_money.specs.declared.fault.Fault.TheVariants.{Memory};
 ghost use Rattle.brk_report_lines.specs.Written.{line_with_line_feed};
 
 use crate::sums::{
-    buy_value_of_closing, buy_value_of_closings, realised_gain_of_closings, sell_value_of_closing,
-    sell_value_of_closings, shares_of_closing, total_closed_shares, wide_amount_of_cents,
+    buy_value_of_closing, buy_value_of_closings, sell_value_of_closing, sell_value_of_closings,
+    shares_of_closing, total_closed_shares,
 };
 use brk_changes::{LotChange, TradeRow};
 use brk_explain_columns::{
-    format_timestamp, put_labeled_amount_line, put_labeled_number_line, put_leading_row_columns,
-    put_shares_column, put_text_line, put_value_column,
+    end_line, put_labeled_amount_line, put_labeled_number_line, put_leading_row_columns,
+    put_shares_column, put_text_line, put_value_column, subtract_amounts, wide_amount_of_cents,
 };
 use brk_explain_rows::{Closing, OrderDetails, ResultDetails};
 use brk_money::{Fault, Price, Side, Wide};
@@ -56,7 +56,6 @@ fn put_closed_lot_line(
     ensures ok { OnOk result (out.new.items ≡ out.old.items ++ line_with_line_feed (lines.closed_lot_line side price (abstract_closing closing.now))) }
     ensures fault { IfErr result IsCallFault }
 {
-    let moment = format_timestamp(alloc, closing.stamp)?;
     let bought = wide_amount_of_cents(buy_value_of_closing(side, price, closing))?;
     let sold = wide_amount_of_cents(sell_value_of_closing(side, price, closing))?;
     let shares = i128::from(shares_of_closing(closing));
@@ -64,7 +63,7 @@ fn put_closed_lot_line(
         alloc,
         out,
         "Closed",
-        &moment,
+        closing.stamp,
         closing.lot,
         shares,
         closing.price,
@@ -72,8 +71,7 @@ fn put_closed_lot_line(
     put_value_column(alloc, out, bought)?;
     put_value_column(alloc, out, sold)?;
     put_shares_column(out, closing.after)?;
-    out.push(b'\n')?;
-    Ok(())
+    end_line(out)
 }
 
 // Appends to `out` a line for each closing by a trade on `side` at `price`. Fails with `Memory` or
@@ -108,18 +106,9 @@ fn put_opened_lot_line(
         ≡ out.old.items ++ line_with_line_feed (lines.opened_lot_line (abstract_trade_row trade.now) price (abstract_lot_change_row lot.now))) }
     ensures fault { OnErr result (result ≡ Err Memory) }
 {
-    let moment = format_timestamp(alloc, trade.stamp)?;
-    put_leading_row_columns(
-        alloc,
-        out,
-        "Opened",
-        &moment,
-        trade.id,
-        i128::from(lot.after),
-        price,
-    )?;
-    out.push(b'\n')?;
-    Ok(())
+    let shares = i128::from(lot.after);
+    put_leading_row_columns(alloc, out, "Opened", trade.stamp, trade.id, shares, price)?;
+    end_line(out)
 }
 
 // Appends to `out` the line of the lot that `trade` opened at `price`, or nothing if `lot` is
@@ -180,7 +169,7 @@ fn put_realised_gain_lines(
     let side = order.trade.kind.side();
     let bought = buy_value_of_closings(side, details.price, &details.closings)?;
     let sold = sell_value_of_closings(side, details.price, &details.closings)?;
-    let gain = realised_gain_of_closings(side, details.price, &details.closings)?;
+    let gain = subtract_amounts(sold, bought)?;
     put_labeled_amount_line(alloc, out, "BUY", bought)?;
     put_labeled_amount_line(alloc, out, "SELL", sold)?;
     put_labeled_amount_line(alloc, out, "Realised gain", gain)

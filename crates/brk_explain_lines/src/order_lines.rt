@@ -11,8 +11,9 @@ ghost use Rattle.brk_report_lines.specs.Written.{line_with_line_feed};
 
 use brk_changes::HistoryRow;
 use brk_explain_columns::{
-    format_timestamp, put_labeled_amount_line, put_labeled_number, put_labeled_number_line,
-    put_labeled_text, put_labeled_text_line, put_number,
+    put_label, put_labeled_amount_line, put_labeled_number, put_labeled_number_line,
+    put_labeled_text, put_labeled_text_line, put_spaced_text, put_spaced_text_line, put_title_line,
+    put_word_and_timestamp,
 };
 use brk_explain_rows::OrderDetails;
 use brk_money::{Fault, Wide};
@@ -22,44 +23,23 @@ use std::alloc::Global;
 // Appends to `out` the line of a status change: its timestamp, and the code and the name of the
 // status. Fails with `Memory` only.
 #[tactic(auto, unfolding(brk_explain_model::specs::TradeLines::status_change_line))]
-fn put_status_line(alloc: Global, out: &mut Vec<u8>, row: &HistoryRow) -> Result<(), Fault>
+fn put_status_line(out: &mut Vec<u8>, row: &HistoryRow) -> Result<(), Fault>
     ensures ok { OnOk result (out.new.items ≡ out.old.items ++ line_with_line_feed (lines.status_change_line (abstract_history_row row.now))) }
     ensures fault { OnErr result (result ≡ Err Memory) }
 {
-    let moment = format_timestamp(alloc, row.stamp)?;
-    append_left_aligned(out, 6, b"Status")?;
-    out.push(b' ')?;
-    out.extend_from_slice(&moment)?;
-    out.push(b' ')?;
-    out.extend_from_slice(row.status.code().as_bytes())?;
-    out.push(b' ')?;
-    out.extend_from_slice(row.status.name().as_bytes())?;
-    out.push(b'\n')?;
-    Ok(())
+    put_word_and_timestamp(out, "Status", row.stamp)?;
+    put_spaced_text(out, row.status.code().as_bytes())?;
+    put_spaced_text_line(out, row.status.name().as_bytes())
 }
 
-// Appends to `out` a line for each status change, with its timestamp and its status. Fails with
-// `Memory` only.
-fn put_status_lines(alloc: Global, out: &mut Vec<u8>, rows: &[HistoryRow]) -> Result<(), Fault>
+// Appends to `out` the line of each status change. Fails with `Memory` only.
+fn put_status_lines(out: &mut Vec<u8>, rows: &[HistoryRow]) -> Result<(), Fault>
     ensures ok { OnOk result (out.new.items ≡ out.old.items ++ text_of_lines (map lines.status_change_line (map abstract_history_row rows.now))) }
     ensures fault { OnErr result (result ≡ Err Memory) }
 {
     for row in rows {
-        put_status_line(alloc, out, row)?;
+        put_status_line(out, row)?;
     }
-    Ok(())
-}
-
-// Appends to `out` the title line of the explanation of a trade, with the trade's id. Fails with
-// `Memory` only.
-fn put_trade_title_line(out: &mut Vec<u8>, order: &OrderDetails) -> Result<(), Fault>
-    ensures ok { OnOk result (out.new.items ≡ out.old.items ++ line_with_line_feed (lines.trade_title_line (abstract_order_details order.now))) }
-    ensures fault { OnErr result (result ≡ Err Memory) }
-{
-    out.extend_from_slice(b"Trade ")?;
-    put_number(out, order.trade.id.get())?;
-    out.extend_from_slice(b", times in UTC")?;
-    out.push(b'\n')?;
     Ok(())
 }
 
@@ -70,10 +50,7 @@ fn put_account_line(out: &mut Vec<u8>, order: &OrderDetails) -> Result<(), Fault
     ensures fault { OnErr result (result ≡ Err Memory) }
 {
     put_labeled_number(out, "Account", order.trade.account.get())?;
-    out.push(b' ')?;
-    out.extend_from_slice(order.account.account.name.as_str().as_bytes())?;
-    out.push(b'\n')?;
-    Ok(())
+    put_spaced_text_line(out, order.account.account.name.as_str().as_bytes())
 }
 
 // Appends to `out` the title of the explanation of a trade, and the lines of its account, customer,
@@ -84,7 +61,7 @@ fn put_title_and_party_lines(out: &mut Vec<u8>, order: &OrderDetails) -> Result<
     ensures fault { OnErr result (result ≡ Err Memory) }
 {
     let account = &order.account.account;
-    put_trade_title_line(out, order)?;
+    put_title_line(out, "Trade ", order.trade.id)?;
     put_account_line(out, order)?;
     put_labeled_number_line(out, "Customer", account.customer.get())?;
     put_labeled_number_line(out, "Broker", account.broker.get())?;
@@ -99,25 +76,19 @@ fn put_trade_type_line(out: &mut Vec<u8>, order: &OrderDetails) -> Result<(), Fa
     ensures fault { OnErr result (result ≡ Err Memory) }
 {
     put_labeled_text(out, "Type", order.trade.kind.code().as_bytes())?;
-    out.push(b' ')?;
-    out.extend_from_slice(order.trade.kind.name().as_bytes())?;
-    out.push(b'\n')?;
-    Ok(())
+    put_spaced_text_line(out, order.trade.kind.name().as_bytes())
 }
 
-// Appends to `out` the line of the security of a trade: its symbol and its name. Fails with
-// `Memory` only.
-fn put_security_line(alloc: Global, out: &mut Vec<u8>, order: &OrderDetails) -> Result<(), Fault>
+// Appends to `out` the line of the security of a trade: its symbol in 15 places, and its name.
+// Fails with `Memory` only.
+#[tactic(auto, unfolding(brk_explain_model::specs::Texts::labeled_text))]
+fn put_security_line(out: &mut Vec<u8>, order: &OrderDetails) -> Result<(), Fault>
     ensures ok { OnOk result (out.new.items ≡ out.old.items ++ line_with_line_feed (lines.trade_security_line (abstract_order_details order.now))) }
     ensures fault { OnErr result (result ≡ Err Memory) }
 {
-    let mut security = Vec::new(alloc);
-    append_left_aligned(&mut security, 15, order.trade.symbol.as_str().as_bytes())?;
-    put_labeled_text(out, "Security", &security)?;
-    out.push(b' ')?;
-    out.extend_from_slice(order.security.name.as_str().as_bytes())?;
-    out.push(b'\n')?;
-    Ok(())
+    put_label(out, "Security")?;
+    append_left_aligned(out, 15, order.trade.symbol.as_str().as_bytes())?;
+    put_spaced_text_line(out, order.security.name.as_str().as_bytes())
 }
 
 // Returns the text `cash` for a cash trade and the text `margin` for a margin trade.
@@ -153,7 +124,7 @@ fn put_order_terms_lines(
 {
     let trade = &order.trade;
     put_trade_type_line(out, order)?;
-    put_security_line(alloc, out, order)?;
+    put_security_line(out, order)?;
     put_labeled_number_line(out, "Shares", u64::from(trade.qty.get()))?;
     put_labeled_amount_line(alloc, out, "Price asked", Wide::from(trade.bid))?;
     put_labeled_text_line(
@@ -178,5 +149,5 @@ pub(crate) fn put_order_lines(
 {
     put_title_and_party_lines(out, order)?;
     put_order_terms_lines(alloc, out, order)?;
-    put_status_lines(alloc, out, &order.statuses)
+    put_status_lines(out, &order.statuses)
 }

@@ -1,20 +1,22 @@
 //! The lines of the settlement of a completed trade. The functions fail with `Memory` only.
 
-ghost use Rattle.std.specs.Prelude.{◌≡◌, ◌++◌, Err, IfOk, OnErr, OnOk, codes};
+ghost use Rattle.std.specs.Prelude.{◌≡◌, ◌++◌, Err, OnErr, OnOk, codes};
 ghost use Rattle.std.specs.Option.{option_map_or};
+ghost use Rattle.brk_explain_model.specs.Texts.{labeled_text};
 ghost use Rattle.brk_explain_model.specs.TradeLines as lines;
 ghost use Rattle.brk_explain_rows.specs.Details.{abstract_order_details, abstract_result_details};
 ghost use Rattle.brk_model.specs.Statement.{text_of_lines};
 ghost use Rattle.brk_money.specs.Spelling.{day_text};
 ghost use Rattle.brk_money.specs.declared.fault.Fault.TheVariants.{Memory};
+ghost use Rattle.brk_report_lines.specs.Written.{line_with_line_feed};
 
 use crate::sums::{negated_charge, negated_commission, negated_withheld_tax, signed_trade_value};
 use brk_changes::days_to_settlement;
 use brk_explain_columns::{
-    put_labeled_amount_line, put_labeled_number_line, put_labeled_text_line,
+    put_labeled_amount_line, put_labeled_day_line, put_labeled_number_line, put_labeled_text_line,
 };
 use brk_explain_rows::{OrderDetails, ResultDetails};
-use brk_money::{Day, Fault, Wide, day_of, write_day};
+use brk_money::{Day, Fault, Wide, day_of};
 use std::alloc::Global;
 
 /// Appends to `out` the lines of the signed value of a completed trade, of its negated charge,
@@ -49,25 +51,15 @@ pub(crate) fn put_settlement_lines(
     Ok(())
 }
 
-// Returns the text of a day in the format YYYY-MM-DD. Fails with `Memory` only.
-fn format_day(alloc: Global, day: Day) -> Result<Vec<u8>, Fault>
-    ensures ok { IfOk result (λ text. text.items ≡ day_text day) }
+// Appends to `out` the line of a label and a day in the format YYYY-MM-DD, or `none` if there is no
+// day. Fails with `Memory` only.
+fn put_day_or_none_line(out: &mut Vec<u8>, label: &str, day: Option<Day>) -> Result<(), Fault>
+    ensures ok { OnOk result (out.new.items ≡ out.old.items ++ line_with_line_feed (labeled_text label.now (option_map_or day_text day (codes "none")))) }
     ensures fault { OnErr result (result ≡ Err Memory) }
 {
-    let mut text = Vec::new(alloc);
-    write_day(&mut text, day)?;
-    Ok(text)
-}
-
-// Returns the text of a day in the format YYYY-MM-DD, or the text `none` if there is no day. Fails
-// with `Memory` only.
-fn format_day_or_none(alloc: Global, rule: Option<Day>) -> Result<Vec<u8>, Fault>
-    ensures ok { IfOk result (λ text. text.items ≡ option_map_or day_text rule (codes "none")) }
-    ensures fault { OnErr result (result ≡ Err Memory) }
-{
-    match rule {
-        Some(first) => format_day(alloc, first),
-        None => Ok(Vec::from_slice(alloc, b"none")?),
+    match day {
+        Some(day) => put_labeled_day_line(out, label, day),
+        None => put_labeled_text_line(out, label, b"none"),
     }
 }
 
@@ -76,7 +68,6 @@ fn format_day_or_none(alloc: Global, rule: Option<Day>) -> Result<Vec<u8>, Fault
 /// only.
 #[tactic(auto, unfolding(brk_explain_model::specs::TradeLines::due_day_lines))]
 pub(crate) fn put_due_day_lines(
-    alloc: Global,
     out: &mut Vec<u8>,
     order: &OrderDetails,
     details: &ResultDetails,
@@ -87,11 +78,8 @@ pub(crate) fn put_due_day_lines(
 {
     let completed = day_of(order.trade.stamp);
     let days = days_to_settlement(details.rule, completed);
-    let completed = format_day(alloc, completed)?;
-    let first = format_day_or_none(alloc, details.rule)?;
-    let due = format_day(alloc, details.settlement.due_day)?;
-    put_labeled_text_line(out, "Completed on", &completed)?;
-    put_labeled_text_line(out, "One day from", &first)?;
+    put_labeled_day_line(out, "Completed on", completed)?;
+    put_day_or_none_line(out, "One day from", details.rule)?;
     put_labeled_number_line(out, "Days to settle", u64::from(days))?;
-    put_labeled_text_line(out, "Due on", &due)
+    put_labeled_day_line(out, "Due on", details.settlement.due_day)
 }

@@ -1,7 +1,7 @@
 //! The amounts of a completed trade. A sum that overflows is the fault `Store`: no row of a store
 //! that passed its audit leads to one.
 
-ghost use Rattle.std.specs.Prelude.{◌≡◌, IfErr, IfOk, map, neg_ℤ, pos, if◌then◌else◌};
+ghost use Rattle.std.specs.Prelude.{◌≡◌, ◌*◌, IfErr, IfOk, map, neg_ℤ, pos, if◌then◌else◌};
 ghost use Rattle.brk_explain_model.specs.Trades as trades;
 ghost use Rattle.brk_explain_rows.specs.Details.{abstract_closing, abstract_order_details, abstract_result_details};
 ghost use Rattle.brk_model.specs.Base as base;
@@ -9,9 +9,9 @@ ghost use Rattle.brk_model.specs.Run.{IsCallFault};
 ghost use Rattle.brk_money.specs.Amounts as amounts;
 ghost use Rattle.brk_ref.specs.Records.{abstract_tax_rate};
 
-use brk_explain_columns::subtract_amounts;
+use brk_explain_columns::{cents_within_limits, subtract_amounts, wide_amount_of_cents};
 use brk_explain_rows::{Closing, OrderDetails, ResultDetails};
-use brk_money::{Amount, Cents, Fault, Price, Side, TaxRate, TaxStatus, Wide, commission, tax};
+use brk_money::{Amount, Fault, Price, Qty, Side, TaxRate, TaxStatus, Wide, commission, tax};
 use brk_ref::{Tax, tax_sum};
 
 /// Returns the number of shares that a closing closed.
@@ -40,18 +40,6 @@ pub(crate) fn sell_value_of_closing(side: Side, price: Price, closing: &Closing)
     match side {
         Side::Sell => u128::from(shares_of_closing(closing)) * u128::from(price.get()),
         Side::Buy => u128::from(shares_of_closing(closing)) * u128::from(closing.price.get()),
-    }
-}
-
-/// Returns `cents` as an amount of the signed type `Wide`. Fails with `Store` if `cents` exceeds
-/// the greatest value of `i128`.
-pub(crate) fn wide_amount_of_cents(cents: u128) -> Result<Wide, Fault>
-    ensures amount { IfOk result (λ amount. amount ≡ pos cents) }
-    ensures fault { IfErr result IsCallFault }
-{
-    match i128::try_from(cents) {
-        Ok(cents) => Ok(Wide::new(cents)),
-        Err(_) => Err(Fault::Store),
     }
 }
 
@@ -139,21 +127,6 @@ pub(crate) fn sum_of_tax_rates(rates: &[Tax]) -> Result<TaxRate, Fault>
     }
 }
 
-// Returns the amount, in cents, as a value of the narrower type `Cents`. Fails with `Store` if its
-// absolute value exceeds the greatest amount.
-fn cents_within_limits(amount: Wide) -> Result<Cents, Fault>
-    ensures cents { IfOk result (λ cents. cents ≡ amount) }
-    ensures fault { IfErr result IsCallFault }
-{
-    let Ok(cents) = i64::try_from(amount.get()) else {
-        return Err(Fault::Store);
-    };
-    match Cents::new(cents) {
-        Some(cents) => Ok(cents),
-        None => Err(Fault::Store),
-    }
-}
-
 // Returns true if gains are taxable at the tax status: at `Withheld` and `Reported`, but not at
 // `Untaxed`.
 fn is_taxable_status(status: TaxStatus) -> bool
@@ -213,11 +186,18 @@ pub(crate) fn commission_in_current_band(
     }
 }
 
+// Returns the product of a quantity and a price, in cents.
+fn value_at_price(qty: Qty, price: Price) -> i128
+    ensures { result ≡ pos (qty * price) }
+{
+    i128::from(u64::from(qty.get()) * u64::from(price.get()))
+}
+
 /// Returns the quantity of a trade times its price, in cents, negated if it is a purchase.
 pub(crate) fn signed_trade_value(order: &OrderDetails, details: &ResultDetails) -> Wide
     ensures { result ≡ trades.signed_trade_value (abstract_order_details order.now) (abstract_result_details details.now) }
 {
-    let value = i128::from(u64::from(order.trade.qty.get()) * u64::from(details.price.get()));
+    let value = value_at_price(order.trade.qty, details.price);
     match order.trade.kind.side() {
         Side::Sell => Wide::new(value),
         Side::Buy => Wide::new(-value),

@@ -1,6 +1,7 @@
 //! The lines of the tax and of the commission of a completed trade.
 
-ghost use Rattle.std.specs.Prelude.{◌≡◌, ◌++◌, Err, IfErr, OnErr, OnOk, map, option_map};
+ghost use Rattle.std.specs.Prelude.{◌≡◌, ◌++◌, Err, IfErr, OnErr, OnOk, codes, map, option_map};
+ghost use Rattle.brk_explain_model.specs.Texts.{labeled_number};
 ghost use Rattle.brk_explain_model.specs.TradeLines as lines;
 ghost use Rattle.brk_explain_rows.specs.Details.{abstract_order_details, abstract_result_details};
 ghost use Rattle.brk_model.specs.Run.{IsCallFault};
@@ -11,14 +12,14 @@ ghost use Rattle.brk_report_lines.specs.Written.{line_with_line_feed};
 
 use crate::sums::{commission_in_current_band, sum_of_tax_rates, tax_at_current_rates};
 use brk_explain_columns::{
-    put_labeled_amount_line, put_labeled_number, put_labeled_number_line, put_labeled_value_line,
-    put_number,
+    end_line, put_labeled_amount_line, put_labeled_number, put_labeled_number_line,
+    put_labeled_value_line, put_number_column, put_spaced_text_line, put_text, put_text_and_number,
+    put_text_line,
 };
 use brk_explain_rows::{OrderDetails, ResultDetails};
-use brk_money::{Amount, Fault, Wide};
+use brk_money::{Amount, Fault, TaxRate, Wide};
 use brk_ref::{Band, Tax};
-use brk_report_lines::{append_left_aligned, append_right_aligned};
-use itoa::Buffer;
+use brk_report_lines::append_left_aligned;
 use std::alloc::Global;
 
 // Appends to `out` the line of a tax rate: its id, the rate in hundred-thousandths, and its name.
@@ -28,21 +29,13 @@ fn put_tax_rate_line(out: &mut Vec<u8>, rate: &Tax) -> Result<(), Fault>
     ensures ok { OnOk result (out.new.items ≡ out.old.items ++ line_with_line_feed (lines.tax_rate_line (abstract_tax_rate rate.now))) }
     ensures fault { OnErr result (result ≡ Err Memory) }
 {
-    let mut id = Buffer::new();
-    let mut share = Buffer::new();
     append_left_aligned(out, 6, b"Rate")?;
-    out.push(b' ')?;
-    append_right_aligned(out, 13, id.format(rate.id.get()).as_bytes())?;
-    out.push(b' ')?;
-    append_right_aligned(out, 11, share.format(rate.rate.get()).as_bytes())?;
-    out.push(b' ')?;
-    out.extend_from_slice(rate.name.as_str().as_bytes())?;
-    out.push(b'\n')?;
-    Ok(())
+    put_number_column(out, 13, rate.id.get())?;
+    put_number_column(out, 11, u64::from(rate.rate.get()))?;
+    put_spaced_text_line(out, rate.name.as_str().as_bytes())
 }
 
-// Appends to `out` a line for each tax rate, with its id, its rate in hundred-thousandths, and its
-// name. Fails with `Memory` only.
+// Appends to `out` the line of each tax rate. Fails with `Memory` only.
 fn put_tax_rate_lines(out: &mut Vec<u8>, rates: &[Tax]) -> Result<(), Fault>
     ensures ok { OnOk result (out.new.items ≡ out.old.items ++ text_of_lines (map lines.tax_rate_line (map abstract_tax_rate rates.now))) }
     ensures fault { OnErr result (result ≡ Err Memory) }
@@ -63,6 +56,15 @@ fn put_tax_status_line(out: &mut Vec<u8>, order: &OrderDetails) -> Result<(), Fa
     put_labeled_number_line(out, "Tax status", u64::from(status.number()))
 }
 
+// Appends to `out` the line of the sum of tax rates, in hundred-thousandths. Fails with `Memory` only.
+fn put_rates_line(out: &mut Vec<u8>, rates: TaxRate) -> Result<(), Fault>
+    ensures ok { OnOk result (out.new.items ≡ out.old.items ++ line_with_line_feed (labeled_number (codes "Rates now") rates ++ codes " of 100000")) }
+    ensures fault { OnErr result (result ≡ Err Memory) }
+{
+    put_labeled_number(out, "Rates now", u64::from(rates.get()))?;
+    put_text_line(out, b" of 100000")
+}
+
 // Appends to `out` the lines of the sum of the customer's current tax rates, of the tax on the
 // trade's realised gain at this sum, and of the tax that the trade records. Fails with `Memory` or
 // `Store`; with `Store` if a sum overflows, if the tax rates total more than the greatest rate, or
@@ -80,11 +82,9 @@ fn put_current_and_recorded_tax_lines(
 {
     let rates = sum_of_tax_rates(&details.rates)?;
     let now = tax_at_current_rates(order, details)?;
-    put_labeled_number(out, "Rates now", u64::from(rates.get()))?;
-    out.extend_from_slice(b" of 100000\n")?;
+    put_rates_line(out, rates)?;
     put_labeled_amount_line(alloc, out, "Tax now", now)?;
-    put_labeled_amount_line(alloc, out, "Tax recorded", Wide::from(order.trade.tax))?;
-    Ok(())
+    put_labeled_amount_line(alloc, out, "Tax recorded", Wide::from(order.trade.tax))
 }
 
 /// Appends to `out` the lines of the tax status of a trade's account, of each current tax rate of
@@ -114,11 +114,8 @@ fn put_band_bounds(out: &mut Vec<u8>, band: &Band) -> Result<(), Fault>
     ensures ok { OnOk result (out.new.items ≡ out.old.items ++ lines.band_bounds_text (abstract_band band.now)) }
     ensures fault { OnErr result (result ≡ Err Memory) }
 {
-    out.extend_from_slice(b" of 10000 for ")?;
-    put_number(out, u64::from(band.from_qty.get()))?;
-    out.extend_from_slice(b" to ")?;
-    put_number(out, u64::from(band.to_qty.get()))?;
-    Ok(())
+    put_text_and_number(out, " of 10000 for ", u64::from(band.from_qty.get()))?;
+    put_text_and_number(out, " to ", u64::from(band.to_qty.get()))
 }
 
 // Appends to `out` the text after the bounds of a commission band: `, tier `, its tier, `, ` and
@@ -128,11 +125,9 @@ fn put_band_tier_and_exchange(out: &mut Vec<u8>, band: &Band) -> Result<(), Faul
     ensures ok { OnOk result (out.new.items ≡ out.old.items ++ lines.band_tier_and_exchange_text (abstract_band band.now)) }
     ensures fault { OnErr result (result ≡ Err Memory) }
 {
-    out.extend_from_slice(b", tier ")?;
-    put_number(out, u64::from(band.tier.get()))?;
-    out.extend_from_slice(b", ")?;
-    out.extend_from_slice(band.exchange.as_str().as_bytes())?;
-    Ok(())
+    put_text_and_number(out, ", tier ", u64::from(band.tier.get()))?;
+    put_text(out, b", ")?;
+    put_text(out, band.exchange.as_str().as_bytes())
 }
 
 // Appends to `out` the line of the current commission band: its rate in ten-thousandths, its
@@ -148,8 +143,7 @@ fn put_commission_band_line(out: &mut Vec<u8>, band: &Option<Band>) -> Result<()
     put_labeled_number(out, "Band now", u64::from(band.rate.get()))?;
     put_band_bounds(out, band)?;
     put_band_tier_and_exchange(out, band)?;
-    out.push(b'\n')?;
-    Ok(())
+    end_line(out)
 }
 
 // Appends to `out` the line of the commission at the rate of the current band, or of `none` if

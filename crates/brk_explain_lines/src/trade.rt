@@ -35,7 +35,7 @@ fn put_completed_trade_lines(
     put_tax_lines(alloc, out, order, details)?;
     put_band_and_commission_lines(alloc, out, order, details)?;
     put_settlement_lines(alloc, out, order, details)?;
-    put_due_day_lines(alloc, out, order, details)?;
+    put_due_day_lines(out, order, details)?;
     put_balance_lines(alloc, out, order, details)?;
     put_counts_of_completed_trade(out, order, details)
 }

@@ -1,7 +1,7 @@
 //! The lines of a trade that is not completed. The functions fail with `Memory` only.
 
-ghost use Rattle.std.specs.Prelude.{◌≡◌, ◌++◌, ◌∷◌, Err, IfOk, OnErr, OnOk, codes, decimal};
-ghost use Rattle.brk_explain_model.specs.Texts.{labeled_amount};
+ghost use Rattle.std.specs.Prelude.{◌≡◌, ◌++◌, ◌∷◌, Err, OnErr, OnOk, codes, decimal};
+ghost use Rattle.brk_explain_model.specs.Texts.{labeled_amount, labeled_text};
 ghost use Rattle.brk_explain_model.specs.TradeLines as lines;
 ghost use Rattle.brk_explain_rows.specs.Details.{abstract_order_details};
 ghost use Rattle.brk_model.specs.Rows.{nonnegative_cents_text};
@@ -9,9 +9,10 @@ ghost use Rattle.brk_model.specs.Statement.{text_of_lines};
 ghost use Rattle.brk_money.specs.declared.fault.Fault.TheVariants.{Memory};
 ghost use Rattle.brk_report_lines.specs.Written.{line_with_line_feed};
 
+use brk_changes::TradeRow;
 use brk_explain_columns::{
-    put_labeled_amount, put_labeled_amount_line, put_labeled_number_line, put_labeled_text_line,
-    put_number,
+    end_line, put_label, put_labeled_amount, put_labeled_amount_line, put_labeled_number_line,
+    put_spaced_text_line, put_text, put_text_and_number,
 };
 use brk_explain_rows::OrderDetails;
 use brk_money::{Fault, Price, Status, TradeType, Wide, write_cents};
@@ -39,53 +40,60 @@ fn commission_remark(status: Status) -> &'static str
     }
 }
 
-// Returns the text `words` followed by the price with two decimal places. Fails with `Memory` only.
-fn format_text_and_price(alloc: Global, words: &str, price: Price) -> Result<Vec<u8>, Fault>
-    ensures ok { IfOk result (λ text. text.items ≡ words.now ++ nonnegative_cents_text price) }
+// Appends to `out` the text `words` and the price with two decimal places. Fails with `Memory` only.
+fn put_text_and_price(out: &mut Vec<u8>, words: &str, price: Price) -> Result<(), Fault>
+    ensures ok { OnOk result (out.new.items ≡ out.old.items ++ (words.now ++ nonnegative_cents_text price)) }
     ensures fault { OnErr result (result ≡ Err Memory) }
 {
-    let mut text = Vec::from_slice(alloc, words.as_bytes())?;
-    write_cents(&mut text, Wide::from(price))?;
-    Ok(text)
+    put_text(out, words.as_bytes())?;
+    write_cents(out, Wide::from(price))
 }
 
-// Returns the text of the event for which a pending trade of the type waits: a tick at or below
-// `price`, or at or above it for a limit sell; a cancel for a market type. Fails with `Memory`
-// only.
-fn trigger_condition_text(alloc: Global, kind: TradeType, price: Price) -> Result<Vec<u8>, Fault>
-    ensures ok { IfOk result (λ text. text.items ≡ lines.trigger_condition_text kind price) }
+// Appends to `out` the text of the event for which a pending trade of the type waits: a tick at or
+// below `price`, or at or above it for a limit sell; a cancel for a market type. Fails with
+// `Memory` only.
+fn put_trigger_condition(out: &mut Vec<u8>, kind: TradeType, price: Price) -> Result<(), Fault>
+    ensures ok { OnOk result (out.new.items ≡ out.old.items ++ lines.trigger_condition_text kind price) }
     ensures fault { OnErr result (result ≡ Err Memory) }
 {
     match kind {
-        TradeType::StopLoss | TradeType::LimitBuy => format_text_and_price(
-            alloc,
-            "a tick at or below ",
-            price,
-        ),
-        TradeType::LimitSell => format_text_and_price(alloc, "a tick at or above ", price),
-        TradeType::MarketBuy | TradeType::MarketSell => Ok(Vec::from_slice(alloc, b"a cancel")?),
+        TradeType::StopLoss | TradeType::LimitBuy => {
+            put_text_and_price(out, "a tick at or below ", price)
+        }
+        TradeType::LimitSell => put_text_and_price(out, "a tick at or above ", price),
+        TradeType::MarketBuy | TradeType::MarketSell => put_text(out, b"a cancel"),
     }
 }
 
-// Returns the text of the event for which a trade waits, by its status: if it is pending, the tick
-// that triggers it, or `a cancel` for a market type; `a result` if it is submitted; and otherwise
-// `nothing`. Fails with `Memory` only.
-fn awaited_event_text(
-    alloc: Global,
+// Appends to `out` the text of the event for which a trade waits, by its status: if it is pending,
+// the tick that triggers it, or `a cancel` for a market type; `a result` if it is submitted; and
+// otherwise `nothing`. Fails with `Memory` only.
+fn put_awaited_event(
+    out: &mut Vec<u8>,
     status: Status,
     kind: TradeType,
     price: Price,
-) -> Result<Vec<u8>, Fault>
-    ensures ok { IfOk result (λ text. text.items ≡ lines.awaited_event_text status kind price) }
+) -> Result<(), Fault>
+    ensures ok { OnOk result (out.new.items ≡ out.old.items ++ lines.awaited_event_text status kind price) }
     ensures fault { OnErr result (result ≡ Err Memory) }
 {
     match status {
-        Status::Pending => trigger_condition_text(alloc, kind, price),
-        Status::Submitted => Ok(Vec::from_slice(alloc, b"a result")?),
-        Status::Completed | Status::Active | Status::Canceled => {
-            Ok(Vec::from_slice(alloc, b"nothing")?)
-        }
+        Status::Pending => put_trigger_condition(out, kind, price),
+        Status::Submitted => put_text(out, b"a result"),
+        Status::Completed | Status::Active | Status::Canceled => put_text(out, b"nothing"),
     }
+}
+
+// Appends to `out` the line of the event for which a trade waits. Fails with `Memory` only.
+#[tactic(auto, unfolding(brk_explain_model::specs::Texts::labeled_text))]
+fn put_waiting_line(out: &mut Vec<u8>, trade: &TradeRow) -> Result<(), Fault>
+    ensures ok { OnOk result (out.new.items
+        ≡ out.old.items ++ line_with_line_feed (labeled_text (codes "Waits for") (lines.awaited_event_text trade.now.status trade.now.kind trade.now.bid))) }
+    ensures fault { OnErr result (result ≡ Err Memory) }
+{
+    put_label(out, "Waits for")?;
+    put_awaited_event(out, trade.status, trade.kind, trade.bid)?;
+    end_line(out)
 }
 
 // Appends to `out` the line of a label, an amount in cents, written with two decimal places and
@@ -101,10 +109,7 @@ fn put_amount_line_with_remark(
     ensures fault { OnErr result (result ≡ Err Memory) }
 {
     put_labeled_amount(alloc, out, label, amount)?;
-    out.push(b' ')?;
-    out.extend_from_slice(words.as_bytes())?;
-    out.push(b'\n')?;
-    Ok(())
+    put_spaced_text_line(out, words.as_bytes())
 }
 
 // Appends to `out` the line of the number of status changes. Fails with `Memory` only.
@@ -112,10 +117,8 @@ fn put_status_count_line(out: &mut Vec<u8>, count: usize) -> Result<(), Fault>
     ensures ok { OnOk result (out.new.items ≡ out.old.items ++ line_with_line_feed (codes "Statuses " ++ decimal count)) }
     ensures fault { OnErr result (result ≡ Err Memory) }
 {
-    out.extend_from_slice(b"Statuses ")?;
-    put_number(out, count as u64)?;
-    out.push(b'\n')?;
-    Ok(())
+    put_text_and_number(out, "Statuses ", count as u64)?;
+    end_line(out)
 }
 
 /// Appends to `out` those lines of a trade that is not completed that follow its status changes:
@@ -131,7 +134,6 @@ pub(crate) fn put_uncompleted_trade_lines(
     ensures fault { OnErr result (result ≡ Err Memory) }
 {
     let trade = &order.trade;
-    let waits = awaited_event_text(alloc, trade.status, trade.kind, trade.bid)?;
     let charge = Wide::new(i128::from(trade.charge.get()));
     put_amount_line_with_remark(alloc, out, "Charge", charge, charge_remark(trade.status))?;
     let commission = Wide::from(trade.commission);
@@ -142,7 +144,7 @@ pub(crate) fn put_uncompleted_trade_lines(
         commission,
         commission_remark(trade.status),
     )?;
-    put_labeled_text_line(out, "Waits for", &waits)?;
+    put_waiting_line(out, trade)?;
     put_labeled_number_line(out, "Shares moved", 0)?;
     put_labeled_amount_line(alloc, out, "Cash moved", Wide::new(0))?;
     put_status_count_line(out, order.statuses.len())

@@ -1,5 +1,5 @@
 -- The changes of a lot, and the lot that they make.
-use Rattle.std.proofs.Common.{◌≡◌, ◌∙◌, ◌==◌, ◌&&◌, ℕ, Bool, true, false, not, arith, List, None, Some, Option, ap, filter, find, map, option_map, pos, refl, sym}
+use Rattle.std.proofs.Common.{◌≡◌, ◌∙◌, ◌==◌, ◌&&◌, ℕ, Bool, true, false, not, arith, List, None, Some, ap, filter, find, map, option_map, pos, refl, sym}
 use Rattle.std.specs.Prelude.{unwrap_or}
 use Rattle.std.specs.Option.{option_map_or}
 use Rattle.std.proofs.lemmas.Bool.Decides.{nat_tests}
@@ -14,7 +14,6 @@ use Rattle.brk_explain_model.specs.Holdings as model
 use Rattle.brk_explain_model.specs.Holdings.{recorded_lot_change, later_changes_of_lot, lot_with_later_changes, quantity_opened_by_trade}
 use Rattle.brk_explain_model.specs.Trades.{opened_lot_row, completion_price_or_zero}
 use Rattle.brk_explain_rows.specs.Details.{abstract_priced_lot_change, abstract_lot_details}
-use Rattle.brk_explain_rows.specs.declared.holding_details.PricedLotChange.{PricedLotChange}
 use Rattle.brk_explain_rows.specs.declared.holding_details.LotDetails.{LotDetails}
 use Rattle.brk_explain_reads.specs.HoldingParts.{AreLotChangesByTradeId, lot_if_opened, lot_opened_by_trade}
 use Rattle.brk_explain_reads.specs.declared.lot_changes.OpeningAndLaterChanges.{OpeningAndLaterChanges}

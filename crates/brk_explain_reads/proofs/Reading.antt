@@ -4,7 +4,7 @@ use Rattle.sqlite_trees.specs.declared.store.Store.{Ghosts}
 use Rattle.sqlite.specs.Held.{Held}
 use Rattle.brk_model.specs.Tables.{Tables}
 use Rattle.brk_store.specs.Holds.{ReadPost}
-use Rattle.brk_store.specs.ReadSequences.{disk_was_clean_before_reads, single_read_changes_nothing}
+use Rattle.brk_store.specs.ReadSequences.{IsUnchangedByReads, disk_was_clean_before_reads, joined_reads_change_nothing, single_read_changes_nothing}
 use Rattle.brk_store.proofs.Retelling.{read_after}
 
 module _ {S : Type 0} (g : Ghosts S) (old mid end : Held S) where
@@ -28,3 +28,20 @@ module _ {S : Type 0} (g : Ghosts S) (old mid end : Held S) where
   read_failed v r e P Q R first second =
       let on = read_after g old mid end v r P Q first second in
       record { answered = λ clean. tt; was_open = λ clean. tt; same_rows = on.same_rows; unchanged_if_open = on.unchanged_if_open; survives = on.survives }
+
+module _ {S : Type 0} (g : Ghosts S) where
+  -- a call that fails after reads, which changed nothing
+  pub failed_after : (old end : Held S) {X H : Type 0} (e : H) (R : X → Tables → Type 0) → IsUnchangedByReads g old end → ReadPost {E = H} g old end (Err e) R
+  failed_after old end e R whole = record {
+    answered = λ clean. tt;
+    was_open = λ clean. tt;
+    same_rows = whole.same_rows;
+    unchanged_if_open = whole.unchanged_if_open;
+    survives = whole.survives;
+  }
+
+  -- two reads change nothing
+  pub both_change_nothing : (old mid end : Held S) {V W E F : Type 0} (v : Result V E) (w : Result W F) (P : V → Tables → Type 0) (Q : W → Tables → Type 0) → ReadPost g old mid v P → ReadPost g mid end w Q
+      → IsUnchangedByReads g old end
+  both_change_nothing old mid end v w P Q first second =
+      joined_reads_change_nothing old mid end (single_read_changes_nothing old mid v P first) (single_read_changes_nothing mid end w Q second)

@@ -1,5 +1,5 @@
 -- A walk whose visitor passes some records on: those of a broker's accounts.
-use Rattle.std.proofs.Common.{◌≡◌, ◌∙◌, ◌==◌, ◌≤◌, ◌&&◌, ◌||◌, ◌++◌, ◌∷◌, [], ℕ, suc, Bool, true, false, cond, arith, IsTrue, List, Option, None, Some, Ok, Err, OnOk, IfErr, Result, ap, filter, find, length, map, refl, subst, sym}
+use Rattle.std.proofs.Common.{◌≡◌, ◌∙◌, ◌==◌, ◌≤◌, ◌&&◌, ◌||◌, ◌++◌, ◌∷◌, [], ℕ, suc, Bool, true, false, cond, arith, IsTrue, List, Option, Some, Ok, Err, OnOk, IfErr, Result, ap, filter, find, length, map, refl, subst, sym}
 use Rattle.std.specs.Prelude.{nat_lt}
 use Rattle.std.specs.List.{AllByRecursion, FoldsTo, list_any}
 use Rattle.std.specs.Option.{option_map_or}

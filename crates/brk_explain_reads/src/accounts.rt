@@ -7,6 +7,7 @@ ghost use Rattle.brk_explain_rows.specs.Details.{AreDetailsOfAccount, abstract_p
 ghost use Rattle.brk_model.specs.Run.{IsCallFault};
 ghost use Rattle.brk_store.specs.Holds.{ReadPost};
 
+use crate::known::read_last_price;
 use brk_changes::SummaryRow;
 use brk_explain_rows::{AccountDetails, PricedHolding};
 use brk_money::{Fault, Id};
@@ -23,13 +24,8 @@ fn read_priced_holding<S: Alter>(
     ensures read { ReadPost S.Store store.old store.new result (λ held t. abstract_priced_holding held ≡ priced_holding t (abstract_summary_row summary)) }
     ensures fault { IfErr result IsCallFault }
 {
-    match store.last_trade(&summary.symbol)? {
-        Some(last) => Ok(PricedHolding {
-            summary,
-            price: last.price,
-        }),
-        None => Err(Fault::Store),
-    }
+    let price = read_last_price(store, &summary.symbol)?;
+    Ok(PricedHolding { summary, price })
 }
 
 // Returns the holding summaries of an account with the last prices of their symbols, sorted by

@@ -1,6 +1,6 @@
 //! The completed trades of a holding, and the lots that they opened.
 
-ghost use Rattle.std.specs.Prelude.{◌≡◌, ◌++◌, Err, IfErr, OnErr, OnOk, map, option_map, option_to_list};
+ghost use Rattle.std.specs.Prelude.{◌≡◌, ◌++◌, ◌∷◌, [], Err, IfErr, OnErr, OnOk, map, option_map, option_to_list};
 ghost use Rattle.brk_explain_reads.specs.HoldingParts.{AreTradesAndLotsOfHolding, IsTradeWithLot, lot_opened_by_trade};
 ghost use Rattle.brk_explain_rows.specs.Details.{abstract_lot_details};
 ghost use Rattle.brk_model.specs.Run.{IsCallFault};
@@ -101,6 +101,20 @@ fn push_lot_if_any(lots: &mut Vec<LotDetails>, lot: Option<LotDetails>) -> Resul
     Ok(())
 }
 
+// Appends the trade of `one` to the trades of `held`, and the lot of `one`, if any, to its lots. Fails
+// with `Memory` only.
+fn push_trade_and_lot(held: &mut TradesAndLots, one: TradeAndLot) -> Result<(), Fault>
+    ensures done { OnOk result (held.new.done.items ≡ held.old.done.items ++ one.trade ∷ []) }
+    ensures lots { OnOk result (map abstract_lot_details held.new.lots.items
+        ≡ map abstract_lot_details held.old.lots.items ++ option_to_list (option_map abstract_lot_details one.lot)) }
+    ensures fault { OnErr result (result ≡ Err Memory) }
+{
+    let TradeAndLot { trade, lot } = one;
+    push_lot_if_any(&mut held.lots, lot)?;
+    held.done.push(trade)?;
+    Ok(())
+}
+
 /// Returns the completed trades of an account in a security, in the order of completion, and the
 /// lots that they opened with their later changes, in the order of opening. Fails with `Memory` or
 /// `Store`; with `Store` also if a trade that changed a lot does not exist or has no price.
@@ -114,12 +128,13 @@ pub(crate) fn read_trades_and_lots_of_holding<S: Alter>(
     ensures fault { IfErr result IsCallFault }
 {
     let ids = store.completed_trade_ids_of_holding(alloc, account, symbol)?;
-    let mut done = Vec::new(alloc);
-    let mut lots = Vec::new(alloc);
+    let mut held = TradesAndLots {
+        done: Vec::new(alloc),
+        lots: Vec::new(alloc),
+    };
     for id in &ids {
         let one = read_trade_and_lot(alloc, store, *id)?;
-        done.push(one.trade)?;
-        push_lot_if_any(&mut lots, one.lot)?;
+        push_trade_and_lot(&mut held, one)?;
     }
-    Ok(TradesAndLots { done, lots })
+    Ok(held)
 }

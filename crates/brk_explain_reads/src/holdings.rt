@@ -5,11 +5,11 @@ ghost use Rattle.std.specs.Option.{option_map_or};
 ghost use Rattle.brk_changes.specs.Rows.{abstract_summary_row};
 ghost use Rattle.brk_explain_reads.specs.HoldingParts.{AreQuantityAndPrice};
 ghost use Rattle.brk_explain_rows.specs.Details.{AreDetailsOfHolding};
-ghost use Rattle.brk_model.specs.Joins.{last_price_in_tables};
 ghost use Rattle.brk_model.specs.Run.{IsCallFault};
 ghost use Rattle.brk_store.specs.Holds.{ReadPost};
 
 use crate::holding_trades::{TradesAndLots, read_trades_and_lots_of_holding};
+use crate::known::read_last_price;
 use brk_changes::SummaryRow;
 use brk_explain_rows::HoldingDetails;
 use brk_money::{Fault, Id, Planned, Price, Refusal};
@@ -41,18 +41,6 @@ fn quantity_and_price(shares: i64, price: Price) -> QuantityAndPrice
     ensures { result ≡ record { shares = shares; price = price } }
 {
     QuantityAndPrice { shares, price }
-}
-
-// Returns the last price of the security with the symbol. Fails with `Memory` or `Store`; with
-// `Store` also if the security has no last price.
-fn read_last_price<S: Alter>(store: &mut Store<S>, symbol: &Symbol) -> Result<Price, Fault>
-    ensures read { ReadPost S.Store store.old store.new result (λ price t. price ≡ last_price_in_tables t symbol.now) }
-    ensures fault { IfErr result IsCallFault }
-{
-    match store.last_trade(symbol)? {
-        Some(last) => Ok(last.price),
-        None => Err(Fault::Store),
-    }
 }
 
 // Returns the quantity that an account holds of a security, 0 if it has no holding summary, and the

@@ -12,7 +12,7 @@ ghost use Rattle.brk_report_lines.specs.Written.{line_with_line_feed};
 use crate::holding_totals::put_holding_total_lines;
 use crate::lot_rows::put_all_lot_history_lines;
 use crate::trade_rows::put_holding_trade_lines;
-use brk_explain_columns::{put_labeled_text_line, put_number, put_text_line};
+use brk_explain_columns::{put_labeled_text_line, put_text, put_text_and_number, put_text_line};
 use brk_explain_rows::HoldingDetails;
 use brk_money::{Fault, Id};
 use brk_ref::{AccountRow, Security};
@@ -24,13 +24,10 @@ fn put_holding_title_line(out: &mut Vec<u8>, account: Id, symbol: &[u8]) -> Resu
     ensures ok { OnOk result (out.new.items ≡ out.old.items ++ line_with_line_feed (lines.holding_title account symbol.now)) }
     ensures fault { OnErr result (result ≡ Err Memory) }
 {
-    out.extend_from_slice(b"Holding of account ")?;
-    put_number(out, account.get())?;
-    out.extend_from_slice(b" in ")?;
-    out.extend_from_slice(symbol)?;
-    out.extend_from_slice(b", times in UTC")?;
-    out.push(b'\n')?;
-    Ok(())
+    put_text_and_number(out, "Holding of account ", account.get())?;
+    put_text(out, b" in ")?;
+    put_text(out, symbol)?;
+    put_text_line(out, b", times in UTC")
 }
 
 // Appends to `out` the title of the explanation of a holding, the names of the account and of the

@@ -15,8 +15,8 @@ use crate::lots::{
 use crate::trades::{total_purchase_value, total_sale_value};
 use brk_changes::TradeRow;
 use brk_explain_columns::{
-    put_labeled_amount_line, put_labeled_integer_line, put_number, subtract_amounts,
-    value_of_shares_at_price,
+    end_line, put_labeled_amount_line, put_labeled_integer_line, put_text_and_number,
+    subtract_amounts, value_of_shares_at_price,
 };
 use brk_explain_rows::LotDetails;
 use brk_money::{Fault, Price, Wide};
@@ -39,8 +39,7 @@ fn put_purchase_sale_and_cost_lines(
     put_labeled_amount_line(alloc, out, "Purchases", bought)?;
     put_labeled_amount_line(alloc, out, "Sales", sold)?;
     put_labeled_amount_line(alloc, out, "Realised gain", gain)?;
-    put_labeled_amount_line(alloc, out, "Cost basis", cost)?;
-    Ok(())
+    put_labeled_amount_line(alloc, out, "Cost basis", cost)
 }
 
 // Appends to `out` the lines of the quantity, the last price, the market value and the unrealised
@@ -62,8 +61,7 @@ fn put_holding_value_lines(
     put_labeled_integer_line(out, "Shares", shares)?;
     put_labeled_amount_line(alloc, out, "Last price", Wide::from(price))?;
     put_labeled_amount_line(alloc, out, "Worth", worth)?;
-    put_labeled_amount_line(alloc, out, "Unrealised gain", gain)?;
-    Ok(())
+    put_labeled_amount_line(alloc, out, "Unrealised gain", gain)
 }
 
 // Appends to `out` the last line of the explanation of a holding: the numbers of its trades, of its
@@ -79,16 +77,11 @@ fn put_holding_counts_line(
     ensures ok { OnOk result (out.new.items ≡ out.old.items ++ line_with_line_feed (lines.holding_counts_line trades lots open_lots changes)) }
     ensures fault { OnErr result (result ≡ Err Memory) }
 {
-    out.extend_from_slice(b"Trades ")?;
-    put_number(out, trades as u64)?;
-    out.extend_from_slice(b", lots ")?;
-    put_number(out, lots as u64)?;
-    out.extend_from_slice(b", open lots ")?;
-    put_number(out, open_lots)?;
-    out.extend_from_slice(b", changes ")?;
-    put_number(out, changes)?;
-    out.push(b'\n')?;
-    Ok(())
+    put_text_and_number(out, "Trades ", trades as u64)?;
+    put_text_and_number(out, ", lots ", lots as u64)?;
+    put_text_and_number(out, ", open lots ", open_lots)?;
+    put_text_and_number(out, ", changes ", changes)?;
+    end_line(out)
 }
 
 /// Appends to `out` the last lines of the explanation of a holding: purchases, sales, realised

@@ -13,8 +13,8 @@ use crate::lots::{
 };
 use crate::trades::completion_price_of_trade;
 use brk_explain_columns::{
-    format_timestamp, put_leading_row_columns, put_shares_column, put_value_column,
-    value_of_shares_at_price,
+    end_line, put_leading_columns_without_stamp, put_leading_row_columns, put_shares_column,
+    put_value_column, value_of_shares_at_price,
 };
 use brk_explain_rows::{LotDetails, PricedLotChange};
 use brk_money::{Fault, Price};
@@ -29,14 +29,12 @@ fn put_lot_opening_line(alloc: Global, out: &mut Vec<u8>, lot: &LotDetails) -> R
     ensures fault { IfErr result IsCallFault }
 {
     let trade = &lot.trade;
-    let moment = format_timestamp(alloc, trade.stamp)?;
     let price = completion_price_of_trade(trade)?;
     let cost = value_of_shares_at_price(lot.opened, price)?;
     let shares = i128::from(lot.opened);
-    put_leading_row_columns(alloc, out, "Lot", &moment, trade.id, shares, price)?;
+    put_leading_row_columns(alloc, out, "Lot", trade.stamp, trade.id, shares, price)?;
     put_value_column(alloc, out, cost)?;
-    out.push(b'\n')?;
-    Ok(())
+    end_line(out)
 }
 
 // Appends to `out` the line of a later change of a lot that was opened at `price`: its stamp, its
@@ -52,22 +50,20 @@ fn put_lot_change_line(
     ensures ok { OnOk result (out.new.items ≡ out.old.items ++ line_with_line_feed (lines.lot_change_line price (abstract_priced_lot_change change.now))) }
     ensures fault { IfErr result IsCallFault }
 {
-    let moment = format_timestamp(alloc, change.stamp)?;
     let gain = realised_gain_of_change(price, change)?;
     let shares = quantity_increase_of_change(change);
     put_leading_row_columns(
         alloc,
         out,
         "Change",
-        &moment,
+        change.stamp,
         change.trade,
         shares,
         change.price,
     )?;
     put_value_column(alloc, out, gain)?;
     put_shares_column(out, change.after)?;
-    out.push(b'\n')?;
-    Ok(())
+    end_line(out)
 }
 
 // Appends to `out` a line for each later change of a lot that was opened at `price`. Fails with
@@ -98,18 +94,9 @@ fn put_lot_remainder_line(alloc: Global, out: &mut Vec<u8>, lot: &LotDetails) ->
     let price = completion_price_of_trade(&lot.trade)?;
     let cost = remaining_cost_of_lot(lot)?;
     let left = i128::from(remaining_quantity_of_lot(lot));
-    put_leading_row_columns(
-        alloc,
-        out,
-        "Left",
-        b"                       ",
-        lot.trade.id,
-        left,
-        price,
-    )?;
+    put_leading_columns_without_stamp(alloc, out, "Left", lot.trade.id, left, price)?;
     put_value_column(alloc, out, cost)?;
-    out.push(b'\n')?;
-    Ok(())
+    end_line(out)
 }
 
 // Appends to `out` the lines of a lot: its opening, each later change, and its remaining shares.

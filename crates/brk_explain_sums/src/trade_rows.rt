@@ -13,7 +13,7 @@ use crate::trades::{
 };
 use brk_changes::TradeRow;
 use brk_explain_columns::{
-    format_timestamp, put_leading_row_columns, put_shares_column, put_value_column,
+    put_leading_row_columns, put_shares_column, put_spaced_text_line, put_value_column,
 };
 use brk_money::Fault;
 use std::alloc::Global;
@@ -31,17 +31,13 @@ fn put_holding_trade_line(
     ensures ok { OnOk result (out.new.items ≡ out.old.items ++ line_with_line_feed (lines.holding_trade_line (abstract_trade_row row.now) held)) }
     ensures fault { IfErr result IsCallFault }
 {
-    let moment = format_timestamp(alloc, row.stamp)?;
     let price = completion_price_of_trade(row)?;
     let value = signed_value_of_trade(row)?;
     let shares = i128::from(signed_quantity_of_trade(row));
-    put_leading_row_columns(alloc, out, "Trade", &moment, row.id, shares, price)?;
+    put_leading_row_columns(alloc, out, "Trade", row.stamp, row.id, shares, price)?;
     put_value_column(alloc, out, value)?;
     put_shares_column(out, held)?;
-    out.push(b' ')?;
-    out.extend_from_slice(row.kind.code().as_bytes())?;
-    out.push(b'\n')?;
-    Ok(())
+    put_spaced_text_line(out, row.kind.code().as_bytes())
 }
 
 /// Appends to `out` a line for each completed trade of a holding, with the quantity of the holding

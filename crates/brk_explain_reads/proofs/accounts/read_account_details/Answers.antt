@@ -7,7 +7,8 @@ use Rattle.brk_store.proofs.Retelling.{retold}
 use Rattle.brk_explain_model.specs.AccountLines.{priced_holdings_of_account}
 use Rattle.brk_explain_rows.specs.Details.{AreDetailsOfAccount, abstract_priced_holding}
 use Rattle.brk_explain_rows.specs.declared.account_details.AccountDetails.{AccountDetails}
-use Rattle.brk_explain_reads.proofs.Reading.{read_both}
+use Rattle.brk_explain_reads.proofs.Reading.{read_both, both_change_nothing, failed_after}
+use Rattle.std.proofs.lemmas.Result.{err_from_is_err_and}
 use Rattle.brk_explain_reads.proofs.accounts.read_account_details.Goals as goal
 
 -- the account with an id
@@ -29,3 +30,11 @@ returns-clause-read g c =
     (IsRowOf c.args.account) (λ held (t : Tables). map abstract_priced_holding held.items ≡ priced_holdings_of_account t c.args.account) (AreDetailsOfAccount c.args.account)
     (λ t e k. (sym e, k))
     (rw c.in-Some.is at c.in_ok-row.ensures.read) c.in_ok-held.ensures.read
+
+pub returns-in_err-held-clause-read : goal.returns-in_err-held-clause-read
+returns-in_err-held-clause-read g c =
+    let old = c.args.store.now in
+    let mid = c.account.new.self in
+    let end = c.read_priced_holdings.new.store in
+    let p = err_from_is_err_and c.from_residual-in_err-held.result c.from_residual-in_err-held.ensures.1 in
+    rw p.1 (failed_after g.S.Store old end p.0 _ (both_change_nothing g.S.Store old mid end _ _ _ _ c.in_ok-row.ensures.read c.in_err-held.ensures.read))

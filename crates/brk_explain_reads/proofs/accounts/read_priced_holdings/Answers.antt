@@ -8,7 +8,8 @@ use Rattle.brk_explain_model.specs.AccountLines.{priced_holding, priced_holdings
 use Rattle.brk_explain_rows.specs.Details.{abstract_priced_holding}
 use Rattle.brk_explain_rows.specs.declared.account_details.PricedHolding.{PricedHolding}
 use Rattle.brk_explain_reads.proofs.Each.{all_made, map_map, none_made, popped}
-use Rattle.brk_explain_reads.proofs.Reading.{read_both}
+use Rattle.brk_explain_reads.proofs.Reading.{read_both, both_change_nothing, failed_after}
+use Rattle.std.proofs.lemmas.Result.{err_from_is_err_and}
 use Rattle.brk_explain_reads.proofs.accounts.read_priced_holdings.Goals as goal
 
 -- summaries that are left, and those after them with their prices, are an account's
@@ -49,3 +50,21 @@ returns-clause-read g c =
     (λ held (t : Tables). map abstract_priced_holding held.items ≡ priced_holdings_of_account t c.args.account)
     (λ t p. ap (map abstract_priced_holding) c.reverse.ensures.items ∙ all_made (λ r. priced_holding t (abstract_summary_row r)) abstract_priced_holding rest.items held _ (sym rest.ok.0 ∙ c.in_default.ensures.cases.0) p)
     c.loop-summary.invariant
+
+pub returns-in_err-one-clause-read : goal.returns-in_err-one-clause-read
+returns-in_err-one-clause-read g c =
+    let old = c.args.store.now in
+    let mid = c.loop-summary.store in
+    let end = c.read_priced_holding.new.store in
+    let left = λ (_ : Unit {0}). AreHeld c.args.account c.loop-summary.rest.items c.loop-summary.held.items in
+    let p = err_from_is_err_and c.from_residual-in_err-one.result c.from_residual-in_err-one.ensures.1 in
+    rw p.1 (failed_after g.S.Store old end p.0 _ (both_change_nothing g.S.Store old mid end _ _ left _ c.loop-summary.invariant c.in_err-one.ensures.read))
+
+pub returns-in_err-push-clause-read : goal.returns-in_err-push-clause-read
+returns-in_err-push-clause-read g c =
+    let old = c.args.store.now in
+    let mid = c.loop-summary.store in
+    let end = c.read_priced_holding.new.store in
+    let left = λ (_ : Unit {0}). AreHeld c.args.account c.loop-summary.rest.items c.loop-summary.held.items in
+    let p = err_from_is_err_and c.from_residual-in_err-push.result c.from_residual-in_err-push.ensures.1 in
+    rw p.1 (failed_after g.S.Store old end p.0 _ (both_change_nothing g.S.Store old mid end _ _ left _ c.loop-summary.invariant c.in_ok-one.ensures.read))

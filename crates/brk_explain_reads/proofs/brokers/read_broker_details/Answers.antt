@@ -6,8 +6,9 @@ use Rattle.brk_ref.specs.declared.broker.BrokerRow as row
 use Rattle.brk_store.proofs.Retelling.{retold}
 use Rattle.brk_explain_rows.specs.Details.{AreDetailsOfBroker}
 use Rattle.brk_explain_rows.specs.declared.broker_details.BrokerDetails.{BrokerDetails}
-use Rattle.brk_explain_reads.proofs.Reading.{read_both}
+use Rattle.brk_explain_reads.proofs.Reading.{read_both, both_change_nothing, failed_after}
 use Rattle.brk_explain_reads.proofs.Skipped.{length_map}
+use Rattle.std.proofs.lemmas.Result.{err_from_is_err_and}
 use Rattle.brk_explain_reads.proofs.brokers.read_broker_details.Goals as goal
 
 -- the broker with an id
@@ -30,3 +31,11 @@ returns-clause-read g c =
     (IsRowOf broker) (λ all (t : Tables). all.items ≡ map (λ (r : AccountRow). r.id) (filter (λ (r : AccountRow). r.broker == broker) t.accounts)) (AreDetailsOfBroker broker)
     (λ t e k. (sym e, c.len.ensures ∙ accounts.ok.0 ∙ ap length k ∙ length_map (λ (r : AccountRow). r.id) (filter (λ (r : AccountRow). r.broker == broker) t.accounts)))
     (rw c.in-Some.is at c.in_ok-row.ensures.read) c.in_ok-accounts.ensures.read
+
+pub returns-in_err-accounts-clause-read : goal.returns-in_err-accounts-clause-read
+returns-in_err-accounts-clause-read g c =
+    let old = c.args.store.now in
+    let mid = c.broker.new.self in
+    let end = c.accounts_of_broker.new.self in
+    let p = err_from_is_err_and c.from_residual-in_err-accounts.result c.from_residual-in_err-accounts.ensures.1 in
+    rw p.1 (failed_after g.S.Store old end p.0 _ (both_change_nothing g.S.Store old mid end _ _ _ _ c.in_ok-row.ensures.read c.in_err-accounts.ensures.read))

@@ -1,4 +1,4 @@
-use Rattle.std.proofs.Common.{◌≡◌, ◌∙◌, None, Option, Some, ap, map, option_map, refl, sym}
+use Rattle.std.proofs.Common.{◌≡◌, ◌∙◌, None, Option, Some, ap, map, option_map, sym}
 use Rattle.brk_money.specs.declared.fault.Fault.{Fault}
 use Rattle.brk_changes.specs.Rows as rows
 use Rattle.brk_changes.specs.Rows.{abstract_trade_row}
@@ -9,7 +9,8 @@ use Rattle.brk_explain_rows.specs.Details.{abstract_priced_lot_change, abstract_
 use Rattle.brk_explain_rows.specs.declared.holding_details.LotDetails.{LotDetails}
 use Rattle.brk_explain_reads.specs.HoldingParts.{AreLotChangesByCompletion, lot_opened_by_trade}
 use Rattle.brk_explain_reads.proofs.Changes.{lot_known, no_lot_known}
-use Rattle.brk_explain_reads.proofs.Reading.{read_both}
+use Rattle.brk_explain_reads.proofs.Reading.{read_both, both_change_nothing, failed_after}
+use Rattle.std.proofs.lemmas.Result.{err_from_is_err_and}
 use Rattle.brk_explain_reads.proofs.holding_trades.read_lot_of_trade.Goals as goal
 
 pub returns-in_default-clause-read : goal.returns-in_default-clause-read
@@ -34,3 +35,11 @@ returns-clause-read g c =
     (λ t k e. lot_known t trade first row c.lot_details_of_opening.result (ap (option_map rows.abstract_lot_change_row) (sym c.in-Some.is) ∙ k.0) e
     (ap (λ (l : LotDetails). l.trade) made) (ap (λ (l : LotDetails). l.opened) made) (ap (λ (l : LotDetails). map abstract_priced_lot_change l.changes.items) made ∙ k.1))
     c.in_ok-all.ensures.read c.in_ok-row.ensures.read
+
+pub returns-in_err-row-clause-read : goal.returns-in_err-row-clause-read
+returns-in_err-row-clause-read g c =
+    let old = c.args.store.now in
+    let mid = c.read_lot_changes_by_completion.new.store in
+    let end = c.read_existing_trade.new.store in
+    let p = err_from_is_err_and c.from_residual-in_err-row.result c.from_residual-in_err-row.ensures.1 in
+    rw p.1 (failed_after g.S.Store old end p.0 _ (both_change_nothing g.S.Store old mid end _ _ _ _ c.in_ok-all.ensures.read c.in_err-row.ensures.read))

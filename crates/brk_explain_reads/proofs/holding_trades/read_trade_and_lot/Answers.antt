@@ -6,7 +6,8 @@ use Rattle.brk_model.specs.Tables.{Tables}
 use Rattle.brk_explain_rows.specs.Details.{abstract_lot_details}
 use Rattle.brk_explain_reads.specs.HoldingParts.{IsTradeWithLot, lot_opened_by_trade}
 use Rattle.brk_explain_reads.specs.declared.holding_trades.TradeAndLot.{TradeAndLot}
-use Rattle.brk_explain_reads.proofs.Reading.{read_both}
+use Rattle.brk_explain_reads.proofs.Reading.{read_both, both_change_nothing, failed_after}
+use Rattle.std.proofs.lemmas.Result.{err_from_is_err_and}
 use Rattle.brk_explain_reads.proofs.holding_trades.read_trade_and_lot.Goals as goal
 
 pub returns-clause-read : goal.returns-clause-read
@@ -20,3 +21,11 @@ returns-clause-read g c =
     (λ one (t : Tables). IsTradeWithLot t trade one)
     (λ t e k. (e, k))
     c.in_ok-row.ensures.read c.in_ok-lot.ensures.read
+
+pub returns-in_err-lot-clause-read : goal.returns-in_err-lot-clause-read
+returns-in_err-lot-clause-read g c =
+    let old = c.args.store.now in
+    let mid = c.read_existing_trade.new.store in
+    let end = c.read_lot_of_trade.new.store in
+    let p = err_from_is_err_and c.from_residual-in_err-lot.result c.from_residual-in_err-lot.ensures.1 in
+    rw p.1 (failed_after g.S.Store old end p.0 _ (both_change_nothing g.S.Store old mid end _ _ _ _ c.in_ok-row.ensures.read c.in_err-lot.ensures.read))

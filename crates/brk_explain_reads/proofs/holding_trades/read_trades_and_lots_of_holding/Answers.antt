@@ -1,4 +1,4 @@
-use Rattle.std.proofs.Common.{◌≡◌, ◌∙◌, ◌+◌, ◌++◌, ◌∷◌, [], ℕ, List, Some, ap, map, option_map, refl, sym, take}
+use Rattle.std.proofs.Common.{◌≡◌, ◌∙◌, ◌+◌, ◌++◌, ◌∷◌, [], ℕ, List, Some, ap, map, sym, take}
 use Rattle.std.specs.Prelude.{flat_map, option_to_list}
 use Rattle.std.proofs.lemmas.List.{take_all}
 use Rattle.sqlite.specs.Held.{state}
@@ -13,11 +13,11 @@ use Rattle.brk_explain_model.specs.Holdings as model
 use Rattle.brk_explain_rows.specs.Details.{abstract_lot_details}
 use Rattle.brk_explain_rows.specs.declared.holding_details.LotDetails.{LotDetails}
 use Rattle.brk_explain_reads.specs.HoldingParts.{AreTradesAndLotsOfHolding, IsTradeWithLot, lot_opened_by_trade}
-use Rattle.brk_explain_reads.specs.declared.holding_trades.TradesAndLots.{TradesAndLots}
 use Rattle.brk_explain_reads.proofs.ById.{done_known, flat_one, held_ids, lots_known}
 use Rattle.brk_explain_reads.proofs.Each.{first_more, map_map, one_more}
-use Rattle.brk_explain_reads.proofs.Reading.{read_both}
+use Rattle.brk_explain_reads.proofs.Reading.{read_both, both_change_nothing, failed_after}
 use Rattle.brk_explain_reads.proofs.TermParts.{one_by_one}
+use Rattle.std.proofs.lemmas.Result.{err_from_is_err_and}
 use Rattle.brk_explain_reads.proofs.holding_trades.read_trades_and_lots_of_holding.Goals as goal
 
 abbrev found_lots : Tables → List ℕ → List model.LotDetails
@@ -32,8 +32,8 @@ pub loop-id-init : goal.loop-id-init
 loop-id-init g c =
     retold g.S.Store c.args.store.now c.completed_trade_ids_of_holding.new.self c.in_ok-ids.ids tt
     (λ all (t : Tables). all.items ≡ held_ids t c.args.account c.args.symbol.now)
-    (λ _. FirstTrades c.args.account c.args.symbol.now c.deref-id-items.result.now c.new-done.result.items c.new-lots.result.items 0)
-    (λ t e. (c.deref-id-items.ensures.value ∙ e, ap (map (λ (r : trade.TradeRow). Some (abstract_trade_row r))) c.new-done.ensures.items, ap (map abstract_lot_details) c.new-lots.ensures.items))
+    (λ _. FirstTrades c.args.account c.args.symbol.now c.deref-id-items.result.now c.new.result.items c.new-2.result.items 0)
+    (λ t e. (c.deref-id-items.ensures.value ∙ e, ap (map (λ (r : trade.TradeRow). Some (abstract_trade_row r))) c.new.ensures.items, ap (map abstract_lot_details) c.new-2.ensures.items))
     c.in_ok-ids.ensures.read
 
 pub loop-id-preserved : goal.loop-id-preserved
@@ -41,18 +41,18 @@ loop-id-preserved g c =
     let ids = c.deref-id-items.result.now in
     let i = c.loop-id.id-index in
     let id = c.id-item.result in
-    let done = c.loop-id.done.items in
-    let lots = c.loop-id.lots.items in
+    let done = c.loop-id.held.done.items in
+    let lots = c.loop-id.held.lots.items in
     let one = c.in_ok-one.one in
-    rw c.in_ok-push.ensures.items
+    rw c.in_ok-push_trade_and_lot.ensures.done
     (read_both g.S.Store c.args.store.now c.loop-id.store c.read_trade_and_lot.new.store {H = Fault} tt one tt
     (λ _. FirstTrades c.args.account c.args.symbol.now ids done lots i)
     (λ one (t : Tables). IsTradeWithLot t id one)
-    (λ _. FirstTrades c.args.account c.args.symbol.now ids (done ++ one.trade ∷ []) c.push_lot_if_any.new.lots.items (i + 1))
+    (λ _. FirstTrades c.args.account c.args.symbol.now ids (done ++ one.trade ∷ []) c.push_trade_and_lot.new.held.lots.items (i + 1))
     (λ t p e. (
       p.0,
       one_more (λ (r : trade.TradeRow). Some (abstract_trade_row r)) (trade_row_with_id t) done ids i one.trade id c.loop-id-test.true c.id-item.is (sym e.0) p.1,
-      c.in_ok-push_lot_if_any.ensures.added ∙ (λ j. p.2 j ++ option_to_list (e.1 j)) ∙ sym (flat_one (λ id. option_to_list (lot_opened_by_trade t id)) (take i ids) id)
+      c.in_ok-push_trade_and_lot.ensures.lots ∙ (λ j. p.2 j ++ option_to_list (e.1 j)) ∙ sym (flat_one (λ id. option_to_list (lot_opened_by_trade t id)) (take i ids) id)
           ∙ ap (found_lots t) (first_more ids i id c.loop-id-test.true c.id-item.is),
     ))
     c.loop-id.invariant c.in_ok-one.ensures.read)
@@ -63,7 +63,7 @@ returns-clause-read g c =
     let symbol = c.args.symbol.now in
     let ids = c.deref-id-items.result.now in
     let i = c.loop-id.id-index in
-    let held : TradesAndLots = record { done = c.loop-id.done; lots = c.loop-id.lots } in
+    let held = c.loop-id.held in
     let all = take_all i ids c.loop-id-test.false in
     retold_of g.S.Store c.args.store.now c.loop-id.store tt held
     (λ _. FirstTrades account symbol ids held.done.items held.lots.items i)
@@ -74,3 +74,19 @@ returns-clause-read g c =
       p.2 ∙ ap (found_lots t) (all ∙ p.0) ∙ lots_known t (state g.S.Store c.args.store.now).now has account symbol,
     ))
     c.loop-id.invariant
+
+pub returns-in_err-one-clause-read : goal.returns-in_err-one-clause-read
+returns-in_err-one-clause-read g c =
+    let old = c.args.store.now in
+    let mid = c.loop-id.store in
+    let end = c.read_trade_and_lot.new.store in
+    let p = err_from_is_err_and c.from_residual-in_err-one.result c.from_residual-in_err-one.ensures.1 in
+    rw p.1 (failed_after g.S.Store old end p.0 _ (both_change_nothing g.S.Store old mid end _ _ _ _ c.loop-id.invariant c.in_err-one.ensures.read))
+
+pub returns-in_err-push_trade_and_lot-clause-read : goal.returns-in_err-push_trade_and_lot-clause-read
+returns-in_err-push_trade_and_lot-clause-read g c =
+    let old = c.args.store.now in
+    let mid = c.loop-id.store in
+    let end = c.read_trade_and_lot.new.store in
+    let p = err_from_is_err_and c.from_residual-in_err-push_trade_and_lot.result c.from_residual-in_err-push_trade_and_lot.ensures.1 in
+    rw p.1 (failed_after g.S.Store old end p.0 _ (both_change_nothing g.S.Store old mid end _ _ _ _ c.loop-id.invariant c.in_ok-one.ensures.read))

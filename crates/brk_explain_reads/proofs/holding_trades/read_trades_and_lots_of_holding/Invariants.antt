@@ -12,5 +12,5 @@ use Rattle.brk_explain_reads.proofs.holding_trades.read_trades_and_lots_of_holdi
 abbrev pub invariant-loop-id : goal.invariant-loop-id
 invariant-loop-id g l = ReadPost {V = Unit {0}} {E = Fault} g.S.Store l.fn.store l.store (Ok tt)
     (λ _ t. (l.id-items ≡ held_ids t l.fn.account l.fn.symbol)
-    × (map (λ r. Some (abstract_trade_row r)) l.done.items ≡ map (trade_row_with_id t) (take l.id-index l.id-items))
-    × (map abstract_lot_details l.lots.items ≡ flat_map (λ id. option_to_list (lot_opened_by_trade t id)) (take l.id-index l.id-items)))
+    × (map (λ r. Some (abstract_trade_row r)) l.held.done.items ≡ map (trade_row_with_id t) (take l.id-index l.id-items))
+    × (map abstract_lot_details l.held.lots.items ≡ flat_map (λ id. option_to_list (lot_opened_by_trade t id)) (take l.id-index l.id-items)))

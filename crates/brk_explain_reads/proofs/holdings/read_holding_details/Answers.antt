@@ -13,7 +13,8 @@ use Rattle.brk_store.proofs.Retelling.{retold}
 use Rattle.brk_explain_rows.specs.Details.{AreDetailsOfHolding}
 use Rattle.brk_explain_rows.specs.declared.holding_details.HoldingDetails.{HoldingDetails}
 use Rattle.brk_explain_reads.specs.HoldingParts.{AreTradesAndLotsOfHolding, AreQuantityAndPrice}
-use Rattle.brk_explain_reads.proofs.Reading.{read_both, read_failed}
+use Rattle.brk_explain_reads.proofs.Reading.{read_both, read_failed, both_change_nothing, failed_after}
+use Rattle.brk_store.specs.ReadSequences.{joined_reads_change_nothing, single_read_changes_nothing}
 use Rattle.brk_explain_reads.proofs.holdings.read_holding_details.Goals as goal
 
 -- the account with an id, and the security with a symbol
@@ -90,3 +91,22 @@ returns-in_err-now-clause-read g c =
     (rw c.in-Some.is at c.in_ok-row.ensures.read) (rw c.in-Some-2.is at c.in_ok-security.ensures.read))
     c.in_ok-held.ensures.read)
     c.in_err-now.ensures.read)
+
+pub returns-in_err-security-clause-read : goal.returns-in_err-security-clause-read
+returns-in_err-security-clause-read g c =
+    let old = c.args.store.now in
+    let mid = c.account.new.self in
+    let end = c.security.new.self in
+    let p = err_from_is_err_and c.from_residual-in_err-security.result c.from_residual-in_err-security.ensures.1 in
+    rw p.1 (failed_after g.S.Store old end p.0 _ (both_change_nothing g.S.Store old mid end _ _ _ _ c.in_ok-row.ensures.read c.in_err-security.ensures.read))
+
+pub returns-in_err-held-clause-read : goal.returns-in_err-held-clause-read
+returns-in_err-held-clause-read g c =
+    let old = c.args.store.now in
+    let mid = c.account.new.self in
+    let late = c.security.new.self in
+    let end = c.read_trades_and_lots_of_holding.new.store in
+    let p = err_from_is_err_and c.from_residual-in_err-held.result c.from_residual-in_err-held.ensures.1 in
+    rw p.1
+    (failed_after g.S.Store old end p.0 _
+    (joined_reads_change_nothing old late end (both_change_nothing g.S.Store old mid late _ _ _ _ c.in_ok-row.ensures.read c.in_ok-security.ensures.read) (single_read_changes_nothing late end _ _ c.in_err-held.ensures.read)))

@@ -7,7 +7,8 @@ use Rattle.brk_model.specs.Joins.{last_price_in_tables}
 use Rattle.brk_model.specs.Tables.{SummaryRow, Tables}
 use Rattle.brk_explain_reads.specs.HoldingParts.{AreQuantityAndPrice}
 use Rattle.brk_explain_reads.specs.declared.holdings.QuantityAndPrice.{QuantityAndPrice}
-use Rattle.brk_explain_reads.proofs.Reading.{read_both}
+use Rattle.brk_explain_reads.proofs.Reading.{read_both, both_change_nothing, failed_after}
+use Rattle.std.proofs.lemmas.Result.{err_from_is_err_and}
 use Rattle.brk_explain_reads.proofs.holdings.read_quantity_and_price.Goals as goal
 
 pub returns-clause-read : goal.returns-clause-read
@@ -26,3 +27,11 @@ returns-clause-read g c =
       ap (λ (h : QuantityAndPrice). h.price) made ∙ b,
     ))
     c.in_ok-summary.ensures.read c.in_ok-price.ensures.read
+
+pub returns-in_err-price-clause-read : goal.returns-in_err-price-clause-read
+returns-in_err-price-clause-read g c =
+    let old = c.args.store.now in
+    let mid = c.summary_of_position.new.self in
+    let end = c.read_last_price.new.store in
+    let p = err_from_is_err_and c.from_residual-in_err-price.result c.from_residual-in_err-price.ensures.1 in
+    rw p.1 (failed_after g.S.Store old end p.0 _ (both_change_nothing g.S.Store old mid end _ _ _ _ c.in_ok-summary.ensures.read c.in_err-price.ensures.read))

@@ -12,7 +12,8 @@ use Rattle.brk_explain_reads.specs.HoldingParts.{AreLotChangesByTradeId}
 use Rattle.brk_explain_reads.specs.declared.lot_changes.OpeningAndLaterChanges.{OpeningAndLaterChanges}
 use Rattle.brk_explain_reads.proofs.Changes.{steps_known}
 use Rattle.brk_explain_reads.proofs.Each.{one_more}
-use Rattle.brk_explain_reads.proofs.Reading.{read_both}
+use Rattle.brk_explain_reads.proofs.Reading.{read_both, both_change_nothing, failed_after}
+use Rattle.std.proofs.lemmas.Result.{err_from_is_err_and}
 use Rattle.brk_explain_reads.proofs.lot_changes.read_lot_changes_by_trade_id.Goals as goal
 
 -- the changes of a lot, and the first of the later ones with their prices
@@ -62,3 +63,19 @@ returns-clause-read g c =
     (c.opening_change_of_lot-opening.ensures ∙ ap (λ hs. find (λ (r : HoldingHistoryRow). r.trade == c.args.lot) (map rows.abstract_lot_change_row hs)) c.deref.ensures.value)
     (p.1 ∙ ap (map (λ h. recorded_lot_change t (rows.abstract_lot_change_row h))) (take_all i later c.loop-change-test.false)))
     c.loop-change.invariant
+
+pub returns-in_err-priced_change-clause-read : goal.returns-in_err-priced_change-clause-read
+returns-in_err-priced_change-clause-read g c =
+    let old = c.args.store.now in
+    let mid = c.loop-change.store in
+    let end = c.read_priced_lot_change.new.store in
+    let p = err_from_is_err_and c.from_residual-in_err-priced_change.result c.from_residual-in_err-priced_change.ensures.1 in
+    rw p.1 (failed_after g.S.Store old end p.0 _ (both_change_nothing g.S.Store old mid end _ _ _ _ c.loop-change.invariant c.in_err-priced_change.ensures.read))
+
+pub returns-in_err-push-clause-read : goal.returns-in_err-push-clause-read
+returns-in_err-push-clause-read g c =
+    let old = c.args.store.now in
+    let mid = c.loop-change.store in
+    let end = c.read_priced_lot_change.new.store in
+    let p = err_from_is_err_and c.from_residual-in_err-push.result c.from_residual-in_err-push.ensures.1 in
+    rw p.1 (failed_after g.S.Store old end p.0 _ (both_change_nothing g.S.Store old mid end _ _ _ _ c.loop-change.invariant c.in_ok-priced_change.ensures.read))

@@ -2,8 +2,10 @@ use Rattle.brk_money.specs.declared.fault.Fault.{Fault}
 use Rattle.brk_changes.specs.Rows.{abstract_trade_row}
 use Rattle.brk_model.specs.Tables.{Tables}
 use Rattle.brk_explain_reads.specs.Found.{AreTradeLotsInClosingOrder, AreTaxRatesAndBand, IsCashSumBeforeStamp, IsResultOfOrder, IsSettlementOfTrade}
-use Rattle.brk_explain_reads.proofs.Reading.{read_both}
+use Rattle.brk_explain_reads.proofs.Reading.{read_both, both_change_nothing, failed_after}
 use Rattle.brk_explain_reads.proofs.DetailParts.{result_known, result_with}
+use Rattle.std.proofs.lemmas.Result.{err_from_is_err_and}
+use Rattle.brk_store.specs.ReadSequences.{joined_reads_change_nothing, single_read_changes_nothing}
 use Rattle.brk_explain_reads.proofs.results.read_result_of_trade.Goals as goal
 
 pub returns-clause-read : goal.returns-clause-read
@@ -31,3 +33,22 @@ returns-clause-read g c =
     (λ t a b. (a, b)) c.in_ok-lots.ensures.read c.in_ok-terms.ensures.read)
     c.in_ok-settled.ensures.read)
     c.in_ok-cash.ensures.read
+
+pub returns-in_err-terms-clause-read : goal.returns-in_err-terms-clause-read
+returns-in_err-terms-clause-read g c =
+    let old = c.args.store.now in
+    let mid = c.read_trade_lots.new.store in
+    let end = c.read_tax_rates_and_band.new.store in
+    let p = err_from_is_err_and c.from_residual-in_err-terms.result c.from_residual-in_err-terms.ensures.1 in
+    rw p.1 (failed_after g.S.Store old end p.0 _ (both_change_nothing g.S.Store old mid end _ _ _ _ c.in_ok-lots.ensures.read c.in_err-terms.ensures.read))
+
+pub returns-in_err-settled-clause-read : goal.returns-in_err-settled-clause-read
+returns-in_err-settled-clause-read g c =
+    let old = c.args.store.now in
+    let mid = c.read_trade_lots.new.store in
+    let late = c.read_tax_rates_and_band.new.store in
+    let end = c.read_settlement_of_trade.new.store in
+    let p = err_from_is_err_and c.from_residual-in_err-settled.result c.from_residual-in_err-settled.ensures.1 in
+    rw p.1
+    (failed_after g.S.Store old end p.0 _
+    (joined_reads_change_nothing old late end (both_change_nothing g.S.Store old mid late _ _ _ _ c.in_ok-lots.ensures.read c.in_ok-terms.ensures.read) (single_read_changes_nothing late end _ _ c.in_err-settled.ensures.read)))

@@ -7,7 +7,9 @@ use Rattle.brk_model.specs.Tables.{SettlementRow, Tables}
 use Rattle.brk_explain_model.specs.Trades.{zero_settlement_row}
 use Rattle.brk_explain_reads.specs.Found.{IsSettlementOfTrade}
 use Rattle.brk_explain_reads.specs.declared.settled.SettlementAndCash.{SettlementAndCash}
-use Rattle.brk_explain_reads.proofs.Reading.{read_both}
+use Rattle.brk_explain_reads.proofs.Reading.{read_both, both_change_nothing, failed_after}
+use Rattle.std.proofs.lemmas.Result.{err_from_is_err_and}
+use Rattle.brk_store.specs.ReadSequences.{joined_reads_change_nothing, single_read_changes_nothing}
 use Rattle.brk_explain_reads.proofs.settled.read_settlement_of_trade.Goals as goal
 
 pub returns-clause-read : goal.returns-clause-read
@@ -29,3 +31,22 @@ returns-clause-read g c =
     (λ cash (t : Tables). (find (λ (s : SettlementRow). s.trade == trade) t.settlements ≡ Some (abstract_settlement_row settlement)) × (option_map abstract_move_row cash ≡ find (is_cash_row_of_trade trade) t.moves))
     (λ t a b. (a, b)) c.in_ok-settlement.ensures.read c.in_ok-cash.ensures.read)
     c.in_ok-rule.ensures.read
+
+pub returns-in_err-cash-clause-read : goal.returns-in_err-cash-clause-read
+returns-in_err-cash-clause-read g c =
+    let old = c.args.store.now in
+    let mid = c.read_existing_settlement.new.store in
+    let end = c.cash_row.new.self in
+    let p = err_from_is_err_and c.from_residual-in_err-cash.result c.from_residual-in_err-cash.ensures.1 in
+    rw p.1 (failed_after g.S.Store old end p.0 _ (both_change_nothing g.S.Store old mid end _ _ _ _ c.in_ok-settlement.ensures.read c.in_err-cash.ensures.read))
+
+pub returns-in_err-rule-clause-read : goal.returns-in_err-rule-clause-read
+returns-in_err-rule-clause-read g c =
+    let old = c.args.store.now in
+    let mid = c.read_existing_settlement.new.store in
+    let late = c.cash_row.new.self in
+    let end = c.settlement_day.new.self in
+    let p = err_from_is_err_and c.from_residual-in_err-rule.result c.from_residual-in_err-rule.ensures.1 in
+    rw p.1
+    (failed_after g.S.Store old end p.0 _
+    (joined_reads_change_nothing old late end (both_change_nothing g.S.Store old mid late _ _ _ _ c.in_ok-settlement.ensures.read c.in_ok-cash.ensures.read) (single_read_changes_nothing late end _ _ c.in_err-rule.ensures.read)))

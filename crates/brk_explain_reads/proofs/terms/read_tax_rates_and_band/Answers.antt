@@ -7,7 +7,9 @@ use Rattle.brk_ref.specs.Records.{abstract_band, abstract_customer, abstract_sec
 use Rattle.brk_explain_model.specs.Trades.{band_for_customer_and_security, band_for_tier_and_exchange, tax_rates_of_customer}
 use Rattle.brk_explain_reads.specs.Found.{AreTaxRatesAndBand}
 use Rattle.brk_explain_reads.specs.declared.terms.TaxRatesAndBand.{TaxRatesAndBand}
-use Rattle.brk_explain_reads.proofs.Reading.{read_both}
+use Rattle.brk_explain_reads.proofs.Reading.{read_both, both_change_nothing, failed_after}
+use Rattle.std.proofs.lemmas.Result.{err_from_is_err_and}
+use Rattle.brk_store.specs.ReadSequences.{joined_reads_change_nothing, single_read_changes_nothing}
 use Rattle.brk_explain_reads.proofs.terms.read_tax_rates_and_band.Goals as goal
 
 pub returns-clause-read : goal.returns-clause-read
@@ -31,3 +33,22 @@ returns-clause-read g c =
     (λ rates (t : Tables). (find (λ (r : Customer). r.id == id) t.customers ≡ Some (abstract_customer customer)) × (map abstract_tax_rate rates.items ≡ tax_rates_of_customer t id))
     (λ t a b. (a, b)) c.in_ok-customer.ensures.read c.in_ok-rates.ensures.read)
     c.in_ok-band.ensures.read
+
+pub returns-in_err-rates-clause-read : goal.returns-in_err-rates-clause-read
+returns-in_err-rates-clause-read g c =
+    let old = c.args.store.now in
+    let mid = c.read_existing_customer.new.store in
+    let end = c.read_tax_rates_of_customer.new.store in
+    let p = err_from_is_err_and c.from_residual-in_err-rates.result c.from_residual-in_err-rates.ensures.1 in
+    rw p.1 (failed_after g.S.Store old end p.0 _ (both_change_nothing g.S.Store old mid end _ _ _ _ c.in_ok-customer.ensures.read c.in_err-rates.ensures.read))
+
+pub returns-in_err-band-clause-read : goal.returns-in_err-band-clause-read
+returns-in_err-band-clause-read g c =
+    let old = c.args.store.now in
+    let mid = c.read_existing_customer.new.store in
+    let late = c.read_tax_rates_of_customer.new.store in
+    let end = c.read_band_for_tier.new.store in
+    let p = err_from_is_err_and c.from_residual-in_err-band.result c.from_residual-in_err-band.ensures.1 in
+    rw p.1
+    (failed_after g.S.Store old end p.0 _
+    (joined_reads_change_nothing old late end (both_change_nothing g.S.Store old mid late _ _ _ _ c.in_ok-customer.ensures.read c.in_ok-rates.ensures.read) (single_read_changes_nothing late end _ _ c.in_err-band.ensures.read)))

@@ -9,8 +9,9 @@ use Rattle.brk_ref.specs.declared.tax.Tax.{Tax}
 use Rattle.brk_store.proofs.Retelling.{retold}
 use Rattle.brk_explain_model.specs.Trades.{tax_rates_of_customer}
 use Rattle.brk_explain_reads.proofs.Each.{map_map, one_more}
-use Rattle.brk_explain_reads.proofs.Reading.{read_both}
+use Rattle.brk_explain_reads.proofs.Reading.{read_both, both_change_nothing, failed_after}
 use Rattle.brk_explain_reads.proofs.TermParts.{one_by_one}
+use Rattle.std.proofs.lemmas.Result.{err_from_is_err_and}
 use Rattle.brk_explain_reads.proofs.terms.read_tax_rates_of_customer.Goals as goal
 
 -- the tax rate of a customer's tax, if it exists
@@ -58,3 +59,19 @@ returns-clause-read g c =
     (map_map Some abstract_tax_rate rates.items ∙ p.1 ∙ ap (map (λ x. rate_of t (abstract_customer_tax x))) (take_all i rows c.loop-row-test.false)
     ∙ sym (map_map (rate_of t) abstract_customer_tax rows) ∙ ap (map (rate_of t)) p.0))
     c.loop-row.invariant
+
+pub returns-in_err-rate-clause-read : goal.returns-in_err-rate-clause-read
+returns-in_err-rate-clause-read g c =
+    let old = c.args.store.now in
+    let mid = c.loop-row.store in
+    let end = c.read_existing_tax.new.store in
+    let p = err_from_is_err_and c.from_residual-in_err-rate.result c.from_residual-in_err-rate.ensures.1 in
+    rw p.1 (failed_after g.S.Store old end p.0 _ (both_change_nothing g.S.Store old mid end _ _ _ _ c.loop-row.invariant c.in_err-rate.ensures.read))
+
+pub returns-in_err-push-clause-read : goal.returns-in_err-push-clause-read
+returns-in_err-push-clause-read g c =
+    let old = c.args.store.now in
+    let mid = c.loop-row.store in
+    let end = c.read_existing_tax.new.store in
+    let p = err_from_is_err_and c.from_residual-in_err-push.result c.from_residual-in_err-push.ensures.1 in
+    rw p.1 (failed_after g.S.Store old end p.0 _ (both_change_nothing g.S.Store old mid end _ _ _ _ c.loop-row.invariant c.in_ok-rate.ensures.read))

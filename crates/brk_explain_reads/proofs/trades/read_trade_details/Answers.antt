@@ -7,7 +7,7 @@ use Rattle.brk_store.proofs.Retelling.{retold}
 use Rattle.brk_explain_rows.specs.Details.{AreDetailsOfTrade}
 use Rattle.brk_explain_rows.specs.declared.details.TradeDetails.{TradeDetails}
 use Rattle.brk_explain_reads.specs.Found.{IsOrderOfTrade, IsResultOfOrder}
-use Rattle.brk_explain_reads.proofs.Reading.{read_both, read_failed}
+use Rattle.brk_explain_reads.proofs.Reading.{read_both, read_failed, both_change_nothing, failed_after}
 use Rattle.std.proofs.lemmas.Result.{err_from_is_err_and}
 use Rattle.brk_explain_reads.proofs.DetailParts.{details_completed, details_ordered}
 use Rattle.brk_explain_reads.proofs.trades.read_trade_details.Goals as goal
@@ -66,3 +66,11 @@ returns-in_err-outcome-clause-read g c =
     (λ order (t : Tables). (Some (abstract_trade_row row) ≡ find (λ (r : TradeRow). r.id == c.args.trade) t.trades) × IsOrderOfTrade row order t)
     (λ t e k. (e, k)) (rw c.in-Some.is at c.in_ok-row.ensures.read) c.in_ok-order.ensures.read)
     c.in_err-outcome.ensures.read)
+
+pub returns-in_err-order-clause-read : goal.returns-in_err-order-clause-read
+returns-in_err-order-clause-read g c =
+    let old = c.args.store.now in
+    let mid = c.trade.new.self in
+    let end = c.read_order_of_trade.new.store in
+    let p = err_from_is_err_and c.from_residual-in_err-order.result c.from_residual-in_err-order.ensures.1 in
+    rw p.1 (failed_after g.S.Store old end p.0 _ (both_change_nothing g.S.Store old mid end _ _ _ _ c.in_ok-row.ensures.read c.in_err-order.ensures.read))

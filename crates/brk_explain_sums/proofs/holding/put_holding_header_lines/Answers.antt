@@ -1,4 +1,4 @@
-use Rattle.std.proofs.Common.{◌≡◌, ◌∙◌, [], ◌∷◌, ◌++◌, codes}
+use Rattle.std.proofs.Common.{◌∙◌, [], ◌∷◌, ◌++◌, codes}
 use Rattle.brk_explain_model.specs.HoldingLines.{holding_title, holding_header_lines}
 use Rattle.brk_explain_model.specs.Texts.{labeled_text}
 use Rattle.brk_model.specs.Statement.{text_of_lines}

@@ -1,32 +1,25 @@
-use Rattle.std.proofs.Common.{◌≡◌, ◌∙◌, ℕ, [], ◌∷◌, ◌++◌, ap, codes, decimal, sym}
-use Rattle.std.proofs.lemmas.List.{append_assoc}
-use Rattle.brk_money.specs.Spelling.{Text}
-use Rattle.brk_explain_columns.proofs.Chains.{more}
+use Rattle.brk_report_lines.specs.Written.{line_with_line_feed}
+use Rattle.brk_explain_columns.proofs.Chains.{more, first2, line_end, on_ok}
+use Rattle.std.proofs.Common.{◌≡◌, ◌∙◌, ◌++◌, codes, decimal}
 use Rattle.brk_explain_sums.proofs.holding.put_holding_title_line.Goals as goal
-
-six_parts : (a b c d e f : Text) → a ++ (b ++ (c ++ (d ++ (e ++ f)))) ≡ ((((a ++ b) ++ c) ++ d) ++ e) ++ f
-six_parts a b c d e f =
-    sym (append_assoc (((a ++ b) ++ c) ++ d) e f ∙ append_assoc ((a ++ b) ++ c) d (e ++ f) ∙ append_assoc (a ++ b) c (d ++ (e ++ f)) ∙ append_assoc a b (c ++ (d ++ (e ++ f))))
 
 pub returns-clause-ok : goal.returns-clause-ok
 returns-clause-ok c =
     let o = c.args.out.now.items in
-    let x1 = c.extend_from_slice.new.self.items in
-    let a1 = codes "Holding of account " in
-    let x2 = c.put_number.new.out.items in
-    let a2 = decimal c.get.result in
-    let x3 = c.extend_from_slice-2.new.self.items in
-    let a3 = codes " in " in
-    let x4 = c.extend_from_slice-3.new.self.items in
-    let a4 = c.args.symbol.now in
-    let x5 = c.extend_from_slice-4.new.self.items in
-    let a5 = codes ", times in UTC" in
-    let x6 = c.push.new.self.items in
-    let a6 = 10 ∷ [] in
-    let r4 = a5 ++ a6 in
-    let r3 = a4 ++ r4 in
-    let r2 = a3 ++ r3 in
-    more o a1 (a2 ++ r2) x1 x6 c.in_ok-extend_from_slice.ensures.items
-    (more x1 a2 r2 x2 x6 c.in_ok-put_number.ensures.ok
-    (more x2 a3 r3 x3 x6 c.in_ok-extend_from_slice-2.ensures.items (more x3 a4 r4 x4 x6 c.in_ok-extend_from_slice-3.ensures.items (more x4 a5 a6 x5 x6 c.in_ok-extend_from_slice-4.ensures.items c.in_ok-push.ensures.items))))
-    ∙ ap (λ (n : ℕ). o ++ (a1 ++ (decimal n ++ r2))) c.get.ensures.value ∙ ap (λ (t : Text). o ++ t) (six_parts a1 (decimal c.args.account) a3 a4 a5 a6)
+    let x1 = c.put_text_and_number.new.out.items in
+    let t1a = codes "Holding of account " in
+    let t1b = decimal c.get.result in
+    let s1 = t1a ++ t1b in
+    let h1 = first2 o t1a t1b x1 (c.in_ok-put_text_and_number.ensures.ok) in
+    let x2 = c.put_text.new.out.items in
+    let t2a = codes " in " in
+    let s2 = s1 ++ t2a in
+    let h2 = more o s1 t2a x1 x2 h1 c.in_ok-put_text.ensures.ok in
+    let x3 = c.put_text-2.new.out.items in
+    let t3a = c.args.symbol.now in
+    let s3 = s2 ++ t3a in
+    let h3 = more o s2 t3a x2 x3 h2 c.in_ok-put_text-2.ensures.ok in
+    let x4 = c.put_text_line.new.out.items in
+    let t4a = codes ", times in UTC" in
+    on_ok {P = x4 ≡ x3 ++ line_with_line_feed t4a} c.put_text_line.result c.put_text_line.ensures.ok (λ h. line_end o s3 t4a x3 x4 h3 h
+    ∙ (λ i. o ++ (line_with_line_feed (((((codes "Holding of account ") ++ (decimal (c.get.ensures.value i))) ++ (codes " in ")) ++ (c.args.symbol.now)) ++ (codes ", times in UTC")))))

@@ -1,4 +1,4 @@
-use Rattle.std.proofs.Common.{◌≡◌, ◌∙◌, List, [], ◌∷◌, ◌++◌, append-nil, ap, flat_map, map, sym, take}
+use Rattle.std.proofs.Common.{◌∙◌, List, [], ◌∷◌, ◌++◌, append-nil, ap, flat_map, map, sym, take}
 use Rattle.std.proofs.lemmas.Grind.{flat_map-append}
 use Rattle.brk_money.specs.Spelling.{Text}
 use Rattle.brk_explain_model.specs.HoldingLines.{lot_history_lines}

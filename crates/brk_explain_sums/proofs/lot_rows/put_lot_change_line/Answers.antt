@@ -1,8 +1,31 @@
-use Rattle.std.proofs.Common.{rules}
-use Rattle.std.proofs.lemmas.List.{append_assoc}
+use Rattle.brk_explain_model.specs.Texts.{timestamp_text, value_column, shares_column, leading_row_columns}
+use Rattle.brk_explain_columns.proofs.Chains.{more, on_ok}
+use Rattle.std.specs.Int.{w128}
+use Rattle.std.proofs.Common.{◌≡◌, ◌∙◌, ◌++◌, ◌∷◌, [], codes, of_z, to_z, w64, rules}
 use Rattle.brk_explain_model.specs.HoldingLines.{lot_change_line}
 use Rattle.brk_explain_sums.proofs.lot_rows.put_lot_change_line.Goals as goal
 
 pub returns-clause-ok : goal.returns-clause-ok
 unfolding lot_change_line
-returns-clause-ok c = search (rules, append_assoc)
+returns-clause-ok c =
+    let change = c.args.change.now in
+    let given : to_z w128 (of_z w128 c.quantity_increase_of_change-shares.result) ≡ c.quantity_increase_of_change-shares.result = search rules in
+    let shares = given ∙ c.quantity_increase_of_change-shares.ensures in
+    let left : to_z w64 (of_z w64 change.after) ≡ change.after = search rules in
+    let o = c.args.out.now.items in
+    let x1 = c.put_leading_row_columns.new.out.items in
+    let t1a = leading_row_columns (codes "Change") (timestamp_text change.stamp) change.trade (to_z w128 (of_z w128 c.quantity_increase_of_change-shares.result)) change.price in
+    let s1 = t1a in
+    let h1 = c.in_ok-put_leading_row_columns.ensures.ok in
+    let x2 = c.put_value_column.new.out.items in
+    let t2a = value_column c.in_ok-gain.gain in
+    let s2 = s1 ++ t2a in
+    let h2 = more o s1 t2a x1 x2 h1 c.in_ok-put_value_column.ensures.ok in
+    let x3 = c.put_shares_column.new.out.items in
+    let t3a = shares_column (to_z w64 (of_z w64 change.after)) in
+    let s3 = s2 ++ t3a in
+    let h3 = more o s2 t3a x2 x3 h2 c.in_ok-put_shares_column.ensures.ok in
+    let x4 = c.end_line.new.out.items in
+    let t4a = 10 ∷ [] in
+    on_ok {P = x4 ≡ x3 ++ t4a} c.end_line.result c.end_line.ensures.ok (λ h. more o s3 t4a x3 x4 h3 h
+    ∙ (λ i. o ++ (((((leading_row_columns (codes "Change") (timestamp_text change.stamp) change.trade (shares i) change.price) ++ (value_column (c.in_ok-gain.ensures.gain i))) ++ (shares_column (left i))) ++ (10 ∷ [])))))
