@@ -1,8 +1,8 @@
 use crate::borrowed::bytes_of_arguments;
 use brk_desk::Desk;
 use brk_exit::Ending;
-use brk_explain::{ReportFault, parse_explain_request, write_explanation};
 use brk_money::Fault;
+use brk_report::{ReportFault, parse_explain_request, write_explanation};
 use sqlite::Alter;
 use std::alloc::Global;
 use std::io::Write;
