@@ -32,7 +32,6 @@ CODE = [
     'brk_http',
     'brk_report_lines',
     'brk_report',
-    'brk_ask',
     'brk_files',
     'brk_exit',
 ]

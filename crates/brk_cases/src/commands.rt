@@ -5,14 +5,13 @@ use crate::failed::Failed;
 use crate::place::{Place, adopt_database};
 use crate::tables::append_rows_of_all_tables;
 use crate::views::{append_refusal_line, execute_ask_command, execute_print_command};
-use brk_explain::{parse_explain_request, write_explanation};
 use brk_http::serve_stream;
 use brk_import::brk_desk::Desk;
 use brk_import::{Clock, FaultKind, run_batch};
 use brk_money::{Fault, Refusal, Stamp, parse_day};
 use brk_orders::parse_stamp;
 use brk_ref::parse_id;
-use brk_report::{ReportFault, statement};
+use brk_report::{ReportFault, parse_explain_request, statement, write_explanation};
 use sqlite::{Connection, MemStore};
 use std::alloc::{AllocError, Global};
 

@@ -2,9 +2,9 @@
 
 use crate::escape::{Piece, append_escaped_bytes, append_output_line, append_written_bytes};
 use crate::failed::Failed;
-use brk_ask::{Form, ReportFault};
 use brk_import::brk_desk::{Desk, parse_query};
 use brk_money::{Planned, Refusal};
+use brk_report::{Form, ReportFault};
 use brk_view::View;
 use brk_view_text::view_fields;
 use sqlite::MemStore;
@@ -107,7 +107,7 @@ pub fn execute_print_command(
     let (form, view) = words.split_once(' ').unwrap_or((words, ""));
     let arguments = bytes_of_input_lines(alloc, pieces)?;
     let mut printed = Vec::new(alloc);
-    let ended = brk_ask::parse_query_and_write_view(
+    let ended = brk_report::parse_query_and_write_view(
         alloc,
         desk,
         view,

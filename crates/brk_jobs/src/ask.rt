@@ -1,9 +1,9 @@
 use crate::borrowed::bytes_of_arguments;
 use crate::pipe::PipeWriter;
-use brk_ask::{Form, parse_query_and_write_view};
 use brk_desk::Desk;
 use brk_exit::Ending;
 use brk_money::Fault;
+use brk_report::{Form, parse_query_and_write_view};
 use sqlite::Alter;
 use std::alloc::Global;
 use std::io::Write;

@@ -2,12 +2,12 @@
 
 use crate::{ask, batch, explain, serve, statement};
 use brk_args::Job;
-use brk_ask::Form;
 use brk_desk::Desk;
 use brk_exit::{Ending, ending_after_close};
 use brk_files as file;
 use brk_files::FileDesk;
 use brk_money::Fault;
+use brk_report::Form;
 use brk_store::Store;
 use sqlite::{Alter, Connection};
 use std::io::{Read, Write};

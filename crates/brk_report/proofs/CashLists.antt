@@ -9,7 +9,7 @@ use Rattle.brk_model.specs.Lists.{total_by}
 use Rattle.brk_model.specs.Statement.{amount_line, cash_row_line, cash_row_total}
 use Rattle.brk_model.specs.Tables.{MoveRow}
 use Rattle.brk_report.specs.CashWalk.{lines_of_row, lines_of_rows, opening_line_unless, progress_after_row, progress_after_rows, progress_before_rows}
-use Rattle.brk_report.specs.declared.visitors.CashProgress.{CashProgress}
+use Rattle.brk_report.specs.declared.statements.visitors.CashProgress.{CashProgress}
 use lib.IntN.{+ℤ_assoc, +ℤ_idr}
 
 -- The lines of rows and of further rows are those of all.

@@ -25,7 +25,7 @@ use Rattle.brk_report_lines.proofs.Composed.{appends_none, lines_parts, then_all
 use Rattle.brk_report.specs.CashWalk.{lines_of_row, lines_of_rows, progress_after_row, progress_after_rows}
 use Rattle.brk_report.specs.Stated.{IsMemoryStoreOrWriteFault}
 use Rattle.brk_report.specs.WalkFaults.{fault_of_walk_error}
-use Rattle.brk_report.specs.declared.visitors.CashProgress.{CashProgress}
+use Rattle.brk_report.specs.declared.statements.visitors.CashProgress.{CashProgress}
 use Rattle.brk_report.proofs.CashLists.{lines_of_rows-append}
 
 -- ---- lines that may end with any line

@@ -12,8 +12,8 @@ use Rattle.brk_report_lines.specs.Written.{FailsWithinFirstLines, FailsWithinLin
 use Rattle.brk_report_lines.specs.declared.fault.LinesFault.{LinesFault}
 use Rattle.brk_report_lines.specs.declared.fault.LinesFault.TheVariants.{Desk}
 use Rattle.brk_report.specs.CashWalk.{WritesCashLines, opening_and_cash_lines}
-use Rattle.brk_report.specs.Parts.{WritesCashAndClosingLines, cash_and_closing_lines}
-use Rattle.brk_report.specs.declared.visitors.CashProgress.{CashProgress}
+use Rattle.brk_report.specs.StatementParts.{WritesCashAndClosingLines, cash_and_closing_lines}
+use Rattle.brk_report.specs.declared.statements.visitors.CashProgress.{CashProgress}
 use Rattle.brk_report_lines.proofs.Composed.{appends_none, breaks_before, breaks_behind, then_all}
 
 -- want of memory is a fault that a call may have

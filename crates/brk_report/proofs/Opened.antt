@@ -5,7 +5,7 @@ use Rattle.brk_model.specs.Statement.{cash_move_rows_before_day, cash_move_rows_
 use Rattle.brk_model.specs.Tables.{MoveRow, Tables}
 use Rattle.brk_store.specs.Walked.{cash_rows_in_span}
 use Rattle.brk_report.specs.CashWalk.{opening_and_cash_lines, progress_after_rows, progress_before_rows}
-use Rattle.brk_report.specs.declared.visitors.CashProgress.{CashProgress}
+use Rattle.brk_report.specs.declared.statements.visitors.CashProgress.{CashProgress}
 use Rattle.brk_report.proofs.CashLists.{count_split, lines_split, lines_with_opening, total_split}
 use Rattle.brk_report.proofs.Days.{before_first, not_before_first, rows_up_to}
 

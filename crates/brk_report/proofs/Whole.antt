@@ -11,7 +11,7 @@ use Rattle.brk_model.specs.PositionView.{market_value_of_account_row}
 use Rattle.brk_model.specs.Statement.{amount_line, cash_move_rows_before_day, cash_move_rows_of_account, cash_row_line, cash_row_total, cash_move_rows_within_days, text_of_lines, lot_line, holding_rows_of_account, statement, statement_lines}
 use Rattle.brk_model.specs.Tables.{AccountRow, Tables}
 use Rattle.brk_queries.specs.declared.head.StatementHead.{StatementHead}
-use Rattle.brk_report.specs.Parts.{all_statement_lines, statement_header_lines}
+use Rattle.brk_report.specs.StatementParts.{all_statement_lines, statement_header_lines}
 use Rattle.brk_report.specs.Stated.{AreStatementLines, WritesStatement}
 use Rattle.brk_report_lines.specs.Faults.{report_fault_of_lines_fault}
 use Rattle.brk_report_lines.specs.Written.{FailsWithinLines}
@@ -19,7 +19,7 @@ use Rattle.brk_report_lines.specs.declared.fault.LinesFault.{LinesFault}
 use Rattle.brk_report_lines.specs.declared.fault.LinesFault.TheVariants.{Desk, Write}
 use Rattle.brk_queries.specs.Heads.{IsStatementHeadOfAccount}
 
-passes_found : {X : Type 0} (p : X → Bool) (xs : List X) (x : X) → find p xs ≡ Some x → p x ≡ true
+pub passes_found : {X : Type 0} (p : X → Bool) (xs : List X) (x : X) → find p xs ≡ Some x → p x ≡ true
 passes_found p [] x e = absurd (let f = e in cc)
 passes_found p (y ∷ ys) x e = go (passes_found p ys x) (p y) refl
   where

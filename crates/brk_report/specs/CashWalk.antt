@@ -5,7 +5,7 @@ use Rattle.brk_money.specs.Spelling.{Text}
 use Rattle.brk_model.specs.Statement.{amount_line, cash_move_rows_before_day, cash_move_rows_of_account, cash_move_rows_within_days}
 use Rattle.brk_model.specs.Statement.{cash_row_line, cash_row_total, text_of_lines}
 use Rattle.brk_model.specs.Tables.{MoveRow, Tables}
-use Rattle.brk_report.specs.declared.visitors.CashProgress.{CashProgress}
+use Rattle.brk_report.specs.declared.statements.visitors.CashProgress.{CashProgress}
 use Rattle.brk_report_lines.specs.Written.{FailsWithinFirstLines}
 use Rattle.brk_report_lines.specs.declared.fault.LinesFault.{LinesFault}
 

@@ -1,4 +1,9 @@
 pub mod Stated
 pub mod CashWalk
 pub mod WalkFaults
-pub mod Parts
+pub mod StatementParts
+pub mod Requests
+pub mod Told
+pub mod ExplanationParts
+pub mod Printed
+pub mod Asked

@@ -1,4 +1,0 @@
-pub mod Some
-pub mod Walked
-pub mod Whole
-pub mod Words

@@ -1,3 +1,0 @@
-pub mod Requests
-pub mod Told
-pub mod Sections

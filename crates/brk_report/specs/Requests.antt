@@ -1,0 +1,11 @@
+-- The abstract value of a request for an explanation.
+use Rattle.brk_explain_model.specs.Explain.{ExplainRequest, TradeOf, AccountOf, HoldingOf, BrokerOf}
+use Rattle.brk_report.specs.declared.explanations.parse.ExplainRequest as asked
+use Rattle.brk_report.specs.declared.explanations.parse.ExplainRequest.TheVariants as form
+
+-- The model's request for an explanation with the values of the program's request.
+abbrev pub abstract_explain_request : asked.ExplainRequest → ExplainRequest
+abstract_explain_request (form.Trade id) = TradeOf id
+abstract_explain_request (form.Account id) = AccountOf id
+abstract_explain_request (form.Holding account symbol) = HoldingOf account symbol
+abstract_explain_request (form.Broker id) = BrokerOf id

@@ -1,0 +1,75 @@
+ghost use Rattle.std.specs.Prelude.{◌≤◌, IfErr};
+ghost use Rattle.brk_report.specs.StatementParts.{all_statement_lines};
+ghost use Rattle.brk_report.specs.Stated.{StatementPost, PreservesDesk, IsMemoryStoreOrWriteFault, HoldsForStoredTables};
+ghost use Rattle.brk_report_lines.specs.Written.{WritesLines};
+
+use crate::statements::parts::{
+    write_cash_and_closing_lines, write_header_lines, write_lot_and_total_lines,
+};
+use brk_desk::{Desk, StatementHead};
+use brk_money::{Day, Id, Refusal};
+use brk_report_lines::{LinesFault, ReportFault};
+use sqlite::Alter;
+use std::alloc::Global;
+use std::io::Write;
+
+/// The cause of a failure to write a statement.
+pub type StatementFault = ReportFault;
+
+// Writes all lines of the statement of an account that exists, from the day `from` to the day `to`,
+// both included. `head` has the name, the opening balance and the market value of the account. If
+// the database is still open, it is unchanged. Fails with `Desk` if a read fails, memory runs out
+// or a sum overflows, or with `Write`.
+fn write_statement_lines<W: Write, S: Alter>(
+    alloc: Global,
+    desk: &mut Desk<S>,
+    account: Id,
+    head: &StatementHead,
+    from: Day,
+    to: Day,
+    writer: &mut W,
+) -> Result<(), LinesFault>
+    requires { from ≤ to }
+    ensures keeps { PreservesDesk S.Store desk.old desk.new }
+    ensures fault { IfErr result IsMemoryStoreOrWriteFault }
+    ensures written { HoldsForStoredTables S.Store desk.old desk.new
+        (λ t. WritesLines (all_statement_lines t account head.now from to) (W.contents writer.old) (W.contents writer.new) result) }
+{
+    write_header_lines(alloc, account, head, from, to, writer)?;
+    let opening = head.opening;
+    let cash = write_cash_and_closing_lines(alloc, desk, account, from, to, opening, writer)?;
+    write_lot_and_total_lines(alloc, desk, account, head.holdings, cash, writer)
+}
+
+/// Writes the statement of an account for the days `from` to `to`, both included: its name, the
+/// opening amount after the cash rows of earlier days, each cash row of the days, the closing
+/// amount, each lot that the account holds now, the market value of its holdings at last prices,
+/// and the numbers of these cash rows and lots. If the database is still open, it is unchanged,
+/// whatever the result.
+///
+/// Fails with `Refused` 18 if `from` is after `to`, otherwise with `Refused` 1 if the account does
+/// not exist; nothing is then written. Fails with `Desk(Memory)` or `Desk(Store)`; `Desk(Store)`
+/// may also mean that a held symbol has no last price or that a sum overflows. After `Desk` only
+/// whole lines are written, from the first on and never the last one. After `Write` whole lines are
+/// written, from the first on, and a prefix of the next one, perhaps empty or all of it.
+pub fn statement<W: Write, S: Alter>(
+    alloc: Global,
+    desk: &mut Desk<S>,
+    account: Id,
+    from: Day,
+    to: Day,
+    writer: &mut W,
+) -> Result<(), StatementFault>
+    ensures stated { StatementPost S.Store desk.old desk.new account from to (W.contents writer.old) (W.contents writer.new) result }
+{
+    if to.get() < from.get() {
+        return Err(ReportFault::Refused(Refusal::BadText));
+    }
+    let head = match desk.head(alloc, account) {
+        Ok(Some(head)) => head,
+        Ok(None) => return Err(ReportFault::Refused(Refusal::NoAccount)),
+        Err(fault) => return Err(ReportFault::Desk(fault)),
+    };
+    write_statement_lines(alloc, desk, account, &head, from, to, writer)?;
+    Ok(())
+}

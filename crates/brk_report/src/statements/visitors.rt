@@ -1,0 +1,205 @@
+//! Visitors that write a line for each record, count the records, and add up their amounts.
+
+ghost use Rattle.std.specs.Prelude.{◌≡◌, ◌++◌, ◌∷◌, [], IfErr, IfOk, nat_lt};
+ghost use Rattle.brk_changes.specs.Rows.{abstract_move_row};
+ghost use Rattle.brk_money.specs.Spelling.{Text};
+ghost use Rattle.brk_model.specs.Run.{IsCallFault};
+ghost use Rattle.brk_model.specs.Statement.{cash_row_line};
+ghost use Rattle.brk_report.specs.CashWalk.{opening_line_unless};
+ghost use Rattle.brk_report_lines.specs.Written.{WritesLines, line_with_line_feed};
+
+use crate::totals::total_plus_amount;
+use brk_changes::{HoldingRow, MoveRow};
+use brk_desk::Visitor;
+use brk_money::{Fault, Stamp, Wide};
+use brk_report_lines::{LinesFault, amount_line, cash_row_line, lot_line, write_line};
+use std::alloc::Global;
+use std::io::Write;
+
+/// A record that a statement shows as one line.
+pub trait Line {
+    /// The text of the line, without its line feed.
+    ghost line: { Self → Text };
+
+    /// Returns the line of the record with its line feed. Fails with `Memory` or `Store`.
+    fn line(&self, alloc: Global) -> Result<Vec<u8>, Fault>
+        ensures line { IfOk result (λ l. l.items ≡ line_with_line_feed (line self.now)) }
+        ensures fault { IfErr result IsCallFault };
+}
+
+impl Line for HoldingRow {
+    ghost use Rattle.brk_model.specs.Statement.{lot_line};
+    ghost use Rattle.brk_changes.specs.Rows.{abstract_holding_row};
+
+    ghost line = { λ r. lot_line (abstract_holding_row r) };
+
+    /// Returns the line of the lot with its line feed. Fails with `Memory` only.
+    fn line(&self, alloc: Global) -> Result<Vec<u8>, Fault> {
+        lot_line(alloc, self)
+    }
+}
+
+impl Line for MoveRow {
+    ghost use Rattle.brk_model.specs.Statement.{cash_row_line};
+    ghost use Rattle.brk_changes.specs.Rows.{abstract_move_row};
+
+    ghost line = { λ r. cash_row_line (abstract_move_row r) };
+
+    /// Returns the line of the cash row with its line feed. Fails with `Memory` only.
+    fn line(&self, alloc: Global) -> Result<Vec<u8>, Fault> {
+        cash_row_line(alloc, self)
+    }
+}
+
+// Returns true if the stamp of the cash row is before `first`.
+fn is_before_stamp(item: &MoveRow, first: Stamp) -> bool
+    ensures { result ≡ nat_lt item.now.stamp first }
+{
+    item.stamp.get() < first.get()
+}
+
+/// Writes the line of the opening amount, in cents, unless `is_written` is true. Fails with
+/// `Desk(Memory)` or `Write`.
+pub(crate) fn write_opening_line_unless<W: Write>(
+    alloc: Global,
+    is_written: bool,
+    opening: Wide,
+    writer: &mut W,
+) -> Result<(), LinesFault>
+    ensures { WritesLines (opening_line_unless is_written opening) (W.contents writer.old) (W.contents writer.new) result }
+{
+    if is_written {
+        return Ok(());
+    }
+    write_line(writer, amount_line(alloc, "Opening", opening))
+}
+
+// Writes the line of the opening amount, unless it is written, and the line of the cash row
+// `item`. The opening amount is the total so far. Fails with `Desk(Memory)` or `Write`.
+fn write_opening_and_row_lines<W: Write>(
+    alloc: Global,
+    moved: CashProgress,
+    item: &MoveRow,
+    writer: &mut W,
+) -> Result<(), LinesFault>
+    ensures { WritesLines (opening_line_unless moved.is_opened moved.total ++ cash_row_line (abstract_move_row item.now)
+        ∷ []) (W.contents writer.old) (W.contents writer.new) result }
+{
+    write_opening_line_unless(alloc, moved.is_opened, moved.total, writer)?;
+    write_line(writer, item.line(alloc))
+}
+
+/// A visitor that writes a line for each record, and counts the records.
+#[derive(Drop)]
+pub struct LineWriter<'a, W> {
+    pub alloc: Global,
+    pub writer: &'a mut W,
+    /// The number of records so far.
+    pub count: u64,
+}
+
+impl<R: Line, W: Write> Visitor<R, LinesFault> for LineWriter<'_, W> {
+    ghost use Rattle.std.specs.Prelude.{◌≡◌, ◌+◌, [], ◌∷◌, Result, Err, refl};
+    ghost use Rattle.std.proofs.Common.{◌∙◌};
+    ghost use Rattle.std.specs.Io.KnownBytes.{Appends};
+    ghost use Rattle.brk_report_lines.specs.Written.{FailsWithinLines, line_with_line_feed};
+
+    ghost ready = { λ _. Unit {0} };
+
+    ghost leads = { λ p q. q.writer.ghost_name ≡ p.writer.ghost_name };
+
+    ghost takes = { λ p r q. (q.count ≡ p.count + 1) × Appends (W.contents p.writer.now) (W.contents q.writer.now) (line_with_line_feed (R.line r)) };
+
+    ghost stops = { λ p r e q. FailsWithinLines (R.line r ∷ []) (W.contents p.writer.now) (W.contents q.writer.now) e };
+
+    /// Writes the line of the record and counts the record. Fails with `Desk` and the fault of the
+    /// line, with `Desk(Store)` if the count overflows, or with `Write`.
+    fn visit(&mut self, item: &R) -> Result<(), LinesFault> {
+        let Some(count) = self.count.checked_add(1) else {
+            return Err(LinesFault::Desk(Fault::Store));
+        };
+        write_line(self.writer, item.line(self.alloc))?;
+        self.count = count;
+        Ok(())
+    }
+
+    ghost reflexive = { λ _. refl };
+
+    ghost transitive = { λ _ _ _ a b. b ∙ a };
+}
+
+/// How far the walk over the cash rows of an account has come.
+#[derive(Clone, Copy)]
+pub struct CashProgress {
+    /// True if the line of the opening amount is written.
+    pub is_opened: bool,
+    /// The number of cash rows whose lines are written.
+    pub count: u64,
+    /// The opening balance of the account plus the amounts of all cash rows so far, in cents.
+    pub total: Wide,
+}
+
+/// A visitor that adds up the amounts of cash rows. From a stamp on it also writes a line for each
+/// cash row and counts it, and before the first of these lines the line of the opening amount.
+#[derive(Drop)]
+pub struct CashLineWriter<'a, W> {
+    pub alloc: Global,
+    pub writer: &'a mut W,
+    /// The stamp from which on it writes lines.
+    pub first: Stamp,
+    pub moved: CashProgress,
+}
+
+impl<W> CashLineWriter<'_, W> {
+    /// Returns how far the visitor has come.
+    pub fn progress(&self) -> CashProgress
+        ensures { result ≡ self.now.moved }
+    {
+        self.moved
+    }
+}
+
+impl<W: Write> Visitor<MoveRow, LinesFault> for CashLineWriter<'_, W> {
+    ghost use Rattle.std.specs.Prelude.{◌≡◌, nat_lt, refl};
+    ghost use Rattle.std.proofs.Common.{◌∙◌};
+    ghost use Rattle.std.specs.Io.KnownBytes.{Appends};
+    ghost use Rattle.brk_changes.specs.Rows.{abstract_move_row};
+    ghost use Rattle.brk_model.specs.Statement.{text_of_lines};
+    ghost use Rattle.brk_report.specs.CashWalk.{lines_of_row, progress_after_row};
+    ghost use Rattle.brk_report_lines.specs.Written.{FailsWithinFirstLines};
+
+    ghost ready = { λ _. Unit {0} };
+
+    ghost leads = { λ p q. q.writer.ghost_name ≡ p.writer.ghost_name };
+
+    ghost takes = { λ p r q. (q.first ≡ p.first) × (q.moved ≡ progress_after_row (nat_lt r.stamp p.first) p.moved (abstract_move_row r))
+        × Appends (W.contents p.writer.now) (W.contents q.writer.now) (text_of_lines (lines_of_row (nat_lt r.stamp p.first) p.moved (abstract_move_row r))) };
+
+    ghost stops = { λ p r e q. FailsWithinFirstLines (lines_of_row (nat_lt r.stamp p.first) p.moved (abstract_move_row r)) (W.contents p.writer.now) (W.contents q.writer.now) e };
+
+    /// Adds the amount of the cash row to the total. If the row is not before the first stamp,
+    /// writes its line, after that of the opening amount if this is not written, and counts the
+    /// row. Fails with `Desk(Memory)`, with `Desk(Store)` if the total or the count overflows, or
+    /// with `Write`.
+    fn visit(&mut self, item: &MoveRow) -> Result<(), LinesFault> {
+        let total = total_plus_amount(self.moved.total, item.amount)?;
+        if is_before_stamp(item, self.first) {
+            self.moved.total = total;
+            return Ok(());
+        }
+        let Some(count) = self.moved.count.checked_add(1) else {
+            return Err(LinesFault::Desk(Fault::Store));
+        };
+        write_opening_and_row_lines(self.alloc, self.moved, item, self.writer)?;
+        self.moved = CashProgress {
+            is_opened: true,
+            count,
+            total,
+        };
+        Ok(())
+    }
+
+    ghost reflexive = { λ _. refl };
+
+    ghost transitive = { λ _ _ _ a b. b ∙ a };
+}

@@ -1,0 +1,114 @@
+ghost use Rattle.std.specs.Prelude.{◌≡◌, OnErr, Err, IfOk, Ok};
+ghost use Rattle.brk_report.specs.Asked.{AsksQueryAndWritesView, PrintViewPost, WritesTextOrFails};
+ghost use Rattle.brk_report.specs.Printed.{printed_view_text};
+ghost use Rattle.brk_model.specs.Ask as model;
+ghost use Rattle.brk_money.specs.declared.fault.Fault.TheVariants.{Memory};
+ghost use Rattle.brk_ref.specs.Fields.{texts_of_fields};
+ghost use Rattle.brk_view.specs.Queries.{abstract_query};
+ghost use Rattle.brk_view.specs.Views.{records_of_view};
+
+use crate::views::form::Form;
+use crate::views::heads::header_records;
+use crate::views::rows::{format_csv_rows, format_json_line};
+use brk_desk::{Desk, Query, View, parse_query, view_fields};
+use brk_io::write_all_bytes;
+use brk_money::Fault;
+use brk_report_lines::ReportFault;
+use sqlite::Alter;
+use std::alloc::Global;
+use std::io::Write;
+
+// Returns the text of a query's view: as one line of JSON if `form.json` is true, otherwise as CSV
+// rows, and with the names of its fields first if `form.heads` is true and all its records have the
+// same fields. Fails with `Memory` only.
+fn format_view(alloc: Global, query: &Query, view: &View, form: Form) -> Result<Vec<u8>, Fault>
+    ensures text { IfOk result (λ text. text.items ≡ printed_view_text form (abstract_query query.now) (records_of_view view.now)) }
+    ensures fault { OnErr result (result ≡ Err Memory) }
+{
+    let mut records = if form.heads {
+        header_records(alloc, query)?
+    } else {
+        Vec::new(alloc)
+    };
+    let mut shown = view_fields(alloc, view)?;
+    records.append(&mut shown)?;
+    if form.json {
+        Ok(format_json_line(alloc, &records)?)
+    } else {
+        Ok(format_csv_rows(alloc, &records)?)
+    }
+}
+
+// Writes the text of a query's view: as JSON if `form.json` is true, otherwise as CSV, and with the
+// names of its fields first if `form.heads` is true and all its records have the same fields.
+//
+// Fails with `Desk(Memory)` and nothing written, or with `Write` after a prefix of the text,
+// perhaps all of it.
+fn write_view<W: Write>(
+    alloc: Global,
+    query: &Query,
+    view: &View,
+    form: Form,
+    writer: &mut W,
+) -> Result<(), ReportFault>
+    ensures { WritesTextOrFails (printed_view_text form (abstract_query query.now) (records_of_view view.now))
+        (W.contents writer.old) (W.contents writer.new) result }
+{
+    match format_view(alloc, query, view, form) {
+        Ok(text) => match write_all_bytes(writer, &text) {
+            Ok(()) => Ok(()),
+            Err(_) => Err(ReportFault::Write),
+        },
+        Err(fault) => Err(ReportFault::Desk(fault)),
+    }
+}
+
+// Executes a query on the desk, and writes its view: as JSON if `form.json` is true, otherwise as
+// CSV, and with the names of its fields first if `form.heads` is true and all its records have the
+// same fields.
+//
+// Fails with `Refused` and the refusal of the query, or with `Desk` and `Memory` or `Store`, and
+// nothing is then written; or with `Write` after a prefix of the text, perhaps all of it.
+fn execute_query_and_write_view<W: Write, S: Alter>(
+    alloc: Global,
+    desk: &mut Desk<S>,
+    query: &Query,
+    form: Form,
+    writer: &mut W,
+) -> Result<(), ReportFault>
+    ensures { AsksQueryAndWritesView S.Store desk.old desk.new form (Ok (abstract_query query.now)) (W.contents writer.old) (W.contents writer.new) result }
+{
+    match desk.ask(alloc, query) {
+        Ok(Ok(view)) => write_view(alloc, query, &view, form, writer),
+        Ok(Err(refusal)) => Err(ReportFault::Refused(refusal)),
+        Err(fault) => Err(ReportFault::Desk(fault)),
+    }
+}
+
+/// Parses a query from the name of a view and its arguments, executes it on the desk, and writes
+/// its view: as JSON if `form.json` is true, otherwise as CSV, and with the names of its fields
+/// first if `form.heads` is true and all its records have the same fields.
+///
+/// Fails with `Refused` 18 if the texts are no query, otherwise with the refusal of the query;
+/// nothing is then written. Fails with `Desk` and `Memory` or `Store`, and nothing is written; with
+/// `Write` after a prefix of the text, perhaps all of it. If the database is still open, it is
+/// unchanged, whatever the result.
+///
+/// A crash after the call exposes only states that a crash before the call could expose.
+pub fn parse_query_and_write_view<W: Write, S: Alter>(
+    alloc: Global,
+    desk: &mut Desk<S>,
+    view: &str,
+    arguments: &[&[u8]],
+    form: Form,
+    writer: &mut W,
+) -> Result<(), ReportFault>
+    ensures asked { PrintViewPost S.Store desk.old desk.new form (model.parse_query view.now (texts_of_fields arguments.now))
+        (W.contents writer.old) (W.contents writer.new) result }
+{
+    match parse_query(alloc, view, arguments) {
+        Ok(Ok(query)) => execute_query_and_write_view(alloc, desk, &query, form, writer),
+        Ok(Err(refusal)) => Err(ReportFault::Refused(refusal)),
+        Err(fault) => Err(ReportFault::Desk(fault)),
+    }
+}
