@@ -1,7 +1,8 @@
-ghost use Rattle.std.specs.Prelude.{◌≡◌, Bool, IfOk, map, string_bytes};
+ghost use Rattle.std.specs.Prelude.{◌≡◌, Bool, Err, IfOk, OnErr, map, string_bytes};
 ghost use Rattle.std.specs.List.{list_all};
 ghost use Rattle.brk_http_engine.specs.Rows.{is_nonempty, all_router_rows};
 ghost use Rattle.brk_http_model.specs.Asked.{demand_of_texts, demand_of_request};
+ghost use Rattle.brk_money.specs.declared.fault.Fault.TheVariants.{Memory};
 ghost use Rattle.brk_http_engine.specs.Codes.{call_in_model, route_in_model};
 
 use crate::bodies::texts_of_body;
@@ -31,15 +32,15 @@ pub enum RequestedCall<X, Q> {
 }
 
 // Parses the texts of a body for a route: as a row or as the arguments of a view. Returns the call,
-// or the refusal if the row or the query is malformed. Fails if memory runs out or the parser of
-// the desk fails.
+// or the refusal if the row or the query is malformed. Fails with `Memory` only.
 fn parse_call_of_route<D: Service>(
     alloc: Global,
     route: Route<D::ViewName>,
     texts: &[String],
 ) -> Result<RequestedCall<D::Command, D::Query>, Fault>
-    ensures { IfOk result (λ asking. call_in_model D.command_of D.query_of asking
+    ensures call { IfOk result (λ asking. call_in_model D.command_of D.query_of asking
         ≡ demand_of_texts D.forms (route_in_model D.view_text route) (map string_bytes texts.now)) }
+    ensures fault { OnErr result (result ≡ Err Memory) }
 {
     let fields = borrow_bytes_of_texts(alloc, texts)?;
     match route {
@@ -56,20 +57,21 @@ fn parse_call_of_route<D: Service>(
 
 /// Returns the call that a request makes, or the first reason why it makes none: its target has no
 /// route, its method is not POST, its body is not a JSON list of texts, or its row or query is
-/// malformed. Fails if memory runs out or a parser of the desk fails.
+/// malformed. Fails with `Memory` only. Whether the request asks to close the stream is of no
+/// effect.
 #[tactic(auto, unfolding(brk_http_model::specs::Asked::demand_of_request), using(crate::proofs::AskLemmas::no_route, crate::proofs::AskLemmas::no_post, crate::proofs::AskLemmas::no_texts, crate::proofs::AskLemmas::all_there))]
 pub fn parse_call_of_request<D: Service>(
     alloc: Global,
     router: &Router<RouteKind>,
     method: &[u8],
     target: &[u8],
-    closes: bool,
     body: &[u8],
 ) -> Result<RequestedCall<D::Command, D::Query>, Fault>
     requires routes { router.now ≡ all_router_rows }
     requires named { list_all is_nonempty D.forms.views ≡ Bool.true }
-    ensures { IfOk result (λ asking. call_in_model D.command_of D.query_of asking
+    ensures call { (closes : Bool) → IfOk result (λ asking. call_in_model D.command_of D.query_of asking
         ≡ demand_of_request D.forms (record { method = method.now; target = target.now; closes = closes; body = body.now })) }
+    ensures fault { OnErr result (result ≡ Err Memory) }
 {
     let Some(route) = route_of_target::<D>(alloc, router, target)? else {
         return Ok(RequestedCall::Wrong(RequestProblem::NotFound));

@@ -1,8 +1,9 @@
-ghost use Rattle.std.specs.Prelude.{◌≡◌, ◌∷◌, [], Bool, IfOk, option_map};
+ghost use Rattle.std.specs.Prelude.{◌≡◌, ◌∷◌, [], Bool, Err, IfOk, OnErr, option_map};
 ghost use Rattle.std.specs.List.{list_all};
 ghost use Rattle.brk_http_engine.specs.Rows.{is_nonempty, all_router_rows};
 ghost use Rattle.brk_http_model.specs.Routes.{has_first_segment, key_of_batch_row, route_of_segments, route_of_target};
 ghost use Rattle.brk_model.specs.Forms.{read_id};
+ghost use Rattle.brk_money.specs.declared.fault.Fault.TheVariants.{Memory};
 ghost use Rattle.brk_ref.specs.Fields.{texts_of_fields};
 ghost use Rattle.brk_ref.specs.Records.{abstract_key};
 ghost use Rattle.brk_http_engine.specs.Codes.{route_in_model};
@@ -25,9 +26,10 @@ pub enum Route<V> {
 }
 
 // Parses `batch` as a batch name and `n` as a row number. Returns the key with both, or `None` if
-// one of them is malformed. Fails if memory runs out.
+// one of them is malformed. Fails with `Memory` only.
 fn key_of_batch_row(alloc: Global, batch: &[u8], n: &[u8]) -> Result<Option<Key>, Fault>
-    ensures { IfOk result (λ key. option_map abstract_key key ≡ key_of_batch_row batch.now (read_id n.now)) }
+    ensures key { IfOk result (λ key. option_map abstract_key key ≡ key_of_batch_row batch.now (read_id n.now)) }
+    ensures fault { OnErr result (result ≡ Err Memory) }
 {
     let Some(id) = parse_id(n) else {
         return Ok(None);
@@ -65,7 +67,7 @@ fn parse_view_route<D: Service>(first: &str, word: &str, view: &str) -> Option<R
 }
 
 // Returns the route of a row with its key if the parts are those of a target `/rows/BATCH/N` and
-// the key is well-formed, otherwise `None`. Fails if memory runs out.
+// the key is well-formed, otherwise `None`. Fails with `Memory` only.
 fn parse_keyed_row_route<D: Service>(
     alloc: Global,
     first: &str,
@@ -73,8 +75,9 @@ fn parse_keyed_row_route<D: Service>(
     batch: &str,
     n: &str,
 ) -> Result<Option<Route<D::ViewName>>, Fault>
-    ensures { IfOk result (λ route. option_map (route_in_model D.view_text) route
+    ensures route { IfOk result (λ route. option_map (route_in_model D.view_text) route
         ≡ route_of_segments D.forms.views (first.now ∷ word.now ∷ batch.now ∷ n.now ∷ [])) }
+    ensures fault { OnErr result (result ≡ Err Memory) }
 {
     if !has_first_segment(first, word, "rows") {
         return Ok(None);
@@ -98,12 +101,13 @@ fn parse_unkeyed_row_route<D: Service>(first: &str, word: &str) -> Option<Route<
 }
 
 // Returns the route of a target that was split at `/` into these parts, or `None` if it has no
-// route. Fails if memory runs out.
+// route. Fails with `Memory` only.
 fn route_of_segments<D: Service>(
     alloc: Global,
     parts: &[&str],
 ) -> Result<Option<Route<D::ViewName>>, Fault>
-    ensures { IfOk result (λ route. option_map (route_in_model D.view_text) route ≡ route_of_segments D.forms.views (texts_of_fields parts.now)) }
+    ensures route { IfOk result (λ route. option_map (route_in_model D.view_text) route ≡ route_of_segments D.forms.views (texts_of_fields parts.now)) }
+    ensures fault { OnErr result (result ≡ Err Memory) }
 {
     match parts {
         [first, word] => Ok(parse_unkeyed_row_route::<D>(first, word)),
@@ -113,8 +117,8 @@ fn route_of_segments<D: Service>(
     }
 }
 
-/// Returns the route of a request target, or `None` if it is not UTF-8 or has no route. Fails if
-/// memory runs out.
+/// Returns the route of a request target, or `None` if it is not UTF-8 or has no route. Fails with
+/// `Memory` only.
 #[tactic(auto, unfolding(brk_http_model::specs::Routes::route_of_target))]
 pub fn route_of_target<D: Service>(
     alloc: Global,
@@ -123,7 +127,8 @@ pub fn route_of_target<D: Service>(
 ) -> Result<Option<Route<D::ViewName>>, Fault>
     requires routes { router.now ≡ all_router_rows }
     requires named { list_all is_nonempty D.forms.views ≡ Bool.true }
-    ensures { IfOk result (λ route. option_map (route_in_model D.view_text) route ≡ route_of_target D.forms.views target.now) }
+    ensures route { IfOk result (λ route. option_map (route_in_model D.view_text) route ≡ route_of_target D.forms.views target.now) }
+    ensures fault { OnErr result (result ≡ Err Memory) }
 {
     let Ok(text) = str::from_utf8(target) else {
         return Ok(None);

@@ -1,7 +1,8 @@
-ghost use Rattle.std.specs.Prelude.{◌≡◌, ℕ, Bool, IfOk, MatchOption, IsTrue, bytes_eq};
+ghost use Rattle.std.specs.Prelude.{◌≡◌, ℕ, Bool, Err, IfOk, MatchOption, IsTrue, OnErr, bytes_eq};
 ghost use Rattle.std.specs.List.{list_any};
 ghost use Rattle.std.specs.Option.{option_copied};
 ghost use Rattle.brk_money.specs.Spelling.{Text};
+ghost use Rattle.brk_money.specs.declared.fault.Fault.TheVariants.{Memory};
 ghost use Rattle.brk_model.specs.Commands as model;
 ghost use Rattle.brk_model.specs.Queries as queries;
 ghost use Rattle.brk_model.specs.Rows.{reply_fields};
@@ -57,10 +58,11 @@ pub trait Service {
     /// The model's view, a list of records of texts, that a view represents.
     ghost shown: { Self.View → queries.View };
 
-    /// Parses the fields of a row: returns a command, or the refusal of a malformed row. Its faults
-    /// are not specified here.
+    /// Parses the fields of a row: returns a command, or the refusal of a malformed row. Fails with
+    /// `Memory` only.
     fn parse_row(alloc: Global, row: &[&[u8]]) -> Planned<Self::Command>
-        ensures { IfOk result (λ read. ParsesAs command_of read (forms.row (texts_of_fields row.now))) };
+        ensures read { IfOk result (λ read. ParsesAs command_of read (forms.row (texts_of_fields row.now))) }
+        ensures fault { OnErr result (result ≡ Err Memory) };
 
     /// Returns the name of a view that has the text `name`, or `None` if no view has this name.
     fn view_named(name: &str) -> Option<Self::ViewName>
@@ -69,9 +71,10 @@ pub trait Service {
             (λ view. (view_text view ≡ name.now) × (list_any (λ v. bytes_eq v name.now) forms.views ≡ Bool.true)) };
 
     /// Parses the arguments of the view with the name `view`: returns a query, or the refusal of a
-    /// malformed query. Its faults are not specified here.
+    /// malformed query. Fails with `Memory` only.
     fn parse_query(alloc: Global, view: Self::ViewName, arguments: &[&[u8]]) -> Planned<Self::Query>
-        ensures { IfOk result (λ read. ParsesAs query_of read (forms.query (view_text view) (texts_of_fields arguments.now))) };
+        ensures read { IfOk result (λ read. ParsesAs query_of read (forms.query (view_text view) (texts_of_fields arguments.now))) }
+        ensures fault { OnErr result (result ≡ Err Memory) };
 
     /// Executes a command at the clock reading `now`, under its key or without one, and returns its
     /// answer. Fails with a fault of the desk.

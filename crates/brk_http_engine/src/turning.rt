@@ -108,8 +108,7 @@ fn execute_and_format_reply<C: Clock, D: Service>(
     let method = places.method.of(buffer);
     let target = places.target.of(buffer);
     let body = places.body.of(buffer);
-    let Ok(asking) = parse_call_of_request::<D>(alloc, router, method, target, places.closes, body)
-    else {
+    let Ok(asking) = parse_call_of_request::<D>(alloc, router, method, target, body) else {
         return Err(OutOfMemoryPoint::Before);
     };
     let told = execute_call_of_request::<C, D>(alloc, clock, desk, asking);

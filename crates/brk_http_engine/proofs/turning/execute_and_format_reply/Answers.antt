@@ -6,7 +6,7 @@ use Rattle.brk_http_engine.proofs.turning.execute_and_format_reply.Goals as goal
 
 pub returns-clause-after : goal.returns-clause-after
 returns-clause-after g c = λ old new is.
-    let asked = rw (c.of-method.ensures, c.of-target.ensures, c.of-body.ensures) at c.in-Ok.ensures in (
+    let asked = rw (c.of-method.ensures, c.of-target.ensures, c.of-body.ensures) at (c.in-Ok.ensures.call c.args.places.closes) in (
       c.is_last_reply-closes.result,
       reply_text (response_in_model g.D.Service.told g.D.Service.shown c.execute_call_of_request-told.result) c.is_last_reply-closes.result,
       record {
