@@ -220,7 +220,7 @@ fn argument_text(
 
 // Returns a copy of the path that the option `--db` gives, or `None` without this option. Fails
 // only if memory runs out.
-fn file_path_of_matches(
+fn path_of_db_option(
     alloc: Global,
     matches: &ArgMatches<'_>,
 ) -> Result<Option<String>, AllocError> {
@@ -231,7 +231,7 @@ fn file_path_of_matches(
 }
 
 // Returns the timestamp that the option `--at` gives, or `None` without this option.
-fn timestamp_of_matches(matches: &ArgMatches<'_>) -> Option<Stamp> {
+fn timestamp_of_at_option(matches: &ArgMatches<'_>) -> Option<Stamp> {
     matches.get_one::<i64>("at").and_then(Stamp::new)
 }
 
@@ -261,8 +261,8 @@ fn statement_job(alloc: Global, matches: &ArgMatches<'_>) -> Result<Job, UsageFa
 fn serve_job(alloc: Global, matches: &ArgMatches<'_>) -> Result<Job, UsageFault> {
     Ok(Job::Serve {
         port: matches.get_one("port").unwrap_or(0),
-        db: file_path_of_matches(alloc, matches)?,
-        at: timestamp_of_matches(matches),
+        db: path_of_db_option(alloc, matches)?,
+        at: timestamp_of_at_option(matches),
         streams: matches.get_one("streams").unwrap_or(1),
     })
 }
@@ -325,8 +325,8 @@ fn job_of_subcommand(
         return Ok(Job::Audit { db });
     }
     Ok(Job::Batch {
-        db: file_path_of_matches(alloc, matches)?,
-        at: timestamp_of_matches(matches),
+        db: path_of_db_option(alloc, matches)?,
+        at: timestamp_of_at_option(matches),
     })
 }
 

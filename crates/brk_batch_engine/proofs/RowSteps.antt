@@ -19,7 +19,7 @@ use Rattle.brk_batch_engine.specs.Answers.{RepresentsDurably}
 use Rattle.brk_batch_engine.specs.Batch.{BatchPost}
 use Rattle.brk_batch_engine.specs.Counts.{counts_with_answer, end_line_with_counts}
 use Rattle.brk_batch_engine.specs.Parts.{EndRecordFailsWith}
-use Rattle.brk_batch_engine.specs.RowSteps.{FirstRowEndsBatchWith, NextRecordEndsBatchWith, ReadsOneRecord, RowEndsBatchWith, RowIsDecided}
+use Rattle.brk_batch_engine.specs.RowSteps.{FirstRowEndsBatchWith, NextRecordEndsBatchWith, ReadsOneRecord, RowEndsBatchWith, RowIsDecidedAndWritten}
 use Rattle.brk_batch_engine.specs.Script.{RowCallRelation}
 use Rattle.brk_batch_engine.specs.declared.counts.Counts.{Counts}
 use Rattle.brk_batch_engine.proofs.Endings.{answer_failed, answer_left, end_failed, ended_well, failed_asked, no_rows, nothing_read, read_failed, row_cut_off, tell_failed, turns_over, untouched}
@@ -90,7 +90,7 @@ module _ {D S X C R : Type 0} (meets_disk_assumption : D → Type 0) (represents
         (read : ReadsOneRecord rem place.reader reader next) where
       -- the row is decided: the batch is at the next position, and all lines were written
       pub row_decided : (counts : Counts)
-          → RowIsDecided meets_disk_assumption represents crash_exposes_only acts step gives (form place.row) head.name place.settled desk last (record { clock = place.later; later = later; old = mid; new = new }) place.counts counts
+          → RowIsDecidedAndWritten meets_disk_assumption represents crash_exposes_only acts step gives (form place.row) head.name place.settled desk last (record { clock = place.later; later = later; old = mid; new = new }) place.counts counts
           → (q : HasReachedPosition meets_disk_assumption (RepresentsDurably represents crash_exposes_only) acts form step gives rem first head last (position_after_row place counts next later reader))
           × Appends head.old new (answer_lines_from 1 q.answers)
       row_decided counts row =

@@ -60,9 +60,10 @@ NextRecordEndsBatchWith rem reader settled old new fault =
     ⊎ ((kind : FaultKind) × (fault ≡ record { rows = settled + 1; kind = kind }) × HasNoRecordLeft rem reader
     × CutRowEndsBatchWith old new (answer_line (settled + 1) (Refused BadText)) kind)
 
--- The row is decided: it has an answer, the line of the answer was written, and the counts `more`
--- are `counts` with this answer added.
-pub record RowIsDecided {D S X C : Type 0} (meets_disk_assumption : D → Type 0) (represents : D → S → Type 0) (crash_exposes_only : D → S → S → Type 0) (acts : RowCallRelation D X) (step : RowStep S X)
+-- The row is decided and its line was written: the row has an answer, the line of the answer was
+-- appended to the writer's content, and the counts `more` are `counts` with this answer added. The
+-- clause on the line is vacuous if the writer's content before is unknown.
+pub record RowIsDecidedAndWritten {D S X C : Type 0} (meets_disk_assumption : D → Type 0) (represents : D → S → Type 0) (crash_exposes_only : D → S → S → Type 0) (acts : RowCallRelation D X) (step : RowStep S X)
     (gives : C → ℕ → C → Type 0) (read : ReadResult X) (batch : Text) (settled : ℕ) (first last : D) (outside : ClockAndWriterChange C) (counts more : Counts) : Type 0 where
   pub answer : Answer
   pub given : RowHasAnswer meets_disk_assumption (RepresentsDurably represents crash_exposes_only) acts step gives read batch (settled + 1) answer first last outside.clock outside.later

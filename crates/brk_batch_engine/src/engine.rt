@@ -11,7 +11,7 @@ ghost use Rattle.brk_batch_engine.specs.Batch.{BatchPost, BatchRefinesModel, IsB
 ghost use Rattle.brk_batch_engine.specs.Counts.{end_line_with_counts};
 ghost use Rattle.brk_batch_engine.specs.Parts.{CutRowEndsBatchWith, EndRecordFailsWith, HeaderReadFailsWith, LineWriteFailsWith};
 ghost use Rattle.brk_batch_engine.specs.Reading.{IsBatchReader, ReaderIsAfterRecords};
-ghost use Rattle.brk_batch_engine.specs.RowSteps.{FirstRowEndsBatchWith, NextRecordEndsBatchWith, ReadsOneRecord, RowEndsBatchWith, RowIsDecided};
+ghost use Rattle.brk_batch_engine.specs.RowSteps.{FirstRowEndsBatchWith, NextRecordEndsBatchWith, ReadsOneRecord, RowEndsBatchWith, RowIsDecidedAndWritten};
 
 use crate::answer::execute_row;
 use crate::counts::Counts;
@@ -208,7 +208,7 @@ fn execute_row_and_write_line<W: Write, C: Clock, D: Rows>(
     requires settled { settled < 67108864 }
     requires counted { counts.ok + counts.again + counts.no ≡ settled }
     ensures disk_was_clean { D.meets_disk_assumption desk.new → D.meets_disk_assumption desk.old }
-    ensures ok { IfOk result (RowIsDecided D.meets_disk_assumption D.represents D.crash_exposes_only D.acts D.step C.gives (D.form (fields_of row.now)) name.now settled desk.old desk.new
+    ensures ok { IfOk result (RowIsDecidedAndWritten D.meets_disk_assumption D.represents D.crash_exposes_only D.acts D.step C.gives (D.form (fields_of row.now)) name.now settled desk.old desk.new
         (record { clock = clock.old; later = clock.new; old = W.contents writer.old; new = W.contents writer.new }) counts) }
     ensures err { IfErr result (RowEndsBatchWith D.meets_disk_assumption D.represents D.crash_exposes_only D.acts D.step C.gives (D.form (fields_of row.now)) name.now settled desk.old desk.new
         (record { clock = clock.old; later = clock.new; old = W.contents writer.old; new = W.contents writer.new })) }

@@ -48,8 +48,8 @@ impl<S: Alter> Service for DeskService<S> {
 
     ghost shown = { records_of_view };
 
-    /// Parses the fields of a row: returns a command, or the refusal of a malformed row. Its faults
-    /// are not specified here.
+    /// Parses the fields of a row: returns a command, or the refusal of a malformed row. Fails only
+    /// if memory runs out.
     fn parse_row(alloc: Global, row: &[&[u8]]) -> Planned<Command> {
         parse_row(alloc, row)
     }
@@ -60,7 +60,7 @@ impl<S: Alter> Service for DeskService<S> {
     }
 
     /// Parses the arguments of a view: returns a query, or the refusal of a malformed query. Fails
-    /// if memory runs out.
+    /// only if memory runs out.
     fn parse_query(alloc: Global, view: ViewName, arguments: &[&[u8]]) -> Planned<Query> {
         parse_query_of_view(alloc, view, arguments)
     }

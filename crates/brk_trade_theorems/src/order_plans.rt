@@ -28,8 +28,8 @@ ghost use Rattle.brk_trade_theorems.specs.OrderPlans.{OrderLotsSatisfy, Estimate
 ghost use Rattle.brk_trade_theorems.specs.Plans.{PlanImplementsCommand};
 
 /// Proves that the terms of an order that are computed from facts of the tables are the terms that
-/// the base has for the order, if the order passes its checks against these facts and the base
-/// satisfies the books invariant.
+/// the base has for the order (`AreOrderTermsInBase`, which says nothing of the shares held), if
+/// the order passes its checks against these facts and the base satisfies the books invariant.
 pub fn terms_from_order_facts_match_the_base()
     ensures { (base : Base) (order : Order) (found : OrderPlanFacts) → BooksInvariant base → EstimateFactsMatchTables (sheets base) order found
         → first_refusal (order_checks found) ≡ None → AreOrderTermsInBase base (abstract_order order) (terms_of_order order found) }

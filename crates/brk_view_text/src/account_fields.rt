@@ -1,42 +1,39 @@
 //! The records of the views of accounts.
 
-ghost use Rattle.std.specs.Prelude.{◌≡◌, ◌∷◌, ◌++◌, [], Err, IfOk, OnErr, OnOk, map};
+ghost use Rattle.std.specs.Prelude.{◌≡◌, ◌++◌, IfOk, OnOk, map};
 ghost use Rattle.brk_changes.specs.Rows.{abstract_trade_row};
-ghost use Rattle.brk_money.specs.declared.fault.Fault.TheVariants.{Memory};
 ghost use Rattle.brk_view.specs.Recent as recents;
 ghost use Rattle.brk_view.specs.Status as statuses;
 ghost use Rattle.brk_view.specs.Views.{texts_of_record, texts_of_records};
 ghost use Rattle.brk_view.specs.Worths.{account_worth_record};
 
-use crate::texts::{copy_text, number_text, stamp_text};
+use crate::texts::{push_amount, push_number, push_stamp, push_word};
 use brk_changes::{HistoryRow, TradeRow};
-use brk_money::Fault;
+use brk_money::Wide;
 use brk_view::recents::Activity;
 use brk_view::statuses::{AccountStatus, TradeStatus};
 use brk_view::worths::AccountWorth;
-use std::alloc::Global;
+use std::alloc::{AllocError, Global};
 
 // Returns the record of an account: its id, its balance and the market value of its holdings. Fails
-// with `Memory` only.
-fn account_worth_texts(alloc: Global, account: &AccountWorth) -> Result<Vec<String>, Fault>
-    ensures texts { IfOk result (λ texts. texts_of_record texts ≡ account_worth_record account.now) }
-    ensures fault { OnErr result (result ≡ Err Memory) }
+// only if memory runs out.
+fn account_worth_texts(alloc: Global, account: &AccountWorth) -> Result<Vec<String>, AllocError>
+    ensures { IfOk result (λ texts. texts_of_record texts ≡ account_worth_record account.now) }
 {
     let mut texts = Vec::new(alloc);
-    texts.push(number_text(alloc, account.account.get())?)?;
-    texts.push(account.balance.to_string(alloc)?)?;
-    texts.push(account.assets.to_string(alloc)?)?;
+    push_number(alloc, &mut texts, account.account.get())?;
+    push_amount(alloc, &mut texts, Wide::from(account.balance))?;
+    push_amount(alloc, &mut texts, account.assets)?;
     Ok(texts)
 }
 
 // Returns a record for each account: its id, its balance and the market value of its holdings.
-// Fails with `Memory` only.
+// Fails only if memory runs out.
 pub(crate) fn account_worth_records(
     alloc: Global,
     accounts: &[AccountWorth],
-) -> Result<Vec<Vec<String>>, Fault>
-    ensures records { IfOk result (λ records. texts_of_records records ≡ map account_worth_record accounts.now) }
-    ensures fault { OnErr result (result ≡ Err Memory) }
+) -> Result<Vec<Vec<String>>, AllocError>
+    ensures { IfOk result (λ records. texts_of_records records ≡ map account_worth_record accounts.now) }
 {
     let mut records = Vec::new(alloc);
     for account in accounts {
@@ -47,37 +44,35 @@ pub(crate) fn account_worth_records(
 }
 
 // Returns the record of one of an account's last trades: the word `trade`, its id, its symbol and
-// its quantity. Fails with `Memory` only.
-fn recent_trade_texts(alloc: Global, trade: &TradeRow) -> Result<Vec<String>, Fault>
-    ensures texts { IfOk result (λ texts. texts_of_record texts ≡ recents.recent_trade_record (abstract_trade_row trade.now)) }
-    ensures fault { OnErr result (result ≡ Err Memory) }
+// its quantity. Fails only if memory runs out.
+fn recent_trade_texts(alloc: Global, trade: &TradeRow) -> Result<Vec<String>, AllocError>
+    ensures { IfOk result (λ texts. texts_of_record texts ≡ recents.recent_trade_record (abstract_trade_row trade.now)) }
 {
     let mut texts = Vec::new(alloc);
-    texts.push(copy_text(alloc, "trade")?)?;
-    texts.push(number_text(alloc, trade.id.get())?)?;
-    texts.push(copy_text(alloc, trade.symbol.as_str())?)?;
-    texts.push(number_text(alloc, u64::from(trade.qty.get()))?)?;
+    push_word(alloc, &mut texts, "trade")?;
+    push_number(alloc, &mut texts, trade.id.get())?;
+    push_word(alloc, &mut texts, trade.symbol.as_str())?;
+    push_number(alloc, &mut texts, u64::from(trade.qty.get()))?;
     Ok(texts)
 }
 
 // Returns the record of a status of one of an account's last trades: the word `history`, the id of
-// the trade, the name of the status and its stamp. Fails with `Memory` only.
-fn recent_status_texts(alloc: Global, row: &HistoryRow) -> Result<Vec<String>, Fault>
-    ensures texts { IfOk result (λ texts. texts_of_record texts ≡ recents.recent_status_record row.now) }
-    ensures fault { OnErr result (result ≡ Err Memory) }
+// the trade, the name of the status and its stamp. Fails only if memory runs out.
+fn recent_status_texts(alloc: Global, row: &HistoryRow) -> Result<Vec<String>, AllocError>
+    ensures { IfOk result (λ texts. texts_of_record texts ≡ recents.recent_status_record row.now) }
 {
     let mut texts = Vec::new(alloc);
-    texts.push(copy_text(alloc, "history")?)?;
-    texts.push(number_text(alloc, row.trade.get())?)?;
-    texts.push(copy_text(alloc, row.status.name())?)?;
-    texts.push(stamp_text(alloc, row.stamp)?)?;
+    push_word(alloc, &mut texts, "history")?;
+    push_number(alloc, &mut texts, row.trade.get())?;
+    push_word(alloc, &mut texts, row.status.name())?;
+    push_stamp(alloc, &mut texts, row.stamp)?;
     Ok(texts)
 }
 
-// Returns a record for each of an account's last trades, in sequence. Fails with `Memory` only.
-fn recent_trade_records(alloc: Global, trades: &[TradeRow]) -> Result<Vec<Vec<String>>, Fault>
-    ensures records { IfOk result (λ records. texts_of_records records ≡ map recents.recent_trade_record (map abstract_trade_row trades.now)) }
-    ensures fault { OnErr result (result ≡ Err Memory) }
+// Returns a record for each of an account's last trades, in sequence. Fails only if memory runs
+// out.
+fn recent_trade_records(alloc: Global, trades: &[TradeRow]) -> Result<Vec<Vec<String>>, AllocError>
+    ensures { IfOk result (λ records. texts_of_records records ≡ map recents.recent_trade_record (map abstract_trade_row trades.now)) }
 {
     let mut records = Vec::new(alloc);
     for trade in trades {
@@ -88,14 +83,13 @@ fn recent_trade_records(alloc: Global, trades: &[TradeRow]) -> Result<Vec<Vec<St
 }
 
 // Appends to `records` a record for each status of an account's last trades, in sequence. Fails
-// with `Memory` only.
+// only if memory runs out.
 fn append_recent_status_records(
     alloc: Global,
     records: &mut Vec<Vec<String>>,
     history: &[HistoryRow],
-) -> Result<(), Fault>
-    ensures records { OnOk result (texts_of_records records.new ≡ texts_of_records records.old ++ map recents.recent_status_record history.now) }
-    ensures fault { OnErr result (result ≡ Err Memory) }
+) -> Result<(), AllocError>
+    ensures { OnOk result (texts_of_records records.new ≡ texts_of_records records.old ++ map recents.recent_status_record history.now) }
 {
     for row in history {
         let texts = recent_status_texts(alloc, row)?;
@@ -105,10 +99,12 @@ fn append_recent_status_records(
 }
 
 // Returns a record for each of the last trades of an account, followed by one for each status of
-// these trades. Fails with `Memory` only.
-pub(crate) fn activity_records(alloc: Global, recent: &Activity) -> Result<Vec<Vec<String>>, Fault>
-    ensures records { IfOk result (λ records. texts_of_records records ≡ recents.records_of_activity recent.now) }
-    ensures fault { OnErr result (result ≡ Err Memory) }
+// these trades. Fails only if memory runs out.
+pub(crate) fn activity_records(
+    alloc: Global,
+    recent: &Activity,
+) -> Result<Vec<Vec<String>>, AllocError>
+    ensures { IfOk result (λ records. texts_of_records records ≡ recents.records_of_activity recent.now) }
 {
     let mut records = recent_trade_records(alloc, &recent.trades)?;
     append_recent_status_records(alloc, &mut records, &recent.history)?;
@@ -116,72 +112,70 @@ pub(crate) fn activity_records(alloc: Global, recent: &Activity) -> Result<Vec<V
 }
 
 // Returns the record of the names of an account's customer and broker: last name, first name, name
-// of the broker. Fails with `Memory` only.
-fn party_name_texts(alloc: Global, account: &AccountStatus) -> Result<Vec<String>, Fault>
-    ensures texts { IfOk result (λ texts. texts_of_record texts ≡ statuses.party_names_record account.now) }
-    ensures fault { OnErr result (result ≡ Err Memory) }
+// of the broker. Fails only if memory runs out.
+fn party_name_texts(alloc: Global, account: &AccountStatus) -> Result<Vec<String>, AllocError>
+    ensures { IfOk result (λ texts. texts_of_record texts ≡ statuses.party_names_record account.now) }
 {
     let mut texts = Vec::new(alloc);
-    texts.push(copy_text(alloc, account.last_name.as_str())?)?;
-    texts.push(copy_text(alloc, account.first_name.as_str())?)?;
-    texts.push(copy_text(alloc, account.broker.as_str())?)?;
+    push_word(alloc, &mut texts, account.last_name.as_str())?;
+    push_word(alloc, &mut texts, account.first_name.as_str())?;
+    push_word(alloc, &mut texts, account.broker.as_str())?;
     Ok(texts)
 }
 
 // Returns the first five of the ten fields of a trade in the view of an account's status: its id,
-// its stamp, the names of its status and type, and its symbol. Fails with `Memory` only.
-fn first_five_status_texts(alloc: Global, trade: &TradeRow) -> Result<Vec<String>, Fault>
-    ensures texts { IfOk result (λ texts. texts_of_record texts ≡ statuses.first_five_status_fields trade.now) }
-    ensures fault { OnErr result (result ≡ Err Memory) }
+// its stamp, the names of its status and type, and its symbol. Fails only if memory runs out.
+fn first_five_status_texts(alloc: Global, trade: &TradeRow) -> Result<Vec<String>, AllocError>
+    ensures { IfOk result (λ texts. texts_of_record texts ≡ statuses.first_five_status_fields trade.now) }
 {
     let mut texts = Vec::new(alloc);
-    texts.push(number_text(alloc, trade.id.get())?)?;
-    texts.push(stamp_text(alloc, trade.stamp)?)?;
-    texts.push(copy_text(alloc, trade.status.name())?)?;
-    texts.push(copy_text(alloc, trade.kind.name())?)?;
-    texts.push(copy_text(alloc, trade.symbol.as_str())?)?;
+    push_number(alloc, &mut texts, trade.id.get())?;
+    push_stamp(alloc, &mut texts, trade.stamp)?;
+    push_word(alloc, &mut texts, trade.status.name())?;
+    push_word(alloc, &mut texts, trade.kind.name())?;
+    push_word(alloc, &mut texts, trade.symbol.as_str())?;
     Ok(texts)
 }
 
 // Appends to `texts` the last five of the ten fields of a trade in the view of an account's status:
-// its quantity, executor and charge, and the name and the exchange of its security. Fails with
-// `Memory` only.
+// its quantity, executor and charge, and the name and the exchange of its security. Fails only if
+// memory runs out.
 fn append_last_five_status_texts(
     alloc: Global,
     texts: &mut Vec<String>,
     status: &TradeStatus,
-) -> Result<(), Fault>
-    ensures texts { OnOk result (texts_of_record texts.new ≡ texts_of_record texts.old ++ statuses.last_five_status_fields status.now) }
-    ensures fault { OnErr result (result ≡ Err Memory) }
+) -> Result<(), AllocError>
+    ensures { OnOk result (texts_of_record texts.new ≡ texts_of_record texts.old ++ statuses.last_five_status_fields status.now) }
 {
-    texts.push(number_text(alloc, u64::from(status.trade.qty.get()))?)?;
-    texts.push(copy_text(alloc, status.trade.executor.as_str())?)?;
-    texts.push(status.trade.charge.to_string(alloc)?)?;
-    texts.push(copy_text(alloc, status.security.name.as_str())?)?;
-    texts.push(copy_text(alloc, status.security.exchange.as_str())?)?;
-    Ok(())
+    push_number(alloc, texts, u64::from(status.trade.qty.get()))?;
+    push_word(alloc, texts, status.trade.executor.as_str())?;
+    push_amount(
+        alloc,
+        texts,
+        Wide::new(i128::from(status.trade.charge.get())),
+    )?;
+    push_word(alloc, texts, status.security.name.as_str())?;
+    push_word(alloc, texts, status.security.exchange.as_str())
 }
 
 // Returns the record of a trade with its security in the view of an account's status, in ten
-// fields. Fails with `Memory` only.
-fn trade_status_texts(alloc: Global, status: &TradeStatus) -> Result<Vec<String>, Fault>
-    ensures texts { IfOk result (λ texts. texts_of_record texts ≡ statuses.trade_status_record status.now) }
-    ensures fault { OnErr result (result ≡ Err Memory) }
+// fields. Fails only if memory runs out.
+fn trade_status_texts(alloc: Global, status: &TradeStatus) -> Result<Vec<String>, AllocError>
+    ensures { IfOk result (λ texts. texts_of_record texts ≡ statuses.trade_status_record status.now) }
 {
     let mut texts = first_five_status_texts(alloc, &status.trade)?;
     append_last_five_status_texts(alloc, &mut texts, status)?;
     Ok(texts)
 }
 
-// Appends to `records` a record for each trade with its security, in sequence. Fails with `Memory`
-// only.
+// Appends to `records` a record for each trade with its security, in sequence. Fails only if memory
+// runs out.
 fn append_trade_status_records(
     alloc: Global,
     records: &mut Vec<Vec<String>>,
     trades: &[TradeStatus],
-) -> Result<(), Fault>
-    ensures records { OnOk result (texts_of_records records.new ≡ texts_of_records records.old ++ map statuses.trade_status_record trades.now) }
-    ensures fault { OnErr result (result ≡ Err Memory) }
+) -> Result<(), AllocError>
+    ensures { OnOk result (texts_of_records records.new ≡ texts_of_records records.old ++ map statuses.trade_status_record trades.now) }
 {
     for trade in trades {
         let texts = trade_status_texts(alloc, trade)?;
@@ -191,13 +185,12 @@ fn append_trade_status_records(
 }
 
 // Returns the record of the names of an account's customer and broker, followed by one record for
-// each trade in `account`. Fails with `Memory` only.
+// each trade in `account`. Fails only if memory runs out.
 pub(crate) fn account_status_records(
     alloc: Global,
     account: &AccountStatus,
-) -> Result<Vec<Vec<String>>, Fault>
-    ensures records { IfOk result (λ records. texts_of_records records ≡ statuses.records_of_account_status account.now) }
-    ensures fault { OnErr result (result ≡ Err Memory) }
+) -> Result<Vec<Vec<String>>, AllocError>
+    ensures { IfOk result (λ records. texts_of_records records ≡ statuses.records_of_account_status account.now) }
 {
     let mut records = Vec::new(alloc);
     let names = party_name_texts(alloc, account)?;

@@ -1,6 +1,6 @@
 //! The records of a view, as texts.
 
-ghost use Rattle.std.specs.Prelude.{◌≡◌, ◌∷◌, [], IfOk, OnErr, Err, decimal, map, string_bytes};
+ghost use Rattle.std.specs.Prelude.{◌≡◌, ◌∷◌, [], IfOk, OnErr, Err, map};
 ghost use Rattle.brk_plans.specs.Replies.{estimate_from_model};
 ghost use Rattle.brk_model.specs.Commands as model;
 ghost use Rattle.brk_model.specs.Rows.{estimate_fields};
@@ -11,35 +11,33 @@ ghost use Rattle.brk_view.specs.declared.view.View.TheVariants as views;
 use crate::account_fields::{account_status_records, account_worth_records, activity_records};
 use crate::lookup_fields::looked_up_trade_records;
 use crate::lot_fields::records_of_touched_lots;
-use crate::texts::number_text;
+use crate::texts::{push_amount, push_number, push_word};
 use crate::volume_fields::broker_volume_records;
-use brk_money::Fault;
+use brk_money::{Fault, Wide};
 use brk_plans::Estimate;
 use brk_view::view::{SubmittedTrade, View};
-use std::alloc::Global;
+use std::alloc::{AllocError, Global};
 
-// Returns the record of a submitted trade: its id, type, symbol, quantity and bid price. Fails with
-// `Memory` only.
-fn submitted_trade_texts(alloc: Global, trade: &SubmittedTrade) -> Result<Vec<String>, Fault>
-    ensures texts { IfOk result (λ texts. texts_of_record texts ≡ submitted_trade_record trade.now) }
-    ensures fault { OnErr result (result ≡ Err Memory) }
+// Returns the record of a submitted trade: its id, type, symbol, quantity and bid price. Fails only
+// if memory runs out.
+fn submitted_trade_texts(alloc: Global, trade: &SubmittedTrade) -> Result<Vec<String>, AllocError>
+    ensures { IfOk result (λ texts. texts_of_record texts ≡ submitted_trade_record trade.now) }
 {
     let mut texts = Vec::new(alloc);
-    texts.push(number_text(alloc, trade.id.get())?)?;
-    texts.push(String::from_str(alloc, trade.kind.code())?)?;
-    texts.push(String::from_str(alloc, trade.symbol.as_str())?)?;
-    texts.push(number_text(alloc, u64::from(trade.qty.get()))?)?;
-    texts.push(trade.bid.to_string(alloc)?)?;
+    push_number(alloc, &mut texts, trade.id.get())?;
+    push_word(alloc, &mut texts, trade.kind.code())?;
+    push_word(alloc, &mut texts, trade.symbol.as_str())?;
+    push_number(alloc, &mut texts, u64::from(trade.qty.get()))?;
+    push_amount(alloc, &mut texts, Wide::from(trade.bid))?;
     Ok(texts)
 }
 
-// Returns a record for each submitted trade, in sequence. Fails with `Memory` only.
+// Returns a record for each submitted trade, in sequence. Fails only if memory runs out.
 fn submitted_trade_records(
     alloc: Global,
     trades: &[SubmittedTrade],
-) -> Result<Vec<Vec<String>>, Fault>
-    ensures records { IfOk result (λ records. texts_of_records records ≡ map submitted_trade_record trades.now) }
-    ensures fault { OnErr result (result ≡ Err Memory) }
+) -> Result<Vec<Vec<String>>, AllocError>
+    ensures { IfOk result (λ records. texts_of_records records ≡ map submitted_trade_record trades.now) }
 {
     let mut records = Vec::new(alloc);
     for trade in trades {
@@ -50,27 +48,25 @@ fn submitted_trade_records(
 }
 
 // Returns the record of an estimate: its price, buy value, sell value, tax, commission, charge and
-// assets. Fails with `Memory` only.
-fn estimate_texts(alloc: Global, estimate: &Estimate) -> Result<Vec<String>, Fault>
-    ensures texts { IfOk result (λ texts. texts_of_record texts ≡ estimate_record estimate.now) }
-    ensures fault { OnErr result (result ≡ Err Memory) }
+// assets. Fails only if memory runs out.
+fn estimate_texts(alloc: Global, estimate: &Estimate) -> Result<Vec<String>, AllocError>
+    ensures { IfOk result (λ texts. texts_of_record texts ≡ estimate_record estimate.now) }
 {
     let mut texts = Vec::new(alloc);
-    texts.push(estimate.price.to_string(alloc)?)?;
-    texts.push(estimate.buy_value.to_string(alloc)?)?;
-    texts.push(estimate.sell_value.to_string(alloc)?)?;
-    texts.push(estimate.tax.to_string(alloc)?)?;
-    texts.push(estimate.commission.to_string(alloc)?)?;
-    texts.push(estimate.charge.to_string(alloc)?)?;
-    texts.push(estimate.assets.to_string(alloc)?)?;
+    push_amount(alloc, &mut texts, Wide::from(estimate.price))?;
+    push_amount(alloc, &mut texts, Wide::from(estimate.buy_value))?;
+    push_amount(alloc, &mut texts, Wide::from(estimate.sell_value))?;
+    push_amount(alloc, &mut texts, Wide::from(estimate.tax))?;
+    push_amount(alloc, &mut texts, Wide::from(estimate.commission))?;
+    push_amount(alloc, &mut texts, Wide::from(estimate.charge))?;
+    push_amount(alloc, &mut texts, estimate.assets)?;
     Ok(texts)
 }
 
 // Returns a list of one record, that of the estimate: its price, buy value, sell value, tax,
-// commission, charge and assets. Fails with `Memory` only.
-fn estimate_records(alloc: Global, estimate: &Estimate) -> Result<Vec<Vec<String>>, Fault>
-    ensures records { IfOk result (λ records. texts_of_records records ≡ estimate_record estimate.now ∷ []) }
-    ensures fault { OnErr result (result ≡ Err Memory) }
+// commission, charge and assets. Fails only if memory runs out.
+fn estimate_records(alloc: Global, estimate: &Estimate) -> Result<Vec<Vec<String>>, AllocError>
+    ensures { IfOk result (λ records. texts_of_records records ≡ estimate_record estimate.now ∷ []) }
 {
     let texts = estimate_texts(alloc, estimate)?;
     let mut records = Vec::new(alloc);
@@ -91,7 +87,7 @@ pub fn view_fields(alloc: Global, view: &View) -> Result<Vec<Vec<String>>, Fault
         → texts_of_records records ≡ estimate_fields e ∷ []) }
     ensures fault { OnErr result (result ≡ Err Memory) }
 {
-    match view {
+    let records = match view {
         View::Position(accounts) => account_worth_records(alloc, accounts),
         View::Recent(recent) => activity_records(alloc, recent),
         View::Status(account) => account_status_records(alloc, account),
@@ -100,5 +96,6 @@ pub fn view_fields(alloc: Global, view: &View) -> Result<Vec<Vec<String>>, Fault
         View::Volume(brokers) => broker_volume_records(alloc, brokers),
         View::Submitted(trades) => submitted_trade_records(alloc, trades),
         View::Estimate(estimate) => estimate_records(alloc, estimate),
-    }
+    };
+    Ok(records?)
 }

@@ -1,36 +1,32 @@
 //! The records of the brokers' volumes.
 
-ghost use Rattle.std.specs.Prelude.{◌≡◌, Err, IfOk, OnErr, map};
-ghost use Rattle.brk_money.specs.declared.fault.Fault.TheVariants.{Memory};
+ghost use Rattle.std.specs.Prelude.{◌≡◌, IfOk, map};
 ghost use Rattle.brk_view.specs.Views.{texts_of_record, texts_of_records};
 ghost use Rattle.brk_view.specs.Volume.{broker_volume_record};
 
-use crate::texts::{copy_text, number_text};
-use brk_money::Fault;
+use crate::texts::{push_amount, push_number, push_word};
 use brk_view::volumes::BrokerVolume;
-use std::alloc::Global;
+use std::alloc::{AllocError, Global};
 
 // Returns the record of a broker's volume: the name of the broker, its id and its volume. Fails
-// with `Memory` only.
-fn broker_volume_texts(alloc: Global, broker: &BrokerVolume) -> Result<Vec<String>, Fault>
-    ensures texts { IfOk result (λ texts. texts_of_record texts ≡ broker_volume_record broker.now) }
-    ensures fault { OnErr result (result ≡ Err Memory) }
+// only if memory runs out.
+fn broker_volume_texts(alloc: Global, broker: &BrokerVolume) -> Result<Vec<String>, AllocError>
+    ensures { IfOk result (λ texts. texts_of_record texts ≡ broker_volume_record broker.now) }
 {
     let mut texts = Vec::new(alloc);
-    texts.push(copy_text(alloc, broker.name.as_str())?)?;
-    texts.push(number_text(alloc, broker.broker.get())?)?;
-    texts.push(broker.volume.to_string(alloc)?)?;
+    push_word(alloc, &mut texts, broker.name.as_str())?;
+    push_number(alloc, &mut texts, broker.broker.get())?;
+    push_amount(alloc, &mut texts, broker.volume)?;
     Ok(texts)
 }
 
 // Returns a record for each broker's volume, in sequence: the name of the broker, its id and its
-// volume. Fails with `Memory` only.
+// volume. Fails only if memory runs out.
 pub(crate) fn broker_volume_records(
     alloc: Global,
     brokers: &[BrokerVolume],
-) -> Result<Vec<Vec<String>>, Fault>
-    ensures records { IfOk result (λ records. texts_of_records records ≡ map broker_volume_record brokers.now) }
-    ensures fault { OnErr result (result ≡ Err Memory) }
+) -> Result<Vec<Vec<String>>, AllocError>
+    ensures { IfOk result (λ records. texts_of_records records ≡ map broker_volume_record brokers.now) }
 {
     let mut records = Vec::new(alloc);
     for broker in brokers {

@@ -8,14 +8,14 @@ use Rattle.brk_view.specs.Views.{texts_of_records}
 use Rattle.brk_view_text.proofs.Joined.{joined_four}
 use Rattle.brk_view_text.proofs.lookup_fields.append_looked_up_records.Goals as goal
 
-pub returns-clause-records : goal.returns-clause-records
-returns-clause-records c =
+pub returns : goal.returns
+returns c =
     let found = c.args.found.now in
     let settlement : View = map model.settlement_record (option_to_list (option_map abstract_settlement_row found.settlement)) in
     let cash : View = map model.cash_record (option_to_list (option_map abstract_move_row found.cash)) in
     let moments : View = map history_status_record found.history.items in
-    c.in_ok-append_history_records.ensures.records
+    c.in_ok-append_history_records.ensures
     ∙ ap (λ rows. texts_of_records c.append_cash_record.new.records ++ map history_status_record rows) c.deref.ensures.value
-    ∙ ap (λ (rs : View). rs ++ moments) (c.in_ok-append_cash_record.ensures.records
-    ∙ ap (λ (rs : View). rs ++ cash) (c.in_ok-append_settlement_record.ensures.records ∙ ap (λ (rs : View). rs ++ settlement) c.in_ok-append_trade_record.ensures.records))
+    ∙ ap (λ (rs : View). rs ++ moments) (c.in_ok-append_cash_record.ensures
+    ∙ ap (λ (rs : View). rs ++ cash) (c.in_ok-append_settlement_record.ensures ∙ ap (λ (rs : View). rs ++ settlement) c.in_ok-append_trade_record.ensures))
     ∙ joined_four (texts_of_records c.args.records.now) (model.trade_record (abstract_trade_row found.trade)) settlement cash moments
