@@ -4,7 +4,9 @@ use Rattle.brk_model.specs.Tables.{Tables}
 use Rattle.brk_book_theorems.specs.Reads.{customer_tax_rate_sum}
 use Rattle.brk_decisions.specs.OrderFactReads.{AreAssetsAndSharesOfAccount, EstimateAmountsMatchTables}
 use Rattle.brk_decisions.specs.declared.amounts.Amounts.{Amounts}
-use Rattle.brk_decisions.proofs.Looking.{read_both}
+use Rattle.brk_decisions.proofs.Looking.{failed_after, read_both}
+use Rattle.std.proofs.lemmas.Result.{err_from_is_err_and}
+use Rattle.brk_store.specs.ReadSequences.{single_read_changes_nothing}
 use Rattle.brk_decisions.proofs.amounts.read_estimate_amounts.Goals as goal
 
 pub returns-clause-read : goal.returns-clause-read
@@ -21,3 +23,9 @@ returns-clause-read g c =
     (λ amounts (t : Tables). EstimateAmountsMatchTables t account order amounts)
     (λ t e h. record { rates = e; held = h })
     c.in_ok-rates.ensures.read c.in_ok-assets.ensures.read
+
+pub returns-in_err-assets-clause-read : goal.returns-in_err-assets-clause-read
+returns-in_err-assets-clause-read g c =
+    let old = c.args.store.now in
+    let p = err_from_is_err_and c.from_residual-in_err-assets.result c.from_residual-in_err-assets.ensures.1 in
+    rw p.1 (failed_after g.S.Store old c.read_tax_rate_sum.new.store c.read_assets_and_shares.new.store _ p.0 _ _ (single_read_changes_nothing old c.read_tax_rate_sum.new.store _ _ c.in_ok-rates.ensures.read) c.in_err-assets.ensures.read)
