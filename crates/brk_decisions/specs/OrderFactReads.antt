@@ -68,8 +68,7 @@ pub record EstimateAmountsMatchTables (t : Tables) (account : AccountRow) (order
   pub rates : amounts.rates ≡ customer_tax_rate_sum t account.account.customer
   pub held : AreAssetsAndSharesOfAccount t account order.symbol amounts.assets amounts.summary
 
--- The facts for the decision on an order whose account does not exist: each is `None`, false or 0,
--- because no other fact is read.
+-- The facts for the decision on an order whose account does not exist: each is `None`, false or 0.
 abbrev pub order_facts_without_account : OrderPlanFacts
 order_facts_without_account =
     record { account = None; last_price = None; is_permitted = false; charge = None; rate = None; rates = 0; assets = pos 0; summary = None; last_trade = None }

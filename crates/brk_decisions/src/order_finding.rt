@@ -17,8 +17,7 @@ use brk_trade::{OrderAccount, OrderPlanFacts};
 use sqlite::Alter;
 use std::alloc::Global;
 
-// Returns the facts for an order whose account does not exist: each is `None`, false or 0, because
-// no other fact is read.
+// Returns the facts for an order whose account does not exist: each is `None`, false or 0.
 fn order_facts_without_account() -> OrderPlanFacts
     ensures { result ≡ order_facts_without_account }
 {

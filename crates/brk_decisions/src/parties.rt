@@ -33,7 +33,7 @@ pub struct PartyFacts {
 // Fails with `Memory` or `Store` only; with `Store` also if the customer, one of the customer's
 // taxes or the broker does not exist, the tax rates total more than the greatest rate, or a total
 // of the broker is out of range.
-fn read_parties_of_account<S: Alter>(
+fn read_party_facts_of_account_row<S: Alter>(
     alloc: Global,
     store: &mut Store<S>,
     row: &AccountRow,
@@ -61,7 +61,7 @@ fn read_parties_of_account<S: Alter>(
 /// nothing. Fails with `Memory` or `Store` only; with `Store` also if the account, the customer,
 /// one of the customer's taxes or the broker does not exist, the tax rates total more than the
 /// greatest rate, or a total of the broker is out of range.
-pub(crate) fn read_parties<S: Alter>(
+pub(crate) fn read_party_facts<S: Alter>(
     alloc: Global,
     store: &mut Store<S>,
     account: Id,
@@ -70,6 +70,6 @@ pub(crate) fn read_parties<S: Alter>(
     ensures fault { IfErr result IsCallFault }
 {
     let row = require_account(store, account)?;
-    let parties = read_parties_of_account(alloc, store, &row)?;
+    let parties = read_party_facts_of_account_row(alloc, store, &row)?;
     Ok(parties)
 }

@@ -7,7 +7,7 @@ ghost use Rattle.brk_model.specs.Run.{IsCallFault};
 ghost use Rattle.brk_store.specs.Holds.{ReadPost};
 
 use crate::known::require_security;
-use crate::parties::read_parties;
+use crate::parties::read_party_facts;
 use crate::summary_finding::read_summary_shares;
 use crate::tested::read_commission_rate_of_band;
 use brk_money::{Day, Fault, Id, MoveId, Rate};
@@ -92,7 +92,7 @@ fn read_result_facts_of_trade<S: Alter>(
 {
     // The value is not needed: the call shows that the quantity is at least 1 share.
     let _shares = trade.qty.get();
-    let parties = read_parties(alloc, store, trade.account)?;
+    let parties = read_party_facts(alloc, store, trade.account)?;
     let listed = read_security_facts(alloc, store, &trade, parties.tier)?;
     let summary = read_summary_shares(store, trade.account, &trade.symbol)?;
     let posting = read_posting_facts(store)?;

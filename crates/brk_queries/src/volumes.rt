@@ -87,9 +87,10 @@ fn read_sector_requests_of_broker<S: Alter>(
     Ok(found)
 }
 
-// Appends to `found` the id and the name of a broker and its volume in the sector, in cents, if at
-// least one of `requests`, which are all pending requests, is of this broker and for a security in
-// the sector. Changes no table. Fails with `Memory` or `Store` only.
+// Appends to `found` the id and the name of a broker and its volume in the sector: the sum, in
+// cents, of quantity times bid price of those of `requests` that are of this broker and for a
+// security in the sector. Appends nothing if there are none. `requests` must be all pending
+// requests. Changes no table. Fails with `Memory` or `Store` only.
 fn append_broker_volume<S: Alter>(
     alloc: Global,
     store: &mut Store<S>,

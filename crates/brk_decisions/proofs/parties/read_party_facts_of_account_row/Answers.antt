@@ -9,7 +9,7 @@ use Rattle.brk_decisions.proofs.Looking.{failed_after, read_both, unchanged_afte
 use Rattle.brk_decisions.proofs.ResultReading.{parties_known, parties_of_rows}
 use Rattle.std.proofs.lemmas.Result.{err_from_is_err_and}
 use Rattle.brk_store.specs.ReadSequences.{single_read_changes_nothing}
-use Rattle.brk_decisions.proofs.parties.read_parties_of_account.Goals as goal
+use Rattle.brk_decisions.proofs.parties.read_party_facts_of_account_row.Goals as goal
 
 pub returns-clause-read : goal.returns-clause-read
 returns-clause-read g c =
