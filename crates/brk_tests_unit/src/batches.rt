@@ -5,6 +5,7 @@ ghost use Rattle.brk_model.specs.Commands.{Again, Booked, Done, Refused};
 ghost use Rattle.brk_tests_unit.specs.declared.batches.Asked.{Asked};
 ghost use Rattle.brk_tests_unit.specs.declared.batches.Asked.TheVariants as asks;
 
+use crate::expect::expect_equal;
 use brk_batch_engine::{
     BatchFault, Clock, Counts, FaultKind, MAXIMUM_INPUT_BYTES, Rows, execute_batch_on_desk,
 };
@@ -13,7 +14,7 @@ use brk_ref::{Answer, Key};
 use std::alloc::{AllocError, Global};
 use std::io;
 use std::io::{Read, Write};
-use std::test::Fail;
+use std::process::Abort;
 
 // A clock that always returns one timestamp.
 #[derive(Drop)]
@@ -244,22 +245,38 @@ impl Write for Choppy {
     }
 }
 
-// Executes a batch that `reader` returns on a new test desk, at the timestamp 7. Returns its
-// result, the counts or the fault, and the bytes that it wrote. Never fails, because 7 is a
-// timestamp.
-fn run_batch_on_new_desk<R: Read + Drop>(
+// Executes a batch that `reader` returns on a new test desk, at the timestamp 7, and writes its
+// lines to `out`. Returns its result, the counts or the fault.
+fn run_batch_on_new_desk<R: Read + Drop, W: Write>(
     alloc: Global,
     reader: R,
-) -> Result<(Result<Counts, BatchFault>, Vec<u8>), Fail> {
-    let mut out = Vec::new(alloc);
+    out: &mut W,
+) -> Result<Counts, BatchFault> {
     let mut clock = Fixed {
-        at: Stamp::new(7).ok_or("a stamp")?,
+        at: Stamp::nearest(7),
     };
     let mut desk = Last { moment: 0 };
-    let done = execute_batch_on_desk::<R, Vec<u8>, Fixed, Last>(
-        alloc, reader, &mut out, &mut clock, &mut desk,
-    );
-    Ok((done, out))
+    execute_batch_on_desk::<R, W, Fixed, Last>(alloc, reader, out, &mut clock, &mut desk)
+}
+
+// Checks that a batch that `reader` returns has the result `wanted` on a new test desk, at the
+// timestamp 7, and that it writes exactly the bytes `lines`.
+fn expect_batch<R: Read + Drop>(
+    rt: &impl Abort,
+    alloc: Global,
+    reader: R,
+    wanted: Result<Counts, BatchFault>,
+    lines: &[u8],
+) {
+    let mut out = Vec::new(alloc);
+    let done = run_batch_on_new_desk(alloc, reader, &mut out);
+    expect_equal(rt, done, wanted);
+    expect_equal(rt, out.as_slice(), lines);
+}
+
+// Returns the result of a batch with these numbers of accepted, repeated and refused rows.
+fn batch_counts(ok: u64, again: u64, no: u64) -> Result<Counts, BatchFault> {
+    Ok(Counts { ok, again, no })
 }
 
 // Returns the result of a batch that failed with the fault `kind` after `rows` decided rows.
@@ -279,198 +296,199 @@ const LINES: &[u8] = b"1,ok,7\n2,again,5,CNCL\n3,no,14,accounts\n4,no,18\n5,no,8
 // rows, has its line, followed by the end line of its counts, if the batch is read whole or byte by
 // byte.
 #[test]
-fn each_row_of_a_batch_gets_a_line(rt: HostRuntime) -> Result<(), Fail> {
-    let (done, out) = run_batch_on_new_desk(rt.alloc(), WHOLE)?;
-    assert!(rt;
-        done == Ok(Counts {
-            ok: 1,
-            again: 1,
-            no: 3
-        })
-    );
-    assert!(rt; out.as_slice() == LINES);
+fn each_row_of_a_batch_gets_a_line(rt: HostRuntime) {
+    expect_batch(&rt, rt.alloc(), WHOLE, batch_counts(1, 1, 3), LINES);
     let slow = Flaky {
         text: WHOLE,
         at: 0,
         cut: usize::MAX,
         kind: io::ErrorKind::Other,
     };
-    let (done, out) = run_batch_on_new_desk(rt.alloc(), slow)?;
-    assert!(rt; done.is_ok());
-    assert!(rt; out.as_slice() == LINES);
-    Ok(())
+    expect_batch(&rt, rt.alloc(), slow, batch_counts(1, 1, 3), LINES);
 }
 
 // Checks that a batch without rows writes only its end line.
 #[test]
-fn an_empty_batch_gets_an_end_line(rt: HostRuntime) -> Result<(), Fail> {
-    let (done, out) = run_batch_on_new_desk(rt.alloc(), b"batch,Z\nend,0".as_slice())?;
-    assert!(rt;
-        done == Ok(Counts {
-            ok: 0,
-            again: 0,
-            no: 0
-        })
+fn an_empty_batch_gets_an_end_line(rt: HostRuntime) {
+    expect_batch(
+        &rt,
+        rt.alloc(),
+        b"batch,Z\nend,0".as_slice(),
+        batch_counts(0, 0, 0),
+        b"end,0,0,0\n",
     );
-    assert!(rt; out.as_slice() == b"end,0,0,0\n".as_slice());
-    Ok(())
 }
+
+// Inputs without an end record, each with the number of their rows and the lines of these.
+const CUT_INPUTS: [(&[u8], u64, &[u8]); 2] = [
+    (
+        b"batch,C\nbroker,2,Cy\nbroker,3\nbroker,4,D",
+        3,
+        b"1,ok,7\n2,no,18\n3,no,18\n",
+    ),
+    (b"batch,C\n", 0, b""),
+];
 
 // Checks that a row without a record after it is refused with 18, and that a batch without an end
 // record fails with `NoEnd`, after the lines of its rows, if it has any.
 #[test]
-fn the_last_row_of_a_cut_input_is_refused(rt: HostRuntime) -> Result<(), Fail> {
-    let cut = b"batch,C\nbroker,2,Cy\nbroker,3\nbroker,4,D".as_slice();
-    let (done, out) = run_batch_on_new_desk(rt.alloc(), cut)?;
-    assert!(rt; done == batch_fault_result(3, FaultKind::NoEnd));
-    assert!(rt; out.as_slice() == b"1,ok,7\n2,no,18\n3,no,18\n".as_slice());
-    let (done, out) = run_batch_on_new_desk(rt.alloc(), b"batch,C\n".as_slice())?;
-    assert!(rt; done == batch_fault_result(0, FaultKind::NoEnd));
-    assert!(rt; out.is_empty());
-    Ok(())
+fn the_last_row_of_a_cut_input_is_refused(rt: HostRuntime) {
+    for (text, rows, lines) in &CUT_INPUTS {
+        let wanted = batch_fault_result(*rows, FaultKind::NoEnd);
+        expect_batch(&rt, rt.alloc(), *text, wanted, lines);
+    }
 }
+
+// Batches whose header is missing or malformed.
+const WRONG_HEADERS: [&[u8]; 13] = [
+    b"",
+    b"\n\r\n",
+    b"\x00\xff\xfe no csv at all",
+    b"broker,2,Cy\nend,1\n",
+    b"batch\nend,0\n",
+    b"batch,\nend,0\n",
+    b"batch,A,B\nend,0\n",
+    b"batch,A,\nend,0\n",
+    b"batch,A B\nend,0\n",
+    b"batch,A/B\nend,0\n",
+    b"batch,\xc3\x84\nend,0\n",
+    b"Batch,A\nend,0\n",
+    b"batch,12345678901234567890123456789012345678901\nend,0\n",
+];
+
+// Batches without rows that have a header.
+const HEADERS: [&[u8]; 2] = [
+    b"batch,aZ09.-_\nend,0\n",
+    b"batch,1234567890123456789012345678901234567890\nend,0\n",
+];
 
 // Checks that a batch with a missing or malformed header fails with `BadHeader` and writes nothing,
 // and that two correct headers are accepted.
 #[test]
-fn a_batch_with_a_wrong_header_is_refused(rt: HostRuntime) -> Result<(), Fail> {
-    let bad: [&[u8]; 13] = [
-        b"",
-        b"\n\r\n",
-        b"\x00\xff\xfe no csv at all",
-        b"broker,2,Cy\nend,1\n",
-        b"batch\nend,0\n",
-        b"batch,\nend,0\n",
-        b"batch,A,B\nend,0\n",
-        b"batch,A,\nend,0\n",
-        b"batch,A B\nend,0\n",
-        b"batch,A/B\nend,0\n",
-        b"batch,\xc3\x84\nend,0\n",
-        b"Batch,A\nend,0\n",
-        b"batch,12345678901234567890123456789012345678901\nend,0\n",
-    ];
-    for text in bad {
-        let (done, out) = run_batch_on_new_desk(rt.alloc(), text)?;
-        assert!(rt; done == batch_fault_result(0, FaultKind::BadHeader));
-        assert!(rt; out.is_empty());
+fn a_batch_with_a_wrong_header_is_refused(rt: HostRuntime) {
+    for text in &WRONG_HEADERS {
+        let wanted = batch_fault_result(0, FaultKind::BadHeader);
+        expect_batch(&rt, rt.alloc(), *text, wanted, b"");
     }
-    let good: [&[u8]; 2] = [
-        b"batch,aZ09.-_\nend,0\n",
-        b"batch,1234567890123456789012345678901234567890\nend,0\n",
-    ];
-    for text in good {
-        let (done, _) = run_batch_on_new_desk(rt.alloc(), text)?;
-        assert!(rt; done.is_ok());
+    for text in &HEADERS {
+        expect_batch(
+            &rt,
+            rt.alloc(),
+            *text,
+            batch_counts(0, 0, 0),
+            b"end,0,0,0\n",
+        );
     }
-    Ok(())
 }
+
+// Batches of one row whose end record is malformed or has a wrong count.
+const WRONG_ENDS: [&[u8]; 5] = [
+    b"batch,A\nput,1,2\nend,01\n",
+    b"batch,A\nput,1,2\nend,1,\n",
+    b"batch,A\nput,1,2\nend\n",
+    b"batch,A\nput,1,2\nend,2\n",
+    b"batch,A\nput,1,2\nend,",
+];
 
 // Checks that a batch whose end record is malformed or has a wrong count fails with `BadEnd`, after
 // the lines of its rows.
 #[test]
-fn a_wrong_end_record_is_a_fault(rt: HostRuntime) -> Result<(), Fail> {
-    let bad: [&[u8]; 5] = [
-        b"batch,A\nput,1,2\nend,01\n",
-        b"batch,A\nput,1,2\nend,1,\n",
-        b"batch,A\nput,1,2\nend\n",
-        b"batch,A\nput,1,2\nend,2\n",
-        b"batch,A\nput,1,2\nend,",
-    ];
-    for text in bad {
-        let (done, out) = run_batch_on_new_desk(rt.alloc(), text)?;
-        assert!(rt; done == batch_fault_result(1, FaultKind::BadEnd));
-        assert!(rt; out.as_slice() == b"1,ok,7\n".as_slice());
+fn a_wrong_end_record_is_a_fault(rt: HostRuntime) {
+    for text in &WRONG_ENDS {
+        let wanted = batch_fault_result(1, FaultKind::BadEnd);
+        expect_batch(&rt, rt.alloc(), *text, wanted, b"1,ok,7\n");
     }
-    Ok(())
 }
+
+// A batch of two rows.
+const READ: &[u8] = b"batch,A\nput,1,2\nput,3,4\nend,2\n";
+
+// Positions at which a reader of `READ` fails once, each with the number of decided rows, their
+// lines, and the kind of the error.
+const FAILED_READS: [(usize, u64, &[u8], io::ErrorKind); 5] = [
+    (0, 0, b"", io::ErrorKind::Other),
+    (5, 0, b"", io::ErrorKind::Interrupted),
+    (15, 0, b"", io::ErrorKind::Interrupted),
+    (24, 1, b"1,ok,7\n", io::ErrorKind::Interrupted),
+    (29, 1, b"1,ok,7\n", io::ErrorKind::Other),
+];
 
 // Checks, for each of five positions at which a reader fails once, that the batch fails with `Read`
 // and the number of decided rows, and that exactly the lines of these rows are written.
 #[test]
-fn a_failed_read_ends_the_batch(rt: HostRuntime) -> Result<(), Fail> {
-    let text = b"batch,A\nput,1,2\nput,3,4\nend,2\n".as_slice();
-    let cuts: [(usize, u64, &[u8], io::ErrorKind); 5] = [
-        (0, 0, b"", io::ErrorKind::Other),
-        (5, 0, b"", io::ErrorKind::Interrupted),
-        (15, 0, b"", io::ErrorKind::Interrupted),
-        (24, 1, b"1,ok,7\n", io::ErrorKind::Interrupted),
-        (29, 1, b"1,ok,7\n", io::ErrorKind::Other),
-    ];
-    for (cut, rows, lines, kind) in cuts {
+fn a_failed_read_ends_the_batch(rt: HostRuntime) {
+    for (cut, rows, lines, kind) in &FAILED_READS {
         let reader = Flaky {
-            text,
+            text: READ,
             at: 0,
-            cut,
-            kind,
+            cut: *cut,
+            kind: *kind,
         };
-        let (done, out) = run_batch_on_new_desk(rt.alloc(), reader)?;
-        assert!(rt; done == batch_fault_result(rows, FaultKind::Read));
-        assert!(rt; out.as_slice() == lines);
+        let wanted = batch_fault_result(*rows, FaultKind::Read);
+        expect_batch(&rt, rt.alloc(), reader, wanted, lines);
     }
-    Ok(())
 }
+
+// Numbers of bytes after which a writer of the lines of `WHOLE` fails, each with the number of
+// decided rows, and with the kind of the error or none.
+const FAILED_WRITES: [(usize, u64, Option<io::ErrorKind>); 6] = [
+    (0, 1, None),
+    (3, 1, Some(io::ErrorKind::Interrupted)),
+    (7, 2, None),
+    (30, 3, Some(io::ErrorKind::BrokenPipe)),
+    (50, 5, Some(io::ErrorKind::Other)),
+    (61, 5, None),
+];
 
 // Checks, for each of six numbers of bytes after which a writer fails, that the batch fails with
 // `Write` and the number of decided rows, and that exactly this number of bytes of its lines is
 // written.
 #[test]
-fn a_failed_write_ends_the_batch(rt: HostRuntime) -> Result<(), Fail> {
-    let cuts: [(usize, u64, Option<io::ErrorKind>); 6] = [
-        (0, 1, None),
-        (3, 1, Some(io::ErrorKind::Interrupted)),
-        (7, 2, None),
-        (30, 3, Some(io::ErrorKind::BrokenPipe)),
-        (50, 5, Some(io::ErrorKind::Other)),
-        (61, 5, None),
-    ];
-    for (most, rows, error) in cuts {
+fn a_failed_write_ends_the_batch(rt: HostRuntime) {
+    for (most, rows, error) in &FAILED_WRITES {
         let mut out = Choppy {
             got: Vec::new(rt.alloc()),
-            most,
-            error,
+            most: *most,
+            error: *error,
         };
-        let mut clock = Fixed {
-            at: Stamp::new(7).ok_or("a stamp")?,
-        };
-        let mut desk = Last { moment: 0 };
-        let done = execute_batch_on_desk::<&[u8], Choppy, Fixed, Last>(
-            rt.alloc(),
-            WHOLE,
-            &mut out,
-            &mut clock,
-            &mut desk,
-        );
-        assert!(rt; done == batch_fault_result(rows, FaultKind::Write));
-        assert!(rt; Some(out.got.as_slice()) == LINES.get(..most));
+        let done = run_batch_on_new_desk(rt.alloc(), WHOLE, &mut out);
+        expect_equal(&rt, done, batch_fault_result(*rows, FaultKind::Write));
+        assert!(rt; Some(out.got.as_slice()) == LINES.get(..*most));
     }
-    Ok(())
 }
+
+// Batches whose second row meets a fault of the desk, with the fault.
+const DESK_FAULTS: [(&[u8], Fault); 2] = [
+    (
+        b"batch,A\nput,1,2\nbreak,,,,,\nput,3,4\nend,3\n",
+        Fault::Store,
+    ),
+    (b"batch,A\nput,1,2\nparse,,,,,,,,\nend,2\n", Fault::Memory),
+];
 
 // Checks that a fault of the desk, in a call or while a row is parsed, ends the batch after the
 // lines of the rows before.
 #[test]
-fn a_fault_of_the_desk_ends_the_batch(rt: HostRuntime) -> Result<(), Fail> {
-    let called = b"batch,A\nput,1,2\nbreak,,,,,\nput,3,4\nend,3\n".as_slice();
-    let (done, out) = run_batch_on_new_desk(rt.alloc(), called)?;
-    assert!(rt; done == batch_fault_result(1, FaultKind::Desk(Fault::Store)));
-    assert!(rt; out.as_slice() == b"1,ok,7\n".as_slice());
-    let parsed = b"batch,A\nput,1,2\nparse,,,,,,,,\nend,2\n".as_slice();
-    let (done, out) = run_batch_on_new_desk(rt.alloc(), parsed)?;
-    assert!(rt; done == batch_fault_result(1, FaultKind::Desk(Fault::Memory)));
-    assert!(rt; out.as_slice() == b"1,ok,7\n".as_slice());
-    Ok(())
+fn a_fault_of_the_desk_ends_the_batch(rt: HostRuntime) {
+    for (text, fault) in &DESK_FAULTS {
+        let wanted = batch_fault_result(1, FaultKind::Desk(*fault));
+        expect_batch(&rt, rt.alloc(), *text, wanted, b"1,ok,7\n");
+    }
 }
 
 // Checks that a batch whose end record ends at the limit of an input completes, and that no byte
 // beyond the limit is read.
 #[test]
-fn input_beyond_the_limit_is_not_read(rt: HostRuntime) -> Result<(), Fail> {
+fn input_beyond_the_limit_is_not_read(rt: HostRuntime) {
     let whole = Long {
         at: 0,
         tail: b"put,1,2\nend,1",
     };
-    let (done, out) = run_batch_on_new_desk(rt.alloc(), whole)?;
-    assert!(rt; done.is_ok());
-    assert!(rt; out.as_slice() == b"1,ok,7\nend,1,0,0\n".as_slice());
-    Ok(())
+    expect_batch(
+        &rt,
+        rt.alloc(),
+        whole,
+        batch_counts(1, 0, 0),
+        b"1,ok,7\nend,1,0,0\n",
+    );
 }

@@ -1,5 +1,6 @@
 //! Tests of the program's clock.
 
+use crate::expect::expect_equal;
 use brk_clock::ProgramClock;
 use brk_exit::brk_io::Clock;
 use brk_money::Stamp;
@@ -31,8 +32,8 @@ const PAST: i64 = 1_709_251_200_000;
 #[test]
 fn a_fixed_clock_returns_its_timestamp(rt: HostRuntime) {
     let mut clock = ProgramClock::new(&rt, Some(Stamp::nearest(PAST)));
-    assert_eq!(rt; clock.now().get(), PAST);
-    assert_eq!(rt; clock.now().get(), PAST);
+    expect_equal(&rt, clock.now().get(), PAST);
+    expect_equal(&rt, clock.now().get(), PAST);
 }
 
 // Checks that a reading of the machine's clock drops the fraction of a millisecond.
@@ -40,8 +41,8 @@ fn a_fixed_clock_returns_its_timestamp(rt: HostRuntime) {
 fn clock_readings_are_whole_milliseconds(rt: HostRuntime) {
     let machine = Stopped(Some(Duration::new(1_709_251_200, 123_999_999)));
     let mut clock = ProgramClock::new(&machine, None);
-    assert_eq!(rt; clock.now().get(), PAST + 123);
-    assert_eq!(rt; clock.now().get(), PAST + 123);
+    expect_equal(&rt, clock.now().get(), PAST + 123);
+    expect_equal(&rt, clock.now().get(), PAST + 123);
 }
 
 // Checks that the reading is the greatest stamp if the machine's time is this stamp, or later.
@@ -49,14 +50,22 @@ fn clock_readings_are_whole_milliseconds(rt: HostRuntime) {
 #[test]
 fn clock_readings_end_at_the_greatest_stamp(rt: HostRuntime) {
     let last = Stopped(Some(Duration::new(253_402_300_799, 999_000_000)));
-    assert_eq!(rt; ProgramClock::new(&last, None).now().get(), Stamp::GREATEST);
+    expect_equal(
+        &rt,
+        ProgramClock::new(&last, None).now().get(),
+        Stamp::GREATEST,
+    );
     let late = Stopped(Some(Duration::from_secs(253_402_300_800)));
-    assert_eq!(rt; ProgramClock::new(&late, None).now().get(), Stamp::GREATEST);
+    expect_equal(
+        &rt,
+        ProgramClock::new(&late, None).now().get(),
+        Stamp::GREATEST,
+    );
 }
 
 // Checks that the reading is the timestamp 0 if the machine's clock cannot be read.
 #[test]
 fn an_unreadable_clock_reads_as_zero(rt: HostRuntime) {
     let machine = Stopped(None);
-    assert_eq!(rt; ProgramClock::new(&machine, None).now().get(), 0);
+    expect_equal(&rt, ProgramClock::new(&machine, None).now().get(), 0);
 }

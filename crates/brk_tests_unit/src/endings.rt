@@ -1,3 +1,4 @@
+use crate::expect::expect_equal;
 use brk_args::UsageFault;
 use brk_exit::brk_io::{BatchFault, FaultKind};
 use brk_exit::brk_report_lines::ReportFault;
@@ -8,7 +9,6 @@ use std::alloc::Global;
 use std::io;
 use std::io::Write;
 use std::process::Abort;
-use std::test::Fail;
 
 // Returns the ending of the program after a batch that failed with this fault after 3 decided rows.
 fn ending_of_batch_fault(kind: FaultKind) -> Ending {
@@ -19,8 +19,9 @@ fn ending_of_batch_fault(kind: FaultKind) -> Ending {
 // the text `text` to its error stream.
 fn expect_status_and_line(rt: &impl Abort, alloc: Global, ending: &Ending, status: u8, text: &str) {
     let mut errors = Vec::new(alloc);
-    assert!(rt; end_with(ending, &mut errors) == status, "{text}");
-    assert!(rt; errors.as_slice() == text.as_bytes(), "{text}");
+    let told = end_with(ending, &mut errors);
+    expect_equal(rt, told, status);
+    expect_equal(rt, errors.as_slice(), text.as_bytes());
 }
 
 // Faults of a batch, each with its exit status and its error line.
@@ -38,8 +39,9 @@ const BATCHES: [(FaultKind, u8, &str); 7] = [
 // for any other fault, and the error line of the fault.
 #[test]
 fn exit_status_and_line_of_batch_faults(rt: HostRuntime) {
-    for (kind, status, text) in BATCHES {
-        expect_status_and_line(&rt, rt.alloc(), &ending_of_batch_fault(kind), status, text);
+    for (kind, status, text) in &BATCHES {
+        let ending = ending_of_batch_fault(*kind);
+        expect_status_and_line(&rt, rt.alloc(), &ending, *status, text);
     }
 }
 
@@ -73,25 +75,26 @@ const OPENS: [(Fault, u8, &str); 3] = [
 // desk, each with the error line of the fault.
 #[test]
 fn exit_status_and_line_of_open_faults(rt: HostRuntime) {
-    for (fault, status, text) in OPENS {
-        expect_status_and_line(&rt, rt.alloc(), &Ending::Open(fault), status, text);
+    for (fault, status, text) in &OPENS {
+        expect_status_and_line(&rt, rt.alloc(), &Ending::Open(*fault), *status, text);
     }
 }
 
 // Checks that the exit status is 2 for wrong arguments and for a malformed day, 3 if memory ran
 // out, each with its error text, and 0 without a text for help.
 #[test]
-fn exit_status_and_line_of_usage_faults(rt: HostRuntime) -> Result<(), Fail> {
+fn exit_status_and_line_of_usage_faults(rt: HostRuntime) {
     let alloc = rt.alloc();
-    let words = Ending::Usage(UsageFault::Words(String::from_str(alloc, "error: no\n")?));
+    let words = String::from_str(alloc, "error: no\n").expect(&rt, "memory");
+    let help = String::from_str(alloc, "help\n").expect(&rt, "memory");
+    let words = Ending::Usage(UsageFault::Words(words));
     expect_status_and_line(&rt, alloc, &words, 2, "error: no\n");
-    let help = Ending::Usage(UsageFault::Help(String::from_str(alloc, "help\n")?));
+    let help = Ending::Usage(UsageFault::Help(help));
     expect_status_and_line(&rt, alloc, &help, 0, "");
     let day = Ending::Usage(UsageFault::Day);
     expect_status_and_line(&rt, alloc, &day, 2, "brk: usage: day\n");
     let memory = Ending::Usage(UsageFault::Memory);
     expect_status_and_line(&rt, alloc, &memory, 3, "brk: fault: memory\n");
-    Ok(())
 }
 
 // Checks that the exit status is 0 without a line for a job that is done, and 3 with an error line
@@ -134,9 +137,7 @@ impl Write for Closed {
 // without an end record, and 0 for a job that is done.
 #[test]
 fn exit_status_with_a_closed_error_stream(rt: HostRuntime) {
-    assert_eq!(rt;
-        end_with(&ending_of_batch_fault(FaultKind::NoEnd), &mut Closed),
-        1
-    );
-    assert_eq!(rt; end_with(&Ending::Done, &mut Closed), 0);
+    let failed = ending_of_batch_fault(FaultKind::NoEnd);
+    expect_equal(&rt, end_with(&failed, &mut Closed), 1);
+    expect_equal(&rt, end_with(&Ending::Done, &mut Closed), 0);
 }

@@ -9,6 +9,8 @@ mod clock;
 #[cfg(test)]
 mod endings;
 #[cfg(test)]
+mod expect;
+#[cfg(test)]
 mod lots;
 #[cfg(test)]
 mod money;

@@ -1,11 +1,10 @@
-use crate::planned_reply::format_planned_reply;
+use crate::planned_reply::expect_planned_reply;
 use brk_money::{Cents, Day, Id, MoveId, Stamp};
 use brk_orders::{Direction, Movement};
 use brk_ref::MovedAmount;
 use brk_trade::{MovementPlanFacts, plan_move, plan_oneday};
 use std::alloc::Global;
 use std::process::Abort;
-use std::test::Fail;
 
 // A movement of account 100: its direction, its amount in cents, the balance before it in cents
 // (`None` without the account), whether the limit of movements is reached, and the number that it
@@ -19,85 +18,85 @@ struct Case {
     next: u64,
 }
 
-// Returns the facts of the tables on which the plan for the movement of a case depends. Fails if a
-// value of the case is out of range.
-fn movement_facts(case: Case) -> Result<MovementPlanFacts, Fail> {
-    let balance = match case.balance {
-        Some(balance) => Some(Cents::new(balance).ok_or("balance")?),
-        None => None,
-    };
-    Ok(MovementPlanFacts {
-        balance,
-        has_all_movements: case.has_all_movements,
-        next: MoveId::new(case.next).ok_or("number")?,
-    })
-}
-
 // Checks that the reply to the movement of a case after the last stamp 1709251200021, or `no,` and
 // the refusal of the movement, is the text `wanted`.
-fn expect_movement_reply(
-    rt: &impl Abort,
-    alloc: Global,
-    case: Case,
-    wanted: &str,
-) -> Result<(), Fail> {
+fn expect_movement_reply(rt: &impl Abort, alloc: Global, case: &Case, wanted: &str) {
     let movement = Movement {
         direction: case.direction,
-        account: Id::new(100).ok_or("account")?,
-        amount: MovedAmount::new(case.cents).ok_or("amount")?,
+        account: Id::new(100).expect(rt, "account"),
+        amount: MovedAmount::new(case.cents).expect(rt, "amount"),
     };
-    let found = movement_facts(case)?;
+    let balance = match case.balance {
+        Some(balance) => Some(Cents::new(balance).expect(rt, "balance")),
+        None => None,
+    };
+    let found = MovementPlanFacts {
+        balance,
+        has_all_movements: case.has_all_movements,
+        next: MoveId::new(case.next).expect(rt, "number"),
+    };
     let last = Stamp::new(1_709_251_200_021);
     let now = Stamp::nearest(1_709_251_200_000);
-    let planned = plan_move(alloc, &movement, &found, last, now)?;
-    let told = format_planned_reply(alloc, planned)?;
-    assert_eq!(rt; told.as_str(), wanted);
-    Ok(())
+    let planned = plan_move(alloc, &movement, &found, last, now);
+    expect_planned_reply(rt, alloc, planned, wanted);
 }
+
+// A deposit of 100.00.
+const DEPOSIT: Case = Case {
+    direction: Direction::Deposit,
+    cents: 10_000,
+    balance: Some(840_340),
+    has_all_movements: false,
+    next: 4,
+};
+
+// Movements, each with the text of its reply: a deposit; a withdrawal beyond the balance; and
+// deposits beyond the limit of the balance, to an account that does not exist, and beyond the limit
+// of movements.
+const MOVEMENTS: [(Case, &str); 5] = [
+    (DEPOSIT, "1709251200022,4,8503.40"),
+    (
+        Case {
+            direction: Direction::Withdrawal,
+            cents: 900_000,
+            balance: Some(850_340),
+            ..DEPOSIT
+        },
+        "1709251200022,4,-496.60",
+    ),
+    (
+        Case {
+            balance: Some(99_999_999_999_990_001),
+            ..DEPOSIT
+        },
+        "no,14,balance",
+    ),
+    (
+        Case {
+            balance: None,
+            has_all_movements: true,
+            ..DEPOSIT
+        },
+        "no,1",
+    ),
+    (
+        Case {
+            has_all_movements: true,
+            ..DEPOSIT
+        },
+        "no,14,moves",
+    ),
+];
 
 // Checks the replies to a deposit and to a withdrawal, with their number and the new balance, which
 // may be below 0. Checks that a deposit beyond the limit of the balance is refused with 14,
 // `balance`, a deposit to an account that does not exist with 1, and a deposit beyond the limit of
 // movements with 14, `moves`.
 #[test]
-fn movement_replies_and_refusals(rt: HostRuntime) -> Result<(), Fail> {
-    let alloc = rt.alloc();
-    let deposit = Case {
-        direction: Direction::Deposit,
-        cents: 10_000,
-        balance: Some(840_340),
-        has_all_movements: false,
-        next: 4,
-    };
-    let withdrawal = Case {
-        direction: Direction::Withdrawal,
-        cents: 900_000,
-        balance: Some(850_340),
-        ..deposit
-    };
-    let beyond = Case {
-        balance: Some(99_999_999_999_990_001),
-        ..deposit
-    };
-    let unknown = Case {
-        balance: None,
-        has_all_movements: true,
-        ..deposit
-    };
-    let full = Case {
-        has_all_movements: true,
-        ..deposit
-    };
-    for (case, wanted) in [
-        (deposit, "1709251200022,4,8503.40"),
-        (withdrawal, "1709251200022,4,-496.60"),
-        (beyond, "no,14,balance"),
-        (unknown, "no,1"),
-        (full, "no,14,moves"),
-    ] {
-        expect_movement_reply(&rt, alloc, case, wanted)?;
+fn movement_replies_and_refusals(rt: HostRuntime) {
+    for (case, wanted) in &MOVEMENTS {
+        expect_movement_reply(&rt, rt.alloc(), case, wanted);
     }
-    Ok(())
 }
 
 // Checks that the reply to the command that sets the settlement day `days`, or `no,` and the
@@ -109,31 +108,23 @@ fn expect_settlement_day_reply(
     days: i32,
     rule: Option<i32>,
     wanted: &str,
-) -> Result<(), Fail> {
-    let day = Day::new(days).ok_or("day")?;
+) {
+    let day = Day::new(days).expect(rt, "day");
     let set = match rule {
-        Some(set) => Some(Day::new(set).ok_or("day")?),
+        Some(set) => Some(Day::new(set).expect(rt, "day")),
         None => None,
     };
     let last = Stamp::new(1_709_251_200_015);
     let now = Stamp::nearest(1_709_251_200_000);
-    let planned = plan_oneday(alloc, day, set, last, now)?;
-    let told = format_planned_reply(alloc, planned)?;
-    assert_eq!(rt; told.as_str(), wanted);
-    Ok(())
+    let planned = plan_oneday(alloc, day, set, last, now);
+    expect_planned_reply(rt, alloc, planned, wanted);
 }
 
 // Checks that a settlement day is refused with 22 if it is the day of the command's stamp, accepted
 // if it is the next day, and refused with 15 if the desk has a settlement day already.
 #[test]
-fn a_settlement_day_must_be_in_the_future(rt: HostRuntime) -> Result<(), Fail> {
-    let alloc = rt.alloc();
-    for (days, rule, wanted) in [
-        (19_783, None, "no,22"),
-        (19_784, None, "1709251200016"),
-        (19_783, Some(19_784), "no,15"),
-    ] {
-        expect_settlement_day_reply(&rt, alloc, days, rule, wanted)?;
-    }
-    Ok(())
+fn a_settlement_day_must_be_in_the_future(rt: HostRuntime) {
+    expect_settlement_day_reply(&rt, rt.alloc(), 19_783, None, "no,22");
+    expect_settlement_day_reply(&rt, rt.alloc(), 19_784, None, "1709251200016");
+    expect_settlement_day_reply(&rt, rt.alloc(), 19_783, Some(19_784), "no,15");
 }

@@ -1,16 +1,28 @@
+use crate::expect::expect_equal;
 use brk_commands::line_text;
 use brk_money::{Fault, Refusal};
 use brk_trade::Plan;
 use std::alloc::Global;
+use std::process::Abort;
 
 /// Returns the reply of an accepted plan as text, its fields separated by commas, or `no,` and the
 /// text of the refusal. Fails with `Memory` only.
-pub fn format_planned_reply(
-    alloc: Global,
-    planned: Result<Plan, Refusal>,
-) -> Result<String, Fault> {
+fn format_planned_reply(alloc: Global, planned: &Result<Plan, Refusal>) -> Result<String, Fault> {
     match planned {
         Ok(plan) => line_text(alloc, &plan.reply),
         Err(refusal) => Ok(format!(in alloc; "no,{refusal}")?),
     }
+}
+
+/// Checks that a plan is made or refused, and that its reply, or `no,` and the refusal, is the text
+/// `wanted` (`format_planned_reply`).
+pub(crate) fn expect_planned_reply(
+    rt: &impl Abort,
+    alloc: Global,
+    planned: Result<Result<Plan, Refusal>, Fault>,
+    wanted: &str,
+) {
+    let planned = planned.expect(rt, "a plan");
+    let told = format_planned_reply(alloc, &planned).expect(rt, "memory");
+    expect_equal(rt, told.as_str(), wanted);
 }

@@ -1,8 +1,8 @@
+use crate::expect::expect_equal;
 use brk_args::{Job, UsageFault, read_words};
 use brk_money::Stamp;
 use std::alloc::{AllocError, Global};
 use std::process::Abort;
-use std::test::Fail;
 
 // Returns the path of a file, or `-` if there is none.
 fn path_or_hyphen(db: &Option<String>) -> &str {
@@ -76,22 +76,36 @@ fn format_job(alloc: Global, job: &Job) -> Result<String, AllocError> {
     }
 }
 
-// Parses these arguments, after the name of the program. Returns the text of the job that they
-// request, or `wrong:` with the error text, `help:` with the help or version text, or `day` for a
-// malformed day. Fails if memory runs out.
-fn format_parsed_arguments(alloc: Global, words: &[&str]) -> Result<String, Fail> {
-    let mut all = Vec::new(alloc);
-    all.push(String::from_str(alloc, "brk")?)?;
+// Returns the name of the program and these arguments.
+fn words_with_program_name(rt: &impl Abort, alloc: Global, words: &[&str]) -> Vec<String> {
+    let name = String::from_str(alloc, "brk").expect(rt, "memory");
+    let mut all = vec![in alloc; name].expect(rt, "memory");
     for word in words {
-        all.push(String::from_str(alloc, word)?)?;
+        let word = String::from_str(alloc, word).expect(rt, "memory");
+        all.push(word).expect(rt, "memory");
     }
-    match read_words(all) {
-        Ok(job) => Ok(format_job(alloc, &job)?),
-        Err(UsageFault::Words(text)) => Ok(format!(in alloc; "wrong: {text}")?),
-        Err(UsageFault::Help(text)) => Ok(format!(in alloc; "help: {text}")?),
-        Err(UsageFault::Day) => Ok(String::from_str(alloc, "day")?),
-        Err(UsageFault::Memory) => Err("memory")?,
+    all
+}
+
+// Returns the text of a parsed job, or `wrong:` with the error text, `help:` with the help or
+// version text, `day` for a malformed day, or `memory` if memory ran out. Fails only if memory runs
+// out.
+fn format_parsed_job(alloc: Global, read: &Result<Job, UsageFault>) -> Result<String, AllocError> {
+    match read {
+        Ok(job) => format_job(alloc, job),
+        Err(UsageFault::Words(text)) => format!(in alloc; "wrong: {text}"),
+        Err(UsageFault::Help(text)) => format!(in alloc; "help: {text}"),
+        Err(UsageFault::Day) => String::from_str(alloc, "day"),
+        Err(UsageFault::Memory) => String::from_str(alloc, "memory"),
     }
+}
+
+// Checks that these arguments, after the name of the program, are parsed to the job with the text
+// `wanted`, or are reported with it (`format_parsed_job`).
+fn expect_parsed_arguments(rt: &impl Abort, alloc: Global, words: &[&str], wanted: &str) {
+    let read = read_words(words_with_program_name(rt, alloc, words));
+    let told = format_parsed_job(alloc, &read).expect(rt, "memory");
+    expect_equal(rt, told.as_str(), wanted);
 }
 
 // Arguments, each with the text of the job that they request, or with `day`.
@@ -211,12 +225,10 @@ const JOBS: [(&[&str], &str); 17] = [
 // Checks that the arguments of `JOBS`, correct ones of each subcommand, request the wanted jobs,
 // and that a malformed day is reported.
 #[test]
-fn parses_the_arguments_of_each_job(rt: HostRuntime) -> Result<(), Fail> {
-    for (words, job) in JOBS {
-        let read = format_parsed_arguments(rt.alloc(), words)?;
-        assert!(rt; read.as_str() == job, "{words:?}: {read}");
+fn parses_the_arguments_of_each_job(rt: HostRuntime) {
+    for (words, job) in &JOBS {
+        expect_parsed_arguments(&rt, rt.alloc(), words, job);
     }
-    Ok(())
 }
 
 // The usage of a batch in an error text.
@@ -419,29 +431,24 @@ const WRONG_SERVES: [(&[&str], &str, &str); 6] = [
 
 // Checks that each list of arguments in `faults` is reported as wrong, with the whole error text:
 // the cause, the usage, and a line about help.
-fn expect_usage_faults(
-    rt: &impl Abort,
-    alloc: Global,
-    faults: &[(&[&str], &str, &str)],
-) -> Result<(), Fail> {
+fn expect_usage_faults(rt: &impl Abort, alloc: Global, faults: &[(&[&str], &str, &str)]) {
     for (words, cause, usage) in faults {
-        let read = format_parsed_arguments(alloc, words)?;
         let text = format!(in alloc;
             "wrong: error: {cause}\n\n{usage}For more information, try '--help'.\n"
-        )?;
-        assert!(rt; read.as_str() == text.as_str(), "{words:?}: {read}");
+        );
+        let text = text.expect(rt, "memory");
+        expect_parsed_arguments(rt, alloc, words, text.as_str());
     }
-    Ok(())
 }
 
 // Checks that wrong arguments of a batch, a statement, an audit and serving are reported with the
 // wanted error texts.
 #[test]
-fn refuses_wrong_arguments(rt: HostRuntime) -> Result<(), Fail> {
-    expect_usage_faults(&rt, rt.alloc(), &WRONG_BATCHES)?;
-    expect_usage_faults(&rt, rt.alloc(), &WRONG_STATEMENTS)?;
-    expect_usage_faults(&rt, rt.alloc(), &WRONG_AUDITS)?;
-    expect_usage_faults(&rt, rt.alloc(), &WRONG_SERVES)
+fn refuses_wrong_arguments(rt: HostRuntime) {
+    expect_usage_faults(&rt, rt.alloc(), &WRONG_BATCHES);
+    expect_usage_faults(&rt, rt.alloc(), &WRONG_STATEMENTS);
+    expect_usage_faults(&rt, rt.alloc(), &WRONG_AUDITS);
+    expect_usage_faults(&rt, rt.alloc(), &WRONG_SERVES);
 }
 
 // The help of the program.
@@ -481,12 +488,10 @@ const TEXTS: [(&[&str], &str); 3] = [
 // Checks that the texts for the version, for an unknown subcommand, and for the help of `audit` are
 // the wanted ones.
 #[test]
-fn prints_version_help_and_errors(rt: HostRuntime) -> Result<(), Fail> {
-    for (words, text) in TEXTS {
-        let read = format_parsed_arguments(rt.alloc(), words)?;
-        assert!(rt; read.as_str() == text, "{words:?}: {read}");
+fn prints_version_help_and_errors(rt: HostRuntime) {
+    for (words, text) in &TEXTS {
+        expect_parsed_arguments(&rt, rt.alloc(), words, text);
     }
-    Ok(())
 }
 
 // Arguments that request help, with the help that is printed.
@@ -497,21 +502,18 @@ const HELPS: [(&[&str], &str); 4] = [
     (&["--help"], HELP),
 ];
 
+// Checks that these arguments are reported with the text `help`, after the word `kind`.
+fn expect_help(rt: &impl Abort, alloc: Global, words: &[&str], kind: &str, help: &str) {
+    let text = format!(in alloc; "{kind}: {help}").expect(rt, "memory");
+    expect_parsed_arguments(rt, alloc, words, text.as_str());
+}
+
 // Checks that the help of the program and of `batch` are the wanted texts, and that an empty list
 // of arguments is reported as wrong with the help of the program as the error text.
 #[test]
-fn prints_help_of_commands(rt: HostRuntime) -> Result<(), Fail> {
-    for (words, text) in HELPS {
-        let read = format_parsed_arguments(rt.alloc(), words)?;
-        assert!(rt;
-            read.as_str().strip_prefix("help: ") == Some(text),
-            "{words:?}: {read}"
-        );
+fn prints_help_of_commands(rt: HostRuntime) {
+    for (words, text) in &HELPS {
+        expect_help(&rt, rt.alloc(), words, "help", text);
     }
-    let read = format_parsed_arguments(rt.alloc(), &[])?;
-    assert!(rt;
-        read.as_str().strip_prefix("wrong: ") == Some(HELP),
-        "no words: {read}"
-    );
-    Ok(())
+    expect_help(&rt, rt.alloc(), &[], "wrong", HELP);
 }
