@@ -10,8 +10,11 @@ use Rattle.brk_model.specs.PositionView.{last_ten_trade_rows}
 use Rattle.brk_model.specs.Tables as tables
 use Rattle.brk_model.specs.Tables.{Tables}
 use Rattle.brk_store.proofs.Retelling.{retold}
-use Rattle.brk_decisions.proofs.Looking.{read_both}
+use Rattle.brk_decisions.proofs.Looking.{failed_after, read_both, unchanged_after}
 use Rattle.brk_queries.proofs.Each.{flat_map_map, joined_more}
+use Rattle.std.proofs.lemmas.Result.{err_from_is_err_and}
+use Rattle.brk_store.specs.ReadSequences.{single_read_changes_nothing}
+use Rattle.brk_store.proofs.Sequences.{none_read}
 use Rattle.brk_queries.proofs.recents.read_recent_trades_with_history.Goals as goal
 
 -- an account's last trades, and the history of the first of them
@@ -56,3 +59,15 @@ returns-clause-read g c =
           ∙ ap (flat_map (λ (row : tables.TradeRow). history_rows_with_trade_id t row.id)) p.0,
     ))
     c.loop-trade.invariant
+
+pub returns-in_err-rows-clause-read : goal.returns-in_err-rows-clause-read
+returns-in_err-rows-clause-read g c =
+    let old = c.args.store.now in
+    let p = err_from_is_err_and c.from_residual-in_err-rows.result c.from_residual-in_err-rows.ensures.1 in
+    rw p.1 (failed_after g.S.Store old c.loop-trade.store c.history_of_trade.new.self _ p.0 _ _ (single_read_changes_nothing old c.loop-trade.store _ _ c.loop-trade.invariant) c.in_err-rows.ensures.read)
+
+pub returns-in_err-append_history_rows-clause-read : goal.returns-in_err-append_history_rows-clause-read
+returns-in_err-append_history_rows-clause-read g c =
+    let old = c.args.store.now in
+    let p = err_from_is_err_and c.from_residual-in_err-append_history_rows.result c.from_residual-in_err-append_history_rows.ensures.1 in
+    rw p.1 (none_read g.S.Store old c.history_of_trade.new.self p.0 _ (unchanged_after g.S.Store old c.loop-trade.store c.history_of_trade.new.self _ _ (single_read_changes_nothing old c.loop-trade.store _ _ c.loop-trade.invariant) c.in_ok-rows.ensures.read))
