@@ -1,13 +1,14 @@
 //! Tests of runs of calls on a desk.
 
-use crate::desks::{desk_with_reference_data, new_desk_in_memory};
+use crate::databases::open_in_memory;
+use crate::desks::{desk_with_reference_data, new_desk};
 use crate::fields::split_fields;
 use crate::row_calls::{parse_keyed_row_call, parse_query_call, parse_row_call};
 use brk_import::brk_desk::{Answer, Call, Desk, Outcome};
 use brk_money::Stamp;
 use brk_trade::Reply;
 use brk_view::View;
-use sqlite::MemStore;
+use sqlite::{Alter, Connection};
 use std::alloc::{AllocError, Global};
 use std::process::Abort;
 use std::test::Fail;
@@ -32,10 +33,10 @@ fn format_outcome(alloc: Global, outcome: &Outcome) -> Result<String, AllocError
 // Executes calls on a desk as one run, and checks that the texts of their outcomes, as
 // `format_outcome` returns them, are exactly `wanted`, in order. Fails if the run fails or an
 // outcome differs.
-fn expect_run_outcomes(
+fn expect_run_outcomes<S: Alter>(
     rt: &impl Abort,
     alloc: Global,
-    desk: &mut Desk<MemStore>,
+    desk: &mut Desk<S>,
     calls: &[(Stamp, Call)],
     wanted: &[&str],
 ) -> Result<(), Fail> {
@@ -49,6 +50,32 @@ fn expect_run_outcomes(
     Ok(())
 }
 
+// Executes calls on a new desk in the database of a connection as one run, and checks their outcomes
+// as `expect_run_outcomes`. Fails without a connection.
+fn expect_outcomes_on_new_desk<S: Alter + Drop>(
+    rt: &impl Abort,
+    alloc: Global,
+    conn: Option<Connection<S>>,
+    calls: &[(Stamp, Call)],
+    wanted: &[&str],
+) -> Result<(), Fail> {
+    let mut desk = new_desk(conn)?;
+    expect_run_outcomes(rt, alloc, &mut desk, calls, wanted)
+}
+
+// Executes calls on a desk in the database of a connection after the batch `SET` as one run, and
+// checks their outcomes as `expect_run_outcomes`. Fails without a connection.
+fn expect_outcomes_after_set<S: Alter + Drop>(
+    rt: &impl Abort,
+    alloc: Global,
+    conn: Option<Connection<S>>,
+    calls: &[(Stamp, Call)],
+    wanted: &[&str],
+) -> Result<(), Fail> {
+    let mut desk = desk_with_reference_data(alloc, conn)?;
+    expect_run_outcomes(rt, alloc, &mut desk, calls, wanted)
+}
+
 // Checks that a run executes the calls after a refused one: of three brokers, the second has the id
 // of the first and is refused with 15, and the third is accepted.
 #[test]
@@ -59,7 +86,7 @@ fn a_run_continues_after_a_refusal(rt: HostRuntime) -> Result<(), Fail> {
         calls.push(parse_row_call(alloc, row, None)?)?;
     }
     let wanted = ["ok,1709251200000", "no,15", "ok,1709251200001"];
-    expect_run_outcomes(&rt, alloc, &mut new_desk_in_memory(alloc)?, &calls, &wanted)
+    expect_outcomes_on_new_desk(&rt, alloc, open_in_memory(alloc), &calls, &wanted)
 }
 
 // Checks that a run returns the stored reply for a repeated row under its key, refuses another row
@@ -78,7 +105,7 @@ fn a_run_repeats_the_stored_reply(rt: HostRuntime) -> Result<(), Fail> {
         calls.push(parse_keyed_row_call(alloc, b"A", n, row)?)?;
     }
     let wanted = ["ok,1709251200000", "again,1709251200000", "no,19", "no,15"];
-    expect_run_outcomes(&rt, alloc, &mut new_desk_in_memory(alloc)?, &calls, &wanted)
+    expect_outcomes_on_new_desk(&rt, alloc, open_in_memory(alloc), &calls, &wanted)
 }
 
 // Checks that a run executes queries: it returns the view of submitted trades, which is empty, and
@@ -91,11 +118,5 @@ fn a_run_answers_queries(rt: HostRuntime) -> Result<(), Fail> {
     calls.push(parse_query_call(alloc, "submitted", &[])?)?;
     calls.push(parse_query_call(alloc, "estimate", &stranger)?)?;
     let wanted = ["0 trades", "no,1"];
-    expect_run_outcomes(
-        &rt,
-        alloc,
-        &mut desk_with_reference_data(alloc)?,
-        &calls,
-        &wanted,
-    )
+    expect_outcomes_after_set(&rt, alloc, open_in_memory(alloc), &calls, &wanted)
 }

@@ -1,35 +1,13 @@
-//! Desks in memory, and batches that run on them.
+//! New desks, and batches that run on them.
 
-use crate::worked::{FIRST_MOMENT, SET, SET_LINES};
+use crate::at_desk::{create_store, run_batch_of_reader};
+use crate::databases::expect_connection;
+use crate::worked::{SET, SET_LINES};
 use brk_import::brk_desk::Desk;
-use brk_import::brk_desk::brk_store::Store;
-use brk_import::{BatchFault, Clock, Counts, run_batch};
-use brk_money::Stamp;
-use sqlite::{Connection, MemStore};
+use brk_import::{BatchFault, Counts};
+use sqlite::{Alter, Connection};
 use std::alloc::Global;
 use std::test::Fail;
-
-/// A clock that always returns 2024-03-01 00:00 UTC.
-#[derive(Drop)]
-pub struct Still {
-    at: Stamp,
-}
-
-impl Still {
-    /// Creates the clock that always returns 2024-03-01 00:00 UTC.
-    pub fn at_first_timestamp() -> Still {
-        Still {
-            at: Stamp::nearest(FIRST_MOMENT),
-        }
-    }
-}
-
-impl Clock for Still {
-    /// Returns the fixed timestamp.
-    fn now(&mut self) -> Stamp {
-        self.at
-    }
-}
 
 /// A batch, and the lines that it writes on a desk at 2024-03-01 00:00 UTC.
 #[derive(Clone, Copy)]
@@ -38,20 +16,23 @@ pub struct Step<'a> {
     pub lines: &'a str,
 }
 
-/// Returns a new desk in memory. Its tables have no rows, except for one row of DESK. Fails if the
-/// desk cannot be created.
-pub fn new_desk_in_memory(alloc: Global) -> Result<Desk<MemStore>, Fail> {
-    let Ok(store) = Store::create(Connection::open_in_memory(alloc)?) else {
-        return Err("no store")?;
-    };
-    Ok(Desk::new(store))
+/// Returns a new desk in the database of a connection. Its tables have no rows, except for one row of
+/// DESK. Fails without a connection, and if the desk cannot be created.
+pub fn new_desk<S: Alter + Drop>(conn: Option<Connection<S>>) -> Result<Desk<S>, Fail> {
+    match create_store(expect_connection(conn)?) {
+        Ok(store) => Ok(Desk::new(store)),
+        Err(_) => Err("no store")?,
+    }
 }
 
-/// Returns a desk in memory after the batch `SET`, which adds a broker, a customer, an account, a
-/// security, charges, commission bands and a tax rate. Fails if the desk cannot be created or the
-/// batch writes other lines than `SET_LINES`.
-pub fn desk_with_reference_data(alloc: Global) -> Result<Desk<MemStore>, Fail> {
-    let mut desk = new_desk_in_memory(alloc)?;
+/// Returns a new desk in the database of a connection after the batch `SET`, which adds a broker, a
+/// customer, an account, a security, charges, commission bands and a tax rate. Fails without a
+/// connection, if the desk cannot be created, and if the batch writes other lines than `SET_LINES`.
+pub fn desk_with_reference_data<S: Alter + Drop>(
+    alloc: Global,
+    conn: Option<Connection<S>>,
+) -> Result<Desk<S>, Fail> {
+    let mut desk = new_desk(conn)?;
     let set = Step {
         batch: SET,
         lines: SET_LINES,
@@ -62,19 +43,13 @@ pub fn desk_with_reference_data(alloc: Global) -> Result<Desk<MemStore>, Fail> {
 
 /// Executes a batch on a desk at 2024-03-01 00:00 UTC. Returns the bytes that it wrote and its
 /// result, the counts of its rows or the fault.
-pub fn run_batch_at_desk(
+pub fn run_batch_at_desk<S: Alter>(
     alloc: Global,
-    desk: &mut Desk<MemStore>,
+    desk: &mut Desk<S>,
     input: &[u8],
 ) -> (Vec<u8>, Result<Counts, BatchFault>) {
     let mut lines = Vec::new(alloc);
-    let ended = run_batch(
-        alloc,
-        input,
-        &mut lines,
-        &mut Still::at_first_timestamp(),
-        desk,
-    );
+    let ended = run_batch_of_reader(alloc, input, &mut lines, desk);
     (lines, ended)
 }
 
@@ -82,7 +57,9 @@ pub fn run_batch_at_desk(
 // first line that differs, with `name` if lines are missing or there are more, and if the bytes
 // `told` are not UTF-8.
 fn expect_batch_lines(name: &str, told: &[u8], wanted: &str) -> Result<(), Fail> {
-    let told = str::from_utf8(told).map_err(|_| "no text")?;
+    let Ok(told) = str::from_utf8(told) else {
+        return Err("no text")?;
+    };
     let mut row = 0u64;
     for (line, want) in told.lines().zip(wanted.lines()) {
         row = row.saturating_add(1);
@@ -118,9 +95,9 @@ fn expect_batch_counts(
 /// Executes the batch of `step` on a desk at 2024-03-01 00:00 UTC, and checks that it completes,
 /// that it writes exactly the lines of `step`, and that these end with the end line of its counts.
 /// Fails with `name` if not.
-pub fn expect_batch_result(
+pub fn expect_batch_result<S: Alter>(
     alloc: Global,
-    desk: &mut Desk<MemStore>,
+    desk: &mut Desk<S>,
     name: &str,
     step: Step<'_>,
 ) -> Result<(), Fail> {

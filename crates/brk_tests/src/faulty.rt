@@ -1,15 +1,17 @@
-//! Readers and writers that fail once.
+//! Readers that return their bytes in pieces, and readers and writers that fail once.
 
 use std::alloc::Global;
 use std::io;
 use std::io::{Error, ErrorKind, Read, Write};
 
-/// A reader that returns the first bytes, then fails once, and after that returns the other bytes.
+/// A reader that returns the first bytes, then fails once, and after that returns the other bytes, at
+/// most `size` bytes at a call. If `fault` is `None`, it does not fail.
 #[derive(Drop)]
 pub struct Failing<'a> {
     before: &'a [u8],
     fault: Option<ErrorKind>,
     after: &'a [u8],
+    size: usize,
 }
 
 impl<'a> Failing<'a> {
@@ -21,14 +23,25 @@ impl<'a> Failing<'a> {
             before,
             fault: Some(fault),
             after,
+            size: usize::MAX,
+        }
+    }
+
+    /// Returns a reader of `bytes` that returns at most `size` of them at a call, and does not fail.
+    pub fn reader_in_pieces(bytes: &'a [u8], size: usize) -> Failing<'a> {
+        Failing {
+            before: bytes,
+            fault: None,
+            after: &[],
+            size,
         }
     }
 }
 
 impl Read for Failing<'_> {
-    /// Copies the next bytes, at most as many as the buffer can hold, to the buffer and returns
-    /// their number, 0 at the end. Fails once, with an error of the kind `fault`, after the bytes
-    /// of `before`.
+    /// Copies the next bytes, at most `size` and as many as the buffer can hold, to the buffer and
+    /// returns their number, 0 at the end. Fails once, with an error of the kind `fault`, after the
+    /// bytes of `before`.
     fn read(&mut self, buf: &mut [u8]) -> io::Result<usize> {
         if self.before.is_empty() {
             if let Some(kind) = self.fault.take() {
@@ -37,7 +50,7 @@ impl Read for Failing<'_> {
             self.before = self.after;
             self.after = &[];
         }
-        let count = buf.len().min(self.before.len());
+        let count = self.size.min(buf.len()).min(self.before.len());
         let (front, rest) = self.before.split_at(count);
         buf[..count].copy_from_slice(front);
         self.before = rest;

@@ -4,9 +4,13 @@
 #![tactic(auto)]
 
 #[cfg(test)]
+mod at_desk;
+#[cfg(test)]
 mod calls;
 #[cfg(test)]
 mod cuts;
+#[cfg(test)]
+mod databases;
 #[cfg(test)]
 mod desks;
 #[cfg(test)]

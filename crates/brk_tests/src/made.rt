@@ -1,53 +1,96 @@
-use brk_import::brk_desk::brk_store::Store;
+use crate::at_desk::create_store;
+use crate::databases::{expect_connection, open_in_memory};
 use brk_money::{Condition, Fault};
-use sqlite::{Connection, MemStore};
+use sqlite::{Alter, Connection};
 use std::test::Fail;
 
-// Creates the tables of a store in the database of a connection, and returns the store. Fails if
-// they cannot be created.
-fn create_store(conn: Connection<MemStore>) -> Result<Store<MemStore>, Fail> {
-    Ok(Store::create(conn).map_err(|_| "no store")?)
+// Creates the tables of a store in the database of a connection, and returns the connection. Fails
+// if they cannot be created.
+fn connection_after_creation<S: Alter + Drop>(conn: Connection<S>) -> Result<Connection<S>, Fail> {
+    match create_store(conn) {
+        Ok(store) => Ok(store.into_conn()),
+        Err(_) => Err("no store")?,
+    }
+}
+
+// Creates the tables of a store in the database of a connection. Returns `None` if they can be
+// created, and otherwise the fault, and true if no transaction is open after it.
+fn fault_of_creation<S: Alter + Drop>(conn: Connection<S>) -> Option<(Fault, bool)> {
+    match create_store(conn) {
+        Ok(_) => None,
+        Err((conn, fault)) => Some((fault, conn.is_autocommit())),
+    }
+}
+
+// Creates the tables of a store in the database of a connection, and returns the result of a second
+// creation in it, as `fault_of_creation`. Fails without a connection, and if the first creation
+// fails.
+fn fault_of_second_creation<S: Alter + Drop>(
+    conn: Option<Connection<S>>,
+) -> Result<Option<(Fault, bool)>, Fail> {
+    let conn = expect_connection(conn)?;
+    Ok(fault_of_creation(connection_after_creation(conn)?))
 }
 
 // Checks that creating a store in a database that has one already fails with `NotEmpty`, and that
 // no transaction is open after it.
 #[test]
 fn a_second_creation_is_refused(rt: HostRuntime) -> Result<(), Fail> {
-    let conn = create_store(Connection::open_in_memory(rt.alloc())?)?.into_conn();
-    match Store::create(conn) {
-        Ok(_made) => assert!(rt; false, "made twice"),
-        Err((conn, fault)) => {
-            assert_eq!(rt; fault, Fault::Damaged(Condition::NotEmpty));
-            assert!(rt; conn.is_autocommit());
-        }
-    }
+    let Some((fault, is_closed)) = fault_of_second_creation(open_in_memory(rt.alloc()))? else {
+        return Err("made twice")?;
+    };
+    assert_eq!(rt; fault, Fault::Damaged(Condition::NotEmpty));
+    assert!(rt; is_closed);
     Ok(())
+}
+
+// Returns the number of rows of the table FIRST whose column B is 1. Fails if they cannot be
+// counted.
+fn count_rows_of_first<S: Alter>(conn: &mut Connection<S>) -> Result<i64, Fail> {
+    Ok(
+        conn.query_row("SELECT count(*) FROM FIRST WHERE B = 1", &[])?
+            .get(0)?,
+    )
+}
+
+// Creates the table FIRST, with one row whose column B is 1, and then the tables of a store in the
+// database of a connection. Returns the number of such rows after it. Fails without a connection, if
+// the tables cannot be created, and if the rows cannot be counted.
+fn rows_of_first_after_creation<S: Alter + Drop>(conn: Option<Connection<S>>) -> Result<i64, Fail> {
+    let mut conn = expect_connection(conn)?;
+    conn.execute_batch(
+        "CREATE TABLE FIRST (A TEXT UNIQUE, B INTEGER); INSERT INTO FIRST VALUES ('x', 1); CREATE VIEW SEEN AS SELECT A FROM FIRST",
+    )?;
+    let mut conn = connection_after_creation(conn)?;
+    count_rows_of_first(&mut conn)
 }
 
 // Checks that creating a store does not change another table of the database.
 #[test]
 fn creation_preserves_other_tables(rt: HostRuntime) -> Result<(), Fail> {
-    let mut conn = Connection::open_in_memory(rt.alloc())?;
-    conn.execute_batch(
-        "CREATE TABLE FIRST (A TEXT UNIQUE, B INTEGER); INSERT INTO FIRST VALUES ('x', 1); CREATE VIEW SEEN AS SELECT A FROM FIRST",
-    )?;
-    let mut conn = create_store(conn)?.into_conn();
-    let count: i64 = conn
-        .query_row("SELECT count(*) FROM FIRST WHERE B = 1", &[])?
-        .get(0)?;
+    let count = rows_of_first_after_creation(open_in_memory(rt.alloc()))?;
     assert_eq!(rt; count, 1);
     Ok(())
+}
+
+// Creates a table whose name differs from that of a desk's table only in upper and lower case, and
+// then the tables of a store in the database of a connection. Returns the result as
+// `fault_of_creation`. Fails without a connection, and if the first table cannot be created.
+fn fault_of_creation_beside_a_desk_table<S: Alter + Drop>(
+    conn: Option<Connection<S>>,
+) -> Result<Option<(Fault, bool)>, Fail> {
+    let mut conn = expect_connection(conn)?;
+    conn.execute_batch("CREATE TABLE Cash_Transaction (A TEXT)")?;
+    Ok(fault_of_creation(conn))
 }
 
 // Checks that creating a store fails with `NotEmpty` in a database that has a table whose name
 // differs from that of a desk's table only in upper and lower case.
 #[test]
 fn creation_beside_a_desk_table_is_refused(rt: HostRuntime) -> Result<(), Fail> {
-    let mut conn = Connection::open_in_memory(rt.alloc())?;
-    conn.execute_batch("CREATE TABLE Cash_Transaction (A TEXT)")?;
-    match Store::create(conn) {
-        Ok(_) => assert!(rt; false, "made beside a table of its own name"),
-        Err((_, fault)) => assert_eq!(rt; fault, Fault::Damaged(Condition::NotEmpty)),
+    match fault_of_creation_beside_a_desk_table(open_in_memory(rt.alloc()))? {
+        None => assert!(rt; false, "made beside a table of its own name"),
+        Some((fault, _)) => assert_eq!(rt; fault, Fault::Damaged(Condition::NotEmpty)),
     }
     Ok(())
 }

@@ -1,12 +1,14 @@
 //! A batch of five hundred orders and their results, compared with one run of the same calls.
 
+use crate::databases::open_in_memory;
 use crate::desks::{desk_with_reference_data, run_batch_at_desk};
 use crate::row_calls::parse_keyed_row_call;
+use crate::worked::append_end;
 use brk_import::Counts;
 use brk_import::brk_desk::brk_store::Store;
 use brk_import::brk_desk::{Answer, Call, Desk, Outcome, line_text};
 use brk_money::{Id, Stamp};
-use sqlite::MemStore;
+use sqlite::{Alter, Connection};
 use std::alloc::Global;
 use std::process::Abort;
 use std::test::Fail;
@@ -43,18 +45,19 @@ fn rows_of_all_trades(alloc: Global) -> Result<Vec<String>, Fail> {
 fn format_batch_of_rows(alloc: Global, rows: &[String]) -> Result<String, Fail> {
     let mut batch = String::from_str(alloc, "batch,L\n")?;
     for row in rows {
-        writeln!(batch, "{row}")?;
+        batch.push_str(row.as_str())?;
+        batch.push_str("\n")?;
     }
-    writeln!(batch, "end,{}", rows.len())?;
+    append_end(&mut batch, rows.len() as u64)?;
     Ok(batch)
 }
 
 // Checks that account 100 holds 42,084 shares after all trades (83,667 bought less 41,583 sold),
 // that broker 1 has 500 trades and commissions of 12525.00, and that the audit passes.
-fn expect_totals_after_trades(
+fn expect_totals_after_trades<S: Alter>(
     rt: &impl Abort,
     alloc: Global,
-    store: &mut Store<MemStore>,
+    store: &mut Store<S>,
 ) -> Result<(), Fail> {
     let account = Id::new(100).ok_or("account")?;
     let broker = Id::new(1).ok_or("broker")?;
@@ -72,12 +75,17 @@ fn expect_totals_after_trades(
     Ok(())
 }
 
-// Executes the rows as one batch on a new desk. Checks that all 1,000 rows are accepted, that the
-// line of the last row and the end line are the wanted ones, and the totals by
-// `expect_totals_after_trades`. Returns the lines.
-fn run_and_check_batch(rt: &impl Abort, alloc: Global, rows: &[String]) -> Result<Vec<u8>, Fail> {
+// Executes the rows as one batch on a new desk in the database of a connection. Checks that all 1,000
+// rows are accepted, that the line of the last row and the end line are the wanted ones, and the
+// totals by `expect_totals_after_trades`. Returns the lines. Fails without a connection.
+fn run_and_check_batch<S: Alter + Drop>(
+    rt: &impl Abort,
+    alloc: Global,
+    conn: Option<Connection<S>>,
+    rows: &[String],
+) -> Result<Vec<u8>, Fail> {
     let batch = format_batch_of_rows(alloc, rows)?;
-    let mut desk = desk_with_reference_data(alloc)?;
+    let mut desk = desk_with_reference_data(alloc, conn)?;
     let (lines, ended) = run_batch_at_desk(alloc, &mut desk, batch.as_bytes());
     let all = Counts {
         ok: 1_000,
@@ -106,9 +114,9 @@ fn keyed_calls_of_rows(alloc: Global, rows: &[String]) -> Result<Vec<(Stamp, Cal
 
 // Executes the calls of all rows as one run of the desk, and returns their outcomes. Fails if a row
 // is malformed or the run fails.
-fn run_calls_of_rows(
+fn run_calls_of_rows<S: Alter>(
     alloc: Global,
-    desk: &mut Desk<MemStore>,
+    desk: &mut Desk<S>,
     rows: &[String],
 ) -> Result<Vec<Outcome>, Fail> {
     let calls = keyed_calls_of_rows(alloc, rows)?;
@@ -143,15 +151,16 @@ fn lines_of_outcomes(alloc: Global, outcomes: &[Outcome]) -> Result<String, Fail
     Ok(lines)
 }
 
-// Executes the calls of all rows as one run on a new desk, checks the totals by
-// `expect_totals_after_trades`, and returns the lines that a batch would write for the rows,
-// without its end line. Fails if a row is not accepted.
-fn run_rows_and_check_totals(
+// Executes the calls of all rows as one run on a new desk in the database of a connection, checks
+// the totals by `expect_totals_after_trades`, and returns the lines that a batch would write for the
+// rows, without its end line. Fails without a connection, and if a row is not accepted.
+fn run_rows_and_check_totals<S: Alter + Drop>(
     rt: &impl Abort,
     alloc: Global,
+    conn: Option<Connection<S>>,
     rows: &[String],
 ) -> Result<String, Fail> {
-    let mut desk = desk_with_reference_data(alloc)?;
+    let mut desk = desk_with_reference_data(alloc, conn)?;
     let lines = lines_of_outcomes(alloc, &run_calls_of_rows(alloc, &mut desk, rows)?)?;
     expect_totals_after_trades(rt, alloc, &mut desk.into_store())?;
     Ok(lines)
@@ -163,8 +172,8 @@ fn run_rows_and_check_totals(
 fn a_batch_equals_one_run_of_its_calls(rt: HostRuntime) -> Result<(), Fail> {
     let alloc = rt.alloc();
     let rows = rows_of_all_trades(alloc)?;
-    let batch = run_and_check_batch(&rt, alloc, &rows)?;
-    let mut run = run_rows_and_check_totals(&rt, alloc, &rows)?;
+    let batch = run_and_check_batch(&rt, alloc, open_in_memory(alloc), &rows)?;
+    let mut run = run_rows_and_check_totals(&rt, alloc, open_in_memory(alloc), &rows)?;
     run.push_str("end,1000,0,0\n")?;
     assert!(rt; batch.as_slice() == run.as_bytes());
     Ok(())

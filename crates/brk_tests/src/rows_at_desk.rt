@@ -1,13 +1,12 @@
 //! Tests of the number of file calls that a desk needs to sell a share: for a position of many lots
 //! no more than for one of a single lot.
 
-use crate::desks::Still;
+use crate::files::jobs::{Job, Task};
 use crate::files::machine::{
-    Held, MachineCrash, Sent, failing_files_with_bytes, files_with_reference_data,
-    open_desk_in_files, run_batch_until_crash,
+    Held, MachineCrash, Sent, files_with_reference_data, options_with_one_cached_page,
+    perform_job_until_crash, run_batch_until_crash,
 };
-use brk_import::run_batch;
-use sqlite::Options;
+use crate::worked::{append_end, append_purchase};
 use std::alloc::Global;
 use std::test::Fail;
 
@@ -19,12 +18,10 @@ const LOTS: u64 = 100;
 fn batch_of_two_share_purchases(alloc: Global) -> Result<String, Fail> {
     let mut batch = String::from_str(alloc, "batch,P\naccount,101,10,1,Side,1,10000.00\n")?;
     for n in 1..=LOTS {
-        writeln!(batch, "order,100,TMB,ABC,2,,cash,fifo,Ann,Lee,T10")?;
-        writeln!(batch, "result,{n},10.00")?;
+        append_purchase(&mut batch, 100, 2, n)?;
     }
-    writeln!(batch, "order,101,TMB,ABC,2,,cash,fifo,Ann,Lee,T10")?;
-    writeln!(batch, "result,{},10.00", LOTS + 1)?;
-    writeln!(batch, "end,{}", 2 * LOTS + 3)?;
+    append_purchase(&mut batch, 101, 2, LOTS + 1)?;
+    append_end(&mut batch, 2 * LOTS + 3)?;
     Ok(batch)
 }
 
@@ -65,20 +62,15 @@ fn sale_completes_within_calls(
     calls: u64,
 ) -> Result<bool, Fail> {
     let batch = batch_of_one_sale(alloc, account, shares)?;
-    let files = failing_files_with_bytes(alloc, held, u64::MAX, calls)?;
-    let mut options = Options::new(1);
-    options.cache_pages = 1;
-    let mut lines = Vec::new(alloc);
-    if let Some(mut desk) = open_desk_in_files(alloc, files, options) {
-        drop(run_batch(
-            alloc,
-            batch.as_bytes(),
-            &mut lines,
-            &mut Still::at_first_timestamp(),
-            &mut desk,
-        ));
-    }
-    Ok(lines.ends_with(b"end,2,0,0\n"))
+    let Sent { seen, .. } = perform_job_until_crash(
+        alloc,
+        held,
+        MachineCrash::of_database_after(calls),
+        options_with_one_cached_page(),
+        Job::Desk(Task::Batch),
+        batch.as_bytes(),
+    )?;
+    Ok(seen.lines.ends_with(b"end,2,0,0\n"))
 }
 
 // Returns the least number of calls of the database file with which the sale of one share of an

@@ -2,7 +2,7 @@
 
 use brk_import::brk_desk::brk_store::Store;
 use sqlite::types::ValueRef;
-use sqlite::{Alter, Connection, MemStore, Row};
+use sqlite::{Alter, Connection, Row};
 use std::alloc::Global;
 use std::test::Fail;
 
@@ -58,7 +58,7 @@ const SET_TABLES: &str =
     SET,15,taxrate\x1f1\x1fState\x1f20000,1709251200014\nSET,16,custtax\x1f10\x1f1,1709251200015\n";
 
 /// The error that tables could not be read or printed.
-#[derive(Clone, Copy, Debug, PartialEq, Eq)]
+#[derive(Clone, Copy)]
 pub struct Unread;
 
 // Appends the value of a cell as text; a null is an empty text. Fails for a value that is neither a
@@ -133,9 +133,9 @@ pub fn read_all_tables<S: Alter>(
 // Checks that the names and the rows of these tables are exactly the lines `wanted`. Fails with
 // `name` and the number of the first line that differs, with `name` if lines are missing or there
 // are more, and if the tables cannot be read.
-fn expect_rows_of_tables(
+fn expect_rows_of_tables<S: Alter>(
     alloc: Global,
-    conn: &mut Connection<MemStore>,
+    conn: &mut Connection<S>,
     name: &str,
     tables: &[&str],
     wanted: &str,
@@ -159,9 +159,9 @@ fn expect_rows_of_tables(
 /// names and rows of the other tables are exactly the lines `wanted`. Fails with `name` and the
 /// number of the first line that differs, with `name` if lines are missing or there are more, and
 /// if the tables cannot be read.
-pub fn expect_all_tables(
+pub fn expect_all_tables<S: Alter + Drop>(
     alloc: Global,
-    store: Store<MemStore>,
+    store: Store<S>,
     name: &str,
     wanted: &str,
 ) -> Result<(), Fail> {

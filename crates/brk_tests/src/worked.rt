@@ -89,13 +89,35 @@ pub const LAST_FIRST_LINES: [&str; 6] = [
     "1709251200021,19.50,30.00,1895.50,2024-03-03,1800.00,1950.00,8441.40",
 ];
 
+/// Appends the rows of a market order to buy `shares` shares of ABC for an account, and of the
+/// result at 10.00 of the trade with the id `trade`. Fails only if memory runs out.
+pub fn append_purchase(
+    batch: &mut String,
+    account: u64,
+    shares: u64,
+    trade: u64,
+) -> Result<(), Fail> {
+    writeln!(
+        batch,
+        "order,{account},TMB,ABC,{shares},,cash,fifo,Ann,Lee,T10\nresult,{trade},10.00"
+    )?;
+    Ok(())
+}
+
+/// Appends the last line of a batch of `rows` rows. Fails only if memory runs out.
+pub fn append_end(batch: &mut String, rows: u64) -> Result<(), Fail> {
+    writeln!(batch, "end,{rows}")?;
+    Ok(())
+}
+
 /// Returns the text of a batch with the name T and these rows. Fails only if memory runs out.
 pub fn format_batch(alloc: Global, rows: &[&str]) -> Result<String, Fail> {
     let mut batch = String::from_str(alloc, "batch,T\n")?;
     for row in rows {
-        writeln!(batch, "{row}")?;
+        batch.push_str(row)?;
+        batch.push_str("\n")?;
     }
-    writeln!(batch, "end,{}", rows.len())?;
+    append_end(&mut batch, rows.len() as u64)?;
     Ok(batch)
 }
 
@@ -115,20 +137,19 @@ pub fn append_reply_lines(
     Ok(())
 }
 
-/// Returns the lines that a batch prints if all of its rows are accepted with these replies, the
-/// end line included. Fails if memory runs out.
-pub fn lines_if_all_accepted(alloc: Global, lines: &[&str]) -> Result<String, Fail> {
+/// Returns all lines of a batch on a desk that has accepted its first `booked` rows before, or all
+/// of them if there are fewer: the stored replies to these rows, the other rows accepted, and the
+/// end line. `lines` are the replies to all rows. Fails only if memory runs out.
+pub fn lines_of_retry(alloc: Global, lines: &[&str], booked: usize) -> Result<String, Fail> {
+    let (again, rest) = lines.split_at(booked.min(lines.len()));
     let mut told = String::new(alloc);
-    append_reply_lines(&mut told, 1, "ok", lines)?;
-    writeln!(told, "end,{},0,0", lines.len())?;
-    Ok(told)
-}
-
-/// Returns the lines that a batch prints if all of its rows were accepted before with these
-/// replies, the end line included. Fails if memory runs out.
-pub fn lines_if_all_repeated(alloc: Global, lines: &[&str]) -> Result<String, Fail> {
-    let mut told = String::new(alloc);
-    append_reply_lines(&mut told, 1, "again", lines)?;
-    writeln!(told, "end,0,{},0", lines.len())?;
+    append_reply_lines(&mut told, 1, "again", again)?;
+    append_reply_lines(
+        &mut told,
+        (again.len() as u64).saturating_add(1),
+        "ok",
+        rest,
+    )?;
+    writeln!(told, "end,{},{},0", rest.len(), again.len())?;
     Ok(told)
 }

@@ -2,10 +2,10 @@
 
 use crate::desks::{Step, expect_batch_result};
 use crate::tables::expect_all_tables;
-use crate::worked::append_reply_lines;
+use crate::worked::{append_reply_lines, lines_of_retry};
 use brk_import::brk_desk::Desk;
 use brk_import::{BatchFault, Counts};
-use sqlite::MemStore;
+use sqlite::Alter;
 use std::alloc::Global;
 use std::test::Fail;
 
@@ -72,13 +72,7 @@ pub fn first_lines_of_batch(alloc: Global, rows: usize) -> Result<String, Fail> 
 /// before: the stored replies to these rows, the other rows accepted, and the end line. Fails only
 /// if memory runs out.
 pub fn all_lines_of_retry(alloc: Global, booked: usize) -> Result<String, Fail> {
-    let booked = booked.min(6);
-    let (again, rest) = LINES.split_at(booked);
-    let mut told = String::new(alloc);
-    append_reply_lines(&mut told, 1, "again", again)?;
-    append_reply_lines(&mut told, (booked as u64).saturating_add(1), "ok", rest)?;
-    writeln!(told, "end,{},{booked},0", rest.len())?;
-    Ok(told)
+    lines_of_retry(alloc, &LINES, booked)
 }
 
 /// Checks that a batch ended with the fault `wanted`, and that the bytes `told`, which it wrote,
@@ -100,9 +94,9 @@ pub fn expect_batch_fault(
 /// Executes the whole batch on a desk that has accepted its first `booked` rows before. Checks that
 /// these rows have their stored replies and the others are accepted with the replies `LINES`, and
 /// that all tables after it are those after one execution. Fails with `name` if not.
-pub fn expect_completed_batch(
+pub fn expect_completed_batch<S: Alter + Drop>(
     alloc: Global,
-    mut desk: Desk<MemStore>,
+    mut desk: Desk<S>,
     name: &str,
     batch: &str,
     booked: usize,

@@ -1,19 +1,24 @@
 //! Tests of a batch whose reader fails once at each of its bytes, or is interrupted there.
 
+use crate::at_desk::run_batch_of_reader;
 use crate::cuts::batch::{ROWS, expect_batch_fault, expect_completed_batch, first_lines_of_batch};
-use crate::desks::{Still, desk_with_reference_data};
+use crate::databases::open_in_memory;
+use crate::desks::desk_with_reference_data;
 use crate::faulty::Failing;
 use crate::worked::format_batch;
-use brk_import::{BatchFault, FaultKind, run_batch};
+use brk_import::{BatchFault, FaultKind};
+use sqlite::{Alter, Connection};
 use std::alloc::Global;
 use std::io::ErrorKind;
 use std::test::Fail;
 
-// Executes a batch on a new desk with a reader that fails once with the error `kind` after `len`
-// bytes, and then retries the batch. Checks that the first run fails with `Read` after the lines of
-// the decided rows, and that the retry completes: a row is decided if the record after it was read.
-fn expect_batch_read_fault(
+// Executes a batch on a new desk in the database of a connection, with a reader that fails once with
+// the error `kind` after `len` bytes, and then retries the batch. Checks that the first run fails
+// with `Read` after the lines of the decided rows, and that the retry completes: a row is decided if
+// the record after it was read. Fails without a connection.
+fn expect_batch_read_fault<S: Alter + Drop>(
     alloc: Global,
+    conn: Option<Connection<S>>,
     batch: &str,
     len: usize,
     kind: ErrorKind,
@@ -23,15 +28,9 @@ fn expect_batch_read_fault(
     let settled = before.split('\n').count().saturating_sub(3);
     let lines = first_lines_of_batch(alloc, settled)?;
     let mut told = Vec::new(alloc);
-    let mut desk = desk_with_reference_data(alloc)?;
+    let mut desk = desk_with_reference_data(alloc, conn)?;
     let reader = Failing::reader_failing_once(batch.as_bytes(), len, kind);
-    let ended = run_batch(
-        alloc,
-        reader,
-        &mut told,
-        &mut Still::at_first_timestamp(),
-        &mut desk,
-    );
+    let ended = run_batch_of_reader(alloc, reader, &mut told, &mut desk);
     expect_completed_batch(alloc, desk, name.as_str(), batch, settled)?;
     let wanted = BatchFault {
         rows: settled as u64,
@@ -46,8 +45,15 @@ fn expect_batch_read_fault(
 fn batch_readers_failing_at_each_byte(rt: HostRuntime) -> Result<(), Fail> {
     let batch = format_batch(rt.alloc(), &ROWS)?;
     for len in 0..batch.len() {
-        expect_batch_read_fault(rt.alloc(), batch.as_str(), len, ErrorKind::Other)?;
-        expect_batch_read_fault(rt.alloc(), batch.as_str(), len, ErrorKind::Interrupted)?;
+        for kind in [ErrorKind::Other, ErrorKind::Interrupted] {
+            expect_batch_read_fault(
+                rt.alloc(),
+                open_in_memory(rt.alloc()),
+                batch.as_str(),
+                len,
+                kind,
+            )?;
+        }
     }
     Ok(())
 }

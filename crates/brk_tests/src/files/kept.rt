@@ -3,10 +3,7 @@
 use crate::files::machine::{
     Held, MachineCrash, Sent, files_with_reference_data, run_batch_until_crash,
 };
-use crate::worked::{
-    LAST_FIRST_LINES, LAST_FIRST_ROWS, LINES, ROWS, format_batch, lines_if_all_accepted,
-    lines_if_all_repeated,
-};
+use crate::worked::{LAST_FIRST_LINES, LAST_FIRST_ROWS, LINES, ROWS, format_batch, lines_of_retry};
 use std::alloc::Global;
 use std::test::Fail;
 
@@ -42,10 +39,8 @@ fn expect_trades_stored_and_repeated(
     lines: &[&str],
 ) -> Result<(), Fail> {
     let batch = format_batch(alloc, rows)?;
-    let (told, again) = (
-        lines_if_all_accepted(alloc, lines)?,
-        lines_if_all_repeated(alloc, lines)?,
-    );
+    let told = lines_of_retry(alloc, lines, 0)?;
+    let again = lines_of_retry(alloc, lines, lines.len())?;
     let set = files_with_reference_data(alloc)?;
     let held = expect_batch_in_files(alloc, &set, name, batch.as_str(), told.as_str())?;
     expect_batch_in_files(alloc, &held, name, batch.as_str(), again.as_str())?;

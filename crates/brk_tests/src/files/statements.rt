@@ -1,12 +1,12 @@
 //! Test of a disk that fails within a statement, at each of its calls: whole first lines are
 //! written, and never the last one.
 
+use crate::files::jobs::{Ended, Job, Observation, Task};
 use crate::files::machine::{
-    Held, MachineCrash, Sent, failing_files_with_bytes, open_desk_in_files, run_batch_until_crash,
+    Held, MachineCrash, Sent, options_with_one_cached_page, perform_job_until_crash,
+    run_batch_until_crash,
 };
-use brk_money::{Fault, Id, parse_day};
-use brk_report::{ReportFault, statement};
-use sqlite::Options;
+use crate::statements::asking::account_and_days;
 use std::alloc::Global;
 use std::test::Fail;
 
@@ -41,26 +41,25 @@ const WANTED: &[u8] = b"Statement of account 100\n\
     Holdings                  1500.00\n\
     Cash rows 3, lots 1\n";
 
-// Writes the statement of account 100 for March 2024 to `text`, on the desk in the files `held`,
-// whose database file accepts `calls` calls and fails at each later call. Returns the result, or
-// `None` if the desk cannot be opened. Fails if memory runs out.
+// Writes the statement of account 100 for March 2024 on the desk in the files `held`, whose database
+// file accepts `calls` calls and fails at each later call. Returns the observation. Fails if memory
+// runs out.
 fn write_statement_over_failing_disk(
     alloc: Global,
     held: &Held,
     calls: u64,
-    text: &mut Vec<u8>,
-) -> Result<Option<Result<(), ReportFault>>, Fail> {
-    let account = Id::new(100).ok_or("an account")?;
-    let from = parse_day(b"2024-03-01").ok_or("a first day")?;
-    let to = parse_day(b"2024-03-31").ok_or("a last day")?;
-    let files = failing_files_with_bytes(alloc, held, u64::MAX, calls)?;
+) -> Result<Observation, Fail> {
+    let asked = account_and_days(100, "2024-03-01", "2024-03-31")?;
     // The desk caches one page, so that rows are read from the disk.
-    let mut options = Options::new(1);
-    options.cache_pages = 1;
-    let Some(mut desk) = open_desk_in_files(alloc, files, options) else {
-        return Ok(None);
-    };
-    Ok(Some(statement(alloc, &mut desk, account, from, to, text)))
+    let Sent { seen, .. } = perform_job_until_crash(
+        alloc,
+        held,
+        MachineCrash::of_database_after(calls),
+        options_with_one_cached_page(),
+        Job::Desk(Task::Statement(asked)),
+        b"",
+    )?;
+    Ok(seen)
 }
 
 // Returns true if a text consists of the first whole lines of the statement, perhaps none, but not
@@ -84,23 +83,21 @@ fn statements_over_a_failing_disk(rt: HostRuntime) -> Result<(), Fail> {
     )?;
     let (mut faults, mut parts) = (0u64, 0u64);
     for calls in 0..10_000 {
-        let mut text = Vec::new(alloc);
-        match write_statement_over_failing_disk(alloc, &held, calls, &mut text)? {
-            None => (),
-            Some(Ok(())) => {
-                assert!(rt; text.as_slice() == WANTED, "after {calls} calls");
+        let seen = write_statement_over_failing_disk(alloc, &held, calls)?;
+        let text = seen.lines.as_slice();
+        match seen.ended {
+            Ended::NotBegun => (),
+            Ended::Done => {
+                assert!(rt; text == WANTED, "after {calls} calls");
                 assert!(rt; parts > 0 && faults > parts);
                 return Ok(());
             }
-            Some(Err(ended)) => {
-                assert!(rt;
-                    matches!(&ended, ReportFault::Desk(Fault::Store)),
-                    "after {calls} calls"
-                );
-                assert!(rt; is_proper_prefix_of_statement(&text), "after {calls} calls");
+            Ended::StoreFault => {
+                assert!(rt; is_proper_prefix_of_statement(text), "after {calls} calls");
                 faults = faults.saturating_add(1);
                 parts = parts.saturating_add(u64::from(!text.is_empty()));
             }
+            _ => assert!(rt; false, "after {calls} calls"),
         }
     }
     Err("no statement was whole")?

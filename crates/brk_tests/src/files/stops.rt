@@ -1,14 +1,18 @@
 //! Tests of crashes at each call of the log and of the database file: while a store is created,
 //! while it executes a batch, and while a desk of schema 1 or 2 is upgraded.
 
+use crate::at_desk::connection_of_desk;
 use crate::cuts::batch::{ROWS, all_lines_of_retry};
+use crate::databases::open_in_memory;
 use crate::desks::desk_with_reference_data;
+use crate::files::jobs::{Observation, Task, observe_task_of_desk};
 use crate::files::machine::{
-    BatchObservation, File, Held, MachineCrash, Sent, files_after_sql, files_with_reference_data,
-    run_batch_on_connection, run_batch_until_crash,
+    File, Held, MachineCrash, Sent, files_after_sql, files_with_reference_data,
+    run_batch_until_crash,
 };
 use crate::worked;
 use crate::worked::{SET, SET_LINES, format_batch};
+use sqlite::{Alter, Connection};
 use std::alloc::Global;
 use std::test::Fail;
 
@@ -66,14 +70,28 @@ fn fail_unless(is_so: bool, stop: MachineCrash, what: &str) -> Result<(), Fail> 
     }
 }
 
+// Executes a batch on a new desk in the database of a connection after the batch `SET`. Returns the
+// observation of the batch. Fails without a connection, and if the desk cannot be created.
+fn observe_batch_after_set<S: Alter + Drop>(
+    alloc: Global,
+    conn: Option<Connection<S>>,
+    batch: &[u8],
+) -> Result<Observation, Fail> {
+    let conn = connection_of_desk(desk_with_reference_data(alloc, conn)?);
+    let mut seen = Observation::empty(alloc);
+    drop(observe_task_of_desk(alloc, conn, Task::Batch, batch, &mut seen));
+    Ok(seen)
+}
+
 // Returns all tables of a desk in memory as text, after the batch `SET` and the first `rows` rows
 // of `ROWS`, at most six. Fails if the tables cannot be read or memory runs out.
 fn tables_after_rows(alloc: Global, rows: usize) -> Result<String, Fail> {
     let batch = format_batch(alloc, &ROWS[..rows.min(6)])?;
-    let conn = desk_with_reference_data(alloc)?.into_store().into_conn();
-    let mut seen = BatchObservation::empty(alloc);
-    drop(run_batch_on_connection(alloc, conn, batch.as_bytes(), &mut seen));
-    let BatchObservation { after, .. } = seen;
+    let Observation { after, .. } = observe_batch_after_set(
+        alloc,
+        open_in_memory(alloc),
+        batch.as_bytes(),
+    )?;
     if after.is_empty() {
         return Err("tables that could not be read")?;
     }
@@ -82,7 +100,7 @@ fn tables_after_rows(alloc: Global, rows: usize) -> Result<String, Fail> {
 
 // Returns true if a batch wrote exactly the lines `lines`, its desk passed the audit, and the
 // tables after it are `tables`.
-fn has_lines_audit_and_tables(seen: &BatchObservation, lines: &str, tables: &str) -> bool {
+fn has_lines_audit_and_tables(seen: &Observation, lines: &str, tables: &str) -> bool {
     seen.is_sound && seen.lines.as_slice() == lines.as_bytes() && seen.after.as_str() == tables
 }
 
@@ -116,40 +134,22 @@ fn expect_creation_crash_recovered(
     Ok(was_stopped)
 }
 
-// Checks that a desk can be created and set up after a crash at each call of the log or the
-// database file during its creation, with the bytes that were not synced lost or stored.
-#[test]
-fn crashes_while_a_store_is_created(rt: HostRuntime) -> Result<(), Fail> {
-    let tables = tables_after_rows(rt.alloc(), 0)?;
-    for stop in STOPS {
-        let mut was_stopped = true;
-        for calls in 0..MOST_CALLS {
-            was_stopped = expect_creation_crash_recovered(
-                rt.alloc(),
-                MachineCrash { calls, ..stop },
-                tables.as_str(),
-            )?;
-            if !was_stopped {
-                break;
-            }
-        }
-        assert!(rt; !was_stopped, "always stopped");
-    }
-    Ok(())
-}
-
 // Returns the number of rows of the batch, at most six, that are committed after a crash with the
 // tables `found`: the number of the written lines `told`, or one more. `tables` are the tables
 // after each number of rows. Returns `None` if `found` are the tables of neither number.
 fn committed_rows_after_crash(told: &[u8], found: &str, tables: &[String]) -> Option<usize> {
-    let settled = told
-        .split(|byte| *byte == b'\n')
-        .count()
-        .saturating_sub(1)
-        .min(6);
+    let mut settled = 0usize;
+    for byte in told {
+        if *byte == b'\n' {
+            settled = settled.saturating_add(1);
+        }
+    }
+    let settled = settled.min(6);
     for rows in [settled, settled.saturating_add(1)] {
-        if tables.get(rows).map(String::as_str) == Some(found) {
-            return Some(rows);
+        if let Some(text) = tables.get(rows) {
+            if text.as_str() == found {
+                return Some(rows);
+            }
         }
     }
     None
@@ -159,9 +159,9 @@ fn committed_rows_after_crash(told: &[u8], found: &str, tables: &[String]) -> Op
 /// and true if there was a crash.
 #[derive(Drop)]
 struct CrashAndRetry {
-    first: BatchObservation,
+    first: Observation,
     was_stopped: bool,
-    again: BatchObservation,
+    again: Observation,
 }
 
 // Executes the batch on the desk in the files `start` until the crash `stop`, and retries it on the
@@ -220,7 +220,10 @@ fn expect_retry_completes(
     twice: &CrashAndRetry,
     tables: &[String],
 ) -> Result<(), Fail> {
-    let last = tables.last().map(String::as_str).unwrap_or("");
+    let last = match tables.last() {
+        Some(text) => text.as_str(),
+        None => "",
+    };
     let rows = committed_rows_after_crash(&twice.first.lines, twice.again.before.as_str(), tables);
     fail_unless(rows.is_some(), stop, "tables of no row")?;
     let whole = all_lines_of_retry(alloc, 0)?;
@@ -243,37 +246,6 @@ fn expect_batch_crash_recovered(
     Ok(twice.was_stopped)
 }
 
-// Checks that a batch can be retried and completed after a crash at each call of the log or the
-// database file during the batch, with the bytes that were not synced lost or stored.
-#[test]
-fn crashes_while_a_batch_is_executed(rt: HostRuntime) -> Result<(), Fail> {
-    let batch = format_batch(rt.alloc(), &ROWS)?;
-    let mut tables = Vec::new(rt.alloc());
-    for rows in 0..=6 {
-        let after = tables_after_rows(rt.alloc(), rows)?;
-        tables.push(after)?;
-    }
-    let start = files_with_reference_data(rt.alloc())?;
-    for stop in STOPS {
-        let mut was_stopped = true;
-        for calls in 0..MOST_CALLS {
-            let stop = MachineCrash { calls, ..stop };
-            was_stopped = expect_batch_crash_recovered(
-                rt.alloc(),
-                stop,
-                &start,
-                batch.as_str(),
-                &tables,
-            )?;
-            if !was_stopped {
-                break;
-            }
-        }
-        assert!(rt; !was_stopped, "always stopped");
-    }
-    Ok(())
-}
-
 // Executes the first three trades of `worked::ROWS` as a batch on a desk in files after the batch
 // `SET`. Returns the observation of the batch and the files after it. Fails if memory runs out.
 fn files_after_trades(alloc: Global) -> Result<Sent, Fail> {
@@ -287,7 +259,7 @@ fn files_after_trades(alloc: Global) -> Result<Sent, Fail> {
 // read, the statements fail or memory runs out.
 fn files_of_older_schema(alloc: Global, change: &str) -> Result<(Held, String), Fail> {
     let Sent { seen, held, .. } = files_after_trades(alloc)?;
-    let BatchObservation { after, .. } = seen;
+    let Observation { after, .. } = seen;
     if after.is_empty() {
         return Err("tables that could not be read")?;
     }
@@ -341,40 +313,114 @@ fn expect_upgrade_crash_recovered(
     Ok(moved.was_stopped)
 }
 
-// Upgrades a desk that the SQL statements `change` convert to an older schema, with each crash of
-// `STOPS` at each call of its file, until a run has no crash. Fails if a crash is not recovered.
-// Returns true if, for each crash of `STOPS`, a run without a crash was reached.
-fn upgrade_with_crash_at_each_call(alloc: Global, change: &str) -> Result<bool, Fail> {
-    let (start, tables) = files_of_older_schema(alloc, change)?;
-    let mut is_always = false;
+// What the machine does until a crash.
+#[derive(Clone, Copy)]
+enum Work<'a> {
+    // It creates a desk, whose tables after the batch `SET` are these.
+    Creation(&'a str),
+    // It executes the batch on the desk in the files `start`. `tables` are the tables after each
+    // number of its rows.
+    Batch {
+        start: &'a Held,
+        batch: &'a str,
+        tables: &'a [String],
+    },
+    // It upgrades the desk of an older schema in the files `start`. `tables` are its tables in
+    // schema 3.
+    Upgrade {
+        start: &'a Held,
+        tables: &'a str,
+    },
+}
+
+// Performs the work until the crash `stop`, and checks that the desk recovers from it. Returns true
+// if there was a crash.
+fn expect_crash_recovered(alloc: Global, stop: MachineCrash, work: Work<'_>) -> Result<bool, Fail> {
+    match work {
+        Work::Creation(tables) => expect_creation_crash_recovered(alloc, stop, tables),
+        Work::Batch {
+            start,
+            batch,
+            tables,
+        } => expect_batch_crash_recovered(alloc, stop, start, batch, tables),
+        Work::Upgrade { start, tables } => expect_upgrade_crash_recovered(
+            alloc, stop, start, tables,
+        ),
+    }
+}
+
+// Performs the work with each crash of `STOPS` at each call of its file, until a run has no crash,
+// and checks each recovery. Fails if a run without a crash is not reached.
+fn expect_each_crash_recovered(alloc: Global, work: Work<'_>) -> Result<(), Fail> {
     for stop in STOPS {
         let mut was_stopped = true;
         for calls in 0..MOST_CALLS {
-            let stop = MachineCrash { calls, ..stop };
-            was_stopped = expect_upgrade_crash_recovered(alloc, stop, &start, tables.as_str())?;
+            was_stopped = expect_crash_recovered(alloc, MachineCrash { calls, ..stop }, work)?;
             if !was_stopped {
                 break;
             }
         }
-        is_always = is_always || was_stopped;
+        if was_stopped {
+            return Err("always stopped")?;
+        }
     }
-    Ok(!is_always)
+    Ok(())
+}
+
+// Checks that a desk can be created and set up after a crash at each call of the log or the
+// database file during its creation, with the bytes that were not synced lost or stored.
+#[test]
+fn crashes_while_a_store_is_created(rt: HostRuntime) -> Result<(), Fail> {
+    let tables = tables_after_rows(rt.alloc(), 0)?;
+    expect_each_crash_recovered(rt.alloc(), Work::Creation(tables.as_str()))
+}
+
+// Returns all tables of a desk in memory, as text, after the batch `SET` and each number of the
+// rows `ROWS`, from none to all six. Fails if the tables cannot be read.
+fn tables_after_each_row(alloc: Global) -> Result<Vec<String>, Fail> {
+    let mut tables = Vec::new(alloc);
+    for rows in 0..=6 {
+        tables.push(tables_after_rows(alloc, rows)?)?;
+    }
+    Ok(tables)
+}
+
+// Checks that a batch can be retried and completed after a crash at each call of the log or the
+// database file during the batch, with the bytes that were not synced lost or stored.
+#[test]
+fn crashes_while_a_batch_is_executed(rt: HostRuntime) -> Result<(), Fail> {
+    let batch = format_batch(rt.alloc(), &ROWS)?;
+    let tables = tables_after_each_row(rt.alloc())?;
+    let start = files_with_reference_data(rt.alloc())?;
+    let work = Work::Batch {
+        start: &start,
+        batch: batch.as_str(),
+        tables: &tables,
+    };
+    expect_each_crash_recovered(rt.alloc(), work)
+}
+
+// Upgrades a desk that the SQL statements `change` convert to an older schema, with each crash of
+// `STOPS` at each call of its file, and checks each recovery.
+fn upgrade_with_crash_at_each_call(alloc: Global, change: &str) -> Result<(), Fail> {
+    let (start, tables) = files_of_older_schema(alloc, change)?;
+    let work = Work::Upgrade {
+        start: &start,
+        tables: tables.as_str(),
+    };
+    expect_each_crash_recovered(alloc, work)
 }
 
 // Checks that the upgrade from schema 1 is atomic if the machine crashes at any call of the log or
 // the database file, and that a retry completes it.
 #[test]
 fn crashes_while_schema_1_is_upgraded(rt: HostRuntime) -> Result<(), Fail> {
-    let is_ended = upgrade_with_crash_at_each_call(rt.alloc(), FIRST)?;
-    assert!(rt; is_ended, "always stopped");
-    Ok(())
+    upgrade_with_crash_at_each_call(rt.alloc(), FIRST)
 }
 
 // Checks that the upgrade from schema 2 is atomic if the machine crashes at any call of the log or
 // the database file, and that a retry completes it.
 #[test]
 fn crashes_while_schema_2_is_upgraded(rt: HostRuntime) -> Result<(), Fail> {
-    let is_ended = upgrade_with_crash_at_each_call(rt.alloc(), SECOND)?;
-    assert!(rt; is_ended, "always stopped");
-    Ok(())
+    upgrade_with_crash_at_each_call(rt.alloc(), SECOND)
 }

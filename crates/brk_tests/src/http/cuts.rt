@@ -1,15 +1,18 @@
 //! Tests of a stream that is cut at each of its bytes, and of a stream whose reader or writer fails
 //! at each byte. After a fault the whole stream is retried and completes.
 
-use crate::desks::{Still, desk_with_reference_data};
+use crate::at_desk::serve_stream_of_reader;
+use crate::databases::open_in_memory;
+use crate::desks::desk_with_reference_data;
 use crate::faulty::{Failing, Narrow};
 use crate::http::streams::{
     WantedReply, format_post_request, format_wanted_reply, serve_stream_in_pieces,
+    serve_stream_on_new_desk,
 };
 use crate::tables::expect_all_tables;
-use brk_http::{FaultKind, ServeFault, serve_stream};
+use brk_http::{FaultKind, ServeFault};
 use brk_import::brk_desk::Desk;
-use sqlite::MemStore;
+use sqlite::{Alter, Connection};
 use std::alloc::{AllocError, Global};
 use std::io::ErrorKind;
 use std::test::Fail;
@@ -92,28 +95,37 @@ fn replies_within_length(
     Ok((text, done, start < len))
 }
 
+// Serves the first `len` bytes of the stream on a new desk in the database of a connection. Checks
+// that each whole request has its reply, and that a request that is cut has the reply 400. Fails if
+// not, and without a connection.
+fn expect_cut_stream<S: Alter + Drop>(
+    alloc: Global,
+    conn: Option<Connection<S>>,
+    all: &Three,
+    len: usize,
+) -> Result<(), Fail> {
+    let (mut wanted, mut done, part) = replies_within_length(alloc, all, len)?;
+    if part {
+        let bad = WantedReply::Last("400 Bad Request", "{\"error\":\"bad request\"}");
+        wanted.push_str(format_wanted_reply(alloc, bad)?.as_str())?;
+        done = done.saturating_add(1);
+    }
+    let cut = &all.input.as_bytes()[..len.min(all.input.len())];
+    let (out, ended) = serve_stream_on_new_desk(alloc, conn, cut, 64)?;
+    if out.as_slice() == wanted.as_bytes() && ended == Ok(done) {
+        Ok(())
+    } else {
+        Err(Fail::new(format_args!("cut at {len}")))
+    }
+}
+
 // Checks, for a stream that is cut before each of its bytes and at its end, that each whole request
 // has its reply, and that a request that is cut has the reply 400.
 #[test]
 fn streams_cut_at_each_byte(rt: HostRuntime) -> Result<(), Fail> {
-    let alloc = rt.alloc();
-    let all = three_requests_and_replies(alloc)?;
+    let all = three_requests_and_replies(rt.alloc())?;
     for len in 0..=all.input.len() {
-        let (mut wanted, mut done, part) = replies_within_length(alloc, &all, len)?;
-        if part {
-            let bad = WantedReply::Last("400 Bad Request", "{\"error\":\"bad request\"}");
-            wanted.push_str(format_wanted_reply(alloc, bad)?.as_str())?;
-            done = done.saturating_add(1);
-        }
-        let mut desk = desk_with_reference_data(alloc)?;
-        let (out, ended) = serve_stream_in_pieces(
-            alloc,
-            &mut desk,
-            &all.input.as_bytes()[..len],
-            64,
-        );
-        assert!(rt; out.as_slice() == wanted.as_bytes(), "cut at {len}");
-        assert!(rt; ended == Ok(done), "cut at {len}");
+        expect_cut_stream(rt.alloc(), open_in_memory(rt.alloc()), &all, len)?;
     }
     Ok(())
 }
@@ -132,9 +144,9 @@ fn all_replies_of_retry(alloc: Global, all: &Three, executed: bool) -> Result<St
 // Serves the whole stream on a desk, which has executed the first request before if `executed` is
 // true, and otherwise none. Checks that all three requests have their replies, and that the tables
 // are those after one execution of the row. Fails with `name` if not.
-fn expect_completed_stream(
+fn expect_completed_stream<S: Alter + Drop>(
     alloc: Global,
-    mut desk: Desk<MemStore>,
+    mut desk: Desk<S>,
     name: &str,
     all: &Three,
     executed: bool,
@@ -147,28 +159,23 @@ fn expect_completed_stream(
     expect_all_tables(alloc, desk.into_store(), name, TABLES)
 }
 
-// Serves the stream with a reader that fails once with the error `kind` after `len` bytes. Checks
-// that the stream fails with `Read` after the replies to the requests that were read whole, and
-// that a retry completes, with the stored reply to the first request if and only if this request
-// was read whole before.
-fn expect_stream_read_fault(
+// Serves the stream on a new desk in the database of a connection, with a reader that fails once
+// with the error `kind` after `len` bytes. Checks that the stream fails with `Read` after the
+// replies to the requests that were read whole, and that a retry completes, with the stored reply to
+// the first request if and only if this request was read whole before. Fails without a connection.
+fn expect_stream_read_fault<S: Alter + Drop>(
     alloc: Global,
+    conn: Option<Connection<S>>,
     all: &Three,
     len: usize,
     kind: ErrorKind,
 ) -> Result<(), Fail> {
     let name = format!(in alloc; "the reader fails after {len}")?;
     let (wanted, done, _) = replies_within_length(alloc, all, len)?;
-    let mut desk = desk_with_reference_data(alloc)?;
+    let mut desk = desk_with_reference_data(alloc, conn)?;
     let mut out = Vec::new(alloc);
     let reader = Failing::reader_failing_once(all.input.as_bytes(), len, kind);
-    let ended = serve_stream(
-        alloc,
-        reader,
-        &mut out,
-        &mut Still::at_first_timestamp(),
-        &mut desk,
-    );
+    let ended = serve_stream_of_reader(alloc, reader, &mut out, &mut desk);
     let kind = FaultKind::Read;
     if out.as_slice() != wanted.as_bytes() || ended != Err(ServeFault { done, kind }) {
         return Err(Fail::new(format_args!("{name}: the fault, or the replies")));
@@ -183,18 +190,21 @@ fn expect_stream_read_fault(
 fn stream_readers_failing_at_each_byte(rt: HostRuntime) -> Result<(), Fail> {
     let all = three_requests_and_replies(rt.alloc())?;
     for len in 0..=all.input.len() {
-        expect_stream_read_fault(rt.alloc(), &all, len, ErrorKind::Interrupted)?;
-        expect_stream_read_fault(rt.alloc(), &all, len, ErrorKind::ConnectionReset)?;
+        for kind in [ErrorKind::Interrupted, ErrorKind::ConnectionReset] {
+            expect_stream_read_fault(rt.alloc(), open_in_memory(rt.alloc()), &all, len, kind)?;
+        }
     }
     Ok(())
 }
 
-// Serves the stream with a writer that has room for `room` bytes, and then fails once with the
-// error `fault`, or, if `fault` is `None`, once accepts no byte. Checks that the stream fails with
-// `Write` after the first `room` bytes of the replies, and that a retry completes, with the stored
-// reply to the first request: a request is executed before its reply is written.
-fn expect_stream_write_fault(
+// Serves the stream on a new desk in the database of a connection, with a writer that has room for
+// `room` bytes, and then fails once with the error `fault`, or, if `fault` is `None`, once accepts no
+// byte. Checks that the stream fails with `Write` after the first `room` bytes of the replies, and
+// that a retry completes, with the stored reply to the first request: a request is executed before
+// its reply is written. Fails without a connection.
+fn expect_stream_write_fault<S: Alter + Drop>(
     alloc: Global,
+    conn: Option<Connection<S>>,
     all: &Three,
     room: usize,
     fault: Option<ErrorKind>,
@@ -205,14 +215,8 @@ fn expect_stream_write_fault(
     let two = one.saturating_add(all.replies[1].len());
     let done = u64::from(room >= one).saturating_add(u64::from(room >= two));
     let mut writer = Narrow::new(alloc, room, fault);
-    let mut desk = desk_with_reference_data(alloc)?;
-    let ended = serve_stream(
-        alloc,
-        all.input.as_bytes(),
-        &mut writer,
-        &mut Still::at_first_timestamp(),
-        &mut desk,
-    );
+    let mut desk = desk_with_reference_data(alloc, conn)?;
+    let ended = serve_stream_of_reader(alloc, all.input.as_bytes(), &mut writer, &mut desk);
     let kind = FaultKind::Write;
     let written = wanted.as_bytes().get(..room) == Some(writer.taken.as_slice());
     if !written || ended != Err(ServeFault { done, kind }) {
@@ -234,7 +238,7 @@ fn stream_writers_failing_at_each_byte(rt: HostRuntime) -> Result<(), Fail> {
             Some(ErrorKind::BrokenPipe),
             Some(ErrorKind::Interrupted),
         ] {
-            expect_stream_write_fault(rt.alloc(), &all, room, fault)?;
+            expect_stream_write_fault(rt.alloc(), open_in_memory(rt.alloc()), &all, room, fault)?;
         }
     }
     Ok(())

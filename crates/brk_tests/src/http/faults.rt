@@ -1,23 +1,46 @@
 //! Test of a desk whose disk fails: the reply that reports it is the last of its stream.
 
-use crate::files::machine::open_desk_in_files;
-use crate::http::streams::{
-    WantedReply, format_post_request, format_wanted_reply, serve_stream_in_pieces,
-};
-use brk_import::brk_desk::Desk;
-use sqlite::{FileStore, Files, Options};
-use sqlite_disk::{Fuse, Memory};
-use std::alloc::Global;
+use crate::files::jobs::{Ended, Job, Observation, Task};
+use crate::files::machine::{Held, MachineCrash, Sent, perform_job_until_crash};
+use crate::http::streams::{WantedReply, format_post_request, format_wanted_reply};
+use sqlite::Options;
+use std::alloc::{AllocError, Global};
 use std::test::Fail;
 
-// Returns a new desk over files in memory whose log accepts `calls` calls and fails at each later
-// call, or `None` if the desk cannot be created.
-fn open_desk_with_failing_log(alloc: Global, calls: u64) -> Option<Desk<FileStore<Fuse<Memory>>>> {
-    let files = Files {
-        log: Fuse::new(Memory::new(alloc), calls),
-        db: Fuse::new(Memory::new(alloc), u64::MAX),
-    };
-    open_desk_in_files(alloc, files, Options::new(1))
+// Serves a stream on a new desk in files whose log accepts `calls` calls and fails at each later
+// call. Returns the observation. Fails if memory runs out.
+fn serve_with_failing_log(alloc: Global, calls: u64, input: &[u8]) -> Result<Observation, Fail> {
+    let Sent { seen, .. } = perform_job_until_crash(
+        alloc,
+        &Held::empty_files(alloc),
+        MachineCrash::of_log_after(calls),
+        Options::new(1),
+        Job::Desk(Task::Stream),
+        input,
+    )?;
+    Ok(seen)
+}
+
+// Returns the text of two requests, a row that adds broker 1 and a query for the submitted trades.
+// Fails only if memory runs out.
+fn two_requests(alloc: Global) -> Result<String, AllocError> {
+    let mut input = format_post_request(alloc, "/rows/F/1", "[\"broker\",\"1\",\"Bo\"]")?;
+    input.push_str(format_post_request(alloc, "/ask/submitted", "[]")?.as_str())?;
+    Ok(input)
+}
+
+// Returns the replies to the two requests on a new desk whose disk does not fail: the row is
+// accepted, and the view has no trades. Fails only if memory runs out.
+fn replies_to_two_requests(alloc: Global) -> Result<String, AllocError> {
+    let mut replies = format_wanted_reply(
+        alloc,
+        WantedReply::Open("200 OK", "{\"ok\":[\"1709251200000\"]}"),
+    )?;
+    replies.push_str(format_wanted_reply(
+        alloc,
+        WantedReply::Open("200 OK", "{\"view\":[]}"),
+    )?.as_str())?;
+    Ok(replies)
 }
 
 // Checks, for a log that fails after 0, 1, 2 and more calls, that the reply to a row is 503 and the
@@ -26,36 +49,31 @@ fn open_desk_with_failing_log(alloc: Global, calls: u64) -> Option<Desk<FileStor
 #[test]
 fn a_store_fault_is_the_last_reply(rt: HostRuntime) -> Result<(), Fail> {
     let alloc = rt.alloc();
-    let mut input = format_post_request(alloc, "/rows/F/1", "[\"broker\",\"1\",\"Bo\"]")?;
-    input.push_str(format_post_request(alloc, "/ask/submitted", "[]")?.as_str())?;
+    let input = two_requests(alloc)?;
     let wanted = format_wanted_reply(
         alloc,
         WantedReply::Last("503 Service Unavailable", "{\"error\":\"store\"}"),
     )?;
-    let mut whole = format_wanted_reply(
-        alloc,
-        WantedReply::Open("200 OK", "{\"ok\":[\"1709251200000\"]}"),
-    )?;
-    whole.push_str(format_wanted_reply(
-        alloc,
-        WantedReply::Open("200 OK", "{\"view\":[]}"),
-    )?.as_str())?;
+    let whole = replies_to_two_requests(alloc)?;
     let mut faults = 0u64;
     let mut booked = false;
     for calls in 0..1_000 {
-        let Some(mut desk) = open_desk_with_failing_log(alloc, calls) else {
-            continue;
-        };
-        let (out, ended) = serve_stream_in_pieces(alloc, &mut desk, input.as_bytes(), 4096);
-        if ended == Ok(2) {
-            booked = out.as_slice() == whole.as_bytes();
-            break;
+        let seen = serve_with_failing_log(alloc, calls, input.as_bytes())?;
+        match seen.ended {
+            Ended::NotBegun => (),
+            Ended::Served(2) => {
+                booked = seen.lines.as_slice() == whole.as_bytes();
+                break;
+            }
+            Ended::Served(1) => {
+                assert!(rt;
+                    seen.lines.as_slice() == wanted.as_bytes(),
+                    "after {calls} calls"
+                );
+                faults = faults.saturating_add(1);
+            }
+            _ => assert!(rt; false, "after {calls} calls"),
         }
-        assert!(rt;
-            ended == Ok(1) && out.as_slice() == wanted.as_bytes(),
-            "after {calls} calls"
-        );
-        faults = faults.saturating_add(1);
     }
     assert!(rt; faults > 0 && booked);
     Ok(())

@@ -1,7 +1,11 @@
 //! Tests of streams over sockets of this machine, in one process.
 
-use crate::desks::{Still, new_desk_in_memory};
+use crate::at_desk::Still;
+use crate::databases::open_in_memory;
+use crate::desks::new_desk;
 use brk_http::{ListenFault, serve_on};
+use brk_import::brk_desk::Desk;
+use sqlite::{Alter, Connection};
 use std::alloc::Global;
 use std::io;
 use std::io::Write;
@@ -95,19 +99,52 @@ fn expect_peer_replies(
     Ok(())
 }
 
+// Serves `streams` streams of the listener on a desk at 2024-03-01 00:00 UTC, and returns the
+// result.
+fn serve_at_first_timestamp<S: Alter>(
+    alloc: Global,
+    listener: &mut TcpListener,
+    streams: u32,
+    desk: &mut Desk<S>,
+) -> Result<(), ListenFault> {
+    serve_on(
+        alloc,
+        listener,
+        streams,
+        &mut Still::at_first_timestamp(),
+        desk,
+    )
+}
+
+// Checks that the streams of the peers, served in sequence on one new desk in the database of a
+// connection, have the replies of `PEERS`, and that the serving ends with `Net` if no stream can be
+// accepted. Fails without a connection.
+fn expect_streams_served_in<S: Alter + Drop>(
+    rt: &impl Abort,
+    alloc: Global,
+    conn: Option<Connection<S>>,
+    listener: &mut TcpListener,
+    waiting: Vec<(TcpStream, &'static str)>,
+) -> Result<(), Fail> {
+    let mut desk = new_desk(conn)?;
+    assert!(rt; serve_at_first_timestamp(alloc, listener, 6, &mut desk) == Ok(()));
+    expect_peer_replies(rt, alloc, waiting)?;
+    listener.set_nonblocking(true)?;
+    assert!(rt; serve_at_first_timestamp(alloc, listener, 1, &mut desk) == Err(ListenFault::Net));
+    Ok(())
+}
+
 // Checks that six streams over sockets, served in sequence on one desk, have the replies of
 // `PEERS`, and that the serving ends with `Net` if no stream can be accepted.
 #[test]
 fn socket_streams_share_one_desk(rt: HostRuntime) -> Result<(), Fail> {
     let mut listener = TcpListener::bind(&rt, ("127.0.0.1", 0))?;
     let waiting = connect_all_peers(&rt, &listener)?;
-    let mut desk = new_desk_in_memory(rt.alloc())?;
-    let mut clock = Still::at_first_timestamp();
-    assert!(rt; serve_on(rt.alloc(), &mut listener, 6, &mut clock, &mut desk) == Ok(()));
-    expect_peer_replies(&rt, rt.alloc(), waiting)?;
-    listener.set_nonblocking(true)?;
-    assert!(rt;
-        serve_on(rt.alloc(), &mut listener, 1, &mut clock, &mut desk) == Err(ListenFault::Net)
-    );
-    Ok(())
+    expect_streams_served_in(
+        &rt,
+        rt.alloc(),
+        open_in_memory(rt.alloc()),
+        &mut listener,
+        waiting,
+    )
 }

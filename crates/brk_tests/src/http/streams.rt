@@ -1,32 +1,14 @@
 //! Streams that tests serve on a desk, and their wanted replies.
 
-use crate::desks::{Still, desk_with_reference_data};
-use brk_http::{ServeFault, serve_stream};
+use crate::at_desk::serve_stream_of_reader;
+use crate::databases::open_in_memory;
+use crate::desks::desk_with_reference_data;
+use crate::faulty::Failing;
+use brk_http::ServeFault;
 use brk_import::brk_desk::Desk;
-use sqlite::Alter;
+use sqlite::{Alter, Connection};
 use std::alloc::{AllocError, Global};
-use std::io;
-use std::io::Read;
 use std::test::Fail;
-
-/// A reader that returns its bytes in pieces of at most `size` bytes.
-#[derive(Drop)]
-pub struct Pieces<'a> {
-    pub bytes: &'a [u8],
-    pub size: usize,
-}
-
-impl Read for Pieces<'_> {
-    /// Copies the next bytes, at most `size` and as many as the buffer can hold, to the buffer, and
-    /// returns their number, 0 at the end.
-    fn read(&mut self, buf: &mut [u8]) -> io::Result<usize> {
-        let count = self.size.min(buf.len()).min(self.bytes.len());
-        let (front, rest) = self.bytes.split_at(count);
-        buf[..count].copy_from_slice(front);
-        self.bytes = rest;
-        Ok(count)
-    }
-}
 
 /// A wanted reply: the digits and the phrase of its status, and its body.
 #[derive(Clone, Copy)]
@@ -46,11 +28,10 @@ pub fn serve_stream_in_pieces<S: Alter>(
     size: usize,
 ) -> (Vec<u8>, Result<u64, ServeFault>) {
     let mut out = Vec::new(alloc);
-    let ended = serve_stream(
+    let ended = serve_stream_of_reader(
         alloc,
-        Pieces { bytes, size },
+        Failing::reader_in_pieces(bytes, size),
         &mut out,
-        &mut Still::at_first_timestamp(),
         desk,
     );
     (out, ended)
@@ -63,22 +44,16 @@ pub fn format_post_request(alloc: Global, target: &str, body: &str) -> Result<St
     format!(in alloc; "POST {target} HTTP/1.1\r\nHost: desk\r\nContent-Length: {len}\r\n\r\n{body}")
 }
 
-/// Returns the text of a wanted reply: its status line, content type and content length, an `Allow:
-/// POST` line for the status 405, a `Connection: close` line if it ends the stream, and its body.
-/// Fails only if memory runs out.
+/// Returns the text of a wanted reply: its status line, content type and content length, a
+/// `Connection: close` line if it ends the stream, and its body. Fails only if memory runs out.
 pub fn format_wanted_reply(alloc: Global, wanted: WantedReply) -> Result<String, AllocError> {
     let (status, body, close) = match wanted {
         WantedReply::Open(status, body) => (status, body, ""),
         WantedReply::Last(status, body) => (status, body, "Connection: close\r\n"),
     };
-    let allow = if status == "405 Method Not Allowed" {
-        "Allow: POST\r\n"
-    } else {
-        ""
-    };
     let len = body.len();
     format!(in alloc;
-        "HTTP/1.1 {status}\r\nContent-Type: application/json\r\nContent-Length: {len}\r\n{allow}{close}\r\n{body}"
+        "HTTP/1.1 {status}\r\nContent-Type: application/json\r\nContent-Length: {len}\r\n{close}\r\n{body}"
     )
 }
 
@@ -97,17 +72,29 @@ fn has_wanted_replies(
     Ok(out == bytes.as_bytes() && ended == Ok(wanted.len() as u64))
 }
 
-/// Serves a stream in pieces of 4,096, of seven and of one byte, each time on a new desk after the
-/// batch `SET`. Returns true if each time the replies are the wanted ones. Fails if a desk cannot
-/// be created or memory runs out.
+/// Serves a stream, whose bytes arrive in pieces of at most `size` bytes, on a new desk in the
+/// database of a connection after the batch `SET`. Returns the bytes that it wrote and its result.
+/// Fails without a connection, and if the desk cannot be created.
+pub fn serve_stream_on_new_desk<S: Alter + Drop>(
+    alloc: Global,
+    conn: Option<Connection<S>>,
+    bytes: &[u8],
+    size: usize,
+) -> Result<(Vec<u8>, Result<u64, ServeFault>), Fail> {
+    let mut desk = desk_with_reference_data(alloc, conn)?;
+    Ok(serve_stream_in_pieces(alloc, &mut desk, bytes, size))
+}
+
+/// Serves a stream in pieces of 4,096, of seven and of one byte, each time on a new desk in memory
+/// after the batch `SET`. Returns true if each time the replies are the wanted ones. Fails if a
+/// desk cannot be created or memory runs out.
 pub fn has_wanted_replies_in_all_pieces(
     alloc: Global,
     bytes: &[u8],
     wanted: &[WantedReply],
 ) -> Result<bool, Fail> {
     for size in [4096usize, 7, 1] {
-        let mut desk = desk_with_reference_data(alloc)?;
-        let (out, ended) = serve_stream_in_pieces(alloc, &mut desk, bytes, size);
+        let (out, ended) = serve_stream_on_new_desk(alloc, open_in_memory(alloc), bytes, size)?;
         if !has_wanted_replies(alloc, &out, ended, wanted)? {
             return Ok(false);
         }

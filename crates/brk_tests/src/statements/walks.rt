@@ -1,10 +1,15 @@
 //! Tests of walks: they pass the rows in order, both ends of the span included, and end at the
 //! first error of the closure.
 
+use crate::databases::open_in_memory;
 use crate::desks::{Step, desk_with_reference_data, expect_batch_result};
 use brk_changes::MoveRow;
+use brk_import::brk_desk::Desk;
 use brk_lots::Lot;
 use brk_money::{Fault, Id, Stamp};
+use sqlite::{Alter, Connection};
+use std::alloc::Global;
+use std::process::Abort;
 use std::test::Fail;
 
 // Two purchases, a sale that closes the last lot first, a short sale on margin of another symbol,
@@ -35,7 +40,7 @@ const TRADES: Step = Step {
 };
 
 // The error that ended a walk.
-#[derive(Debug, PartialEq, Eq, Clone, Copy)]
+#[derive(PartialEq, Eq, Clone, Copy)]
 enum Ended {
     // The desk failed.
     Fault(Fault),
@@ -154,29 +159,60 @@ const CASH: [(i64, i64, u64, &str, Result<(), Ended>); 10] = [
     ),
 ];
 
-// Checks, for each walk of `CASH` over the cash rows of account 100, that it passes exactly the
-// wanted rows, sorted by stamp, ascending, and that it has the wanted result.
-#[test]
-fn walks_cash_rows_in_order_of_stamps(rt: HostRuntime) -> Result<(), Fail> {
-    let alloc = rt.alloc();
-    let account = Id::new(100).ok_or("an account")?;
-    let mut desk = desk_with_reference_data(alloc)?;
+// Returns a desk in the database of a connection after the batch `SET` and `TRADES`. Fails without a
+// connection, and if one of the batches fails.
+fn desk_with_trades<S: Alter + Drop>(
+    alloc: Global,
+    conn: Option<Connection<S>>,
+) -> Result<Desk<S>, Fail> {
+    let mut desk = desk_with_reference_data(alloc, conn)?;
     expect_batch_result(alloc, &mut desk, "trades", TRADES)?;
+    Ok(desk)
+}
+
+// Walks over the cash rows of an account between two stamps, both included, and records them in
+// `seen`. Returns the result of the walk.
+fn record_cash_rows<S: Alter>(
+    desk: &mut Desk<S>,
+    account: Id,
+    from: i64,
+    to: i64,
+    seen: &mut Seen,
+) -> Result<(), Ended> {
+    desk.walk_cash(
+        account,
+        Stamp::nearest(from),
+        Stamp::nearest(to),
+        |row: &MoveRow| record_cash_row(seen, row),
+    )
+}
+
+// Checks each walk of `CASH` over the cash rows of account 100 on a desk in the database of a
+// connection: its rows and its result. Fails without a connection.
+fn expect_cash_rows_in<S: Alter + Drop>(
+    rt: &impl Abort,
+    alloc: Global,
+    conn: Option<Connection<S>>,
+) -> Result<(), Fail> {
+    let account = Id::new(100).ok_or("an account")?;
+    let mut desk = desk_with_trades(alloc, conn)?;
     for (from, to, left, rows, wanted) in CASH {
         let mut seen = Seen {
             rows: String::new(alloc),
             left,
         };
-        let ended = desk.walk_cash(
-            account,
-            Stamp::nearest(from),
-            Stamp::nearest(to),
-            |row: &MoveRow| record_cash_row(&mut seen, row),
-        );
+        let ended = record_cash_rows(&mut desk, account, from, to, &mut seen);
         assert!(rt; ended == wanted, "{from} to {to}, {left}");
         assert!(rt; seen.rows.as_str() == rows, "{from} to {to}, {left}");
     }
     Ok(())
+}
+
+// Checks, for each walk of `CASH` over the cash rows of account 100, that it passes exactly the
+// wanted rows, sorted by stamp, ascending, and that it has the wanted result.
+#[test]
+fn walks_cash_rows_in_order_of_stamps(rt: HostRuntime) -> Result<(), Fail> {
+    expect_cash_rows_in(&rt, rt.alloc(), open_in_memory(rt.alloc()))
 }
 
 // Walks over lots: the account, the number of lots that the walk may pass, the lots that it passes,
@@ -200,26 +236,43 @@ const LOTS: [(u64, u64, &str, Result<(), Ended>); 5] = [
     (101, 9, "", Ok(())),
 ];
 
-// Checks, for each walk of `LOTS` over the lots of an account, that it passes exactly the wanted
-// lots, sorted by symbol, ascending, and that it has the wanted result.
-#[test]
-fn walks_lots_in_order_of_symbols(rt: HostRuntime) -> Result<(), Fail> {
-    let alloc = rt.alloc();
-    let mut desk = desk_with_reference_data(alloc)?;
-    expect_batch_result(alloc, &mut desk, "trades", TRADES)?;
+// Walks over the lots of the account with the number `account`, and records them in `seen`.
+// Returns the result of the walk. Fails if the number is not that of an account.
+fn record_lots<S: Alter>(
+    desk: &mut Desk<S>,
+    account: u64,
+    seen: &mut Seen,
+) -> Result<Result<(), Ended>, Fail> {
+    let account = Id::new(account).ok_or("an account")?;
+    Ok(desk.walk_lots(
+        account,
+        |symbol: &str, lot: &Lot| record_lot(seen, symbol, lot),
+    ))
+}
+
+// Checks each walk of `LOTS` over the lots of an account on a desk in the database of a connection:
+// its lots and its result. Fails without a connection.
+fn expect_lots_in<S: Alter + Drop>(
+    rt: &impl Abort,
+    alloc: Global,
+    conn: Option<Connection<S>>,
+) -> Result<(), Fail> {
+    let mut desk = desk_with_trades(alloc, conn)?;
     for (account, left, rows, wanted) in LOTS {
         let mut seen = Seen {
             rows: String::new(alloc),
             left,
         };
-        let Some(account) = Id::new(account) else {
-            return Err("an account")?;
-        };
-        let ended = desk.walk_lots(account, |symbol: &str, lot: &Lot| {
-            record_lot(&mut seen, symbol, lot)
-        });
+        let ended = record_lots(&mut desk, account, &mut seen)?;
         assert!(rt; ended == wanted, "{left} lots");
         assert!(rt; seen.rows.as_str() == rows, "{left} lots");
     }
     Ok(())
+}
+
+// Checks, for each walk of `LOTS` over the lots of an account, that it passes exactly the wanted
+// lots, sorted by symbol, ascending, and that it has the wanted result.
+#[test]
+fn walks_lots_in_order_of_symbols(rt: HostRuntime) -> Result<(), Fail> {
+    expect_lots_in(&rt, rt.alloc(), open_in_memory(rt.alloc()))
 }

@@ -1,12 +1,14 @@
 //! Test of a writer that fails at each byte of a statement: the bytes before are written, and none
 //! after.
 
+use crate::at_desk::write_statement;
+use crate::databases::open_in_memory;
 use crate::desks::{Step, desk_with_reference_data, expect_batch_result};
 use crate::faulty::Narrow;
 use crate::statements::asking::account_and_days;
 use brk_import::brk_desk::Desk;
-use brk_report::{ReportFault, statement};
-use sqlite::MemStore;
+use brk_report::ReportFault;
+use sqlite::{Alter, Connection};
 use std::alloc::Global;
 use std::io::ErrorKind;
 use std::process::Abort;
@@ -57,22 +59,15 @@ fn write_error_for_room(room: usize) -> Option<ErrorKind> {
 // Writes the statement of account 100 for March 2024 with a writer that has room for `room` bytes.
 // Checks that the statement fails with `Write`, or completes if there is room for all its bytes,
 // and that exactly its first `room` bytes are written.
-fn expect_statement_write_fault(
+fn expect_statement_write_fault<S: Alter>(
     rt: &impl Abort,
     alloc: Global,
-    desk: &mut Desk<MemStore>,
+    desk: &mut Desk<S>,
     room: usize,
 ) -> Result<(), Fail> {
     let asked = account_and_days(100, "2024-03-01", "2024-03-31")?;
     let mut writer = Narrow::new(alloc, room, write_error_for_room(room));
-    let ended = statement(
-        alloc,
-        desk,
-        asked.account,
-        asked.from,
-        asked.to,
-        &mut writer,
-    );
+    let ended = write_statement(alloc, asked, &mut writer, desk);
     let is_cut = matches!(&ended, Err(ReportFault::Write));
     assert!(rt;
         is_cut == (room < WANTED.len()),
@@ -90,16 +85,25 @@ fn expect_statement_write_fault(
     Ok(())
 }
 
+// Checks the statement of a desk in the database of a connection with a writer that has room for each
+// number of its bytes, as `expect_statement_write_fault`. Fails without a connection.
+fn expect_statement_write_faults_in<S: Alter + Drop>(
+    rt: &impl Abort,
+    alloc: Global,
+    conn: Option<Connection<S>>,
+) -> Result<(), Fail> {
+    let mut desk = desk_with_reference_data(alloc, conn)?;
+    expect_batch_result(alloc, &mut desk, "trades", BOUGHT)?;
+    for room in 0..=WANTED.len() {
+        expect_statement_write_fault(rt, alloc, &mut desk, room)?;
+    }
+    Ok(())
+}
+
 // Checks, for each byte of a statement at which the writer fails, is interrupted or accepts no
 // byte, that the statement fails with `Write` and that exactly the bytes before are written, and
 // that the statement completes with room for all bytes.
 #[test]
 fn statement_writers_failing_at_each_byte(rt: HostRuntime) -> Result<(), Fail> {
-    let alloc = rt.alloc();
-    let mut desk = desk_with_reference_data(alloc)?;
-    expect_batch_result(alloc, &mut desk, "trades", BOUGHT)?;
-    for room in 0..=WANTED.len() {
-        expect_statement_write_fault(&rt, alloc, &mut desk, room)?;
-    }
-    Ok(())
+    expect_statement_write_faults_in(&rt, rt.alloc(), open_in_memory(rt.alloc()))
 }
