@@ -7,6 +7,7 @@ use std::io::{ErrorKind, Write};
 
 /// A writer that passes the bytes on to another writer, and notes whether a write failed because
 /// the reader of the pipe had closed it.
+#[derive(Drop)]
 pub(crate) struct PipeWriter<'a, W> {
     output: &'a mut W,
     is_closed: bool,
