@@ -1,7 +1,6 @@
 -- The lines that were read are those of the explanation.
-use Rattle.std.proofs.Common.{◌≡◌, ◌∙◌, ℕ, ◌==◌, List, ◌++◌, Option, Some, None, Result, Ok, Err, length, map, refl, sym, ap, inl, inr}
+use Rattle.std.proofs.Common.{◌≡◌, ◌∙◌, ℕ, ◌==◌, List, ◌++◌, Option, Some, None, Result, Ok, Err, length, map, refl, sym, ap, subst, inl, inr}
 use Rattle.std.specs.Prelude.{bytes_eq}
-use Rattle.std.specs.Io.KnownBytes.{Appends}
 use Rattle.std.proofs.lemmas.Bool.{eqb-true}
 use Rattle.std.proofs.lemmas.List.{append_assoc}
 use Rattle.std.proofs.lemmas.Slice.Eq.{bytes_eq-Decides}
@@ -9,7 +8,7 @@ use Rattle.brk_money.specs.Spelling.{Text}
 use Rattle.brk_money.specs.declared.refusal.Refusal.{Refusal}
 use Rattle.brk_money.specs.declared.refusal.Refusal.TheVariants.{NoAccount, NoBroker, NoTrade}
 use Rattle.brk_model.specs.Joins.{account_row_with_id, last_price_in_tables, trade_row_with_id}
-use Rattle.brk_model.specs.Statement.{text_of_lines, holding_rows_of_account}
+use Rattle.brk_model.specs.Statement.{holding_rows_of_account}
 use Rattle.brk_model.specs.Tables.{AccountRow, BrokerRow, SecurityRow, Tables}
 use Rattle.brk_ref.specs.Records.{abstract_account_row, abstract_broker_row, abstract_security_row}
 use Rattle.brk_explain_model.specs.AccountLines.{PricedHolding, holding_and_total_lines, account_total_lines, account_explanation_lines, account_header_lines, balance_header_lines, priced_holdings_of_account, holding_line, open_lot_line, account_cash_rows_by_stamp, cash_posting_lines}
@@ -25,12 +24,13 @@ use Rattle.brk_explain_rows.specs.declared.broker_details.BrokerDetails as broke
 use Rattle.brk_explain_rows.specs.declared.holding_details.HoldingDetails as holding_details
 use Rattle.brk_explain_rows.specs.declared.details.TradeDetails as trade_details
 use Rattle.brk_report_lines.specs.Faults.{report_fault_of_lines_fault}
-use Rattle.brk_report_lines.specs.Written.{FailsWithinLines}
+use Rattle.brk_report_lines.specs.Written.{FailsWithinLines, WritesLines}
 use Rattle.brk_report_lines.specs.declared.fault.LinesFault.{LinesFault}
 use Rattle.brk_report_lines.specs.declared.fault.LinesFault.TheVariants.{Desk, Write}
+use Rattle.brk_report_lines.specs.declared.fault.ReportFault.{ReportFault}
 use Rattle.brk_explain_sums.specs.HoldingTexts.{lines_of_holding_details}
 use Rattle.brk_report.specs.ExplanationParts.{all_broker_lines, all_account_lines}
-use Rattle.brk_report.specs.Told.{WritesLinesOrRefuses}
+use Rattle.brk_report.specs.Told.{EndsAsLines, WritesLinesOrRefuses}
 use Rattle.brk_report.proofs.FirstLines.{HasFirst, first_behind}
 use Rattle.brk_report.proofs.Whole.{passes_found}
 
@@ -134,9 +134,10 @@ broker_end_first b accounts trades = (_, _, refl)
 -- ---- what was written
 
 module _ (told : Result (List Text) Refusal) (lines : List Text) (is : told ≡ Ok lines) (a b : Option Text) where
-  pub tells_all : Appends a b (text_of_lines lines) → WritesLinesOrRefuses told a b (Ok tt)
-  tells_all h = (lines, is, h)
-
-  pub tells_fault : (e : LinesFault) → FailsWithinLines lines a b e → WritesLinesOrRefuses told a b (Err (report_fault_of_lines_fault e))
+  tells_fault : (e : LinesFault) → FailsWithinLines lines a b e → WritesLinesOrRefuses told a b (Err (report_fault_of_lines_fault e))
   tells_fault (Desk f) h = (h.0, inr (lines, is, h.1))
   tells_fault Write h = (lines, is, h)
+
+  pub tells : (written : Result (Unit {0}) LinesFault) (outer : Result (Unit {0}) ReportFault) → EndsAsLines written outer → WritesLines lines a b written → WritesLinesOrRefuses told a b outer
+  tells (Ok u) outer ends h = subst (WritesLinesOrRefuses told a b) (sym ends) (lines, is, h)
+  tells (Err e) outer ends h = subst (WritesLinesOrRefuses told a b) (sym ends) (tells_fault e h)

@@ -1,5 +1,5 @@
 -- A report fails as writing its lines does.
-use Rattle.std.proofs.Common.{◌≡◌, Result, Ok, Err, IfErr, sym, subst}
+use Rattle.std.proofs.Common.{◌≡◌, ◌∙◌, Result, Ok, Err, IfErr, sym, subst}
 use Rattle.std.specs.Prelude.{IsErrAnd}
 use Rattle.brk_money.specs.declared.refusal.Refusal.{Refusal}
 use Rattle.brk_report_lines.specs.Faults.{report_fault_of_lines_fault}
@@ -8,6 +8,7 @@ use Rattle.brk_report_lines.specs.declared.fault.LinesFault.TheVariants.{Desk, W
 use Rattle.brk_report_lines.specs.declared.fault.ReportFault.{ReportFault}
 use Rattle.brk_report_lines.specs.declared.fault.ReportFault.TheVariants as report
 use Rattle.brk_report.specs.Stated.{IsMemoryStoreOrWriteFault, IsRefusalOrMemoryStoreOrWriteFault}
+use Rattle.brk_report.specs.Told.{EndsAsLines}
 
 -- the result of a report that fails because writing its lines does
 abbrev pub FailsAsLines : {Y : Type 0} → Result Y ReportFault → LinesFault → Type 0
@@ -18,15 +19,26 @@ pub reported : {Y : Type 0} (P : Result Y ReportFault → Type 0) (outer : Resul
 reported P (Err out) e is h = subst (λ f. P (Err f)) (sym is) h
 reported P (Ok y) e is h = absurd is
 
+same_fault : (e : LinesFault) → IsMemoryStoreOrWriteFault e → IsRefusalOrMemoryStoreOrWriteFault (report_fault_of_lines_fault e)
+same_fault (Desk f) h = h
+same_fault Write h = tt
+
 pub reported_fault : {Y : Type 0} (outer : Result Y ReportFault) (e : LinesFault) → FailsAsLines outer e → IsMemoryStoreOrWriteFault e → IfErr outer IsRefusalOrMemoryStoreOrWriteFault
-reported_fault outer e is h = reported (λ r. IfErr r IsRefusalOrMemoryStoreOrWriteFault) outer e is (same e h)
-  where
-    same : (e : LinesFault) → IsMemoryStoreOrWriteFault e → IsRefusalOrMemoryStoreOrWriteFault (report_fault_of_lines_fault e)
-    same (Desk f) h = h
-    same Write h = tt
+reported_fault outer e is h = reported (λ r. IfErr r IsRefusalOrMemoryStoreOrWriteFault) outer e is (same_fault e h)
 
 -- it is no refusal
 pub no_refusal : {Y : Type 0} (outer : Result Y ReportFault) (e : LinesFault) (refusal : Refusal) → FailsAsLines outer e → outer ≡ Err (report.Refused refusal) → ⊥
 no_refusal (Err out) (Desk f) refusal is same = let desk : out ≡ report.Desk f = is in cc
 no_refusal (Err out) Write refusal is same = let write : out ≡ report.Write = is in cc
 no_refusal (Ok y) e refusal is same = absurd is
+
+-- ---- a report ends as writing its lines does
+
+pub ends_fault : (written : Result (Unit {0}) LinesFault) (outer : Result (Unit {0}) ReportFault) → EndsAsLines written outer → IfErr written IsMemoryStoreOrWriteFault → IfErr outer IsRefusalOrMemoryStoreOrWriteFault
+ends_fault (Ok u) outer is h = subst (λ r. IfErr r IsRefusalOrMemoryStoreOrWriteFault) (sym is) tt
+ends_fault (Err e) outer is h = subst (λ r. IfErr r IsRefusalOrMemoryStoreOrWriteFault) (sym is) (same_fault e h)
+
+pub ends_unrefused : (written : Result (Unit {0}) LinesFault) (outer : Result (Unit {0}) ReportFault) (refusal : Refusal) → EndsAsLines written outer → outer ≡ Err (report.Refused refusal) → ⊥
+ends_unrefused (Ok u) outer refusal is same = let both : Ok u ≡ Err (report.Refused refusal) = sym is ∙ same in cc
+ends_unrefused (Err (Desk f)) outer refusal is same = let both : Err (report.Desk f) ≡ Err (report.Refused refusal) = sym is ∙ same in cc
+ends_unrefused (Err Write) outer refusal is same = let both : Err report.Write ≡ Err (report.Refused refusal) = sym is ∙ same in cc

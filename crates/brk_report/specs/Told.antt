@@ -9,9 +9,16 @@ use Rattle.brk_model.specs.Run.{IsCallFault}
 use Rattle.brk_model.specs.Statement.{text_of_lines}
 use Rattle.brk_model.specs.Tables.{Tables}
 use Rattle.brk_report.specs.Stated.{PreservesDesk, IsRefusalOrMemoryStoreOrWriteFault, HoldsForStoredTables}
+use Rattle.brk_report_lines.specs.Faults.{report_fault_of_lines_fault}
 use Rattle.brk_report_lines.specs.Written.{WritesProperPrefixOfLines, WritesLinesAndPartOfNext}
+use Rattle.brk_report_lines.specs.declared.fault.LinesFault.{LinesFault}
 use Rattle.brk_report_lines.specs.declared.fault.ReportFault.{ReportFault}
 use Rattle.brk_report_lines.specs.declared.fault.ReportFault.TheVariants.{Refused, Desk, Write}
+
+-- The result of a report whose lines were written with the result `written`: `Ok`, or the same fault.
+abbrev pub EndsAsLines : Result (Unit {0}) LinesFault → Result (Unit {0}) ReportFault → Type 0
+EndsAsLines (Ok u) result = result ≡ Ok u
+EndsAsLines (Err fault) result = result ≡ Err (report_fault_of_lines_fault fault)
 
 -- The result of writing `told`, which is lines or a refusal. `Ok`: `told` is lines, and exactly
 -- these were written. `Refused`: `told` is this refusal. `Desk`: the fault is `Memory` or `Store`,

@@ -1,7 +1,7 @@
 ghost use Rattle.std.specs.Prelude.{IfErr};
 ghost use Rattle.brk_report.specs.Requests.{abstract_explain_request};
 ghost use Rattle.brk_report.specs.ExplanationParts.{all_broker_lines, all_account_lines};
-ghost use Rattle.brk_report.specs.Told.{WriteLinesPost};
+ghost use Rattle.brk_report.specs.Told.{EndsAsLines, WriteLinesPost};
 ghost use Rattle.brk_explain_model.specs.Explain.{TradeOf, AccountOf, HoldingOf, BrokerOf, explanation};
 ghost use Rattle.brk_report.specs.Stated.{PreservesDesk, IsMemoryStoreOrWriteFault, HoldsForStoredTables};
 ghost use Rattle.brk_report_lines.specs.Written.{WritesLines};
@@ -23,6 +23,16 @@ use sqlite::Alter;
 use std::alloc::Global;
 use std::io::Write;
 
+// Converts the result of writing lines into that of a report, with the same fault.
+fn report_result(written: Result<(), LinesFault>) -> Result<(), ReportFault>
+    ensures { EndsAsLines written result }
+{
+    match written {
+        Ok(()) => Ok(()),
+        Err(fault) => Err(ReportFault::from(fault)),
+    }
+}
+
 // Writes the explanation of the trade with the id. Fails with `Refused` (`NoTrade`) if the trade
 // does not exist, before it writes anything; with `Desk` if a read fails, memory runs out, a row
 // that another row names does not exist, a completed trade has no price or no settlement, or an
@@ -36,13 +46,13 @@ fn write_trade_explanation<W: Write, S: Alter>(
 ) -> Result<(), ReportFault>
     ensures told { WriteLinesPost S.Store desk.old desk.new (λ t. explanation t (TradeOf trade)) (W.contents writer.old) (W.contents writer.new) result }
 {
-    let details = match desk.trade_details(alloc, trade) {
-        Ok(Some(details)) => details,
-        Ok(None) => return Err(ReportFault::Refused(Refusal::NoTrade)),
-        Err(fault) => return Err(ReportFault::Desk(fault)),
-    };
-    write_lines(writer, trade_explanation_text(alloc, &details))?;
-    Ok(())
+    match desk.trade_details(alloc, trade) {
+        Ok(Some(details)) => {
+            report_result(write_lines(writer, trade_explanation_text(alloc, &details)))
+        }
+        Ok(None) => Err(ReportFault::Refused(Refusal::NoTrade)),
+        Err(fault) => Err(ReportFault::Desk(fault)),
+    }
 }
 
 // Writes all lines of the explanation of an account, from its row and holdings in `details` and
@@ -84,13 +94,13 @@ fn write_account_explanation<W: Write, S: Alter>(
 ) -> Result<(), ReportFault>
     ensures told { WriteLinesPost S.Store desk.old desk.new (λ t. explanation t (AccountOf account)) (W.contents writer.old) (W.contents writer.new) result }
 {
-    let details = match desk.account_details(alloc, account) {
-        Ok(Some(details)) => details,
-        Ok(None) => return Err(ReportFault::Refused(Refusal::NoAccount)),
-        Err(fault) => return Err(ReportFault::Desk(fault)),
-    };
-    write_account_lines(alloc, desk, account, &details, writer)?;
-    Ok(())
+    match desk.account_details(alloc, account) {
+        Ok(Some(details)) => {
+            report_result(write_account_lines(alloc, desk, account, &details, writer))
+        }
+        Ok(None) => Err(ReportFault::Refused(Refusal::NoAccount)),
+        Err(fault) => Err(ReportFault::Desk(fault)),
+    }
 }
 
 // Writes the explanation of the holding of an account in a security. Fails with `Refused`
@@ -108,13 +118,13 @@ fn write_holding_explanation<W: Write, S: Alter>(
     ensures told { WriteLinesPost S.Store desk.old desk.new (λ t. explanation t (HoldingOf account symbol.now))
         (W.contents writer.old) (W.contents writer.new) result }
 {
-    let details = match desk.holding_details(alloc, account, symbol) {
-        Ok(Ok(details)) => details,
-        Ok(Err(refusal)) => return Err(ReportFault::Refused(refusal)),
-        Err(fault) => return Err(ReportFault::Desk(fault)),
-    };
-    write_lines(writer, holding_explanation_text(alloc, &details))?;
-    Ok(())
+    match desk.holding_details(alloc, account, symbol) {
+        Ok(Ok(details)) => {
+            report_result(write_lines(writer, holding_explanation_text(alloc, &details)))
+        }
+        Ok(Err(refusal)) => Err(ReportFault::Refused(refusal)),
+        Err(fault) => Err(ReportFault::Desk(fault)),
+    }
 }
 
 // Writes all lines of the explanation of a broker, from its row and number of accounts in `details`
@@ -154,13 +164,13 @@ fn write_broker_explanation<W: Write, S: Alter>(
 ) -> Result<(), ReportFault>
     ensures told { WriteLinesPost S.Store desk.old desk.new (λ t. explanation t (BrokerOf broker)) (W.contents writer.old) (W.contents writer.new) result }
 {
-    let details = match desk.broker_details(alloc, broker) {
-        Ok(Some(details)) => details,
-        Ok(None) => return Err(ReportFault::Refused(Refusal::NoBroker)),
-        Err(fault) => return Err(ReportFault::Desk(fault)),
-    };
-    write_broker_lines(alloc, desk, broker, &details, writer)?;
-    Ok(())
+    match desk.broker_details(alloc, broker) {
+        Ok(Some(details)) => {
+            report_result(write_broker_lines(alloc, desk, broker, &details, writer))
+        }
+        Ok(None) => Err(ReportFault::Refused(Refusal::NoBroker)),
+        Err(fault) => Err(ReportFault::Desk(fault)),
+    }
 }
 
 /// Writes the explanation of a trade, of an account, of a holding or of a broker of the desk. If
