@@ -8,16 +8,7 @@ use Rattle.brk_money.specs.declared.fault.Fault.{Fault}
 use Rattle.brk_model.specs.Tables.{Tables}
 use Rattle.brk_store.specs.Holds.{HoldsRows, ReadPost}
 use Rattle.brk_store.specs.ReadSequences.{IsUnchangedByReads, disk_was_clean_before_reads}
-use Rattle.brk_store.proofs.Retelling.{retold}
-use Rattle.brk_decisions.proofs.Looking.{none_then, same_then}
-
-module _ {S : Type 0} (g : Ghosts S) (old mid : Held S) where
-  -- an answer that follows from what was read; or no memory for it
-  pub decided : {V X E : Type 0} (v : V) (P : V → Tables → Type 0) (R : X → Tables → Type 0) (result : Result X Fault) → ReadPost {E = E} g old mid (Ok v) P
-      → IfOk result (λ x. (t : Tables) → P v t → R x t) → ReadPost g old mid result R
-  decided v P R (Ok x) read tell = retold g old mid v x P R tell read
-  decided v P R (Err fault) read none =
-      record { answered = λ clean. tt; was_open = λ clean. tt; same_rows = read.same_rows; unchanged_if_open = read.unchanged_if_open; survives = read.survives }
+use Rattle.brk_store.proofs.Sequences.{none_then, same_then}
 
 module _ {S : Type 0} (g : Ghosts S) (old mid end : Held S) where
   -- an answer that follows from what was read, and from what was read on in a store that is kept

@@ -1,4 +1,3 @@
-pub mod Looking
 pub mod Deciding
 pub mod References
 pub mod Cancels
@@ -9,4 +8,3 @@ pub mod OrderFinds
 pub mod Ordering
 pub mod ResultReading
 pub mod Resulting
-pub mod TradesFound

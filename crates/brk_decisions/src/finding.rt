@@ -9,7 +9,6 @@ ghost use Rattle.brk_store.specs.Holds.{ReadPost};
 
 use crate::terms::{
     read_band_facts, read_charge_facts, read_customer_tax_facts, read_permission_facts,
-    security_exists, tax_exists,
 };
 use brk_money::{Fault, Id};
 use brk_ref::{Account, Broker, Customer, Symbol, TaxId};
@@ -149,7 +148,7 @@ fn read_listing_facts<S: Alter>(
     ensures read { ReadPost S.Store store.old store.new result (λ found t. found.same_id ≡ has_security t symbol.now) }
     ensures fault { IfErr result IsCallFault }
 {
-    let same_id = security_exists(store, symbol)?;
+    let same_id = store.security(symbol)?.is_some();
     Ok(ReferenceFacts {
         same_id,
         ..NO_REFERENCE_FACTS
@@ -162,7 +161,7 @@ fn read_tax_facts<S: Alter>(store: &mut Store<S>, id: Id) -> Result<ReferenceFac
     ensures read { ReadPost S.Store store.old store.new result (λ found t. found.same_id ≡ contains_tax_rate t id) }
     ensures fault { IfErr result IsCallFault }
 {
-    let same_id = tax_exists(store, id)?;
+    let same_id = store.tax_with_id(id)?.is_some();
     Ok(ReferenceFacts {
         same_id,
         ..NO_REFERENCE_FACTS

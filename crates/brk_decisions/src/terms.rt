@@ -1,10 +1,10 @@
-//! Reads of permissions, securities, charges, commission bands and taxes, and of the facts that
-//! decide on commands that add them.
+//! Reads of permissions and taxes, and of the facts that decide on commands that add permissions,
+//! charges, commission bands and taxes of customers.
 
 ghost use Rattle.std.specs.Prelude.{◌≡◌, ◌==◌, ◌≤◌, IfErr, SomeIff, Some, filter, map};
 ghost use Rattle.brk_trade_theorems.specs.Found.{CustomerTaxFactsMatchTables};
-ghost use Rattle.brk_model.specs.Form.{has_account, has_security};
-ghost use Rattle.brk_book_theorems.specs.Reads.{contains_charge, overlaps_some_band, contains_permission, contains_tax_rate};
+ghost use Rattle.brk_model.specs.Form.{has_account};
+ghost use Rattle.brk_book_theorems.specs.Reads.{contains_charge, overlaps_some_band, contains_permission};
 ghost use Rattle.brk_book_theorems.specs.Reads.{contains_customer_tax, rate_of_tax_rate_with_id, customer_tax_rate_sum, tax_rate_with_id};
 ghost use Rattle.brk_model.specs.Limits.{greatest_tax_rate};
 ghost use Rattle.brk_model.specs.Run.{IsCallFault};
@@ -12,10 +12,8 @@ ghost use Rattle.brk_ref.specs.Records.{abstract_band, abstract_tax_rate};
 ghost use Rattle.brk_store.specs.Holds.{ReadPost};
 
 use crate::finding::{NO_REFERENCE_FACTS, account_exists, customer_exists};
-use brk_money::{Fault, Id, TaxRate, TradeType};
-use brk_ref::{
-    Band, Charge, CustomerTax, Permission, Symbol, Tax, TaxId, Tier, overlaps_any_band, tax_sum,
-};
+use brk_money::{Fault, Id, TaxRate};
+use brk_ref::{Band, Charge, CustomerTax, Permission, Tax, TaxId, overlaps_any_band, tax_sum};
 use brk_store::Store;
 use brk_trade::ReferenceFacts;
 use sqlite::Alter;
@@ -32,54 +30,6 @@ fn permission_exists<S: Alter>(
     ensures fault { IfErr result IsCallFault }
 {
     Ok(store.permission(account, tax_id)?.is_some())
-}
-
-// Returns true if the security with the symbol `symbol` exists. Changes nothing. Fails with
-// `Memory` or `Store` only.
-pub(crate) fn security_exists<S: Alter>(
-    store: &mut Store<S>,
-    symbol: &Symbol,
-) -> Result<bool, Fault>
-    ensures read { ReadPost S.Store store.old store.new result (λ there t. there ≡ has_security t symbol.now) }
-    ensures fault { IfErr result IsCallFault }
-{
-    Ok(store.security(symbol)?.is_some())
-}
-
-// Returns true if a charge of the trade type and the customer tier exists. Changes nothing. Fails
-// with `Memory` or `Store` only.
-pub(crate) fn charge_exists<S: Alter>(
-    store: &mut Store<S>,
-    kind: TradeType,
-    tier: Tier,
-) -> Result<bool, Fault>
-    ensures read { ReadPost S.Store store.old store.new result (λ there t. there ≡ contains_charge t kind tier) }
-    ensures fault { IfErr result IsCallFault }
-{
-    Ok(store.charge(kind, tier)?.is_some())
-}
-
-// Returns true if the tables have a band that overlaps `band`: both apply to some quantity, for one
-// customer tier, trade type and exchange. Changes nothing. Fails with `Memory` or `Store` only.
-pub(crate) fn overlapping_band_exists<S: Alter>(
-    alloc: Global,
-    store: &mut Store<S>,
-    band: &Band,
-) -> Result<bool, Fault>
-    ensures read { ReadPost S.Store store.old store.new result (λ there t. there ≡ overlaps_some_band t (abstract_band band.now)) }
-    ensures fault { IfErr result IsCallFault }
-{
-    let bands = store.commission_bands(alloc, band.tier, band.kind, &band.exchange)?;
-    Ok(overlaps_any_band(&bands, band))
-}
-
-// Returns true if the tax with the id `id` exists. Changes nothing. Fails with `Memory` or `Store`
-// only.
-pub(crate) fn tax_exists<S: Alter>(store: &mut Store<S>, id: Id) -> Result<bool, Fault>
-    ensures read { ReadPost S.Store store.old store.new result (λ there t. there ≡ contains_tax_rate t id) }
-    ensures fault { IfErr result IsCallFault }
-{
-    Ok(store.tax_with_id(id)?.is_some())
 }
 
 // Returns the rate of the tax with the id `tax`, in hundred-thousandths, or `None` if the tax does
@@ -170,7 +120,7 @@ pub(crate) fn read_charge_facts<S: Alter>(
     ensures read { ReadPost S.Store store.old store.new result (λ found t. found.same_id ≡ contains_charge t charge.now.kind charge.now.tier) }
     ensures fault { IfErr result IsCallFault }
 {
-    let same_id = charge_exists(store, charge.kind, charge.tier)?;
+    let same_id = store.charge(charge.kind, charge.tier)?.is_some();
     Ok(ReferenceFacts {
         same_id,
         ..NO_REFERENCE_FACTS
@@ -187,7 +137,8 @@ pub(crate) fn read_band_facts<S: Alter>(
     ensures read { ReadPost S.Store store.old store.new result (λ found t. found.overlaps ≡ overlaps_some_band t (abstract_band band.now)) }
     ensures fault { IfErr result IsCallFault }
 {
-    let overlaps = overlapping_band_exists(alloc, store, band)?;
+    let bands = store.commission_bands(alloc, band.tier, band.kind, &band.exchange)?;
+    let overlaps = overlaps_any_band(&bands, band);
     Ok(ReferenceFacts {
         overlaps,
         ..NO_REFERENCE_FACTS

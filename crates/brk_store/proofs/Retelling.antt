@@ -3,6 +3,7 @@ use Rattle.std.proofs.Common.{Result, Ok, Err, IfOk, OnOk, IsTrue}
 use Rattle.sqlite_trees.specs.declared.store.Store.{Ghosts}
 use Rattle.sqlite.specs.Held.{Held, state}
 use Rattle.sqlite.specs.State.{HasCleanDisk}
+use Rattle.brk_money.specs.declared.fault.Fault.{Fault}
 use Rattle.brk_model.specs.Tables.{Tables}
 use Rattle.brk_sql.proofs.Inside.{clean_before}
 use Rattle.brk_tables_schema.specs.Made.{HasDeskTables}
@@ -25,6 +26,13 @@ module _ {S : Type 0} (g : Ghosts S) where
   pub retold : (old end : Held S) {V X E H : Type 0} (v : V) (x : X) (P : V → Tables → Type 0) (R : X → Tables → Type 0)
       → ((t : Tables) → P v t → R x t) → ReadPost {E = E} g old end (Ok v) P → ReadPost {E = H} g old end (Ok x) R
   retold old end v x P R tell = retold_of old end v x P R (λ t has. tell t)
+
+  -- a result that follows from what was read, or a fault
+  pub decided : (old end : Held S) {V X E : Type 0} (v : V) (P : V → Tables → Type 0) (R : X → Tables → Type 0) (result : Result X Fault) → ReadPost {E = E} g old end (Ok v) P
+      → IfOk result (λ x. (t : Tables) → P v t → R x t) → ReadPost g old end result R
+  decided old end v P R (Ok x) read tell = retold old end v x P R tell read
+  decided old end v P R (Err fault) read none =
+      record { answered = λ clean. tt; was_open = λ clean. tt; same_rows = read.same_rows; unchanged_if_open = read.unchanged_if_open; survives = read.survives }
 
   -- a read after another tells of the rows that stood before both
   pub read_after : (old mid end : Held S) {V W E F : Type 0} (v : V) (r : Result W F) (P : V → Tables → Type 0) (Q : W → Tables → Type 0) → ReadPost {E = E} g old mid (Ok v) P → ReadPost g mid end r Q → ReadPost g old end r Q

@@ -9,8 +9,10 @@ use Rattle.brk_changes.specs.declared.summary_row.SummaryRow.{SummaryRow}
 use Rattle.brk_decisions.specs.OrderFactReads.{AreValuedSummariesOfAccount, market_value_of_summary}
 use Rattle.brk_decisions.specs.declared.amounts.ValuedSummaries.{ValuedSummaries}
 use Rattle.brk_store.proofs.Retelling.{retold}
-use Rattle.brk_decisions.proofs.Looking.{read_both}
+use Rattle.brk_store.proofs.Sequences.{failed_after, read_with}
 use Rattle.brk_decisions.proofs.OrderFinds.{total_by-none, worth_more}
+use Rattle.std.proofs.lemmas.Result.{err_from_is_err_and}
+use Rattle.brk_store.specs.ReadSequences.{single_read_changes_nothing}
 use Rattle.brk_decisions.proofs.amounts.read_valued_summaries.Goals as goal
 
 -- the worth of the first rows, which are an account's
@@ -33,7 +35,7 @@ loop-row-preserved g c =
     let i = c.loop-row.row-index in
     let row = c.row-item.result in
     let sum = c.in_ok-sum.sum in
-    read_both g.S.Store c.args.store.now c.loop-row.store c.add_value_at_last_price.new.store {H = Fault} tt sum tt
+    read_with g.S.Store c.args.store.now c.loop-row.store c.add_value_at_last_price.new.store {H = Fault} tt sum tt
     (λ _. FirstWorth c.args.account rows c.loop-row.total i)
     (λ sum (t : Tables). sum ≡ c.loop-row.total +ℤ market_value_of_summary t (abstract_summary_row row))
     (λ _. FirstWorth c.args.account rows sum (i + 1))
@@ -58,3 +60,9 @@ returns-clause-read g c =
       value = p.1 ∙ ap (λ xs. total_by (market_value_of_summary t) (map abstract_summary_row xs)) (take_all i rows c.loop-row-test.false) ∙ ap (total_by (market_value_of_summary t)) p.0;
     })
     c.loop-row.invariant
+
+pub returns-in_err-sum-clause-read : goal.returns-in_err-sum-clause-read
+returns-in_err-sum-clause-read g c =
+    let old = c.args.store.now in
+    let p = err_from_is_err_and c.from_residual-in_err-sum.result c.from_residual-in_err-sum.ensures.1 in
+    rw p.1 (failed_after g.S.Store old c.loop-row.store c.add_value_at_last_price.new.store _ p.0 _ _ (single_read_changes_nothing old c.loop-row.store _ _ c.loop-row.invariant) c.in_err-sum.ensures.read)

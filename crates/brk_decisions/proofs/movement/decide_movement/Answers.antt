@@ -1,7 +1,10 @@
 use Rattle.brk_orders.specs.Records.{movement_command}
-use Rattle.brk_decisions.specs.Decisions.{DecidesCommand}
-use Rattle.brk_decisions.proofs.Deciding.{decided}
+use Rattle.brk_trade_theorems.specs.Plans.{DecidesCommand}
+use Rattle.brk_store.proofs.Retelling.{decided}
 use Rattle.brk_decisions.proofs.Moves.{MovementFactsAndLastStampMatch, last_and_found, move_decided}
+use Rattle.std.proofs.lemmas.Result.{err_from_is_err_and}
+use Rattle.brk_store.specs.ReadSequences.{single_read_changes_nothing}
+use Rattle.brk_store.proofs.Sequences.{failed_after}
 use Rattle.brk_decisions.proofs.movement.decide_movement.Goals as goal
 
 pub returns-clause-read : goal.returns-clause-read
@@ -14,3 +17,9 @@ returns-clause-read g c =
     decided g.S.Store old mid found (λ f. MovementFactsAndLastStampMatch m f last) (DecidesCommand c.args.now (movement_command m)) c.plan_move.result
     (last_and_found g.S.Store old c.last_stamp.new.self mid m found last c.in_ok-last.ensures.read c.in_ok-found.ensures.read)
     (move_decided m found last c.args.now c.get-moment.ensures.high c.plan_move.result c.plan_move.ensures.planned)
+
+pub returns-in_err-found-clause-read : goal.returns-in_err-found-clause-read
+returns-in_err-found-clause-read g c =
+    let old = c.args.store.now in
+    let p = err_from_is_err_and c.from_residual-in_err-found.result c.from_residual-in_err-found.ensures.1 in
+    rw p.1 (failed_after g.S.Store old c.last_stamp.new.self c.read_movement_facts.new.store _ p.0 _ _ (single_read_changes_nothing old c.last_stamp.new.self _ _ c.in_ok-last.ensures.read) c.in_err-found.ensures.read)

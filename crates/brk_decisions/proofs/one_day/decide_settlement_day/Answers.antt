@@ -1,7 +1,10 @@
 use Rattle.brk_model.specs.Commands.{SetOneDay}
-use Rattle.brk_decisions.specs.Decisions.{DecidesCommand}
-use Rattle.brk_decisions.proofs.Deciding.{decided}
+use Rattle.brk_trade_theorems.specs.Plans.{DecidesCommand}
+use Rattle.brk_store.proofs.Retelling.{decided}
 use Rattle.brk_decisions.proofs.OneDays.{SettlementDayAndLastStampMatch, last_and_rule, one_day_decided}
+use Rattle.std.proofs.lemmas.Result.{err_from_is_err_and}
+use Rattle.brk_store.specs.ReadSequences.{single_read_changes_nothing}
+use Rattle.brk_store.proofs.Sequences.{failed_after}
 use Rattle.brk_decisions.proofs.one_day.decide_settlement_day.Goals as goal
 
 pub returns-clause-read : goal.returns-clause-read
@@ -14,3 +17,9 @@ returns-clause-read g c =
     decided g.S.Store old mid rule (λ r. SettlementDayAndLastStampMatch r last) (DecidesCommand c.args.now (SetOneDay day)) c.plan_oneday.result
     (last_and_rule g.S.Store old c.last_stamp.new.self mid rule last c.in_ok-last.ensures.read c.in_ok-rule.ensures.read)
     (one_day_decided day rule last c.args.now c.get-moment.ensures.high c.plan_oneday.result c.plan_oneday.ensures.planned)
+
+pub returns-in_err-rule-clause-read : goal.returns-in_err-rule-clause-read
+returns-in_err-rule-clause-read g c =
+    let old = c.args.store.now in
+    let p = err_from_is_err_and c.from_residual-in_err-rule.result c.from_residual-in_err-rule.ensures.1 in
+    rw p.1 (failed_after g.S.Store old c.last_stamp.new.self c.settlement_day.new.self _ p.0 _ _ (single_read_changes_nothing old c.last_stamp.new.self _ _ c.in_ok-last.ensures.read) c.in_err-rule.ensures.read)

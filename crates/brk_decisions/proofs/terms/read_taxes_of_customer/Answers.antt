@@ -8,7 +8,9 @@ use Rattle.brk_ref.specs.declared.customer_tax.CustomerTax as ref
 use Rattle.brk_ref.specs.declared.tax.Tax.{Tax}
 use Rattle.brk_book_theorems.specs.Reads.{tax_rate_with_id}
 use Rattle.brk_store.proofs.Retelling.{retold}
-use Rattle.brk_decisions.proofs.Looking.{read_both}
+use Rattle.brk_store.proofs.Sequences.{failed_after, none_read, read_with, unchanged_after}
+use Rattle.std.proofs.lemmas.Result.{err_from_is_err_and}
+use Rattle.brk_store.specs.ReadSequences.{single_read_changes_nothing}
 use Rattle.brk_decisions.proofs.terms.read_taxes_of_customer.Goals as goal
 
 -- the taxes that were read are those of the first rows, which are a customer's
@@ -40,7 +42,7 @@ loop-row-preserved g c =
     let rows = c.deref-row-items.result.now in
     let i = c.loop-row.row-index in
     let tax = c.in-Some.tax in
-    read_both g.S.Store c.args.store.now c.loop-row.store c.tax_with_id.new.self {H = Fault} tt (Some tax) tt
+    read_with g.S.Store c.args.store.now c.loop-row.store c.tax_with_id.new.self {H = Fault} tt (Some tax) tt
     (λ _. FirstTaxes c.args.customer rows c.loop-row.taxes.items i)
     (λ o (t : Tables). option_map abstract_tax_rate o ≡ find (λ (r : TaxRate). r.id == c.row-item.result.tax) t.tax_rates)
     (λ _. FirstTaxes c.args.customer rows c.push.new.self.items (i + 1))
@@ -61,3 +63,20 @@ returns-clause-read g c =
     (λ t p. p.1 ∙ ap (map (λ r. tax_rate_with_id t r.tax)) (take_all i rows c.loop-row-test.false)
     ∙ twice abstract_customer_tax (λ (r : CustomerTax). tax_rate_with_id t r.tax) rows ∙ ap (map (λ (r : CustomerTax). tax_rate_with_id t r.tax)) p.0)
     c.loop-row.invariant
+
+pub returns-in_err-tax-clause-read : goal.returns-in_err-tax-clause-read
+returns-in_err-tax-clause-read g c =
+    let old = c.args.store.now in
+    let p = err_from_is_err_and c.from_residual-in_err-tax.result c.from_residual-in_err-tax.ensures.1 in
+    rw p.1 (failed_after g.S.Store old c.loop-row.store c.tax_with_id.new.self _ p.0 _ _ (single_read_changes_nothing old c.loop-row.store _ _ c.loop-row.invariant) c.in_err-tax.ensures.read)
+
+pub returns-in_err-push-clause-read : goal.returns-in_err-push-clause-read
+returns-in_err-push-clause-read g c =
+    let old = c.args.store.now in
+    let p = err_from_is_err_and c.from_residual-in_err-push.result c.from_residual-in_err-push.ensures.1 in
+    rw p.1 (none_read g.S.Store old c.tax_with_id.new.self p.0 _ (unchanged_after g.S.Store old c.loop-row.store c.tax_with_id.new.self _ _ (single_read_changes_nothing old c.loop-row.store _ _ c.loop-row.invariant) c.in_ok-tax.ensures.read))
+
+pub returns-in_default-clause-read : goal.returns-in_default-clause-read
+returns-in_default-clause-read g c =
+    let old = c.args.store.now in
+    none_read g.S.Store old c.tax_with_id.new.self _ _ (unchanged_after g.S.Store old c.loop-row.store c.tax_with_id.new.self _ _ (single_read_changes_nothing old c.loop-row.store _ _ c.loop-row.invariant) c.in_ok-tax.ensures.read)

@@ -6,10 +6,12 @@ use Rattle.brk_model.specs.Tables.{Tables}
 use Rattle.brk_ref.specs.Records.{abstract_account_row}
 use Rattle.brk_ref.specs.declared.account.AccountRow.{AccountRow}
 use Rattle.brk_store.proofs.Retelling.{retold}
-use Rattle.brk_decisions.proofs.Looking.{read_both}
+use Rattle.brk_store.proofs.Sequences.{failed_after, none_read, read_with, unchanged_after}
 use Rattle.brk_view.specs.Worths.{worth_of_account}
 use Rattle.brk_view.specs.declared.worths.AccountWorth.{AccountWorth}
 use Rattle.brk_queries.proofs.Each.{list_more, map_map}
+use Rattle.std.proofs.lemmas.Result.{err_from_is_err_and}
+use Rattle.brk_store.specs.ReadSequences.{single_read_changes_nothing}
 use Rattle.brk_queries.proofs.accounts.read_balances_and_market_values.Goals as goal
 
 -- what the first accounts of a customer are worth
@@ -34,7 +36,7 @@ loop-row-preserved g c =
     let worth = c.in_ok-worth.worth in
     let before = c.loop-row.worths.items in
     rw c.in_ok-push.ensures.items
-    (read_both g.S.Store c.args.store.now c.loop-row.store c.read_balance_and_market_value.new.store {H = Fault} tt worth tt
+    (read_with g.S.Store c.args.store.now c.loop-row.store c.read_balance_and_market_value.new.store {H = Fault} tt worth tt
     (λ _. FirstWorths c.args.customer rows before i)
     (λ worth (t : Tables). worth ≡ worth_of_account t (abstract_account_row row))
     (λ _. FirstWorths c.args.customer rows (before ++ worth ∷ []) (i + 1))
@@ -50,3 +52,15 @@ returns-clause-read g c =
     (λ worths (t : Tables). worths.items ≡ map (worth_of_account t) (filter (λ (a : tables.AccountRow). a.customer == c.args.customer) t.accounts))
     (λ t p. p.1 ∙ ap (map (λ r. worth_of_account t (abstract_account_row r))) (take_all i rows c.loop-row-test.false) ∙ sym (map_map (worth_of_account t) abstract_account_row rows) ∙ ap (map (worth_of_account t)) p.0)
     c.loop-row.invariant
+
+pub returns-in_err-worth-clause-read : goal.returns-in_err-worth-clause-read
+returns-in_err-worth-clause-read g c =
+    let old = c.args.store.now in
+    let p = err_from_is_err_and c.from_residual-in_err-worth.result c.from_residual-in_err-worth.ensures.1 in
+    rw p.1 (failed_after g.S.Store old c.loop-row.store c.read_balance_and_market_value.new.store _ p.0 _ _ (single_read_changes_nothing old c.loop-row.store _ _ c.loop-row.invariant) c.in_err-worth.ensures.read)
+
+pub returns-in_err-push-clause-read : goal.returns-in_err-push-clause-read
+returns-in_err-push-clause-read g c =
+    let old = c.args.store.now in
+    let p = err_from_is_err_and c.from_residual-in_err-push.result c.from_residual-in_err-push.ensures.1 in
+    rw p.1 (none_read g.S.Store old c.read_balance_and_market_value.new.store p.0 _ (unchanged_after g.S.Store old c.loop-row.store c.read_balance_and_market_value.new.store _ _ (single_read_changes_nothing old c.loop-row.store _ _ c.loop-row.invariant) c.in_ok-worth.ensures.read))

@@ -8,9 +8,11 @@ use Rattle.brk_ref.specs.Records.{abstract_account_row}
 use Rattle.brk_book_theorems.proofs.Places.{find-at}
 use Rattle.brk_store.proofs.Retelling.{retold}
 use Rattle.brk_decisions.specs.OrderFactReads.{market_value_of_account}
-use Rattle.brk_decisions.proofs.Looking.{read_both}
+use Rattle.brk_store.proofs.Sequences.{failed_after, read_with}
 use Rattle.brk_queries.specs.Heads.{IsStatementHeadOfAccount}
 use Rattle.brk_queries.specs.declared.head.StatementHead.{StatementHead}
+use Rattle.std.proofs.lemmas.Result.{err_from_is_err_and}
+use Rattle.brk_store.specs.ReadSequences.{single_read_changes_nothing}
 use Rattle.brk_queries.proofs.head.read_statement_head.Goals as goal
 
 -- the worth of what the account with an id holds
@@ -27,10 +29,16 @@ returns-in_default-clause-read g c =
 
 pub returns-clause-read : goal.returns-clause-read
 returns-clause-read g c =
-    read_both g.S.Store c.args.store.now c.account.new.self c.read_holdings_value.new.store {H = Fault} (Some c.in-Some.row) c.in_ok-holdings.holdings
+    read_with g.S.Store c.args.store.now c.account.new.self c.read_holdings_value.new.store {H = Fault} (Some c.in-Some.row) c.in_ok-holdings.holdings
     (Some (record { name = c.in-Some.row.account.name; opening = c.in-Some.row.account.opening; holdings = c.in_ok-holdings.holdings }))
     (λ o (t : Tables). option_map abstract_account_row o ≡ find (λ (r : AccountRow). r.id == c.args.account) t.accounts)
     (λ worth t. worth ≡ market_value_of_account t c.args.account)
     (IsStatementHeadOfAccount c.args.account)
     (λ t e w. (abstract_account_row c.in-Some.row, sym e, refl, refl, worth_is t c.args.account (abstract_account_row c.in-Some.row) c.in_ok-holdings.holdings e w))
     (rw c.in-Some.is at c.in_ok-row.ensures.read) c.in_ok-holdings.ensures.read
+
+pub returns-in_err-holdings-clause-read : goal.returns-in_err-holdings-clause-read
+returns-in_err-holdings-clause-read g c =
+    let old = c.args.store.now in
+    let p = err_from_is_err_and c.from_residual-in_err-holdings.result c.from_residual-in_err-holdings.ensures.1 in
+    rw p.1 (failed_after g.S.Store old c.account.new.self c.read_holdings_value.new.store _ p.0 _ _ (single_read_changes_nothing old c.account.new.self _ _ c.in_ok-row.ensures.read) c.in_err-holdings.ensures.read)

@@ -5,13 +5,14 @@ use Rattle.brk_changes.specs.declared.trade_row.TradeRow.{TradeRow}
 use Rattle.brk_model.specs.Base.{Base}
 use Rattle.brk_model.specs.Sheets.{sheets}
 use Rattle.brk_model.specs.Tables.{Tables}
-use Rattle.brk_store.proofs.Sequences.{no_reads, one_read, reads_both, reads_retold}
+use Rattle.brk_store.proofs.Sequences.{no_reads, one_read, reads_both, reads_failed, reads_retold, unchanged_after}
 use Rattle.brk_invariant_theorems.specs.Sound.{AuditInvariant}
 use Rattle.brk_book_theorems.specs.Books.{BooksInvariant}
 use Rattle.brk_view.specs.Lookup.{rows_of_looked_up_trade, table_rows_of_trade}
 use Rattle.brk_view.specs.declared.lookups.LookedUp.{LookedUp}
 use Rattle.brk_queries.specs.LookedUp.{HaveAllRowsOfTrades, HasAllRowsOfTrade}
 use Rattle.brk_queries.proofs.Each.{all_made, map_map, none_made, popped}
+use Rattle.std.proofs.lemmas.Result.{err_from_is_err_and}
 use Rattle.brk_queries.proofs.lookups.read_all_rows_of_trades.Goals as goal
 
 -- trades that are left, and those after them that were looked up, are all of some
@@ -53,3 +54,15 @@ returns-clause-read g c =
     ∙ all_made (λ r. table_rows_of_trade t (abstract_trade_row r)) rows_of_looked_up_trade rest.items found _ (sym rest.ok.0 ∙ c.in_default.ensures.cases.0) (p base books sound s)
     ∙ sym (map_map (table_rows_of_trade t) abstract_trade_row trades))
     c.loop-trade.invariant
+
+pub returns-in_err-one-clause-read : goal.returns-in_err-one-clause-read
+returns-in_err-one-clause-read g c =
+    let old = c.args.store.now in
+    let p = err_from_is_err_and c.from_residual-in_err-one.result c.from_residual-in_err-one.ensures.1 in
+    rw p.1 (reads_failed g.S.Store old c.read_all_rows_of_trade.new.store p.0 _ (unchanged_after g.S.Store old c.loop-trade.store c.read_all_rows_of_trade.new.store _ _ (c.loop-trade.invariant.unchanged) c.in_err-one.ensures.read))
+
+pub returns-in_err-push-clause-read : goal.returns-in_err-push-clause-read
+returns-in_err-push-clause-read g c =
+    let old = c.args.store.now in
+    let p = err_from_is_err_and c.from_residual-in_err-push.result c.from_residual-in_err-push.ensures.1 in
+    rw p.1 (reads_failed g.S.Store old c.read_all_rows_of_trade.new.store p.0 _ (unchanged_after g.S.Store old c.loop-trade.store c.read_all_rows_of_trade.new.store _ _ (c.loop-trade.invariant.unchanged) c.in_ok-one.ensures.read))

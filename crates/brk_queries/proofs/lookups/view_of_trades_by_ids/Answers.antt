@@ -10,12 +10,14 @@ use Rattle.brk_changes.specs.declared.trade_row.TradeRow.{TradeRow}
 use Rattle.brk_model.specs.Joins.{trade_row_with_id}
 use Rattle.brk_model.specs.Queries.{TradesWith}
 use Rattle.brk_model.specs.Tables.{Tables}
-use Rattle.brk_store.proofs.Sequences.{read_with_reads}
+use Rattle.brk_store.proofs.Sequences.{none_read, read_with_reads}
 use Rattle.brk_update_theorems.specs.Corrections.{AreTradesWithIds}
 use Rattle.brk_view.specs.declared.view.View.{View}
 use Rattle.brk_queries.specs.LookedUp.{HaveAllRowsOfTrades}
 use Rattle.brk_queries.specs.QueryResults.{AnswersQueryAsModel}
 use Rattle.brk_queries.proofs.LookupViews.{no_trades, trades_seen}
+use Rattle.std.proofs.lemmas.Result.{err_from_is_err_and}
+use Rattle.brk_store.specs.ReadSequences.{joined_reads_change_nothing, single_read_changes_nothing}
 use Rattle.brk_queries.proofs.lookups.view_of_trades_by_ids.Goals as goal
 
 -- what is found of the trades with some ids
@@ -46,3 +48,21 @@ returns-clause-read g c =
     (read_with_reads g.S.Store old c.last_stamp.new.self mid {H = Fault} c.in_ok-_last._last named named (λ last (t : Tables). last ≡ t.last) (AreFound ids) (AreFound ids) (λ t _ e. e)
     c.in_ok-_last.ensures.read (rw (c.in-Some.is, c.ids.ensures) at c.in_ok-named.ensures.read))
     c.in_ok-found.ensures.read
+
+pub returns-in_err-named-clause-read : goal.returns-in_err-named-clause-read
+returns-in_err-named-clause-read g c =
+    let old = c.args.store.now in
+    let p = err_from_is_err_and c.from_residual-in_err-named.result c.from_residual-in_err-named.ensures.1 in
+    rw p.1 (none_read g.S.Store old c.read_trades_by_ids.new.store p.0 _ (joined_reads_change_nothing old c.last_stamp.new.self c.read_trades_by_ids.new.store (single_read_changes_nothing old c.last_stamp.new.self _ _ c.in_ok-_last.ensures.read) c.in_err-named.ensures.read.unchanged))
+
+pub returns-in_err-ordered-clause-read : goal.returns-in_err-ordered-clause-read
+returns-in_err-ordered-clause-read g c =
+    let old = c.args.store.now in
+    let p = err_from_is_err_and c.from_residual-in_err-ordered.result c.from_residual-in_err-ordered.ensures.1 in
+    rw p.1 (none_read g.S.Store old c.read_trades_by_ids.new.store p.0 _ (joined_reads_change_nothing old c.last_stamp.new.self c.read_trades_by_ids.new.store (single_read_changes_nothing old c.last_stamp.new.self _ _ c.in_ok-_last.ensures.read) c.in_ok-named.ensures.read.unchanged))
+
+pub returns-in_err-found-clause-read : goal.returns-in_err-found-clause-read
+returns-in_err-found-clause-read g c =
+    let old = c.args.store.now in
+    let p = err_from_is_err_and c.from_residual-in_err-found.result c.from_residual-in_err-found.ensures.1 in
+    rw p.1 (none_read g.S.Store old c.read_all_rows_of_trades.new.store p.0 _ (joined_reads_change_nothing old c.read_trades_by_ids.new.store c.read_all_rows_of_trades.new.store (joined_reads_change_nothing old c.last_stamp.new.self c.read_trades_by_ids.new.store (single_read_changes_nothing old c.last_stamp.new.self _ _ c.in_ok-_last.ensures.read) c.in_ok-named.ensures.read.unchanged) c.in_err-found.ensures.read.unchanged))

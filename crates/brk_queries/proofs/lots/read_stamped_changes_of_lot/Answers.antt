@@ -5,11 +5,13 @@ use Rattle.brk_changes.specs.Rows.{abstract_lot_change_row}
 use Rattle.brk_changes.specs.declared.lot_change.LotChange.{LotChange}
 use Rattle.brk_model.specs.Tables.{HoldingHistoryRow, Tables}
 use Rattle.brk_store.proofs.Retelling.{retold}
-use Rattle.brk_decisions.proofs.Looking.{read_both}
+use Rattle.brk_store.proofs.Sequences.{failed_after, none_read, read_with, unchanged_after}
 use Rattle.brk_view.specs.Lots.{stamped_lot_change}
 use Rattle.brk_view.specs.declared.lots.LotTouch.{LotTouch}
 use Rattle.brk_queries.specs.Touched.{stamped_changes_of_lot, last_status_stamp}
 use Rattle.brk_queries.proofs.Each.{list_more, map_map}
+use Rattle.std.proofs.lemmas.Result.{err_from_is_err_and}
+use Rattle.brk_store.specs.ReadSequences.{single_read_changes_nothing}
 use Rattle.brk_queries.proofs.lots.read_stamped_changes_of_lot.Goals as goal
 
 -- the first changes of a lot
@@ -34,7 +36,7 @@ loop-row-preserved g c =
     let with : ℕ → LotTouch = λ s. record { change = row; stamp = s } in
     let before = c.loop-row.touches.items in
     rw c.in_ok-push.ensures.items
-    (read_both g.S.Store c.args.store.now c.loop-row.store c.require_last_status_stamp.new.store {H = Fault} tt stamp tt
+    (read_with g.S.Store c.args.store.now c.loop-row.store c.require_last_status_stamp.new.store {H = Fault} tt stamp tt
     (λ _. FirstChanges c.args.lot rows before i)
     (λ stamp (t : Tables). stamp ≡ last_status_stamp t row.trade)
     (λ _. FirstChanges c.args.lot rows (before ++ with stamp ∷ []) (i + 1))
@@ -49,3 +51,15 @@ returns-clause-read g c =
     (λ touches (t : Tables). touches.items ≡ stamped_changes_of_lot t c.args.lot)
     (λ t p. p.1 ∙ ap (map (λ r. stamped_lot_change t (abstract_lot_change_row r))) (take_all c.loop-row.row-index rows c.loop-row-test.false) ∙ sym (map_map (stamped_lot_change t) abstract_lot_change_row rows) ∙ ap (map (stamped_lot_change t)) p.0)
     c.loop-row.invariant
+
+pub returns-in_err-stamp-clause-read : goal.returns-in_err-stamp-clause-read
+returns-in_err-stamp-clause-read g c =
+    let old = c.args.store.now in
+    let p = err_from_is_err_and c.from_residual-in_err-stamp.result c.from_residual-in_err-stamp.ensures.1 in
+    rw p.1 (failed_after g.S.Store old c.loop-row.store c.require_last_status_stamp.new.store _ p.0 _ _ (single_read_changes_nothing old c.loop-row.store _ _ c.loop-row.invariant) c.in_err-stamp.ensures.read)
+
+pub returns-in_err-push-clause-read : goal.returns-in_err-push-clause-read
+returns-in_err-push-clause-read g c =
+    let old = c.args.store.now in
+    let p = err_from_is_err_and c.from_residual-in_err-push.result c.from_residual-in_err-push.ensures.1 in
+    rw p.1 (none_read g.S.Store old c.require_last_status_stamp.new.store p.0 _ (unchanged_after g.S.Store old c.loop-row.store c.require_last_status_stamp.new.store _ _ (single_read_changes_nothing old c.loop-row.store _ _ c.loop-row.invariant) c.in_ok-stamp.ensures.read))

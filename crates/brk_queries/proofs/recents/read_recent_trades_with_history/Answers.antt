@@ -10,8 +10,10 @@ use Rattle.brk_model.specs.PositionView.{last_ten_trade_rows}
 use Rattle.brk_model.specs.Tables as tables
 use Rattle.brk_model.specs.Tables.{Tables}
 use Rattle.brk_store.proofs.Retelling.{retold}
-use Rattle.brk_decisions.proofs.Looking.{read_both}
+use Rattle.brk_store.proofs.Sequences.{failed_after, none_read, read_with, unchanged_after}
 use Rattle.brk_queries.proofs.Each.{flat_map_map, joined_more}
+use Rattle.std.proofs.lemmas.Result.{err_from_is_err_and}
+use Rattle.brk_store.specs.ReadSequences.{single_read_changes_nothing}
 use Rattle.brk_queries.proofs.recents.read_recent_trades_with_history.Goals as goal
 
 -- an account's last trades, and the history of the first of them
@@ -35,7 +37,7 @@ loop-trade-preserved g c =
     let rows = c.in_ok-rows.rows in
     let before = c.loop-trade.history.items in
     rw (c.in_ok-append_history_rows.ensures.added, c.deref.ensures.value)
-    (read_both g.S.Store c.args.store.now c.loop-trade.store c.history_of_trade.new.self {H = Fault} tt rows tt
+    (read_with g.S.Store c.args.store.now c.loop-trade.store c.history_of_trade.new.self {H = Fault} tt rows tt
     (λ _. FirstHistory c.args.account trades before i)
     (λ all (t : Tables). map abstract_history_row all.items ≡ filter (λ (r : tables.HistoryRow). r.trade == trade.id) t.history)
     (λ _. FirstHistory c.args.account trades (before ++ rows.items) (i + 1))
@@ -56,3 +58,15 @@ returns-clause-read g c =
           ∙ ap (flat_map (λ (row : tables.TradeRow). history_rows_with_trade_id t row.id)) p.0,
     ))
     c.loop-trade.invariant
+
+pub returns-in_err-rows-clause-read : goal.returns-in_err-rows-clause-read
+returns-in_err-rows-clause-read g c =
+    let old = c.args.store.now in
+    let p = err_from_is_err_and c.from_residual-in_err-rows.result c.from_residual-in_err-rows.ensures.1 in
+    rw p.1 (failed_after g.S.Store old c.loop-trade.store c.history_of_trade.new.self _ p.0 _ _ (single_read_changes_nothing old c.loop-trade.store _ _ c.loop-trade.invariant) c.in_err-rows.ensures.read)
+
+pub returns-in_err-append_history_rows-clause-read : goal.returns-in_err-append_history_rows-clause-read
+returns-in_err-append_history_rows-clause-read g c =
+    let old = c.args.store.now in
+    let p = err_from_is_err_and c.from_residual-in_err-append_history_rows.result c.from_residual-in_err-append_history_rows.ensures.1 in
+    rw p.1 (none_read g.S.Store old c.history_of_trade.new.self p.0 _ (unchanged_after g.S.Store old c.loop-trade.store c.history_of_trade.new.self _ _ (single_read_changes_nothing old c.loop-trade.store _ _ c.loop-trade.invariant) c.in_ok-rows.ensures.read))

@@ -7,11 +7,13 @@ use Rattle.brk_changes.specs.Rows.{abstract_request_row}
 use Rattle.brk_changes.specs.declared.request_row.RequestRow.{RequestRow}
 use Rattle.brk_model.specs.Tables.{BrokerRow, Tables}
 use Rattle.brk_store.proofs.Retelling.{retold}
-use Rattle.brk_decisions.proofs.Looking.{read_both}
+use Rattle.brk_store.proofs.Sequences.{failed_after, read_with}
 use Rattle.brk_view.specs.Volume as volume
 use Rattle.brk_view.specs.declared.volumes.BrokerVolume.{BrokerVolume}
 use Rattle.brk_queries.specs.Volumes.{brokers_of_name_in_sector, volumes_of_brokers_in_sector}
 use Rattle.brk_queries.proofs.VolumeViews.{name_more}
+use Rattle.std.proofs.lemmas.Result.{err_from_is_err_and}
+use Rattle.brk_store.specs.ReadSequences.{single_read_changes_nothing}
 use Rattle.brk_queries.proofs.volumes.read_volumes_of_brokers_named.Goals as goal
 
 -- what the brokers with the first names have to trade
@@ -36,7 +38,7 @@ loop-name-preserved g c =
     let name = c.name-item.result in
     let old = c.loop-name.found.items in
     let new = c.append_volumes_of_brokers_named.new.found.items in
-    read_both g.S.Store c.args.store.now c.loop-name.store c.append_volumes_of_brokers_named.new.store {H = Fault} tt tt tt
+    read_with g.S.Store c.args.store.now c.loop-name.store c.append_volumes_of_brokers_named.new.store {H = Fault} tt tt tt
     (λ _. FirstNamed sector names requests old i)
     (λ _ (t : Tables). map abstract_request_row requests ≡ t.requests → new ≡ old ++ volumes_of_brokers_in_sector t sector (filter (λ (b : BrokerRow). bytes_eq b.name name) t.brokers))
     (λ _. FirstNamed sector names requests new (i + 1))
@@ -52,3 +54,9 @@ returns-clause-read g c =
     (λ found (t : Tables). found.items ≡ map (volume.volume_of_broker_in_sector t sector) (flat_map (brokers_of_name_in_sector t sector) names))
     (λ t p. p.1 ∙ ap (λ ns. map (volume.volume_of_broker_in_sector t sector) (flat_map (brokers_of_name_in_sector t sector) ns)) (take_all c.loop-name.name-index names c.loop-name-test.false))
     c.loop-name.invariant
+
+pub returns-in_err-append_volumes_of_brokers_named-clause-read : goal.returns-in_err-append_volumes_of_brokers_named-clause-read
+returns-in_err-append_volumes_of_brokers_named-clause-read g c =
+    let old = c.args.store.now in
+    let p = err_from_is_err_and c.from_residual-in_err-append_volumes_of_brokers_named.result c.from_residual-in_err-append_volumes_of_brokers_named.ensures.1 in
+    rw p.1 (failed_after g.S.Store old c.loop-name.store c.append_volumes_of_brokers_named.new.store _ p.0 _ _ (single_read_changes_nothing old c.loop-name.store _ _ c.loop-name.invariant) c.in_err-append_volumes_of_brokers_named.ensures.read)

@@ -8,10 +8,11 @@ use Rattle.brk_model.specs.Joins.{trade_row_with_id}
 use Rattle.brk_model.specs.Tables.{Tables, TradeRow}
 use Rattle.brk_changes.specs.Rows.{abstract_trade_row}
 use Rattle.brk_changes.specs.declared.trade_row.TradeRow as row
-use Rattle.brk_store.proofs.Sequences.{no_reads, one_read, reads_both, reads_retold}
+use Rattle.brk_store.proofs.Sequences.{no_reads, one_read, reads_both, reads_failed, reads_retold, unchanged_after}
 use Rattle.brk_update_theorems.specs.Corrections.{AreTradesWithIds}
-use Rattle.brk_decisions.proofs.TradesFound.{one_more, some_missing}
-use Rattle.brk_decisions.proofs.trades_finding.read_trades_by_ids.Goals as goal
+use Rattle.brk_update_decisions.proofs.TradesFound.{one_more, some_missing}
+use Rattle.std.proofs.lemmas.Result.{err_from_is_err_and}
+use Rattle.brk_update_decisions.proofs.trades_finding.read_trades_by_ids.Goals as goal
 
 -- the trades that were read are those of the first ids
 abbrev FirstTrades : List ℕ → List row.TradeRow → ℕ → Tables → Type 0
@@ -56,3 +57,15 @@ returns-clause-read g c =
     reads_retold g.S.Store c.args.store.now c.loop-id.store tt (Some c.loop-id.trades) (λ _. FirstTrades ids c.loop-id.trades.items i) (AreFound ids)
     (λ t p. p ∙ ap (map (trade_row_with_id t)) (take_all i ids c.loop-id-test.false))
     c.loop-id.invariant
+
+pub returns-in_err-trade-clause-read : goal.returns-in_err-trade-clause-read
+returns-in_err-trade-clause-read g c =
+    let old = c.args.store.now in
+    let p = err_from_is_err_and c.from_residual-in_err-trade.result c.from_residual-in_err-trade.ensures.1 in
+    rw p.1 (reads_failed g.S.Store old c.trade.new.self p.0 _ (unchanged_after g.S.Store old c.loop-id.store c.trade.new.self _ _ (c.loop-id.invariant.unchanged) c.in_err-trade.ensures.read))
+
+pub returns-in_err-push-in-Some-clause-read : goal.returns-in_err-push-in-Some-clause-read
+returns-in_err-push-in-Some-clause-read g c =
+    let old = c.args.store.now in
+    let p = err_from_is_err_and c.from_residual-in_err-push-in-Some.result c.from_residual-in_err-push-in-Some.ensures.1 in
+    rw p.1 (reads_failed g.S.Store old c.trade.new.self p.0 _ (unchanged_after g.S.Store old c.loop-id.store c.trade.new.self _ _ (c.loop-id.invariant.unchanged) c.in_ok-trade.ensures.read))
