@@ -14,7 +14,7 @@ use brk_ref::{Answer, Key};
 use std::alloc::Global;
 
 /// The response to a request, which its reply reports.
-#[derive(Debug, Drop)]
+#[derive(Drop)]
 pub enum ServiceResponse<R, V> {
     /// The request makes no call, because it has this problem.
     Wrong(RequestProblem),

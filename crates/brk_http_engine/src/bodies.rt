@@ -49,7 +49,7 @@ pub fn texts_of_body(alloc: Global, body: &[u8]) -> Result<Option<Vec<String>>, 
 }
 
 /// The name of the one member of the JSON object that is the body of a reply.
-#[derive(Clone, Copy, Debug, PartialEq, Eq)]
+#[derive(Clone, Copy)]
 pub enum MemberName {
     /// `ok`: the fields of the reply to an accepted row.
     Ok,
@@ -85,18 +85,26 @@ fn json_list_of_records(alloc: Global, records: &[Vec<String>]) -> Result<Value,
     Ok(Value::Array(list))
 }
 
+// Returns the text of a member name, such as `ok`.
+fn member_name_text(word: MemberName) -> &'static str
+    ensures { result.now ≡ member_name_text word }
+{
+    match word {
+        MemberName::Ok => "ok",
+        MemberName::Again => "again",
+        MemberName::No => "no",
+        MemberName::View => "view",
+        MemberName::Error => "error",
+    }
+}
+
 // Returns the JSON object whose one member has the name `word` and the value `value`. Fails only if
 // memory runs out.
 fn json_object_of_member(alloc: Global, word: MemberName, value: Value) -> Result<Value, AllocError>
     ensures { IfOk result (λ v. view v ≡ object (member (member_name_text word) (view value) no_members)) }
 {
-    match word {
-        MemberName::Ok => json!(in alloc; {"ok": value}),
-        MemberName::Again => json!(in alloc; {"again": value}),
-        MemberName::No => json!(in alloc; {"no": value}),
-        MemberName::View => json!(in alloc; {"view": value}),
-        MemberName::Error => json!(in alloc; {"error": value}),
-    }
+    let name = member_name_text(word);
+    json!(in alloc; {name: value})
 }
 
 /// Returns the JSON text `{"NAME":["TEXT",..]}` for the member name `word` and these texts. Fails

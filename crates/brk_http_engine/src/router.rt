@@ -8,7 +8,7 @@ use matchit::{InsertError, Router};
 use std::alloc::Global;
 
 /// The kind of the requests whose targets match a route.
-#[derive(Clone, Copy, Debug, PartialEq, Eq)]
+#[derive(Clone, Copy)]
 pub enum RouteKind {
     /// A row without a key: `/rows`.
     Row,
