@@ -32,7 +32,7 @@ CODE = [
     'brk_http',
     'brk_report_lines',
     'brk_report',
-    'brk_jobs',
+    'brk_files',
     'brk_exit',
 ]
 CRATES = MODEL + CODE

@@ -1,10 +1,11 @@
 //! Jobs on a desk that is in memory, or in a file that is closed at the end.
 
-use crate::files::{FileDesk, close_desk_file};
 use crate::{ask, batch, explain, serve, statement};
 use brk_args::Job;
 use brk_desk::Desk;
 use brk_exit::{Ending, ending_after_close};
+use brk_files as file;
+use brk_files::FileDesk;
 use brk_money::Fault;
 use brk_report::Form;
 use brk_store::Store;
@@ -86,7 +87,7 @@ pub(crate) fn execute_job_in_file<R: Read + Drop, W: Write>(
     match opened {
         Ok(store) => {
             let (ending, store) = execute_job_at_store(rt, store, job, input, output);
-            ending_after_close(ending, close_desk_file(store))
+            ending_after_close(ending, file::close_desk_file(store))
         }
         Err(fault) => Ending::Open(fault),
     }

@@ -1,8 +1,8 @@
 use crate::audit::write_audit_ok;
 use crate::desk::{execute_job_in_file, execute_job_in_memory};
-use crate::files;
 use brk_args::{Job, UsageFault, read_words};
 use brk_exit::Ending;
+use brk_files as file;
 use brk_io::write_all_bytes;
 use std::io::{Read, Write};
 
@@ -62,14 +62,14 @@ fn execute_job<R: Read + Drop, W: Write>(
         Place::Memory => execute_job_in_memory(rt, job, input, output),
         Place::FileOrNewFile(path) => execute_job_in_file(
             rt,
-            files::open_or_create_desk_file(rt, path),
+            file::open_or_create_desk_file(rt, path),
             job,
             input,
             output,
         ),
         Place::ExistingFile(path) => execute_job_in_file(
             rt,
-            files::open_desk_file(rt, path),
+            file::open_desk_file(rt, path),
             job,
             input,
             output,

@@ -1,4 +1,4 @@
-//! The jobs of the program, and the files of its desks.
+//! The jobs of the program.
 #![tactic(auto)]
 
 mod ask;
@@ -7,11 +7,9 @@ mod batch;
 mod borrowed;
 mod desk;
 mod explain;
-pub mod files;
 pub mod jobs;
 mod pipe;
 mod serve;
 mod statement;
 
-pub use files::{FileDesk, close_desk_file, open_desk_file, open_or_create_desk_file};
 pub use jobs::execute_arguments;

@@ -7,7 +7,7 @@ use Rattle.sqlite.specs.Effect.{Database}
 use Rattle.sqlite.specs.Held.{Held, state}
 use Rattle.brk_store.specs.Audited.{AdoptPost}
 use Rattle.brk_store.proofs.Taking.{upgraded_books}
-use Rattle.brk_jobs.specs.Opened.{RepresentsRowsOfFile}
+use Rattle.brk_files.specs.Opened.{RepresentsRowsOfFile}
 
 pub stands_on_rows : {S : Type 0} (g : Ghosts S) → ((s : S) (db : Trees) → IsTrue (g.view s).is_open → g.recovers s db → db ≡ (g.view s).committed) → (conn store : Held S) → AdoptPost g conn store (Ok tt) → RepresentsRowsOfFile g store
 stands_on_rows g settled conn store adopted = record {

@@ -1,6 +1,6 @@
 use Rattle.std.proofs.Common.{inl, inr}
-use Rattle.brk_jobs.proofs.Outcomes.{adopted_some, refused_taken}
-use Rattle.brk_jobs.proofs.files.open_or_create_desk_file.Goals as goal
+use Rattle.brk_files.proofs.Outcomes.{adopted_some, refused_taken}
+use Rattle.brk_files.proofs.file.open_or_create_desk_file.Goals as goal
 
 pub returns-in_ok-conn-in-Ok-clause-opened : goal.returns-in_ok-conn-in-Ok-clause-opened
 returns-in_ok-conn-in-Ok-clause-opened c =

@@ -9,8 +9,8 @@ use Rattle.brk_money.specs.declared.fault.Condition.TheVariants as condition
 use Rattle.brk_money.specs.declared.fault.Fault.{Fault}
 use Rattle.brk_money.specs.declared.fault.Fault.TheVariants as fault
 use Rattle.brk_store.specs.Holds.{CreatePost}
-use Rattle.brk_jobs.specs.Files.{IsNewConnectionToFile, HasLastCommitInFile}
-use Rattle.brk_jobs.specs.Opening.{IsAdoptionResult, FollowsRefusedCreation, HasNewDeskOrDeskTable, OpenPost, OpenOrCreatePost}
+use Rattle.brk_files.specs.Files.{IsNewConnectionToFile, HasLastCommitInFile}
+use Rattle.brk_files.specs.Opening.{IsAdoptionResult, FollowsRefusedCreation, HasNewDeskOrDeskTable, OpenPost, OpenOrCreatePost}
 
 no_damage : (c : Condition) → fault.Damaged c ≡ fault.Store → ⊥
 no_damage c is = cc

@@ -9,7 +9,7 @@ use Rattle.brk_money.specs.declared.fault.Fault.{Fault}
 use Rattle.brk_money.specs.declared.fault.Fault.TheVariants as fault
 use Rattle.brk_store.specs.Audited.{AdoptPost}
 use Rattle.brk_store.specs.Holds.{CreatePost}
-use Rattle.brk_jobs.specs.Files.{IsNewConnectionToFile, HasLastCommitInFile}
+use Rattle.brk_files.specs.Files.{IsNewConnectionToFile, HasLastCommitInFile}
 
 -- `Ok`: adopting the database of the connection `conn` as a store succeeded, with this store.
 -- `Err`: it failed with this fault.

@@ -4,9 +4,9 @@ ghost use Rattle.std.specs.Prelude.{◌≡◌, Err, IfOk, MatchResult, Ok, OnErr
 ghost use Rattle.brk_money.specs.declared.fault.Fault.TheVariants as fault;
 ghost use Rattle.sqlite.specs.Files.{over_files};
 ghost use Rattle.brk_store.specs.Audited.{AdoptPost};
-ghost use Rattle.brk_jobs.specs.Files.{HasLastCommitInFile, IsNewConnectionToFile};
-ghost use Rattle.brk_jobs.specs.Opened.{RepresentsRowsOfFile};
-ghost use Rattle.brk_jobs.specs.Opening.{IsAdoptionResult, OpenOrCreatePost, OpenPost};
+ghost use Rattle.brk_files.specs.Files.{HasLastCommitInFile, IsNewConnectionToFile};
+ghost use Rattle.brk_files.specs.Opened.{RepresentsRowsOfFile};
+ghost use Rattle.brk_files.specs.Opening.{IsAdoptionResult, OpenOrCreatePost, OpenPost};
 
 use brk_money::{Condition, Fault};
 use brk_store::Store;
