@@ -27,8 +27,8 @@ account_header_lines a =
     ∷ codes "#      posted                       cash row         trade                 amount                balance name"
     ∷ []
 
--- The cash rows of `account` with stamps from 1970-01-01 to 9999-12-31, sorted by stamp, ascending.
--- No stamp of a table that passes an audit is later.
+-- The cash rows of `account` with stamps from 1970-01-01 to 9999-12-31, both included, sorted by
+-- stamp, ascending.
 abbrev pub account_cash_rows_by_stamp : Tables → ℕ → List MoveRow
 account_cash_rows_by_stamp tables account = cash_move_rows_within_days 0 greatest_day (cash_move_rows_of_account tables account)
 
@@ -36,8 +36,9 @@ account_cash_rows_by_stamp tables account = cash_move_rows_within_days 0 greates
 abbrev pub trade_id_or_hyphen : Option ℕ → Text
 trade_id_or_hyphen trade = option_map_or decimal trade (codes "-")
 
--- The line of the cash row `row`: the word `Posted`, its timestamp, its id, the id of its trade or
--- a hyphen, its amount, the balance `balance`, which is given in cents, and its name.
+-- The line of the cash row `row`, with columns separated by spaces: the word `Posted`, its
+-- timestamp, its id, the id of its trade or a hyphen, its amount, the balance `balance`, which is
+-- given in cents, and its name.
 unfoldable pub cash_posting_line : MoveRow → ℤ → Text
 cash_posting_line row balance =
     left_aligned_text 6 (codes "Posted") ++ 32 ∷ timestamp_text row.stamp ++ 32 ∷ right_aligned_text 13 (decimal row.id) ++ 32
@@ -54,7 +55,7 @@ unfoldable pub balance_header_lines : AccountRow → List Text
 balance_header_lines a =
     labeled_amount (codes "Balance") a.balance ∷ codes "#      symbol                    lot      shares      price                  worth" ∷ []
 
--- The line of the lot `row`: the word `Lot`, and the columns of its line in a statement.
+-- The line of the lot `row`: the word `Lot`, and the line of the lot in a statement (`lot_line`).
 unfoldable pub open_lot_line : HoldingRow → Text
 open_lot_line row = left_aligned_text 6 (codes "Lot") ++ 32 ∷ lot_line row
 
@@ -88,8 +89,8 @@ unfoldable pub holding_line : PricedHolding → Text
 holding_line held =
     holding_line_start held.summary.symbol ++ quantity_and_price_columns held.summary.qty held.price ++ amount_column (market_value_of_holding held)
 
--- The holding summary `row` with the last price of its symbol in `tables`, or with price 0 if the
--- symbol has none.
+-- The holding summary `row` with the last price of its symbol in `tables`, or with the price 0 if
+-- `tables` has no LAST_TRADE row of the symbol.
 abbrev pub priced_holding : Tables → SummaryRow → PricedHolding
 priced_holding tables row = record { summary = row; price = last_price_in_tables tables row.symbol }
 
@@ -104,8 +105,8 @@ abbrev pub account_counts_line : ℕ → ℕ → ℕ → Text
 account_counts_line cash lots symbols = codes "Cash rows " ++ decimal cash ++ codes ", lots " ++ decimal lots ++ codes ", symbols " ++ decimal symbols
 
 -- The last lines of the explanation of an account, from its balance and the market value `holdings`
--- of its holdings, both given in cents: the market value, the assets, which are the sum of both,
--- and the line of the counts.
+-- of its holdings, both given in cents: the market value, the assets, which are the balance plus
+-- the market value, and the numbers of its cash rows (`cash`), lots and symbols.
 unfoldable pub account_total_lines : ℤ → ℤ → ℕ → ℕ → ℕ → List Text
 account_total_lines balance holdings cash lots symbols =
     labeled_amount (codes "Holdings") holdings
@@ -113,8 +114,9 @@ account_total_lines balance holdings cash lots symbols =
     ∷ account_counts_line cash lots symbols
     ∷ []
 
--- The lines of the holdings `held` of the account `a`, and the last lines of its explanation.
--- `cash` and `lots` are the numbers of its cash rows and lots.
+-- A line for each of the holdings `held` of the account `a`, and the last lines of the explanation
+-- of the account. `cash` and `lots` are the numbers of its cash rows and lots; the number of its
+-- symbols is the number of `held`.
 abbrev pub holding_and_total_lines : AccountRow → List PricedHolding → ℕ → ℕ → List Text
 holding_and_total_lines a held cash lots = map holding_line held ++ account_total_lines a.balance (market_value_of_holdings held) cash lots (length held)
 

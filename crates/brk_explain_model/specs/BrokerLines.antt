@@ -29,7 +29,7 @@ completed_trades_of_broker tables broker =
     sort_by_key (λ u. u.stamp) (filter (λ u. has_completed_status u && (broker_of_account_or_zero tables u.account == broker)) tables.trades)
 
 -- The line of the completed trade `u`: the word `Trade`, its timestamp, id, account and commission,
--- and `total`, in cents, the sum of the commissions up to and including its own.
+-- and `total`, in cents, the sum of the commissions up to and including this trade.
 unfoldable pub trade_commission_line : TradeRow → ℤ → Text
 trade_commission_line u total =
     left_aligned_text 6 (codes "Trade") ++ 32 ∷ timestamp_text u.stamp ++ 32 ∷ right_aligned_text 13 (decimal u.id) ++ 32
@@ -60,14 +60,14 @@ broker_total_lines b accounts trades =
     labeled_amount (codes "Commissions") (pos b.commissions) ∷ labeled_value (codes "Trades") (signed_decimal b.trades) ∷ broker_counts_line accounts trades
     ∷ []
 
--- All lines of the explanation of the broker `b`: the title, its name, the column headings, a line for
--- each of its completed trades `done` with the running total of commissions, the totals that the row
--- `b` records, and the numbers of its accounts (`accounts`) and of these trades.
+-- All lines of the explanation of the broker `b`: the title, its name, the column headings, a line
+-- for each of its completed trades `done` with the running total of commissions, the totals that
+-- the row `b` records, and the numbers of its accounts (`accounts`) and of these trades.
 unfoldable pub broker_lines_from_trades : BrokerRow → ℕ → List TradeRow → List Text
 broker_lines_from_trades b accounts done = broker_header_lines b ++ trade_commission_lines done ++ broker_total_lines b accounts (length done)
 
--- All lines of the explanation of the broker `b`: the title, its name, the column headings, a line for
--- each of its completed trades with the running total of commissions, the totals that the row `b`
--- records, and the numbers of its accounts and of these trades.
+-- All lines of the explanation of the broker `b`: the title, its name, the column headings, a line
+-- for each of its completed trades with the running total of commissions, the totals that the row
+-- `b` records, and the numbers of its accounts and of these trades.
 unfoldable pub broker_explanation_lines : Tables → BrokerRow → List Text
 broker_explanation_lines tables b = broker_lines_from_trades b (length (accounts_with_broker tables b.id)) (completed_trades_of_broker tables b.id)

@@ -43,7 +43,8 @@ explain_request_parsers =
     ∷ (codes "broker", read_and_wrap BrokerOf read_single_id)
     ∷ []
 
--- The request that the arguments `words` parse as, or the refusal `BadText` if they are malformed.
+-- The request that the arguments `words` parse as, the first of which names its kind, or the
+-- refusal `BadText` if there is none, the kind is unknown, or an argument is malformed.
 unfoldable pub read_explain_request : List Text → ReadResult ExplainRequest
 read_explain_request words = parse_by_first_field explain_request_parsers words
 

@@ -20,7 +20,7 @@ abbrev pub holding_title : ℕ → Text → Text
 holding_title account symbol = codes "Holding of account " ++ decimal account ++ codes " in " ++ symbol ++ codes ", times in UTC"
 
 -- The first lines of the explanation of the holding of the account `a` in the security `s`: the
--- title, their names, and the column headings of the trades.
+-- title, the names of the account and the security, and the column headings of the trades.
 unfoldable pub holding_header_lines : AccountRow → SecurityRow → List Text
 holding_header_lines a s =
     holding_title a.id s.symbol
@@ -42,7 +42,7 @@ abbrev pub lot_columns_header : Text
 lot_columns_header = codes "#      opened or changed               trade      shares      price     cost or gain        left"
 
 -- The line of the opening of `lot`: the word `Lot`, the timestamp and the id of the trade that
--- opened it, the opened quantity, the price, and the product of both.
+-- opened it, the opened quantity, the price, and the quantity times the price.
 unfoldable pub lot_opening_line : LotDetails → Text
 lot_opening_line lot =
     leading_row_columns (codes "Lot") (timestamp_text lot.trade.stamp) lot.trade.id lot.opened (completion_price_or_zero lot.trade)
@@ -57,7 +57,8 @@ lot_change_line price c =
     ++ shares_column c.after
 
 -- The line of the remaining shares of `lot`: the word `Left`, a blank timestamp, the id of the
--- trade that opened it, the remaining quantity, the price, and the product of both.
+-- trade that opened it, the remaining quantity, the opening price, and their product, the cost
+-- basis.
 unfoldable pub lot_remainder_line : LotDetails → Text
 lot_remainder_line lot =
     leading_row_columns (codes "Left") blank_timestamp_text lot.trade.id (remaining_quantity_of_lot lot) (completion_price_or_zero lot.trade)
@@ -79,7 +80,7 @@ purchase_sale_and_cost_lines bought sold gain cost =
     ∷ labeled_amount (codes "Cost basis") cost ∷ []
 
 -- The lines of the quantity `shares` of a holding, of the last price `price`, of the market value,
--- which is the product of both, and of the unrealised gain, which is the market value minus the
+-- which is `shares` times `price`, and of the unrealised gain, which is the market value minus the
 -- cost basis `cost`. `price` and `cost` are given in cents.
 unfoldable pub holding_value_lines : ℤ → ℕ → ℤ → List Text
 holding_value_lines shares price cost =

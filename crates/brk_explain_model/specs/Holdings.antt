@@ -20,8 +20,8 @@ completed_trades_in_symbol tables account symbol =
 abbrev pub signed_quantity_of_trade : TradeRow → ℤ
 signed_quantity_of_trade u = signed_by_side (side_of_trade_type u.kind) u.qty
 
--- The quantity of the trade `u` times its price, in cents, negated if it is a sale; 0 if it has no
--- price.
+-- The quantity of the trade `u` times its price, in cents, negated if the trade is a sale; 0 if the
+-- trade has no price.
 abbrev pub signed_value_of_trade : TradeRow → ℤ
 signed_value_of_trade u = signed_quantity_of_trade u *ℤ pos (completion_price_or_zero u)
 
@@ -35,7 +35,8 @@ pub record LotChange : Type 0 where
   pub after : ℤ
 
 -- The change of a lot that the HOLDING_HISTORY row `row` records, with the stamp and the price of
--- the trade that changed the lot; each is 0 if this trade does not exist.
+-- the trade that changed the lot; both are 0 if this trade does not exist, and the price is 0 if it
+-- has none.
 abbrev pub recorded_lot_change : Tables → HoldingHistoryRow → LotChange
 recorded_lot_change tables row = record {
   trade = row.trade;
@@ -45,7 +46,8 @@ recorded_lot_change tables row = record {
   after = row.after;
 }
 
--- True if `row` records a change of `lot` by another trade than the one that opened it.
+-- True if the HOLDING_HISTORY row `row` records a change of the lot `lot` by another trade than the
+-- one that opened it.
 abbrev pub is_later_change_of_lot : ℕ → HoldingHistoryRow → Bool
 is_later_change_of_lot lot row = (row.lot == lot) && not (row.trade == lot)
 
@@ -71,8 +73,8 @@ pub record LotDetails : Type 0 where
 abbrev pub quantity_opened_by_trade : Tables → ℕ → ℤ
 quantity_opened_by_trade tables trade = option_map_or (λ row. row.after) (opened_lot_row tables trade) (pos 0)
 
--- The lot that the trade `u` opened: the trade, the opened quantity, and the changes by later
--- trades.
+-- The lot that the trade `u` opened: the trade, the opened quantity (0 if the trade opened no lot),
+-- and the changes of the lot by later trades.
 abbrev pub lot_with_later_changes : Tables → TradeRow → LotDetails
 lot_with_later_changes tables u = record { trade = u; opened = quantity_opened_by_trade tables u.id; changes = later_changes_of_lot tables u.id }
 
@@ -87,8 +89,8 @@ lots_opened_in_symbol tables account symbol =
 abbrev pub remaining_quantity_of_lot : LotDetails → ℤ
 remaining_quantity_of_lot lot = unwrap_or (last_or None (map (λ c. c.after) lot.changes)) lot.opened
 
--- The remaining quantity of `lot` times the price at which it was opened, in cents: below 0 if it
--- was sold short.
+-- The cost basis of the remaining shares of `lot`, in cents: their quantity times the price at
+-- which they were opened, below 0 if they were sold short.
 abbrev pub remaining_cost_of_lot : LotDetails → ℤ
 remaining_cost_of_lot lot = remaining_quantity_of_lot lot *ℤ pos (completion_price_or_zero lot.trade)
 
@@ -114,7 +116,7 @@ remaining_cost_of_lots lots = total_by remaining_cost_of_lot lots
 abbrev pub count_of_lot_changes : List LotDetails → ℕ
 count_of_lot_changes lots = length (flat_map (λ lot. lot.changes) lots)
 
--- Those of `lots` whose remaining quantity is not 0.
+-- The lots in the list `lots` whose remaining quantity is not 0.
 abbrev pub lots_not_fully_closed : List LotDetails → List LotDetails
 lots_not_fully_closed lots = filter (λ lot. not (is_zero (remaining_quantity_of_lot lot))) lots
 
@@ -122,11 +124,11 @@ lots_not_fully_closed lots = filter (λ lot. not (is_zero (remaining_quantity_of
 abbrev pub total_purchase_value : List TradeRow → ℤ
 total_purchase_value done = total_by signed_value_of_trade (filter (λ u. int_lt (pos 0) (signed_value_of_trade u)) done)
 
--- The sum of the negated values of the sales among the trades `done`, in cents; never above 0.
+-- The sum of the values of the sales among the trades `done`, in cents and negated: never above 0.
 abbrev pub total_sale_value : List TradeRow → ℤ
 total_sale_value done = total_by signed_value_of_trade (filter (λ u. int_lt (signed_value_of_trade u) (pos 0)) done)
 
--- The quantity of `account` in `symbol` that HOLDING_SUMMARY records; 0 if there is no row.
+-- The quantity of `account` in `symbol` that HOLDING_SUMMARY records; 0 if there is no such row.
 abbrev pub summary_quantity_in_symbol : Tables → ℕ → Text → ℤ
 summary_quantity_in_symbol tables account symbol =
     option_map_or (λ row. row.qty) (find (λ row. (row.account == account) && bytes_eq row.symbol symbol) tables.summaries) (pos 0)

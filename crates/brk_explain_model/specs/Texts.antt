@@ -35,9 +35,9 @@ labeled_number label n = labeled_value label (decimal n)
 unfoldable pub labeled_amount : Text → ℤ → Text
 labeled_amount label amount = labeled_value label (cents_text amount)
 
--- The first columns of a row about a trade or a lot: `word`, left-aligned in 6 places, `moment`,
--- the text of a timestamp, and, right-aligned, `id` in 13, `shares` in 11, and `price`, which is
--- given in cents, in 10 places.
+-- The first columns of a row about a trade or a lot, separated by spaces: `word`, left-aligned in 6
+-- places, `moment`, the text of a timestamp, and, right-aligned, `id` in 13, `shares` in 11, and
+-- `price`, which is given in cents, in 10 places.
 unfoldable pub leading_row_columns : Text → Text → ℕ → ℤ → ℕ → Text
 leading_row_columns word moment id shares price =
     left_aligned_text 6 word ++ 32 ∷ moment ++ 32 ∷ right_aligned_text 13 (decimal id) ++ 32 ∷ right_aligned_text 11 (signed_decimal shares) ++ 32

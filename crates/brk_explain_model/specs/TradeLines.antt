@@ -122,8 +122,8 @@ uncompleted_trade_lines o =
 -- ---- a completed trade
 
 -- The line of the closing `c` by a trade on `side` at `price`: the word `Closed`, the timestamp and
--- the id of the trade that opened the lot, the closed shares, the lot's price, the buy value and
--- the sell value of these shares, and the lot's quantity after the closing.
+-- the id of the trade that opened the lot, the number of closed shares, the lot's price, the buy
+-- value and the sell value of these shares, and the lot's quantity after the closing.
 unfoldable pub closed_lot_line : Side → ℕ → Closing → Text
 closed_lot_line side price c =
     leading_row_columns (codes "Closed") (timestamp_text c.stamp) c.lot (pos (shares_of_closing c)) c.price
@@ -141,7 +141,8 @@ unfoldable pub opened_lot_lines : TradeRow → ℕ → Option HoldingHistoryRow 
 opened_lot_lines u price None = []
 opened_lot_lines u price (Some row) = opened_lot_line u price row ∷ []
 
--- The line of the price of the completed trade, and the column headings of its lots.
+-- The line of the price of the completed trade, and the column headings of the lots that it closed
+-- or opened.
 unfoldable pub price_and_lot_header_lines : ResultDetails → List Text
 price_and_lot_header_lines r =
     labeled_amount (codes "Price") (pos r.price)
@@ -210,8 +211,8 @@ unfoldable pub commission_band_line : Option Band → Text
 commission_band_line None = labeled_value (codes "Band now") (codes "none")
 commission_band_line (Some b) = labeled_number (codes "Band now") b.rate ++ band_bounds_text b ++ band_tier_and_exchange_text b
 
--- The line of the commission at the rate of the current band, given in cents, or of `none` if there
--- is no band.
+-- The line of the commission at the rate of the current commission band, in cents, or of `none` if
+-- there is no such commission.
 unfoldable pub current_commission_line : Option ℕ → Text
 current_commission_line None = labeled_value (codes "Commission now") (codes "none")
 current_commission_line (Some amount) = labeled_amount (codes "Commission now") (pos amount)
@@ -232,8 +233,8 @@ trade_settlement_lines o r =
     ∷ labeled_text (codes "Cash type") r.settlement.cash_type
     ∷ []
 
--- The lines of the day of completion, of the settlement day or `none`, of the number of days to
--- settle, and of the due day.
+-- The lines of the day of completion, of the first day with one-day settlement (the settlement day)
+-- or `none`, of the number of days to settle, and of the due day.
 unfoldable pub due_day_lines : OrderDetails → ResultDetails → List Text
 due_day_lines o r =
     labeled_text (codes "Completed on") (day_text (day_of o.trade.stamp))
@@ -248,8 +249,9 @@ unfoldable pub trade_cash_row_line : Option MoveRow → Text
 trade_cash_row_line None = labeled_value (codes "Cash row") (codes "none")
 trade_cash_row_line (Some row) = labeled_number (codes "Cash row") row.id ++ 32 ∷ row.name
 
--- The lines of the cash row, of the opening balance, of the sum of the earlier cash rows, of the
--- balance before the trade, of the amount of its cash row, and of the balance after it.
+-- The lines of the trade's cash row, of the account's opening balance, of the sum of the cash rows
+-- before the trade, of the balance before it, of the amount of its cash row (0 if it has none), and
+-- of the balance after it.
 unfoldable pub trade_balance_lines : OrderDetails → ResultDetails → List Text
 trade_balance_lines o r =
     trade_cash_row_line r.cash
@@ -260,15 +262,16 @@ trade_balance_lines o r =
     ∷ labeled_amount (codes "Balance after") (balance_after_trade o r)
     ∷ []
 
--- The last line of the explanation of a completed trade, with the number of its status changes
--- (`statuses`), of the lots of which it closed shares (`lots`), and of the earlier cash rows of its
--- account (`cash`).
+-- The last line of the explanation of a completed trade, with the numbers of its status changes
+-- (`statuses`), of the lots of which it closed shares (`lots`), and of the cash rows of its account
+-- before its completion (`cash`).
 abbrev pub trade_counts_line : ℕ → ℕ → ℕ → Text
 trade_counts_line statuses lots cash =
     codes "Statuses " ++ decimal statuses ++ codes ", lots closed " ++ decimal lots ++ codes ", cash rows before " ++ decimal cash
 
 -- The last line of the explanation of a completed trade, as a list of one: the numbers of its
--- status changes, of the lots of which it closed shares, and of the account's earlier cash rows.
+-- status changes, of the lots of which it closed shares, and of the account's cash rows before its
+-- completion.
 unfoldable pub trade_counts_lines : OrderDetails → ResultDetails → List Text
 trade_counts_lines o r = trade_counts_line (length o.statuses) (length r.closings) r.cash_rows ∷ []
 
@@ -279,13 +282,13 @@ completed_trade_lines o r =
     lot_and_gain_lines o r ++ trade_tax_lines o r ++ band_and_commission_lines o r ++ trade_settlement_lines o r ++ due_day_lines o r ++ trade_balance_lines o r
     ++ trade_counts_lines o r
 
--- The lines after the status changes of a trade: those of a completed trade if it has results, and
--- otherwise those of a trade that is not completed.
+-- The lines after the status changes of a trade: `completed_trade_lines` if it has results,
+-- otherwise `uncompleted_trade_lines`.
 unfoldable pub lines_after_statuses : OrderDetails → Option ResultDetails → List Text
 lines_after_statuses o None = uncompleted_trade_lines o
 lines_after_statuses o (Some r) = completed_trade_lines o r
 
--- All lines of the explanation of a trade: those of the order and its status changes, and those
+-- All lines of the explanation of a trade: its order and its status changes, followed by the lines
 -- after the status changes.
 unfoldable pub trade_explanation_lines : TradeDetails → List Text
 trade_explanation_lines details = order_and_status_lines details.order ++ lines_after_statuses details.order details.result

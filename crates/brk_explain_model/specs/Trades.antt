@@ -23,7 +23,7 @@ use Rattle.brk_model.specs.Statement.{cash_move_rows_of_account, cash_row_total}
 
 -- ---- facts
 
--- A trade as ordered, with the name, the customer, the broker, the tax status and the opening
+-- A trade (its TRADE row), with the name, the customer, the broker, the tax status and the opening
 -- balance, in cents, of its account, the name of its security, and its status changes, the oldest
 -- first.
 pub record OrderDetails : Type 0 where
@@ -47,9 +47,9 @@ pub record Closing : Type 0 where
   pub after : ℤ
 
 -- The results of a completed trade: its price, in cents; its closings, in the order of closing; the
--- HOLDING_HISTORY row of the lot that it opened, if any; its customer's tax rates and its
--- commission band, as they are now; its settlement; its cash row, if any; the sum, in cents, and
--- the number of the account's cash rows before its completion; and the settlement day as it is now
+-- HOLDING_HISTORY row of the lot that it opened, if any; the current tax rates of its customer and
+-- its current commission band, if any; its settlement; its cash row, if any; the sum, in cents, and
+-- the number of the account's cash rows before its completion; and the current settlement day
 -- (`rule`).
 pub record ResultDetails : Type 0 where
   pub price : ℕ
@@ -63,8 +63,8 @@ pub record ResultDetails : Type 0 where
   pub cash_rows : ℕ
   pub rule : SettleRule
 
--- The facts that the explanation of a trade reads: the trade as ordered, and its results if it is
--- completed.
+-- The facts that the explanation of a trade reads: the trade with the facts of its account and its
+-- security (`order`), and its results if it is completed (`result`).
 pub record TradeDetails : Type 0 where
   pub order : OrderDetails
   pub result : Option ResultDetails
@@ -81,9 +81,9 @@ has_completed_status u = is_same_trade_status u.status Completed
 abbrev pub sorted_statuses_of_trade : Tables → ℕ → List HistoryRow
 sorted_statuses_of_trade tables trade = sort_by (λ a b. nat_lt a.stamp b.stamp) (history_rows_with_trade_id tables trade)
 
--- The trade `u` as ordered, with the facts of its account and its security in `tables`, and its
--- status changes, the oldest first. If the account does not exist, its name is empty, its numbers
--- are 0 and its tax status is `Untaxed`; if the security does not exist, its name is empty.
+-- The trade `u` with the facts of its account and its security in `tables`, and its status changes,
+-- the oldest first. If the account does not exist, its name is empty, its numbers are 0 and its tax
+-- status is `Untaxed`; if the security does not exist, its name is empty.
 abbrev pub order_details_of_trade : Tables → TradeRow → OrderDetails
 order_details_of_trade tables u = record {
   trade = u;
@@ -96,18 +96,18 @@ order_details_of_trade tables u = record {
   statuses = sorted_statuses_of_trade tables u.id;
 }
 
--- The completion price of the trade with the id `lot`, in cents; 0 if it does not exist or has no
--- price.
+-- The completion price, in cents, of the trade with the id `lot`; 0 if this trade does not exist or
+-- has no price.
 abbrev pub trade_price_or_zero : Tables → ℕ → ℕ
 trade_price_or_zero tables lot = option_map_or completion_price_or_zero (trade_row_with_id tables lot) 0
 
--- The stamp of the last status change of the trade with the id `lot`, which is that of its
--- completion if it opened a lot; 0 if the trade does not exist.
+-- The stamp of the last status change (T_DTS) of the trade with the id `lot`; 0 if this trade does
+-- not exist.
 abbrev pub trade_stamp_or_zero : Tables → ℕ → ℕ
 trade_stamp_or_zero tables lot = option_map_or (λ t. t.stamp) (trade_row_with_id tables lot) 0
 
 -- The closing that the HOLDING_HISTORY row `row` records, with the stamp and the price of the trade
--- that opened the lot; each is 0 if this trade does not exist.
+-- that opened the lot; both are 0 if this trade does not exist, and the price is 0 if it has none.
 abbrev pub recorded_closing : Tables → HoldingHistoryRow → Closing
 recorded_closing tables row =
     record { lot = row.lot; stamp = trade_stamp_or_zero tables row.lot; price = trade_price_or_zero tables row.lot; before = row.before; after = row.after }
@@ -116,12 +116,13 @@ recorded_closing tables row =
 abbrev pub reversed_if_lifo : {X : Type 0} → Bool → List X → List X
 reversed_if_lifo is_lifo xs = if is_lifo then reverse xs else xs
 
--- True if `row` records a change by `trade` of a lot that another trade opened.
+-- True if the HOLDING_HISTORY row `row` records a change by `trade` of a lot that another trade
+-- opened.
 abbrev pub is_closing_by : ℕ → HoldingHistoryRow → Bool
 is_closing_by trade row = (row.trade == trade) && not (row.lot == trade)
 
--- The closings by the trade `u`, sorted by the stamps at which the lots were opened: descending if
--- the trade closes the newest lots first, and otherwise ascending.
+-- The closings by the trade `u`, sorted by the stamps of the trades that opened the lots:
+-- descending if the trade closes the newest lots first (`u.is_lifo`), otherwise ascending.
 abbrev pub closings_of_trade : Tables → TradeRow → List Closing
 closings_of_trade tables u =
     reversed_if_lifo u.is_lifo (sort_by_key (λ c. c.stamp) (map (recorded_closing tables) (filter (is_closing_by u.id) tables.holding_history)))
@@ -162,17 +163,18 @@ band_of_trade tables u =
 abbrev pub zero_settlement_row : SettlementRow
 zero_settlement_row = record { trade = 0; cash_type = []; due_day = 0; amount = pos 0 }
 
--- The SETTLEMENT row of `trade`, or `zero_settlement_row` if it has none.
+-- The SETTLEMENT row of the trade with the id `trade`, or `zero_settlement_row` if there is no such
+-- row.
 abbrev pub settlement_of_trade_or_zeros : Tables → ℕ → SettlementRow
 settlement_of_trade_or_zeros tables trade = unwrap_or (find (λ s. s.trade == trade) tables.settlements) zero_settlement_row
 
--- The cash rows of the account of the trade `u` with stamps before the stamp of the trade, sorted
--- by stamp, ascending.
+-- The cash rows of the account of the completed trade `u` with stamps before its completion
+-- (T_DTS), sorted by stamp, ascending.
 abbrev pub cash_rows_before_completion : Tables → TradeRow → List MoveRow
 cash_rows_before_completion tables u = filter (λ row. nat_lt row.stamp u.stamp) (cash_move_rows_of_account tables u.account)
 
--- The results of the completed trade `u` that follow from `tables`. The price is 0 if the trade has
--- none, and the settlement is `zero_settlement_row` if it has none.
+-- The results of the completed trade `u`, read from `tables`. The price is 0 if the trade has none,
+-- and the settlement is `zero_settlement_row` if the trade has none.
 abbrev pub result_details_of_trade : Tables → TradeRow → ResultDetails
 result_details_of_trade tables u = record {
   price = completion_price_or_zero u;
@@ -187,8 +189,8 @@ result_details_of_trade tables u = record {
   rule = tables.rule;
 }
 
--- The facts that the explanation of the trade `u` reads from `tables`: the trade as ordered, and
--- its results if it is completed.
+-- The facts that the explanation of the trade `u` reads from `tables`: the trade with the facts of
+-- its account and its security, and its results if it is completed.
 unfoldable pub details_of_trade : Tables → TradeRow → TradeDetails
 details_of_trade tables u =
     record { order = order_details_of_trade tables u; result = if has_completed_status u then Some (result_details_of_trade tables u) else None }
@@ -236,19 +238,21 @@ opened_quantity r = option_map_or (λ row. row.after) r.own_lot (pos 0)
 abbrev pub sum_of_tax_rates : List TaxRate → ℕ
 sum_of_tax_rates rates = sum_by (λ rate. rate.rate) rates
 
--- The tax on the realised gain of the trade at its customer's current tax rates, in cents; 0 if the
--- account is not taxable.
+-- The tax, in cents, on the realised gain of the trade at the current tax rates of its customer; 0
+-- if the account is not taxable.
 abbrev pub tax_at_current_rates : OrderDetails → ResultDetails → ℕ
 tax_at_current_rates o r =
     if is_taxable_status o.tax_status
     then tax (realised_gain_of_closings (side_of_trade_type o.trade.kind) r.price r.closings) (sum_of_tax_rates r.rates)
     else 0
 
--- The commission of the trade at the rate of its current band, in cents; none if there is no band.
+-- The commission of the trade, in cents, at the rate of its current commission band; none if there
+-- is no such band.
 abbrev pub commission_in_current_band : OrderDetails → ResultDetails → Option ℕ
 commission_in_current_band o r = option_map (λ b. commission b.rate o.trade.qty r.price) r.band
 
--- The quantity of the trade times its price, in cents, negated if it is a purchase.
+-- The proceeds of the trade, in cents: its quantity times its completion price, negated if it is a
+-- purchase.
 abbrev pub signed_trade_value : OrderDetails → ResultDetails → ℤ
 signed_trade_value o r = signed_proceeds (side_of_trade_type o.trade.kind) (o.trade.qty * r.price)
 
@@ -261,15 +265,17 @@ withheld_tax_of_trade o = if is_withholding_status o.tax_status then o.trade.tax
 abbrev pub balance_change_of_trade : ResultDetails → ℤ
 balance_change_of_trade r = option_map_or (λ row. row.amount) r.cash (pos 0)
 
--- The balance before the trade, in cents: the opening balance plus the account's earlier cash rows.
+-- The balance before the completion of the trade, in cents: the opening balance plus the sum of the
+-- account's cash rows before the completion.
 abbrev pub balance_before_trade : OrderDetails → ResultDetails → ℤ
 balance_before_trade o r = o.opening +ℤ r.cash_before
 
--- The balance after the trade, in cents: the balance before it plus the amount of its cash row.
+-- The balance after the completion of the trade, in cents: the balance before it plus the amount of
+-- the trade's cash row, if any.
 abbrev pub balance_after_trade : OrderDetails → ResultDetails → ℤ
 balance_after_trade o r = balance_before_trade o r +ℤ balance_change_of_trade r
 
--- The number of days from the completion of the trade to its settlement, by the settlement day as
--- it is now.
+-- The number of days from the completion of the trade to its settlement, 1 or 2, by the current
+-- settlement day.
 abbrev pub days_to_settle : OrderDetails → ResultDetails → ℕ
 days_to_settle o r = days_to_settlement r.rule (day_of o.trade.stamp)

@@ -33,7 +33,8 @@ posting_of_cash_row tables c = record {
 abbrev pub posting_of_move_row : MoveRow → Posting
 posting_of_move_row r = record { account = r.account; trade = r.trade; stamp = r.stamp; amount = r.amount; name = r.name }
 
--- The postings of all cash rows of the tables: of CASH_TRANSACTION, followed by those of CASH_MOVE.
+-- The postings of all cash rows of the tables: of the rows of CASH_TRANSACTION, followed by the
+-- rows of CASH_MOVE.
 abbrev pub postings_of_tables : Tables → List Posting
 postings_of_tables tables = map (posting_of_cash_row tables) tables.cash ++ map posting_of_move_row tables.moves
 
@@ -72,8 +73,7 @@ abbrev pub security_of_rows : SecurityRow → LastTradeRow → Security
 security_of_rows s l =
     record { symbol = s.symbol; name = s.name; exchange = s.exchange; sector = s.sector; last_price = l.price; volume = l.volume; moment = l.stamp }
 
--- A LAST_TRADE row of the symbol `symbol` with the price, the volume and the stamp 0, which is used
--- if the table has no row of the symbol.
+-- The LAST_TRADE row of the symbol `symbol` whose stamp, price and volume are 0.
 abbrev pub zero_last_trade_row : Text → LastTradeRow
 zero_last_trade_row symbol = record { symbol = symbol; stamp = 0; price = 0; volume = 0 }
 

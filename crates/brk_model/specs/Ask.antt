@@ -70,14 +70,15 @@ abbrev pub read_lots_query : List Text → ReadResult Query
 read_lots_query (account ∷ first ∷ []) = Ok (λ a f. LotsTouched a f) ⊛ read_id account ⊛ read_stamp first
 read_lots_query _ = Err BadText
 
--- The distinct broker names that the arguments parse as, 1 to 20 of them after duplicates are
--- removed; otherwise a refusal, `BadText` if a name is malformed or there is none, and `TooMany` if
--- there are more than 20.
+-- The distinct broker names that the arguments parse as, 1 to 20 in number, in the sequence of
+-- their first occurrences; otherwise a refusal, `BadText` if a name is malformed or there is none,
+-- and `TooMany` in any other case.
 abbrev pub read_broker_names : List Text → ReadResult (List Text)
 read_broker_names names = check_read_value (λ ns. one_to_twenty_elements (distinct_texts ns)) (read_each_text read_name names)
 
--- The query for broker volumes that the arguments parse as, a sector and 1 to 20 broker names,
--- duplicates removed; otherwise a refusal, `BadText` or, for more than 20 names, `TooMany`.
+-- The query for broker volumes that the arguments parse as, a sector and 1 to 20 distinct broker
+-- names, of which duplicates are removed; otherwise a refusal, `TooMany` if all arguments are
+-- well-formed and more than 20 names are distinct, and `BadText` in any other case.
 abbrev pub read_volume_query : List Text → ReadResult Query
 read_volume_query [] = Err BadText
 read_volume_query (sector ∷ names) = Ok (λ s ns. VolumeOf s ns) ⊛ read_name sector ⊛ read_broker_names names

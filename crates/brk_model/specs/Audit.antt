@@ -9,14 +9,15 @@ use Rattle.brk_model.specs.Adopted.{base_of_tables}
 use Rattle.brk_model.specs.Form.{satisfies_form_condition}
 use Rattle.brk_model.specs.Ways.{satisfies_status_condition}
 
--- The tables, each sorted by key, of the base that the tables `t` describe, in the schema `schema`.
+-- The tables in the schema `schema`, each sorted by key, of the base that the tables `t` describe
+-- (`base_of_tables`).
 abbrev pub expected_tables : Schema → Tables → Tables
 expected_tables schema t = sheets_in_schema schema (base_of_tables t)
 
--- The tables `t` of the schema `schema`, sorted by key, satisfy the condition: for `Form` and
--- `Status` its check is true, and for each other condition on rows its tables or column equal those
--- of `expected_tables`. `NotEmpty` and `Schema` are conditions of a database, not of rows, so no
--- tables satisfy them.
+-- The tables `t` of the schema `schema`, each sorted by key, satisfy the condition. For `Form` and
+-- `Status`, its check is true. For each other condition on rows, the table, the two tables or the
+-- column that it concerns equal their counterparts in `expected_tables`. No tables satisfy
+-- `NotEmpty` or `Schema`, which are conditions of a database, not of rows.
 unfoldable pub ConditionHolds : Schema → Condition → Tables → Type 0
 ConditionHolds schema condition.NotEmpty t = ⊥
 ConditionHolds schema condition.Schema t = ⊥

@@ -35,7 +35,7 @@ pub record Base : Type 0 where
   pub kept : List Kept
   pub last : Option ℕ
 
--- The empty base: no record, no settlement day and no last stamp.
+-- The empty base: its lists are empty, and it has no settlement day and no last stamp.
 unfoldable pub empty_base : Base
 empty_base = record {
   brokers = [];

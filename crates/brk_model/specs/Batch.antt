@@ -65,9 +65,10 @@ EndsWithWrongEndRecord text name rows =
 
 -- The text has the header of the batch `name`, then the records `rows`, and then an end record,
 -- correct for `CorrectEnd` and wrong for `BadEnd`; for `NoEnd` it satisfies `EndsWithoutEndRecord`.
--- The answers `told` are those that are printed: `answers`, and for `NoEnd` also the refusal of the
--- last record if there is one. The output `out` has one line for each of them, and the `end` line
--- for `CorrectEnd` only. It is false for `BadHeader`.
+-- An unknown text always satisfies the part about its records. The printed answers `told` are
+-- `answers`, and for `NoEnd` also the refusal of the last record if there is one. The output `out`
+-- has one line for each printed answer, and the `end` line for `CorrectEnd` only. `BadHeader` never
+-- satisfies this.
 abbrev pub MatchesEnding : Option Text → BatchEnding → Text → List Fields → List Answer → List Answer → Text → Type 0
 MatchesEnding text CorrectEnd name rows answers told out =
     BeginsWithRecords text (batch_header name ∷ (rows ++ (correct_end_record (length rows) ∷ []))) × (told ≡ answers)

@@ -17,7 +17,8 @@ use Rattle.brk_model.specs.Base.{Base, completed_trades, tax_status_in_accounts,
 use Rattle.brk_model.specs.Base.{has_status, last_status_stamp_of_trade, completion_price}
 use Rattle.brk_model.specs.Shares.{Share, Deal, replay, signed_by_side}
 
--- The deal of the completed trade `t` with its position, at its completion price and stamp.
+-- The deal of the completed trade `t`, at its completion price and stamp; the price is 0 if the
+-- trade has no completion price.
 abbrev pub deal_of_trade : Trade → Deal
 deal_of_trade t = record {
   trade = t.id;
@@ -72,12 +73,13 @@ settlement_amount accounts t =
 abbrev pub days_to_settlement : SettleRule → ℕ → ℕ
 days_to_settlement rule day = if option_map_or (λ first. nat_le first day) rule false then 1 else 2
 
--- The day on which a completion at the stamp `stamp` settles, in days since 1970-01-01.
+-- The day on which a completion at the stamp `stamp` settles, in days since 1970-01-01: the day of
+-- the stamp plus 1 or 2 days, by the settlement day in `rule` (`days_to_settlement`).
 abbrev pub due_day_of_completion_stamp : SettleRule → ℕ → ℕ
 due_day_of_completion_stamp rule stamp = day_of stamp + days_to_settlement rule (day_of stamp)
 
--- The day on which the completed trade `t` settles, in days since 1970-01-01 (SE_CASH_DUE_DATE,
--- Trade-Result).
+-- The day on which the completed trade `t` settles by the settlement day in `rule`, in days since
+-- 1970-01-01 (SE_CASH_DUE_DATE, Trade-Result).
 abbrev pub due_day : SettleRule → Trade → ℕ
 due_day rule t = due_day_of_completion_stamp rule (last_status_stamp_of_trade t)
 
@@ -104,7 +106,7 @@ posting_of_trade accounts t =
 abbrev pub posting_of_movement : Movement → Posting
 posting_of_movement m = record { account = m.account; trade = None; stamp = m.stamp; amount = m.amount; name = m.name }
 
--- The postings of the cash trades of `done`, followed by those of `movements`.
+-- The postings of the cash trades in `done`, followed by the postings of `movements`.
 abbrev pub postings : List Account → List Trade → List Movement → List Posting
 postings accounts done movements = map (posting_of_trade accounts) (cash_trades done) ++ map posting_of_movement movements
 

@@ -23,8 +23,8 @@ is_triggering_price MarketSell bid price = false
 abbrev pub is_triggered_by_tick : Tick → Trade → Bool
 is_triggered_by_tick tick t = has_status Pending t && bytes_eq t.symbol tick.symbol && is_triggering_price t.kind t.bid tick.price
 
--- The security `s` after the tick `tick`: its last price is that of the tick, its stamp is `stamp`,
--- and its volume is increased by the quantity of the tick.
+-- The security `s` after the tick `tick`: its last price is the price of the tick, its stamp is
+-- `stamp`, and its volume is increased by the quantity of the tick.
 abbrev pub security_after_tick : ℕ → Tick → Security → Security
 security_after_tick stamp tick s = record s { last_price = tick.price; volume = s.volume + tick.qty; moment = stamp }
 
@@ -35,8 +35,9 @@ abbrev pub base_with_security_after_tick : ℕ → Tick → Base → Base
 base_with_security_after_tick stamp tick base =
     record base { securities = update_where (λ s. bytes_eq s.symbol tick.symbol) (security_after_tick stamp tick) base.securities }
 
--- The base after the tick `tick`, executed at `stamp` on `base`: its security is updated, and a
--- status change to `Submitted` is added to each trade that it triggers.
+-- The base after the tick `tick`, executed at `stamp` on `base`: its security is updated
+-- (`base_with_security_after_tick`), and a status change to `Submitted` at `stamp` is added to each
+-- trade that the tick triggers.
 abbrev pub base_after_tick : ℕ → Base → Tick → Base
 base_after_tick stamp base tick =
     base_with_updated_trades (is_triggered_by_tick tick) (trade_with_status_change stamp Submitted) (base_with_security_after_tick stamp tick base)

@@ -263,15 +263,16 @@ is_well_formed_summary_row schema t s =
 abbrev pub is_well_formed_holding_history_row : Tables → HoldingHistoryRow → Bool
 is_well_formed_holding_history_row t h = has_trade t h.lot && has_trade t h.trade
 
--- True if the text is one of the two cash types of a cash trade (`is_cash` is true) or of a margin
--- trade (`is_cash` is false).
+-- True if the text is `Cash Account` or `Cash`, for a cash trade (`is_cash` is true), or `Margin`
+-- or `Margin Account`, for a margin trade (`is_cash` is false).
 abbrev pub is_cash_type_of_trade : Bool → Text → Bool
 is_cash_type_of_trade is_cash word =
     if is_cash then bytes_eq word (codes "Cash Account") || bytes_eq word (codes "Cash")
     else bytes_eq word (codes "Margin") || bytes_eq word (codes "Margin Account")
 
--- True if the trade of a row of SETTLEMENT exists, its cash type is one of the two of that trade,
--- and its due day and amount are within their limits.
+-- True if the trade of a row of SETTLEMENT exists, the cash type of the row is one of the two that
+-- this trade may have (`is_cash_type_of_trade`), and the due day and the amount are within their
+-- limits.
 abbrev pub is_well_formed_settlement_row : Tables → SettlementRow → Bool
 is_well_formed_settlement_row t s =
     option_map_or (λ row. is_cash_type_of_trade row.is_cash s.cash_type) (trade_row_with_id t s.trade) false
@@ -285,16 +286,16 @@ is_cash_row_name_of_trade t name row =
     bytes_eq name (cash_row_name (codes " shares of ") (base_of_tables t) (trade_of_row t row))
     || bytes_eq name (cash_row_name (codes " Shares of ") (base_of_tables t) (trade_of_row t row))
 
--- True if the trade of a row of CASH_TRANSACTION exists, its name is one of the two that a cash row
--- of that trade may have, its stamp is not after the last stamp, and its amount is within its
--- limit.
+-- True if the trade of a row of CASH_TRANSACTION exists, the name of the row is one of the two that
+-- a cash row of this trade may have (`is_cash_row_name_of_trade`), the stamp is not after the last
+-- stamp, and the amount is within its limit.
 abbrev pub is_well_formed_cash_row : Tables → CashRow → Bool
 is_well_formed_cash_row t c =
     option_map_or (is_cash_row_name_of_trade t c.name) (trade_row_with_id t c.trade) false
     && is_at_most_last_stamp t c.stamp
     && is_within_amount_limit c.amount
 
--- True if `name` and `amount` are those of a movement: `Deposit` and above 0, or `Withdrawal` and
+-- True if a movement may have this name and amount: `Deposit` and above 0, or `Withdrawal` and
 -- below 0.
 abbrev pub is_movement_name_and_amount : Text → ℤ → Bool
 is_movement_name_and_amount name amount =
@@ -306,8 +307,9 @@ abbrev pub has_cash_row_name_of_trade : Tables → MoveRow → ℕ → Bool
 has_cash_row_name_of_trade t r trade = option_map_or (is_cash_row_name_of_trade t r.name) (trade_row_with_id t trade) false
 
 -- True if the number and the amount of a row of CASH_MOVE are within their limits, its account
--- exists, and its stamp is not after the last stamp. If the row has a trade, that trade exists and
--- the name is one of its two; otherwise the name and the amount are those of a movement.
+-- exists, and its stamp is not after the last stamp. If the row has a trade, this trade exists and
+-- the name of the row is one of the two that a cash row of this trade may have; otherwise a
+-- movement may have the name and the amount (`is_movement_name_and_amount`).
 abbrev pub is_well_formed_move_row : Tables → MoveRow → Bool
 is_well_formed_move_row t r =
     is_cash_row_number r.id
@@ -384,8 +386,8 @@ has_distinct_tax_ids (c ∷ customers) = not (list_any (λ d. bytes_eq d.tax_id 
 -- sorted by it, and no key and no tax id of a customer occurs twice. Bands do not overlap, no
 -- customer is above the limits of accounts and of tax rates, and trades are numbered from 1 without
 -- a gap. No trade has two rows of CASH_MOVE, and at most `greatest_id` rows of CASH_MOVE have no
--- trade. The last stamp and the settlement day, if they are set, are within the calendar. The
--- tables that the schema lacks have no rows.
+-- trade. The last stamp and the settlement day, if they are set, are within the calendar. CASH_MOVE
+-- and SETTLE_RULE have no rows if the schema lacks them.
 unfoldable pub satisfies_form_condition : Schema → Tables → Bool
 satisfies_form_condition schema t =
     is_last_stamp_in_calendar t.last

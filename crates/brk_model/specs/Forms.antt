@@ -166,7 +166,7 @@ read_acl = read_valid_text is_acl
 abbrev pub read_tax_status : Text → ReadResult TaxStatus
 read_tax_status text = value_if_valid (λ status. Bool.true) BadText (option_and_then tax_status_with_number (decimal_number_of_text text))
 
--- The five types of trade.
+-- The list of the five trade types: market buy, market sell, stop loss, limit sell, limit buy.
 abbrev pub all_trade_types : List TradeType
 all_trade_types = MarketBuy ∷ MarketSell ∷ StopLoss ∷ LimitSell ∷ LimitBuy ∷ []
 
@@ -226,8 +226,8 @@ order_type_with_price (Some LimitBuy) = priced_order_type (λ price. asked.Limit
 abbrev pub read_order_type : Text → Text → ReadResult OrderType
 read_order_type type_text price_text = order_type_with_price (trade_type_with_code type_text) price_text
 
--- The values that the texts parse as by `read`, one each, or the first refusal in the sequence of
--- the format checks.
+-- The values that the texts parse as by `read`, one each, or, if any text is malformed, the refusal
+-- with the lowest `format_refusal_rank`, the first of these in the list.
 abbrev pub read_each_text : {A : Type 0} → (Text → ReadResult A) → List Text → ReadResult (List A)
 read_each_text read [] = Ok []
 read_each_text read (text ∷ texts) = Ok (λ x xs. x ∷ xs) ⊛ read text ⊛ read_each_text read texts

@@ -25,15 +25,15 @@ account_row_with_id tables id = find (λ row. row.id == id) tables.accounts
 abbrev pub is_id_of_trade : ℕ → Option ℕ → Bool
 is_id_of_trade trade id = option_map_or (λ n. n == trade) id false
 
--- The TRADE rows of the account `account`, in their sequence.
+-- The TRADE rows of the account `account`, in the sequence of the table.
 abbrev pub trade_rows_of_account : Tables → ℕ → List TradeRow
 trade_rows_of_account tables account = filter (λ row. row.account == account) tables.trades
 
--- The CASH_MOVE rows of the account `account`, in their sequence.
+-- The CASH_MOVE rows of the account `account`, in the sequence of the table.
 abbrev pub move_rows_of_account : Tables → ℕ → List MoveRow
 move_rows_of_account tables account = filter (λ row. row.account == account) tables.moves
 
--- The TRADE_HISTORY rows of the trade with the id `trade`, in their sequence.
+-- The TRADE_HISTORY rows of the trade with the id `trade`, in the sequence of the table.
 abbrev pub history_rows_with_trade_id : Tables → ℕ → List HistoryRow
 history_rows_with_trade_id tables trade = filter (λ row. row.trade == trade) tables.history
 

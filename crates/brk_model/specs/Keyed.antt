@@ -32,14 +32,15 @@ answer_and_base_of_step base key command (Err refusal) = (Refused refusal, base)
 abbrev pub answer_to_repeated_row : Base → Command → Kept → Answer × Base
 answer_to_repeated_row base command k = (if bytes_eq k.row_text (row_text command) then Again k.line else Refused KeyReused, base)
 
--- The answer to a command and the base after it: by the stored row if there is one, otherwise by
--- the step at the clock reading `now`.
+-- The answer to a command and the base after it: by the stored row if there is one
+-- (`answer_to_repeated_row`), otherwise by the step at the clock reading `now`
+-- (`answer_and_base_of_step`).
 abbrev pub answer_by_stored_row : Base → ℕ → Command → Option Key → Option Kept → Answer × Base
 answer_by_stored_row base now command key (Some k) = answer_to_repeated_row base command k
 answer_by_stored_row base now command key None = answer_and_base_of_step base key command (step base now command)
 
--- The stored row and reply of `base` under the key; none without a key, or if the key was not
--- recorded.
+-- The first row, with its reply, that `base` stores under the key; none without a key, or if the
+-- key was not recorded.
 abbrev pub stored_row_with_optional_key : Base → Option Key → Option Kept
 stored_row_with_optional_key base None = None
 stored_row_with_optional_key base (Some key) = stored_row_with_key base key

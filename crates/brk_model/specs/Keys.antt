@@ -28,16 +28,16 @@ is_key_less js [] = false
 is_key_less [] (k ∷ ks) = true
 is_key_less (j ∷ js) (k ∷ ks) = is_key_part_less j k || (not (is_key_part_less k j) && is_key_less js ks)
 
--- True if the key of row `a` is less than the key of row `b`.
+-- True if the key of row `a` is less than the key of row `b`; `key` returns the key of a row.
 abbrev pub is_row_key_less : {Row : Type 0} → (Row → List KeyPart) → Row → Row → Bool
 is_row_key_less key a b = is_key_less (key a) (key b)
 
--- The rows sorted by their key, ascending; the sort is stable.
+-- The rows sorted by the key that `key` returns for each, ascending; the sort is stable.
 abbrev pub rows_sorted_by_key : {Row : Type 0} → (Row → List KeyPart) → List Row → List Row
 rows_sorted_by_key key rows = sort_by (is_row_key_less key) rows
 
 -- The list `rows` with `row` inserted before the first row whose key is not less than the key of
--- `row`, or at the end if there is none.
+-- `row`, or at the end if there is none; `key` returns the key of a row.
 abbrev pub insert_row_by_key : {Row : Type 0} → (Row → List KeyPart) → Row → List Row → List Row
 insert_row_by_key key row rows = insert_by (is_row_key_less key) row rows
 

@@ -25,12 +25,12 @@ sort_by_key key xs = sort_by (λ x y. nat_lt (key x) (key y)) xs
 abbrev pub is_pair_less : ℕ → ℕ → ℕ → ℕ → Bool
 is_pair_less a a' b b' = nat_lt a a' || ((a == a') && nat_lt b b')
 
--- The sum of the signed numbers `f x` over the elements `x` of a list.
+-- The sum of the signed numbers `f x` over the elements `x` of a list; 0 for the empty list.
 unfoldable pub total_by : {X : Type 0} → (X → ℤ) → List X → ℤ
 total_by f [] = pos 0
 total_by f (x ∷ xs) = f x +ℤ total_by f xs
 
--- True if the number is 0.
+-- True if the signed number is 0.
 abbrev pub is_zero : ℤ → Bool
 is_zero (pos zero) = true
 is_zero (pos (suc n)) = false
@@ -60,9 +60,8 @@ abbrev pub contains_text : List ℕ → List ℕ → Bool
 contains_text part [] = starts_with nat_eq [] part
 contains_text part (c ∷ text) = starts_with nat_eq (c ∷ text) part || contains_text part text
 
--- The text without its first `skip` bytes, and with each later occurrence of `part` (not empty)
--- replaced by `new`, from the left. The skipped bytes belong to an occurrence that was replaced
--- before.
+-- The text without its first `skip` bytes and, in the rest, with each occurrence of `part` (not
+-- empty) replaced by `new`, from the left, without overlap.
 abbrev pub skip_and_replace_text : ℕ → List ℕ → List ℕ → List ℕ → List ℕ
 skip_and_replace_text skip part new [] = []
 skip_and_replace_text (suc skip) part new (c ∷ text) = skip_and_replace_text skip part new text
@@ -75,7 +74,8 @@ skip_and_replace_text zero part new (c ∷ text) =
 unfoldable pub replace_text : List ℕ → List ℕ → List ℕ → List ℕ
 replace_text part new text = skip_and_replace_text 0 part new text
 
--- True if the first text is before the second in the lexicographic order of bytes.
+-- True if the first text is less than the second in the lexicographic order of bytes; a text is
+-- less than any longer text that begins with it.
 abbrev pub is_text_less : List ℕ → List ℕ → Bool
 is_text_less xs [] = false
 is_text_less [] (y ∷ ys) = true

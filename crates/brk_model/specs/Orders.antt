@@ -28,8 +28,8 @@ abbrev pub is_customer_or_has_permission : Customer → List Permission → Exec
 is_customer_or_has_permission c permissions e =
     executor_has_identity e c.first_name c.last_name c.tax_id || list_any (λ p. executor_has_identity e p.first_name p.last_name p.tax_id) permissions
 
--- True if the executor `e` is the customer of the account `account` or has a permission for it;
--- also true if the customer does not exist.
+-- True if the executor `e` has the names and the tax id of the customer of the account `account`,
+-- or of a permission for this account; also true if `base` has no such customer.
 abbrev pub may_order_for_account : Base → ℕ → Executor → Bool
 may_order_for_account base account e =
     option_map_or (λ c. is_customer_or_has_permission c (filter (λ p. p.account == account) base.permissions) e)
@@ -52,7 +52,8 @@ abbrev pub tax_on_deal : Base → ℕ → Deal → List Share → ℕ
 tax_on_deal base account d shares =
     if is_taxable_account base account then tax (realised_gain d shares) (tax_rate_sum_of_customer base (customer_id_of_account base account)) else 0
 
--- The deal of the order `o` at its requested price, with the id of the next trade and the stamp 0.
+-- The deal of the order `o` at its requested price, with the number of trades of `base` plus 1 as
+-- the id of its trade, and with the stamp 0.
 abbrev pub deal_of_order : Base → Order → Deal
 deal_of_order base o = record {
   trade = length base.trades + 1;

@@ -96,7 +96,7 @@ read_executor first last tax_id = Ok (λ f l x. record { first_name = f; last_na
 
 -- The order that ten fields parse as (account, type, symbol, quantity, price, `cash` or `margin`,
 -- `lifo` or `fifo`, first name, last name, tax id), or the refusal of a malformed field; the
--- refusal `BadText` if there are fewer or more fields. An estimate has the same ten fields.
+-- refusal `BadText` if there are fewer or more fields.
 abbrev pub read_order : List Text → ReadResult Order
 read_order (account ∷ kind ∷ symbol ∷ qty ∷ price ∷ cash ∷ end ∷ first ∷ last ∷ tax_id ∷ []) =
     Ok (λ a s q t c l e. record { account = a; order_type = t; symbol = s; qty = q; is_cash = c; is_lifo = l; executor = e })
@@ -230,6 +230,6 @@ parse_by_first_field table [] = Err BadText
 parse_by_first_field table (kind ∷ fields) = read_with_parser (find (λ reader. bytes_eq reader.0 kind) table) fields
 
 -- The command that the fields of a row parse as, or the refusal of a malformed row: `BadText` if
--- there is no field or the first is no row kind, otherwise that of the parser of the kind.
+-- there is no field or the first is no row kind, otherwise the refusal of the parser of the kind.
 unfoldable pub parse_row : List Text → ReadResult Command
 parse_row fields = parse_by_first_field row_parsers fields

@@ -11,8 +11,8 @@ pub record Broker : Type 0 where
   pub id : ℕ
   pub name : Text
 
--- A customer: its id, tax id and names, and its tier, 1 to 3, which selects the charges and
--- commission rates.
+-- A customer: the id, the tier, which selects the charges and commission rates, the tax id, and the
+-- last and the first name.
 pub record Customer : Type 0 where
   pub id : ℕ
   pub tier : ℕ
@@ -20,8 +20,8 @@ pub record Customer : Type 0 where
   pub last_name : Text
   pub first_name : Text
 
--- An account of the customer with the id `customer` at the broker with the id `broker`; `opening`
--- is its opening balance, in cents.
+-- An account: its id, the ids of its customer (`customer`) and its broker (`broker`), its name, its
+-- tax status, and its opening balance (`opening`), in cents.
 pub record Account : Type 0 where
   pub id : ℕ
   pub customer : ℕ
@@ -39,8 +39,9 @@ pub record Permission : Type 0 where
   pub last_name : Text
   pub first_name : Text
 
--- A security with its last price on the market, in cents, and its volume, in shares. `moment` is
--- the stamp of its last tick, or of its listing before the first tick.
+-- A security: its symbol, name, exchange and sector, its last price on the market, in cents, its
+-- volume, in shares, and the stamp of its last tick, or of its listing before the first tick
+-- (`moment`).
 pub record Security : Type 0 where
   pub symbol : Text
   pub name : Text
@@ -50,14 +51,15 @@ pub record Security : Type 0 where
   pub volume : ℕ
   pub moment : ℕ
 
--- The charge of an order, in cents, for a trade type and a customer tier.
+-- The charge of an order (`amount`), in cents, for a trade type (`kind`) and a customer tier.
 pub record Charge : Type 0 where
   pub kind : TradeType
   pub tier : ℕ
   pub amount : ℕ
 
--- The commission rate of a tier, a trade type and an exchange for quantities from `from_qty` to
--- `to_qty`, both included. The rate is in hundredths of a percent.
+-- A commission band: the commission rate of a customer tier, a trade type (`kind`) and an exchange
+-- for quantities from `from_qty` to `to_qty` shares, both included. The rate is in hundredths of a
+-- percent.
 pub record Band : Type 0 where
   pub tier : ℕ
   pub kind : TradeType
@@ -82,12 +84,14 @@ pub record StatusChange : Type 0 where
   pub stamp : ℕ
   pub status : Status
 
--- A trade as ordered, with its status changes (`marks`) and the values that its completion
--- recorded. `bid` is the requested price, `price` the price at completion, and `charge`,
--- `commission` and `tax` are amounts, all in cents; `executor` is the name of the person who
--- ordered. The trade is a cash trade if `is_cash` is true, otherwise a margin trade. It closes the
--- last shares of its position first if `is_lifo` is true, otherwise the first ones. `cash_type` is
--- empty without a settlement, and `cash_name` without a cash row.
+-- A trade: the terms of its order, its status changes (`marks`), and the values that its completion
+-- records. `kind` is its type. `bid` is the requested price, or the last market price at the order
+-- of a market type, and `price` the price at completion, none before it. `commission` is an
+-- estimate until the completion. Prices, charge, commission and tax are in cents. `executor` is the
+-- name of the person who ordered. The trade is a cash trade if `is_cash` is true, otherwise a
+-- margin trade. It closes the last shares of its position first if `is_lifo` is true, otherwise the
+-- first ones. `cash_type` is the cash type of its settlement and `cash_name` the name of its cash
+-- row, each empty if the trade has none.
 pub record Trade : Type 0 where
   pub id : ℕ
   pub account : ℕ

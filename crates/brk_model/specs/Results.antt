@@ -53,8 +53,10 @@ completed_trade base stamp price t = trade_with_status_change stamp Completed (r
 abbrev pub base_after_result : Base → ℕ → ℕ → Trade → Base
 base_after_result base stamp price t = base_with_updated_trades (λ u. u.id == t.id) (completed_trade base stamp price) base
 
--- The figures of a completion, from the base `base` before it, the base `after` it, its deal `d`
--- and the completed trade `t`.
+-- The figures of a completion: the commission and the tax of the completed trade `t`, the
+-- settlement amount, the due day and the account's balance in the base `after` the completion, and
+-- the buy value and the sell value of the shares that the deal `d` closes in the base `base` before
+-- it.
 abbrev pub completion_between_bases : Base → Base → Deal → Trade → Completion
 completion_between_bases base after d t = record {
   commission = t.commission;

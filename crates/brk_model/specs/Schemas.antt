@@ -3,7 +3,8 @@
 use Rattle.std.specs.Prelude.{ℕ, Bool, true, false}
 use Rattle.brk_model.specs.Limits.{greatest_qty, greatest_summary}
 
--- A schema of a database: its number, the tables that it has, and the limits of its quantities.
+-- A schema of a database: its number, whether it has the tables CASH_MOVE and SETTLE_RULE, and the
+-- limits of its quantities.
 pub record Schema : Type 0 where
   -- The number that DESK contains (D_SCHEMA).
   pub number : ℕ
@@ -28,7 +29,7 @@ first_schema = record { number = 1; has_cash_move_table = false; has_settle_rule
 abbrev pub second_schema : Schema
 second_schema = record { number = 2; has_cash_move_table = true; has_settle_rule_table = false; greatest_qty = 999999; greatest_summary = 999999999 }
 
--- The third schema, which a desk uses: cash rows of trades and of movements, the settlement day,
--- quantities of at most 9,999,999 shares and summaries of at most 9,999,999,999.
+-- The third schema: cash rows of trades and of movements, the settlement day, quantities of at most
+-- 9,999,999 shares and summaries of at most 9,999,999,999.
 abbrev pub third_schema : Schema
 third_schema = record { number = 3; has_cash_move_table = true; has_settle_rule_table = true; greatest_qty = greatest_qty; greatest_summary = greatest_summary }

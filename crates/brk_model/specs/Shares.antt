@@ -139,7 +139,8 @@ pub record Lot : Type 0 where
   pub stamp : ℕ
   pub qty : ℤ
 
--- The lot of the position `shares` to which the share `share` belongs.
+-- The lot of the position `shares` to which the share `share` belongs: the trade, the price and the
+-- stamp of the share, and the net quantity of the shares that this trade opened.
 abbrev pub lot_of_share : List Share → Share → Lot
 lot_of_share shares share = record { trade = share.trade; price = share.price; stamp = share.stamp; qty = lot_quantity shares share.trade }
 
@@ -160,8 +161,8 @@ pub record Touch : Type 0 where
 abbrev pub touch_of_lot : ℕ → Deal → List Share → Touch
 touch_of_lot trade d shares = record { lot = trade; before = lot_quantity shares trade; after = lot_quantity (shares_after_deal shares d) trade }
 
--- The effect of the deal `d` on the lot to which the share `share` belongs: the lot's quantity in
--- the position `shares` before the deal, and in the position after it.
+-- The effect of the deal `d` on the lot to which the share `share` belongs (`touch_of_lot`): the
+-- lot's quantity in the position `shares` before the deal, and in the position after it.
 abbrev pub touch_of_lot_with_share : Deal → List Share → Share → Touch
 touch_of_lot_with_share d shares share = touch_of_lot share.trade d shares
 
@@ -176,7 +177,8 @@ unfoldable pub touches_of_existing_lots : Deal → List Share → List Touch
 touches_of_existing_lots d shares = filter changes_lot_quantity (map (touch_of_lot_with_share d shares) (first_shares_of_lots shares))
 
 -- The effects of the deal `d` on the lots whose quantities it changes (HOLDING_HISTORY): on lots of
--- the position `shares`, and on the lot that the deal opens.
+-- the position `shares`, in the sequence of their first shares, and then on the lot that the deal
+-- opens, if any.
 unfoldable pub lot_touches_of_deal : Deal → List Share → List Touch
 lot_touches_of_deal d shares =
     filter changes_lot_quantity (map (touch_of_lot_with_share d shares) (first_shares_of_lots (shares ++ shares_after_deal shares d)))

@@ -37,6 +37,6 @@ tables_sorted_by_key t = record {
 abbrev pub sheets_in_schema : Schema → Base → Tables
 sheets_in_schema schema base = tables_sorted_by_key (tables_of_base_in_schema schema base)
 
--- The tables of `base` in the third schema, which a desk uses, each sorted by key, ascending.
+-- The tables of `base` in the third schema, each sorted by key, ascending.
 abbrev pub sheets : Base → Tables
 sheets base = tables_sorted_by_key (tables_of_base base)

@@ -31,8 +31,9 @@ record_of_trade_status tables t =
     ∷ option_map_or (λ s. s.name) (security_row_with_symbol tables t.symbol) [] ∷ option_map_or (λ s. s.exchange) (security_row_with_symbol tables t.symbol) []
     ∷ []
 
--- One record with the names of the customer and the broker of the account `account`, then one for
--- each of the account's 50 most recent trades, sorted by stamp, then by id, both descending.
+-- One record with the names of the customer and the broker of the account `account`, left out if
+-- the account or its customer does not exist; then one for each of the account's 50 most recent
+-- trades, sorted by stamp, then by id, both descending.
 unfoldable pub trade_status_view : Tables → ℕ → View
 trade_status_view tables account =
     flat_map (account_name_records tables) (filter (λ a. a.id == account) tables.accounts)

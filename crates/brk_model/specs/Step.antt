@@ -27,8 +27,7 @@ security_of_listing stamp l =
 abbrev pub base_after_result_by_id : Base → ℕ → ℕ → ℕ → Base
 base_after_result_by_id base stamp id price = option_map_or (base_after_result base stamp price) (trade_with_id base id) base
 
--- The base after a command that is accepted at `stamp`, in which the last stamp is still that of
--- `base`.
+-- The base after a command that is accepted at `stamp`, still with the last stamp of `base`.
 unfoldable pub base_after_command_unstamped : Base → ℕ → Command → Base
 base_after_command_unstamped base stamp (AddBroker b) = record base { brokers = base.brokers ++ b ∷ [] }
 base_after_command_unstamped base stamp (AddCustomer c) = record base { customers = base.customers ++ c ∷ [] }
@@ -51,8 +50,8 @@ base_after_command_unstamped base stamp (DepositCash account amount) = base_afte
 base_after_command_unstamped base stamp (WithdrawCash account amount) = base_after_movement base (withdrawal_movement stamp account amount)
 base_after_command_unstamped base stamp (SetOneDay day) = base_with_settlement_day base day
 
--- The reply to a command that is accepted at `stamp` on `base`. To a result of a trade that does
--- not exist, which is never accepted, it is `Booked`.
+-- The reply to a command that is accepted at `stamp` on `base`. The reply to a result of a trade
+-- that does not exist, which is never accepted, is `Booked`.
 unfoldable pub reply_to_command : Base → ℕ → Command → Reply
 reply_to_command base stamp (AddBroker b) = Booked stamp
 reply_to_command base stamp (AddCustomer c) = Booked stamp

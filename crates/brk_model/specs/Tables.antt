@@ -50,9 +50,9 @@ pub record LastTradeRow : Type 0 where
 
 -- A row of TRADE, with the columns, in the sequence of the fields, T_ID, T_DTS, T_ST_ID, T_TT_ID,
 -- T_IS_CASH, T_S_SYMB, T_QTY, T_BID_PRICE, T_CA_ID, T_EXEC_NAME, T_TRADE_PRICE, T_CHRG, T_COMM,
--- T_TAX and T_LIFO. The stamp and the status are those of the last status change. The bid, the
--- price, the charge, the commission and the tax are in cents; there is no price before the
--- completion.
+-- T_TAX and T_LIFO. `status` is the last status of the trade, and `stamp` the stamp of its last
+-- status change. The bid, the price, the charge, the commission and the tax are in cents; there is
+-- no price before the completion.
 pub record TradeRow : Type 0 where
   pub id : ℕ
   pub stamp : ℕ
@@ -140,9 +140,8 @@ pub record MoveRow : Type 0 where
   pub name : Text
 
 -- The rows of all tables. `last` is D_LAST of DESK, whose other columns are left out, and `rule` is
--- SR_DAY of the row of SETTLE_RULE, or none without a row. The tables of a base have their cash
--- rows in one of two tables, by the schema: `moves` is empty in the first schema, and `cash` in
--- each later one.
+-- SR_DAY of the row of SETTLE_RULE, or none without a row. Cash rows are in CASH_TRANSACTION
+-- (`cash`) in the first schema, and in CASH_MOVE (`moves`) in each later one.
 pub record Tables : Type 0 where
   pub last : Option ℕ
   pub kept : List Kept
@@ -167,13 +166,14 @@ pub record Tables : Type 0 where
   pub moves : List MoveRow
   pub rule : SettleRule
 
--- The BROKER row of the broker `b`, with the number and the commission total of the broker's
--- trades: those of the completed trades `done` whose accounts in `accounts` have this broker.
+-- The BROKER row of the broker `b`: its id and name, and the number and the commission total of the
+-- completed trades in `done` whose accounts, in the list `accounts`, have this broker.
 abbrev pub broker_row : List Account → List Trade → Broker → BrokerRow
 broker_row accounts done b =
     record { id = b.id; name = b.name; trades = pos (trade_count_of_broker accounts done b.id); commissions = commission_total_of_broker accounts done b.id }
 
--- The CUSTOMER_ACCOUNT row of the account `a`, with its balance after the postings `posted`.
+-- The CUSTOMER_ACCOUNT row of the account `a`. Its balance is the opening balance of the account in
+-- `accounts` plus the amounts of the account's postings in `posted`.
 abbrev pub account_row : List Account → List Posting → Account → AccountRow
 account_row accounts posted a = record {
   id = a.id;
@@ -224,7 +224,8 @@ trade_row t =
 abbrev pub history_rows : Trade → List HistoryRow
 history_rows t = map (λ m. record { trade = t.id; status = m.status; stamp = m.stamp }) t.marks
 
--- The TRADE_REQUEST row of the pending trade `t`, with the broker of its account.
+-- The TRADE_REQUEST row of the pending trade `t`, with the broker of its account in `accounts`, or
+-- 0 if this list has no such account.
 abbrev pub request_row : List Account → Trade → RequestRow
 request_row accounts t = record { trade = t.id; kind = t.kind; symbol = t.symbol; qty = t.qty; bid = t.bid; broker = broker_id_in_accounts accounts t.account }
 
@@ -249,9 +250,8 @@ holding_row done t = record {
 abbrev pub holding_history_row : ℕ → Touch → HoldingHistoryRow
 holding_history_row trade touch = record { lot = touch.lot; trade = trade; before = touch.before; after = touch.after }
 
--- The HOLDING_HISTORY rows `rows` with one more row in front: that of `touch`, the effect of the
--- trade with the id `trade` on a lot. If `touch` does not change the lot's quantity, `rows`
--- unchanged.
+-- The HOLDING_HISTORY rows `rows` with the row of `touch`, the effect of the trade with the id
+-- `trade` on a lot, in front; `rows` unchanged if `touch` does not change the lot's quantity.
 abbrev pub rows_with_lot_touch : ℕ → Touch → List HoldingHistoryRow → List HoldingHistoryRow
 rows_with_lot_touch trade touch rows = if changes_lot_quantity touch then holding_history_row trade touch ∷ rows else rows
 
@@ -277,8 +277,8 @@ summary_rows done account symbol =
 abbrev pub settlement_row : List Account → SettleRule → Trade → SettlementRow
 settlement_row accounts rule t = record { trade = t.id; cash_type = t.cash_type; due_day = due_day rule t; amount = settlement_amount accounts t }
 
--- The CASH_TRANSACTION row of the completed cash trade `t`; only the first schema has rows in this
--- table.
+-- The CASH_TRANSACTION row of the completed cash trade `t`: its id, completion stamp, settlement
+-- amount and cash row name.
 abbrev pub cash_transaction_row : List Account → Trade → CashRow
 cash_transaction_row accounts t = record { trade = t.id; stamp = last_status_stamp_of_trade t; amount = settlement_amount accounts t; name = t.cash_name }
 
@@ -300,7 +300,7 @@ cash_move_rows schema posted = if schema.has_cash_move_table then numbered_move_
 abbrev pub cash_transaction_rows : Schema → List Account → List Trade → List CashRow
 cash_transaction_rows schema accounts done = if schema.has_cash_move_table then [] else map (cash_transaction_row accounts) (cash_trades done)
 
--- The tables without rows, as they are before any command is accepted.
+-- The tables without rows, without a last stamp and without a settlement day.
 abbrev pub tables_without_rows : Tables
 tables_without_rows = record {
   last = None;
@@ -361,6 +361,6 @@ tables_from_completed_trades schema base done = record {
 unfoldable pub tables_of_base_in_schema : Schema → Base → Tables
 tables_of_base_in_schema schema base = tables_from_completed_trades schema base (completed_trades base)
 
--- The tables of `base` in the third schema, which a desk uses.
+-- The tables of `base` in the third schema.
 abbrev pub tables_of_base : Base → Tables
 tables_of_base base = tables_of_base_in_schema third_schema base

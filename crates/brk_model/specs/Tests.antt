@@ -37,8 +37,8 @@ RefusalCheck = Bool × Refusal
 abbrev pub first_refusal : List RefusalCheck → Option Refusal
 first_refusal tests = option_map (λ test. test.1) (find (λ test. test.0) tests)
 
--- The stamp of a command that is accepted at the clock reading `now`: the greater of `now` and the
--- last stamp of `base` plus 1, or `now` if there is no last stamp.
+-- The stamp of a command that is accepted at the clock reading `now`: `now`, or the last stamp of
+-- `base` plus 1 ms if that is later; `now` if there is no last stamp.
 abbrev pub stamp_of_next_command : Base → ℕ → ℕ
 stamp_of_next_command base now = unlimited_stamp_after base.last now
 
@@ -81,15 +81,15 @@ commission_band_exists_check base o = (
   NoRate,
 )
 
--- The checks that the order `o` and a query for its estimate share, in sequence: account, security,
+-- The checks of the order `o`, also of a query for its estimate, in sequence: account, security,
 -- permission, charge and commission band.
 abbrev pub checks_of_order : Base → Order → List RefusalCheck
 checks_of_order base o =
     account_exists_check base o.account ∷ security_exists_check base o.symbol ∷ (not (may_order_for_account base o.account o.executor), NotPermitted)
     ∷ charge_exists_check base o ∷ commission_band_exists_check base o ∷ []
 
--- The check that refuses with `WrongStatus` and the last status of the trade `t` if `right` is
--- false.
+-- The check that refuses with `WrongStatus`, which contains the last status of the trade `t`, if
+-- `right` is false.
 abbrev pub status_check : Bool → Trade → RefusalCheck
 status_check right t = (not right, WrongStatus (last_status_of_trade t))
 
@@ -120,8 +120,8 @@ checks_of_movement base m =
 abbrev pub checks_of_existing_trade : Base → ℕ → (Trade → List RefusalCheck) → List RefusalCheck
 checks_of_existing_trade base id tests = option_map_or tests (trade_with_id base id) ((true, NoTrade) ∷ [])
 
--- The checks of a command at the stamp `stamp`, except those of the stamp itself, in the sequence
--- in which they are made.
+-- The checks of a command at the stamp `stamp`, in the sequence in which they are made, except the
+-- checks of the stamp itself (`checks_of_stamp`).
 unfoldable pub checks_of_command : Base → ℕ → Command → List RefusalCheck
 checks_of_command base stamp (AddBroker b) = duplicate_check (is_some (broker_with_id base b.id)) ∷ []
 checks_of_command base stamp (AddCustomer c) =
@@ -165,8 +165,8 @@ is_settlement_day_too_early stamp _ = false
 abbrev pub checks_of_stamp : ℕ → Command → List RefusalCheck
 checks_of_stamp stamp command = (nat_lt greatest_stamp stamp, ClockEnd) ∷ (is_settlement_day_too_early stamp command, TooEarly) ∷ []
 
--- The refusal of the command at the clock reading `now` on `base`: that of the first check that
--- applies; none if no check applies, so that the command is accepted.
+-- The refusal of the command at the clock reading `now` on `base`, by the first check that applies;
+-- none if no check applies, and the command is then accepted.
 unfoldable pub refusal_of_command : Base → ℕ → Command → Option Refusal
 refusal_of_command base now command =
     first_refusal (checks_of_command base (stamp_of_next_command base now) command ++ checks_of_stamp (stamp_of_next_command base now) command)

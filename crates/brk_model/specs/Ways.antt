@@ -48,11 +48,11 @@ has_valid_status_history t row =
 abbrev pub completion_stamps : Tables → List ℕ
 completion_stamps t = map (λ h. h.stamp) (filter (λ h. is_same_trade_status h.status Completed) t.history)
 
--- The stamps of the CASH_MOVE rows without a trade, which are those of movements.
+-- The stamps of the movements, which are the CASH_MOVE rows without a trade.
 abbrev pub movement_stamps : Tables → List ℕ
 movement_stamps t = map (λ r. r.stamp) (filter (λ r. is_none r.trade) t.moves)
 
 -- True if the tables `t` satisfy the condition `Status`: every trade passes
--- `has_valid_status_history`, and no two completions or movements have equal stamps.
+-- `has_valid_status_history`, and the stamps of all completions and movements are distinct.
 unfoldable pub satisfies_status_condition : Tables → Bool
 satisfies_status_condition t = list_all (has_valid_status_history t) t.trades && all_distinct (completion_stamps t ++ movement_stamps t)
