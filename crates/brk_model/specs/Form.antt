@@ -307,7 +307,9 @@ has_cash_row_name_of_trade t r trade = option_map_or (is_cash_row_name_of_trade 
 
 -- True if the number and the amount of a row of CASH_MOVE are within their limits, its account
 -- exists, and its stamp is not after the last stamp. If the row has a trade, that trade exists and
--- the name is one of its two; otherwise the name and the amount are those of a movement.
+-- the name is one of the two that a cash row of that trade may have (`is_cash_row_name_of_trade`).
+-- Otherwise the name is `Deposit` and the amount above 0, or the name is `Withdrawal` and the
+-- amount below 0.
 abbrev pub is_well_formed_move_row : Tables → MoveRow → Bool
 is_well_formed_move_row t r =
     is_cash_row_number r.id
