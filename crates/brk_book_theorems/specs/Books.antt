@@ -12,8 +12,8 @@ use Rattle.brk_model.specs.Base.{broker_with_id_in_list, customer_with_id_in_lis
 use Rattle.brk_model.specs.Names.{TradesAreNumberedFrom}
 use Rattle.brk_model.specs.Tests.{bands_overlap}
 
--- No two elements of the list are the same by the test `same`: it is false for each element and each
--- one before it.
+-- No two elements of the list are the same by the test `same`: the test is false for each element
+-- and each one before it.
 abbrev pub HasDistinctElements : {X : Type 0} → (X → X → Bool) → List X → Type 0
 HasDistinctElements same [] = ⊤
 HasDistinctElements same (x ∷ xs) = AllByRecursion (λ y. same y x ≡ false) xs × HasDistinctElements same xs
