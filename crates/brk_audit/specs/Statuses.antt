@@ -67,11 +67,11 @@ all_histories_are_valid [] hs = true
 all_histories_are_valid (r ∷ rs) hs =
     is_valid_history r (take (prefix_len (λ h. h.trade == r.id) hs) hs) && all_histories_are_valid rs (drop (prefix_len (λ h. h.trade == r.id) hs) hs)
 
--- The stamps of those of the history rows with the status `Completed`, in the order of the rows.
+-- The stamps of the history rows with the status `Completed`, in the order of the rows.
 abbrev pub completion_stamps_of_history : List HistoryRow → List ℕ
 completion_stamps_of_history hs = map (λ h. h.stamp) (filter (λ h. is_same_trade_status h.status Completed) hs)
 
--- The stamps of those of the rows of CASH_MOVE without a trade, which are deposits and withdrawals,
--- in the order of the rows.
+-- The stamps of the rows of CASH_MOVE without a trade, which are deposits and withdrawals, in the
+-- order of the rows.
 abbrev pub movement_stamps_of_cash_rows : List MoveRow → List ℕ
 movement_stamps_of_cash_rows rows = map (λ r. r.stamp) (filter (λ r. is_none r.trade) rows)

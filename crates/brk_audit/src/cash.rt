@@ -144,7 +144,7 @@ fn has_figures_of_trade(row: CashMoveFigures, trade: &TradeRow, tax_status: TaxS
         && row.amount.get() == settlement_amount_of_row(trade, tax_status)
 }
 
-// Returns the figures in `rows` after those of `trade`, or all of `rows` if `trade` is not a
+// Returns the figures in `rows` after the figures of `trade`, or all of `rows` if `trade` is not a
 // completed cash trade. Returns `None` if `trade` is a completed cash trade and `rows` does not
 // begin with its figures.
 fn posted_rows_after_trade<'a>(

@@ -16,8 +16,8 @@ use brk_money::{Fault, Status};
 use std::alloc::Global;
 use std::cmp::Ordering;
 
-// Returns those of the trades whose status is `Completed`, in the order of the rows. Fails with
-// `Memory` only.
+// Returns the trades whose status is `Completed`, in the order of the rows. Fails with `Memory`
+// only.
 fn collect_completed_trades(alloc: Global, trades: &[TradeRow]) -> Result<Vec<&TradeRow>, Fault>
     ensures done { IfOk result (λ done. map (λ row. abstract_trade_row row.now) done.items ≡ filter is_completed_row (map abstract_trade_row trades.now)) }
     ensures fault { IfErr result (λ fault. fault ≡ Memory) }

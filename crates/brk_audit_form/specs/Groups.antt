@@ -79,8 +79,10 @@ trading_rows_are_well_formed schema s =
     && list_all (λ r. is_well_formed_holding_history_row (abstract_sheets s) (abstract_lot_change_row r)) s.holding_history.items
     && list_all (λ r. is_well_formed_settlement_row (abstract_sheets s) (abstract_settlement_row r)) s.settlements.items
 
--- True if the typed rows `s` pass those checks of the condition `Form` that do not allocate: all
--- but the checks of tax ids, of the limits of customers, and of cash rows.
+-- True if the typed rows `s` pass those checks of the condition `Form` that do not allocate. The
+-- other checks are that tax ids are unique, that customers are within their limits, that the rows
+-- of CASH_TRANSACTION and CASH_MOVE are well-formed, and that no two rows of CASH_MOVE have the
+-- same trade.
 abbrev pub passes_nonallocating_form_checks : Schema → Sheets → Bool
 passes_nonallocating_form_checks schema s =
     tables_are_sorted_by_unique_key (abstract_sheets s) && reference_rows_are_well_formed schema s && is_last_stamp_in_calendar s.last

@@ -13,8 +13,9 @@ key_part_cmp (word s) (word t) = slice_cmp nat_cmp s t
 key_part_cmp (number m) (word t) = Less
 key_part_cmp (word s) (number n) = Greater
 
--- The lexicographic order of two keys: that of the first parts that differ. A key that is a proper
--- prefix of the other is less.
+-- The lexicographic order of two keys: the order of the first parts that differ. If no parts
+-- differ, a key that is a proper prefix of the other is less, and equal keys have the order
+-- `Equal`.
 abbrev pub key_cmp : List KeyPart → List KeyPart → Ordering
 key_cmp [] [] = Equal
 key_cmp [] (k ∷ ks) = Less

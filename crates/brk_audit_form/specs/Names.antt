@@ -10,8 +10,8 @@ use Rattle.brk_model.specs.Results.{cash_row_name_from_parts}
 abbrev pub security_name_or_empty : Tables → Text → Text
 security_name_or_empty t symbol = option_map_or (λ s. s.name) (security_row_with_symbol t symbol) []
 
--- The name of the cash row of the trade of the row `row`: the name of its type, a space, its
--- quantity in decimal digits, `words` (such as " shares of "), and the name of its security in the
--- tables, which is empty if the security does not exist.
+-- The cash text of the trade of the row `row`: the name of its type, a space, its quantity in
+-- decimal digits, `words` (such as " shares of "), and the name of its security in the tables,
+-- which is empty if the security does not exist.
 abbrev pub cash_text_of_trade_in_tables : Tables → Text → TradeRow → Text
 cash_text_of_trade_in_tables t words row = cash_row_name_from_parts words row.kind row.qty (security_name_or_empty t row.symbol)

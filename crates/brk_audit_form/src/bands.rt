@@ -9,8 +9,8 @@ use brk_changes::Schema;
 use brk_ref::{Band, bands_share_quantity};
 
 /// Returns true if no two bands with the same tier, trade type and exchange share a quantity.
-/// Requires that the bands are sorted by key and that the lower bound of each is at most its upper
-/// bound, so that only neighbours are compared.
+/// Compares only neighbours. The bands must be sorted by key without a repeated key, and each must
+/// be well-formed and within the limits of the schema.
 pub(crate) fn are_bands_disjoint(schema: Schema, bands: &[Band]) -> bool
     requires keys { IsTrue (form.is_sorted_by_unique_key band_key (map abstract_band bands.now)) }
     requires bounds { IsTrue (list_all (form.is_well_formed_band_row (abstract_schema schema)) (map abstract_band bands.now)) }

@@ -19,8 +19,8 @@ use brk_money::{Cents, Fault, Id, Qty};
 use brk_ref::Symbol;
 use std::alloc::{AllocError, Global};
 
-// Returns the name of the security with the symbol, or the empty text if it does not exist. The
-// tables must be sorted by key.
+// Returns the name of the security with the symbol, or the empty text if there is no such security.
+// The tables must be sorted by key.
 fn security_name<'a>(sheets: &'a Sheets, symbol: &Symbol) -> &'a str
     requires { HasSortedKeys sheets.now }
     ensures { result.now ≡ security_name_or_empty (abstract_sheets sheets.now) symbol.now }
@@ -31,8 +31,8 @@ fn security_name<'a>(sheets: &'a Sheets, symbol: &Symbol) -> &'a str
     }
 }
 
-// Appends a space, the quantity in decimal digits, and `words` to `name`. Fails if an allocation is
-// refused.
+// Appends to `name` a space, the quantity in decimal digits, and the text `words`. Fails if memory
+// runs out.
 fn append_quantity_and_text(name: &mut String, qty: Qty, words: &str) -> Result<(), AllocError>
     ensures { OnOk result (string_bytes name.new ≡ string_bytes name.old ++ (32 ∷ decimal qty ++ words.now)) }
 {

@@ -46,8 +46,8 @@ fn count_accounts_by_customer(
     Ok(counts)
 }
 
-// Returns the rate of the tax rate with the id `tax`, in hundred-thousandths, or 0 if it does not
-// exist. The tables must be sorted by key.
+// Returns the rate of the tax rate with the id `tax`, in hundred-thousandths, or 0 if there is no
+// such tax rate. The result is at most the greatest tax rate. The tables must be sorted by key.
 fn rate_of_tax_or_zero(sheets: &Sheets, tax: Id) -> u32
     requires { HasSortedKeys sheets.now }
     ensures rate { result ≡ rate_of_tax_rate_or_zero (abstract_sheets sheets.now) tax }
@@ -77,7 +77,7 @@ fn sum_tax_rates_by_customer(alloc: Global, sheets: &Sheets) -> Result<BTreeMap<
 
 // Returns true if the customer has at most 10 accounts by the map `counts`, and tax rates that sum
 // to at most the greatest tax rate by the map `sums`. A customer that a map does not contain has 0
-// in it.
+// in that map.
 fn customer_is_within_limits(
     counts: &BTreeMap<u64, u128>,
     sums: &BTreeMap<u64, u128>,
@@ -94,7 +94,8 @@ fn customer_is_within_limits(
 }
 
 // Returns true if each customer has at most 10 accounts by the map `counts`, and tax rates that sum
-// to at most the greatest tax rate by the map `sums`.
+// to at most the greatest tax rate by the map `sums`. A customer that a map does not contain has 0
+// in that map.
 fn all_customers_within_limits(
     counts: &BTreeMap<u64, u128>,
     sums: &BTreeMap<u64, u128>,

@@ -51,8 +51,9 @@ fn has_no_rows_of_later_schemas(schema: Schema, sheets: &Sheets) -> bool
 }
 
 // Returns true if the rows pass those checks of the condition `Form` that do not allocate: of keys,
-// of the columns except those of cash rows, of bands, of the numbers of trades and movements, of
-// the last stamp, of the settlement day, and of the tables that the schema lacks.
+// of the columns and the references of all rows except those of CASH_TRANSACTION and CASH_MOVE, of
+// bands, of the ids of trades, of the number of movements, of the last stamp, of the settlement
+// day, and of the tables that the schema lacks.
 fn passes_checks_without_allocation(schema: Schema, sheets: &Sheets) -> bool
     ensures { result ≡ passes_nonallocating_form_checks (abstract_schema schema) sheets.now }
 {

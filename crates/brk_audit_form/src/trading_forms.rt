@@ -72,8 +72,8 @@ impl Formed for TradeRow {
 impl Formed for HistoryRow {
     ghost form = { λ schema tables row. form.is_well_formed_history_row tables (of.abstract_history_row row) };
 
-    // Returns true if the trade exists, the stamp is at most the last stamp, and the due day of a
-    // completion is within the calendar.
+    // Returns true if the trade exists, the stamp is at most the last stamp, and, if the status is
+    // `Completed`, the due day is within the calendar.
     fn is_row_well_formed(&self, _schema: Schema, sheets: &Sheets) -> bool {
         has_trade(sheets, self.trade)
             && stamp_is_at_most_last_stamp(sheets, self.stamp)
@@ -133,8 +133,8 @@ impl Formed for LotChange {
 impl Formed for SettlementRow {
     ghost form = { λ schema tables row. form.is_well_formed_settlement_row tables (of.abstract_settlement_row row) };
 
-    // Returns true if the trade exists, the settlement text is one of the two for its kind (cash or
-    // margin), and the due day and the amount are within their limits.
+    // Returns true if the trade exists, the settlement text is one of the two texts for the kind of
+    // the trade (cash or margin), and the due day and the amount are within their limits.
     fn is_row_well_formed(&self, _schema: Schema, sheets: &Sheets) -> bool {
         let Some(trade) = find_trade(sheets, self.trade) else {
             return false;

@@ -95,13 +95,13 @@ is_completed_cash_trade r = is_completed_row r && r.is_cash
 
 -- For any list of later trades, the rows `rows` match `trade` and the later trades if and only if
 -- the rows `others` match the later trades. Rows match trades if the values of `tells` for the rows
--- equal, in order, the values of `gives` for those of the trades that pass `test`.
+-- equal, in order, the values of `gives` for the trades that pass `test`.
 abbrev pub RowsMatchTradesIffOthersDo : {Row Told : Type 0} → (Row → Told) → (TradeRow → Told) → (TradeRow → Bool) → List Row → TradeRow → List Row → Type 0
 RowsMatchTradesIffOthersDo tells gives test rows trade others =
     (trades : List TradeRow) → (map tells rows ≡ map gives (filter test (trade ∷ trades))) ↔ (map tells others ≡ map gives (filter test trades))
 
 -- For any list of later trades, the rows `rows` do not match `trade` and the later trades. Rows
--- match trades if the values of `tells` for the rows equal, in order, the values of `gives` for
--- those of the trades that pass `test`.
+-- match trades if the values of `tells` for the rows equal, in order, the values of `gives` for the
+-- trades that pass `test`.
 abbrev pub RowsCannotMatchTrades : {Row Told : Type 0} → (Row → Told) → (TradeRow → Told) → (TradeRow → Bool) → List Row → TradeRow → Type 0
 RowsCannotMatchTrades tells gives test rows trade = (trades : List TradeRow) → map tells rows ≡ map gives (filter test (trade ∷ trades)) → ⊥

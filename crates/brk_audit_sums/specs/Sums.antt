@@ -8,6 +8,7 @@ use Rattle.brk_audit_sums.specs.Settling.{settlement_amount_at_tax_status, accou
 use Rattle.brk_audit_sums.specs.declared.tally.KeyedAmount.{KeyedAmount}
 
 -- The sum of `amount` over the completed trades of the accounts of the broker with the id `broker`.
+-- An account that does not exist counts as one of broker 0.
 abbrev pub sum_over_broker_trades : Tables → (TradeRow → ℤ) → ℕ → ℤ
 sum_over_broker_trades t amount broker = total_by amount (filter (λ r. is_completed_row r && (account_broker_or_zero t r.account == broker)) t.trades)
 

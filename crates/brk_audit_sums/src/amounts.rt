@@ -11,7 +11,7 @@ use brk_changes::TradeRow;
 use brk_money::{Amount, Price, Side, TaxStatus};
 
 // Returns the part of the tax that is withheld from the settlement, in cents: the whole tax at the
-// tax status `Withheld`, otherwise 0.
+// tax status `Withheld`, otherwise 0. It is at most the greatest amount.
 fn tax_withheld_from_settlement(tax: Amount, tax_status: TaxStatus) -> u64
     ensures value { result ≡ (if is_withholding_status tax_status then tax else 0) }
     ensures high { result ≤ greatest_amount }
@@ -22,7 +22,7 @@ fn tax_withheld_from_settlement(tax: Amount, tax_status: TaxStatus) -> u64
     }
 }
 
-// Returns the price in cents, or 0 if it is `None`.
+// Returns the price in cents, or 0 if it is `None`. The result is at most the greatest price.
 fn price_or_zero(price: Option<Price>) -> u64
     ensures value { result ≡ unwrap_or price 0 }
     ensures high { result ≤ greatest_price }
@@ -33,8 +33,9 @@ fn price_or_zero(price: Option<Price>) -> u64
     }
 }
 
-// Returns the value, in cents, of `qty` shares at the price `cents`, in cents. Both must be within
-// the limits of quantities and prices.
+// Returns the value, in cents, of `qty` shares at the price `cents`, in cents. `qty` must be at
+// most the greatest quantity, and `cents` at most the greatest price; the value is at most their
+// product.
 fn value_of_shares(qty: u32, cents: u64) -> u64
     requires qty { qty ≤ greatest_qty }
     requires cents { cents ≤ greatest_price }

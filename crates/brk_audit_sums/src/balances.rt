@@ -83,6 +83,8 @@ impl KeyedSum for Balances {
 
     ghost has_sum = { λ sums row. row.balance ≡ row.account.opening +ℤ sum_at_key nat_cmp sums row.account.id };
 
+    // Returns the settlement amount, in cents, as a posting at the account of the trade, or `None`
+    // if the trade is not a completed cash trade.
     fn posting_of_trade(
         terms: &BTreeMap<u64, AccountTerms>,
         trade: &TradeRow,
@@ -95,6 +97,8 @@ impl KeyedSum for Balances {
         Some(KeyedAmount { key, amount })
     }
 
+    // Returns true if the balance of the account is its opening balance plus the sum at the
+    // account's id.
     fn row_has_sum(sums: &BTreeMap<u64, i128>, row: &AccountRow) -> bool {
         let moved = sum_or_zero_at_key(sums, row.account.id.get());
         balance_equals_opening_plus_moved(row.balance.get(), row.account.opening.get(), moved)

@@ -31,6 +31,8 @@ impl KeyedSum for Commissions {
 
     ghost has_sum = { λ sums row. pos row.commissions ≡ sum_at_key nat_cmp sums row.broker.id };
 
+    // Returns the commission, in cents, as a posting at the broker of the trade's account, or
+    // `None` if the trade is not completed.
     fn posting_of_trade(
         terms: &BTreeMap<u64, AccountTerms>,
         trade: &TradeRow,
@@ -38,6 +40,7 @@ impl KeyedSum for Commissions {
         posting_at_broker(terms, trade, trade.commission.get() as i64)
     }
 
+    // Returns true if the commission total of the broker is the sum at the broker's id.
     fn row_has_sum(sums: &BTreeMap<u64, i128>, row: &BrokerRow) -> bool {
         i128::from(row.commissions) == sum_or_zero_at_key(sums, row.broker.id.get())
     }

@@ -31,7 +31,7 @@ pub(crate) trait KeyedSum {
     ghost has_sum: { BTreeMap ℕ ℤ → Self.Total → Type 0 };
 
     /// Returns the amount that the trade posts, or `None` if it posts none. The map `terms` has the
-    /// terms of its account.
+    /// broker and the tax status of each account.
     fn posting_of_trade(
         terms: &BTreeMap<u64, AccountTerms>,
         trade: &TradeRow,

@@ -17,6 +17,7 @@ pub struct KeyedAmount<K> {
 }
 
 // Returns the sum of `sum` and `amount`. The absolute value of `sum` must be below 2^127 - 2^63.
+// The absolute value of the result is greater by at most 2^63.
 fn sum_plus_amount(sum: i128, amount: i64) -> i128
     requires room { nat_abs sum + 2 ^ 63 < 2 ^ 127 }
     ensures sum { result ≡ sum +ℤ amount }
@@ -26,8 +27,8 @@ fn sum_plus_amount(sum: i128, amount: i64) -> i128
 }
 
 // Adds the amount of the posting to the sum at its key in the map; a key that the map does not
-// contain has the sum 0. The absolute value of the sum must be below 2^127 - 2^63. Fails with
-// `Memory` only.
+// contain has the sum 0. The absolute value of the sum must be below 2^127 - 2^63. No absolute
+// value of a sum grows by more than 2^63. Fails with `Memory` only.
 fn add_posting<K: Ord + Copy>(
     tally: &mut BTreeMap<K, i128>,
     posting: &KeyedAmount<K>,

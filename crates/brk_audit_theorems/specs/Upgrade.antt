@@ -7,8 +7,8 @@ use Rattle.brk_model.specs.Adopted.{base_of_tables}
 use Rattle.brk_model.specs.Upgraded.{tables_after_upgrade}
 use Rattle.brk_audit_theorems.specs.Passing.{PassesAudit}
 
--- The greatest quantity and the greatest summary of the schema, in shares, are at most those of the
--- third schema.
+-- The greatest quantity and the greatest summary of the schema, in shares, are at most the greatest
+-- quantity and the greatest summary of the third schema.
 pub record HasLimitsWithinThirdSchema (schema : Schema) : Type 0 where
   pub qty : schema.greatest_qty ≤ third_schema.greatest_qty
   pub summary : schema.greatest_summary ≤ third_schema.greatest_summary

@@ -12,8 +12,8 @@ use Rattle.brk_model.specs.Base.{broker_with_id_in_list, customer_with_id_in_lis
 use Rattle.brk_model.specs.Names.{TradesAreNumberedFrom}
 use Rattle.brk_model.specs.Tests.{bands_overlap}
 
--- No two elements of the list are the same by the test `same`: it is false for each element and each
--- one before it.
+-- No two elements of the list are the same by the test `same`: the test is false for each element
+-- and each one before it.
 abbrev pub HasDistinctElements : {X : Type 0} → (X → X → Bool) → List X → Type 0
 HasDistinctElements same [] = ⊤
 HasDistinctElements same (x ∷ xs) = AllByRecursion (λ y. same y x ≡ false) xs × HasDistinctElements same xs
@@ -86,7 +86,8 @@ HasDistinctMovementStamps done (m ∷ ms) =
 
 -- The part of the books invariant that concerns movements. The account of each of `all_movements`
 -- is one of `all_accounts`. The stamps of the movements are at most the last stamp `last`, and
--- differ from one another and from the stamps of the last status changes of the trades `done`.
+-- differ from one another and from the stamps of the last status changes of the trades `done`. If
+-- `last` is `None`, there are no movements.
 pub record MovementBooksInvariant (all_accounts : List Account) (last : Option ℕ) (done : List Trade) (all_movements : List Movement) : Type 0 where
   -- The account of each movement exists.
   pub holders : AllByRecursion (MovementAccountExists all_accounts) all_movements
@@ -163,7 +164,7 @@ pub record TradeBooksInvariant (all_accounts : List Account) (all_securities : L
 
 -- The part of the books invariant that concerns stamps. The stamps of the last status changes of
 -- the completed trades `done` are distinct and at most the last stamp `last`, and `last` is at most
--- the greatest stamp.
+-- the greatest stamp. If `last` is `None`, there are no completed trades.
 pub record CompletionBooksInvariant (last : Option ℕ) (done : List Trade) : Type 0 where
   -- No trade was completed after the last stamp, so the next completion is the last of its
   -- position.
@@ -175,10 +176,11 @@ pub record CompletionBooksInvariant (last : Option ℕ) (done : List Trade) : Ty
 
 -- The base satisfies the books invariant: the records that accounts, trades and movements refer to
 -- exist; account ids, permissions, symbols, and the stamps of completions and movements are unique;
--- volumes are within their limit; bands are disjoint; trades are numbered from 1; a pending trade
--- has exactly one status change, and a submitted trade has no completion; no completion and no
--- movement has a stamp after the last stamp. Each part concerns only the lists of the base that it
--- names, so a command that does not change these lists preserves the part.
+-- volumes are within their limit; the lower bound of each band is at most its upper bound, and
+-- bands are disjoint; trades are numbered from 1; a pending trade has exactly one status change,
+-- and a submitted trade has no completion; no completion and no movement has a stamp after the last
+-- stamp; the last stamp, if it is set, is at most the greatest stamp. Each part concerns only the
+-- fields of the base that it names.
 pub record BooksInvariant (base : Base) : Type 0 where
   pub parties : AccountBooksInvariant base.brokers base.customers base.accounts base.permissions
   pub open parties use *

@@ -48,7 +48,8 @@ tables_with_trade_completed_and_history r t =
 
 -- ---- its lots
 
--- The row of HOLDING_HISTORY that records that the trade `trade` changes a lot as `touch` says.
+-- The row of HOLDING_HISTORY of the lot change `touch`, which the trade `trade` makes: the lot, the
+-- trade, and the lot's quantity before and after.
 abbrev pub history_row_of_touch : ℕ → Touch → HoldingHistoryRow
 history_row_of_touch trade touch = record { lot = touch.lot; trade = trade; before = touch.before; after = touch.after }
 
@@ -124,7 +125,7 @@ result_rows_of_deal base after d t = record {
 }
 
 -- The rows and figures of the result of the trade `t` at the stamp `stamp` and the price `price`,
--- in cents, from the base before it.
+-- in cents, from the base before the result.
 abbrev pub result_rows_of_trade : Base → ℕ → ℕ → Trade → ResultRows
 result_rows_of_trade base stamp price t =
     result_rows_of_deal base (completed_trades (base_after_result base stamp price t)) (deal_of_result stamp price t) (completed_trade base stamp price t)

@@ -23,8 +23,8 @@ PreservesBooksInvariant base now command =
     BooksInvariant base → refusal_of_command base now command ≡ None → BooksInvariant (base_after_command base now command)
 
 -- If the base satisfies the books invariant and the command is accepted at the clock reading `now`,
--- the tables after it are the tables before it with `change` applied and the command's stamp set as
--- the last stamp. Vacuous otherwise.
+-- the tables after the command are the tables before it with `change` applied and the command's
+-- stamp set as the last stamp. Vacuous otherwise.
 abbrev pub HasTableEffect : Base → ℕ → Command → (Tables → Tables) → Type 0
 HasTableEffect base now command change =
     BooksInvariant base → refusal_of_command base now command ≡ None
@@ -41,8 +41,8 @@ abbrev pub stored_reply_row : Key → Command → Reply → Kept
 stored_reply_row key command reply = record { key = key; row_text = row_text command; line = line_text reply }
 
 -- At the clock reading `now`, the base accepts the command with the reply `reply`. The tables after
--- it are the tables before it with `change` applied and `stamp` set as the last stamp, and the base
--- after it satisfies the books invariant.
+-- the command are the tables before it with `change` applied and `stamp` set as the last stamp, and
+-- the base after the command satisfies the books invariant.
 pub record IsAcceptedWithEffect (base : Base) (now : ℕ) (command : Command) (stamp : ℕ) (reply : Reply) (change : Tables → Tables) : Type 0 where
   pub steps : step base now command ≡ Ok (reply, base_after_command base now command)
   pub rows : sheets (base_after_command base now command) ≡ tables_with_last_stamp stamp (change (sheets base))

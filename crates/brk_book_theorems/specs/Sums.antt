@@ -19,7 +19,7 @@ is_completed_trade_of_broker t broker r =
     is_same_trade_status r.status Completed && (option_map_or (λ a. a.broker) (account_row_with_id t r.account) 0 == broker)
 
 -- The completed trades of the accounts of the broker with the id `broker`, in the order of the
--- table.
+-- table. An account that does not exist counts as one of broker 0.
 abbrev pub completed_trade_rows_of_broker : Tables → ℕ → List TradeRow
 completed_trade_rows_of_broker t broker = filter (is_completed_trade_of_broker t broker) t.trades
 

@@ -31,8 +31,8 @@ permissions_of_account t account = filter (λ r. r.account == account) t.permiss
 abbrev pub permission_list_for_tax_id : Tables → ℕ → Text → List Permission
 permission_list_for_tax_id t account tax_id = option_to_list (find (λ r. (r.account == account) && bytes_eq r.tax_id tax_id) t.permissions)
 
--- The commission band of the customer tier `tier`, the trade type `kind` and the exchange
--- `exchange` that contains the quantity `qty`, or `None` if there is none.
+-- The first commission band, in the order of the table, of the customer tier `tier`, the trade type
+-- `kind` and the exchange `exchange` that contains the quantity `qty`, or `None` if there is none.
 abbrev pub commission_band_of_quantity : Tables → ℕ → TradeType → Text → ℕ → Option Band
 commission_band_of_quantity t tier kind exchange qty =
     find (λ r. nat_le r.from_qty qty && nat_le qty r.to_qty) (commission_bands_of_tier_type_and_exchange t tier kind exchange)
@@ -49,8 +49,8 @@ last_trade_row_of_symbol t symbol = find (λ r. bytes_eq r.symbol symbol) t.last
 abbrev pub requests_of_symbol : Tables → Text → List RequestRow
 requests_of_symbol t symbol = filter (λ r. bytes_eq r.symbol symbol) t.requests
 
--- The rows of HOLDING of the account in the symbol, sorted by stamp, then by trade, so that the
--- oldest is first.
+-- The rows of HOLDING of the account in the symbol, sorted by stamp, then by trade, ascending: the
+-- oldest first.
 abbrev pub holding_rows_of_position : Tables → ℕ → Text → List HoldingRow
 holding_rows_of_position t account symbol =
     rows_sorted_by_key (λ r. number r.stamp ∷ number r.trade ∷ []) (filter (λ r. (r.account == account) && bytes_eq r.symbol symbol) t.holdings)

@@ -150,28 +150,28 @@ pub fn requests_belong_to_distinct_trades()
     ensures { (base : Base) → BooksInvariant base → all_distinct (map (λ r. r.trade) (sheets base).requests) ≡ true }
 {}
 
-/// Proves that the permission of an account for the executor's tax id in the tables permits an
-/// executor if and only if some permission of the account in the base permits the executor, if the
-/// base satisfies the books invariant. An executor who is the customer `c` is permitted in both
-/// cases.
+/// Proves that an executor is the customer `c` or has the account's permission for the executor's
+/// tax id in the tables if and only if the executor is the customer `c` or has at least one of the
+/// account's permissions in the base, if the base satisfies the books invariant. To have a
+/// permission is to have its first name, last name and tax id.
 pub fn one_permission_decides_on_executor()
     ensures { (base : Base) (account : ℕ) (c : Customer) (e : Executor) → BooksInvariant base
         → is_customer_or_has_permission c (permission_list_for_tax_id (sheets base) account e.tax_id) e
         ≡ is_customer_or_has_permission c (filter (λ p. p.account == account) base.permissions) e }
 {}
 
-/// Proves that some permission of an account in the tables permits an executor if and only if some
-/// permission of the account in the base permits the executor. An executor who is the customer `c`
-/// is permitted in both cases.
+/// Proves that an executor is the customer `c` or has at least one of an account's permissions in
+/// the tables if and only if the executor is the customer `c` or has at least one of the account's
+/// permissions in the base. To have a permission is to have its first name, last name and tax id.
 pub fn account_permissions_match_the_base()
     ensures { (base : Base) (account : ℕ) (c : Customer) (e : Executor)
         → is_customer_or_has_permission c (permissions_of_account (sheets base) account) e
         ≡ is_customer_or_has_permission c (filter (λ p. p.account == account) base.permissions) e }
 {}
 
-/// Proves that the commission band for a quantity in the tables, by tier, trade type and exchange,
-/// equals the band that the base has for them, if the base satisfies the books invariant. Both are
-/// `None` if no band contains the quantity.
+/// Proves that the commission band in the tables for a tier, a trade type, an exchange and a
+/// quantity equals the commission band of the base for them, if the base satisfies the books
+/// invariant. Both are `None` if no band contains the quantity.
 pub fn commission_bands_match_the_base()
     ensures { (base : Base) (tier : ℕ) (kind : TradeType) (exchange : Text) (qty : ℕ) → BooksInvariant base
         → commission_band_of_quantity (sheets base) tier kind exchange qty ≡ commission_band_for_quantity base tier kind exchange qty }

@@ -78,7 +78,8 @@ pub fn table_sums_match_their_rows()
 
 /// Proves that an accepted result, with or without a key, records the tax on exactly the shares
 /// that it closes, at the rates of the base before it, if that base satisfies the books invariant.
-/// Any run preserves this tax, and the row of the trade in TRADE has it.
+/// Any run preserves this tax, and the trade's row of TRADE has this tax. After a run, the rows
+/// have the taxes of all results that the run accepted.
 pub fn results_are_taxed_on_closed_shares()
     // An accepted result records the tax, as a command and as a call with or without a key.
     ensures taxed { (base : Base) (now id price : ℕ) (t : Trade)
@@ -99,8 +100,9 @@ pub fn results_are_taxed_on_closed_shares()
 {}
 
 /// Proves that a run from the empty base, or from a base that satisfies the books invariant,
-/// reaches a base that satisfies it. The sums in the tables of that base match their rows, and each
-/// accepted result of the run was taxed on exactly the shares that it closed.
+/// reaches a base that satisfies the books invariant. The sums in the tables of the base reached
+/// match their rows, and each accepted result of the run was taxed on exactly the shares that it
+/// closed.
 pub fn runs_preserve_sums_and_taxes()
     ensures run { (base after : Base) (calls : List (ℕ × Call)) (outcomes : List Outcome)
         → BooksInvariant base → Run base calls outcomes after → IsRunWithSumsAndTaxes base calls outcomes after }

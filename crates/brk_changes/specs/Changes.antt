@@ -87,12 +87,13 @@ tables_with_history_row r t = record t { history = insert_row_by_key history_key
 abbrev pub tables_with_request : RequestRow → Tables → Tables
 tables_with_request r t = record t { requests = insert_row_by_key request_key r t.requests }
 
--- The tables `t` without the TRADE_REQUEST row of `trade`. They are unchanged if it has none.
+-- The tables `t` without the TRADE_REQUEST row of `trade`. They are unchanged if the trade has no
+-- such row.
 abbrev pub tables_without_request : ℕ → Tables → Tables
 tables_without_request trade t = record t { requests = filter (λ r. not (r.trade == trade)) t.requests }
 
 -- The tables `t` with the stamp, the price and the volume in the LAST_TRADE row of the symbol of
--- `l` set to those of `l`. They are unchanged if the symbol has no row.
+-- `l` set to the values in `l`. They are unchanged if the symbol has no row.
 abbrev pub tables_with_last_trade_replaced : LastTradeRow → Tables → Tables
 tables_with_last_trade_replaced l t =
     record t
@@ -130,7 +131,7 @@ abbrev pub tables_with_summary : SummaryRow → Tables → Tables
 tables_with_summary r t = record t { summaries = insert_row_by_key summary_key r t.summaries }
 
 -- The tables `t` with the quantity in the HOLDING_SUMMARY row of the account and the symbol of `s`
--- set to that of `s`. They are unchanged if there is no such row.
+-- set to the quantity of `s`. They are unchanged if there is no such row.
 abbrev pub tables_with_summary_quantity : SummaryRow → Tables → Tables
 tables_with_summary_quantity s t =
     record t { summaries = update_where (λ r. (r.account == s.account) && bytes_eq r.symbol s.symbol) (λ r. record r { qty = s.qty }) t.summaries }

@@ -32,7 +32,7 @@ impl TradeCount {
         }
     }
 
-    /// Returns the number of trades.
+    /// Returns the number of trades, which is at most `GREATEST`.
     pub fn get(self) -> u64
         ensures value { result ≡ self }
         ensures high { self ≤ TradeCount.GREATEST }

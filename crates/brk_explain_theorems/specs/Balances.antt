@@ -15,11 +15,11 @@ use Rattle.brk_explain_model.specs.AccountLines.{priced_holdings_of_account, acc
 use Rattle.brk_explain_model.specs.Running.{running_totals}
 use Rattle.brk_explain_model.specs.Trades.{balance_after_trade, balance_before_trade, order_details_of_trade, result_details_of_trade}
 
--- Those of the postings `posted` whose stamp is before `stamp`.
+-- The postings among `posted` whose stamp is before `stamp`, in their sequence.
 abbrev pub postings_before_stamp : ℕ → List Posting → List Posting
 postings_before_stamp stamp posted = filter (λ p. nat_lt p.stamp stamp) posted
 
--- Those of the postings `posted` whose stamp is at most `stamp`.
+-- The postings among `posted` whose stamp is at most `stamp`, in their sequence.
 abbrev pub postings_up_to_stamp : ℕ → List Posting → List Posting
 postings_up_to_stamp stamp posted = filter (λ p. nat_le p.stamp stamp) posted
 
@@ -47,9 +47,9 @@ printed_balance_after_trade tables t = balance_after_trade (order_details_of_tra
 abbrev pub last_printed_balance : Tables → AccountRow → ℤ
 last_printed_balance tables a = last_number_or_default a.opening (running_totals (λ row. row.amount) a.opening (account_cash_rows_by_stamp tables a.id))
 
--- The printed balance before the trade `t` is its account's balance by the postings before the
--- stamp of its completion. The printed balance after the trade also counts the postings at this
--- stamp.
+-- The printed balance before the trade `t` is the balance of the trade's account by the postings
+-- before the stamp of the trade's completion. The printed balance after the trade also counts the
+-- postings at this stamp.
 pub record PrintedBalancesMatchBase (base : Base) (t : Trade) : Type 0 where
   pub before : printed_balance_before_trade (sheets base) t
       ≡ balance_of_account base.accounts (postings_before_stamp (last_status_stamp_of_trade t) (postings_of_base base)) t.account
@@ -66,8 +66,9 @@ RunsPreservePrintedBalanceAfterTrade base now id price =
     ≡ balance_of_account (base_after_command base now (CompleteTrade id price)).accounts
     (postings_of_base (base_after_command base now (CompleteTrade id price))) u.account
 
--- The explanation of the account `a` lists all its cash rows, its last printed balance is its
--- balance, and that balance plus the market values of its holdings is its assets.
+-- The explanation of the account `a` lists all cash rows of the account. The last balance that it
+-- prints is the account's balance, and this balance plus the market values of the account's
+-- holdings equals the account's assets.
 pub record PrintedAccountMatchesBase (base : Base) (a : AccountRow) : Type 0 where
   pub posted : account_cash_rows_by_stamp (sheets base) a.id ≡ cash_move_rows_of_account (sheets base) a.id
   pub last : last_printed_balance (sheets base) a ≡ a.balance

@@ -10,8 +10,8 @@ abbrev pub CallMeetsAuditFormats : ℕ × Call → Type 0
 CallMeetsAuditFormats (now, Do command key) = MeetsAuditFormats command × IfSome key IsWellFormedKey
 CallMeetsAuditFormats (now, Ask query) = ⊤
 
--- The row text of the call's command parses as the command, and its key, if it has one, is
--- well-formed. Vacuous for a query.
+-- The row text of the call's command parses as the command, and the key of the call, if it has one,
+-- is well-formed. Vacuous for a query.
 abbrev pub IsWellFormedCall : ℕ × Call → Type 0
 IsWellFormedCall (now, Do command key) = IsWellFormedCommand command × IfSome key IsWellFormedKey
 IsWellFormedCall (now, Ask query) = ⊤

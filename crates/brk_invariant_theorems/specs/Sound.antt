@@ -72,16 +72,18 @@ has_cash_text_with_security_name t name =
     bytes_eq t.cash_name (cash_row_name_from_parts (codes " shares of ") t.kind t.qty name)
     || bytes_eq t.cash_name (cash_row_name_from_parts (codes " Shares of ") t.kind t.qty name)
 
--- True if the trade's cash text is the name of its type, a space, its quantity, ` shares of ` or
--- ` Shares of `, and the name of its security in `securities`, which is empty if it is not listed.
+-- True if the trade's cash text is the name of its type, a space, its quantity, ` shares of ` or `
+-- Shares of `, and the name of its security in `securities`, or the empty text if the security is
+-- not one of them.
 abbrev pub has_cash_text_of_security : List Security → Trade → Bool
 has_cash_text_of_security securities t = has_cash_text_with_security_name t (security_name_in_list securities t.symbol)
 
 -- The trade satisfies those conditions of the audit invariant that depend on the trade alone: its
 -- numbers are within their limits, its statuses are a valid status sequence with strictly ascending
--- stamps, it has a price if and only if it is completed, it has no stray texts
--- (`HasTextsOnlyIfCompleted`), and if it is completed, its settlement text is one of the two of a
--- cash trade or of a margin trade.
+-- stamps, it has a price if and only if it is completed, it has a settlement text only if it is
+-- completed and a cash text only if it is a completed cash trade, and if it is completed, its
+-- settlement text is one of the two texts of a cash trade or, for a margin trade, of the two texts
+-- of a margin trade.
 pub record TradeOnlyAuditInvariant (t : Trade) : Type 0 where
   pub fields : has_trade_numbers_in_range t ≡ true
   -- Its statuses are a valid status sequence, with stamps in ascending order.
@@ -96,7 +98,8 @@ pub record TradeOnlyAuditInvariant (t : Trade) : Type 0 where
 -- The trade satisfies the conditions of the audit invariant on a trade: the conditions that depend
 -- on the trade alone, no stamp after the last stamp `last`, and a due day within the calendar by
 -- the settlement day `rule`. If it is completed, its settlement amount is within the limit and, if
--- it is also a cash trade, its cash text has the name of its security.
+-- it is also a cash trade, its cash text is one of the two cash texts with the name of its
+-- security.
 pub record TradeAuditInvariant (last : Option ℕ) (rule : SettleRule) (accounts : List Account) (securities : List Security) (t : Trade) : Type 0 where
   pub alone : TradeOnlyAuditInvariant t
   pub open alone use *
@@ -206,11 +209,15 @@ pub record SumAuditInvariant (accounts : List Account) (done : List Trade) (move
   pub balances : (account : ℕ) → nat_abs (balance_of_account accounts (postings accounts done movements) account) ≤ greatest_amount
   pub commissions : (broker : ℕ) → commission_total_of_broker accounts done broker ≤ greatest_amount
 
--- The base satisfies the audit invariant: the fields of its records are well-formed, and its keys,
--- references, stamps, statuses, limits and sums are as its parts require. If the base also
--- satisfies the books invariant, its tables pass the audit of the third schema. Each part depends
--- only on the fields of the base that it names, so a command that does not change these fields
--- preserves the part.
+-- The base satisfies the audit invariant. The fields of its records are well-formed. The keys of
+-- stored replies, brokers, customers, charges, tax rates and customers' taxes are unique, and no
+-- two customers have the same tax id. The records that permissions and customers' taxes refer to
+-- exist. The stamps of securities and status changes are at most the last stamp, and the stamps of
+-- movements are strictly ascending. Each trade has a valid status sequence, and the price and the
+-- texts that its status requires. Due days and the settlement day are within the calendar. The
+-- accounts and the tax rates of customers, the number and the amounts of movements, and the
+-- summaries, balances, commission totals and settlement amounts are within their limits. Each part
+-- depends only on the fields of the base that it names.
 pub record AuditInvariant (base : Base) : Type 0 where
   pub keyed : StoredReplyAuditInvariant base.kept
   pub open keyed use *

@@ -67,7 +67,7 @@ pub fn commands_preserve_audit_invariant()
 /// preserves the audit invariant, if the base satisfies both invariants. The tables after such a
 /// run from the empty base, or from the base of rows that pass the audit of the third schema, pass
 /// that audit. The tables after a run of well-formed calls (`IsWellFormedCall`) from the empty base
-/// pass it too.
+/// also pass that audit.
 pub fn tables_after_runs_pass_the_audit()
     ensures preserved { (base : Base) (calls : List (ℕ × Call)) (outcomes : List Outcome) (after : Base)
         → BooksInvariant base → AuditInvariant base → AllByRecursion CallMeetsAuditFormats calls → Run base calls outcomes after → AuditInvariant after }

@@ -19,8 +19,8 @@ abbrev pub cancel_checks : Option Status → List RefusalCheck
 cancel_checks None = (true, NoTrade) ∷ []
 cancel_checks (Some status) = (not (is_same_trade_status status Pending), WrongStatus status) ∷ []
 
--- The row changes of a cancel of `trade` at `stamp`: those by which the trade changes from pending
--- to canceled, and the change of the last stamp.
+-- The row changes of a cancel of `trade` at `stamp`: the trade changes from pending to canceled,
+-- and the last stamp is set to `stamp`.
 abbrev pub row_changes_of_cancel : ℕ → ℕ → List Change
 row_changes_of_cancel trade stamp = row_changes_of_pending_trade trade Canceled stamp ++ SetLastStamp stamp ∷ []
 

@@ -15,14 +15,14 @@ abbrev pub later_settlement_day_check : ℕ → Option ℕ → ℕ → RefusalCh
 later_settlement_day_check day last now = (option_map_or (λ stamp. nat_le day (day_of stamp)) (stamp_after last now) false, TooEarly)
 
 -- The checks of `day` as the settlement day, in this order: none is set yet (`rule`; `Exists`), a
--- later stamp exists (`ClockEnd`), and the day is later than that of the command's stamp
+-- later stamp exists (`ClockEnd`), and `day` is later than the day (UTC) of the command's stamp
 -- (`TooEarly`). `last` is the last stamp, and `now` the clock reading.
 abbrev pub settlement_day_checks : ℕ → Option ℕ → Option ℕ → ℕ → List RefusalCheck
 settlement_day_checks day rule last now = duplicate_check (is_some rule) ∷ later_stamp_check last now ∷ later_settlement_day_check day last now ∷ []
 
--- `plan` sets the settlement day to `day` and the last stamp to that of the command, where `rule`
--- is the settlement day before it, if any, `last` is the last stamp, and `now` the clock reading.
--- The day passes its checks, and the reply has the stamp.
+-- `plan` sets the settlement day to `day` and the last stamp to the stamp of the command, where
+-- `rule` is the settlement day that is set already, if any, `last` is the last stamp, and `now` the
+-- clock reading. The day passes its checks, and the reply has the stamp.
 pub record IsSettlementDayPlan (day : ℕ) (rule : Option ℕ) (last : Option ℕ) (now : ℕ) (plan : Plan) : Type 0 where
   pub stamp : ℕ
   pub accepted : first_refusal (settlement_day_checks day rule last now) ≡ None

@@ -82,9 +82,9 @@ count_of_updated_trades (corrected.Executors trades) = length trades.items
 count_of_updated_trades (corrected.CashTypes settled) = length settled.items
 count_of_updated_trades (corrected.CashNames security paid) = length paid.items
 
--- `plan` replaces the text of each trade of `found` by its new one and sets the last stamp to that
--- of the command, where `last` is the last stamp and `now` the clock reading. A later stamp exists,
--- and the reply has the stamp and the number of the trades.
+-- `plan` replaces the text of each trade of `found` by its new one and sets the last stamp to the
+-- stamp of the command, where `last` is the last stamp and `now` the clock reading. A later stamp
+-- exists, and the reply has the stamp and the number of the trades.
 pub record IsUpdatePlan (found : TextUpdate) (last : Option ℕ) (now : ℕ) (plan : Plan) : Type 0 where
   pub stamp : ℕ
   pub stamped : stamp_after last now ≡ Some stamp

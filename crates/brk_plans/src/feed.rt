@@ -37,7 +37,7 @@ pub fn price_triggers_trade(kind: TradeType, bid: Price, price: Price) -> bool
     }
 }
 
-// Returns true if the quote has the symbol.
+// Returns true if the last trade of the quote has the symbol `symbol`.
 fn is_quote_of_symbol(quote: &Quote, symbol: &Symbol) -> bool
     ensures { result ≡ is_state_of_symbol symbol.now (state_of_quote quote.now) }
 {
@@ -62,7 +62,7 @@ fn has_tick_without_quote(quotes: &[Quote], ticks: &[Tick]) -> bool
         .any(|tick| has_no_quote_of_symbol(quotes, tick))
 }
 
-// Returns the last trade `last` of a symbol after the tick: its price is that of the tick, its
+// Returns the last trade `last` of a symbol after the tick: its price is the price of the tick, its
 // stamp is `stamp`, and its volume is greater by the quantity of the tick. Refuses with
 // `Range(Volume)` if the volume would exceed its limit, 10^17 shares.
 fn checked_last_trade_after_tick(
@@ -217,8 +217,8 @@ fn apply_tick_to_quotes(
     Ok(Ok(after))
 }
 
-// Proves that no volume of the quotes exceeds the limit of a volume. Reads the volumes and changes
-// nothing.
+// Proves that the volume in the last trade of each quote is at most the greatest volume, 10^17
+// shares. Changes nothing.
 fn prove_volumes_are_within_limit(quotes: &[Quote])
     ensures { list_any exceeds_volume_limit (states_of_quotes quotes.now) ≡ false }
 {

@@ -47,8 +47,8 @@ fn movement_cash_text(direction: Direction) -> &'static str
     }
 }
 
-/// Returns the sum of `balance` and `amount` in cents, or `None` if its absolute value exceeds the
-/// limit of a balance, 10^17 cents.
+/// Returns the sum of `balance` and `amount` in cents, or `None` if the absolute value of the sum
+/// exceeds the limit of a balance, 10^17 cents.
 pub fn add_within_balance_limit(balance: Cents, amount: Cents) -> Option<Cents>
     ensures { MatchOption result
         (nat_lt greatest_amount (nat_abs (balance +ℤ amount)) ≡ true)

@@ -28,8 +28,9 @@ abbrev pub commission_from_terms : Terms → ℕ
 commission_from_terms terms = commission terms.rate terms.qty terms.price
 
 -- `terms` are the terms of the order `o` in `base`: its side, quantity and price, the tax status
--- and the assets of its account, and the tax rates, the commission rate and the charge that apply.
--- The record says nothing of `terms.held`.
+-- and the assets of its account, the sum of the tax rates of the account's customer, and the
+-- commission rate and the charge that apply. False if no commission rate or no charge applies. The
+-- record says nothing of `terms.held`.
 pub record AreOrderTermsInBase (base : Base) (o : Order) (terms : Terms) : Type 0 where
   pub side : terms.side ≡ side_of_trade_type (trade_type_of_order o.order_type)
   pub qty : terms.qty ≡ o.qty
@@ -46,14 +47,15 @@ pub record AreOrderTermsInBase (base : Base) (o : Order) (terms : Terms) : Type 
   pub assets : terms.assets ≡ assets_of_account base o.account
 
 -- The deal of an order with the terms `terms` that is placed as the trade `trade` and completed at
--- its price and at `stamp`. It closes the newest lots first if `lifo`, otherwise the oldest.
+-- the price of the terms and at `stamp`. It closes the newest lots first if `lifo`, otherwise the
+-- oldest.
 abbrev pub deal_from_terms : Terms → (trade stamp : ℕ) → Bool → Deal
 deal_from_terms terms trade stamp lifo = record { trade = trade; side = terms.side; qty = terms.qty; price = terms.price; stamp = stamp; is_lifo = lifo }
 
 -- For all lots that the source may return (`given`), none of them opened by the trade of the order:
 -- from `before` to `after`, the number of lots requested from the source grew by at most one more
--- than the number of lots that an order with the terms `terms` closes or reduces. Vacuous if there
--- are no such lots.
+-- than the number of lots that an order with the terms `terms` closes or reduces. Vacuous if the
+-- source may return no such list of lots.
 abbrev pub OrderReadsAtMostOneLotMore : Terms → (List Lot → Type 0) → (before after : ℕ) → Type 0
 OrderReadsAtMostOneLotMore terms given before after =
     (ls : List Lot) (trade stamp : ℕ) (lifo : Bool) → YieldsPosition given lifo ls → AreOpenedByOtherTrades trade ls

@@ -64,17 +64,17 @@ terms_of_order order found = record {
   held = unwrap_or found.summary (pos 0);
 }
 
--- `order` passes its checks against the facts `found`, and `placement` has its terms and the broker
--- of its account.
+-- `order` passes its checks against the facts `found`, and `placement` has the terms of the order
+-- and the broker of the order's account.
 pub record IsCheckedPlacement (order : Order) (found : OrderPlanFacts) (placement : Placement) : Type 0 where
   pub tested : first_refusal (order_checks found) ≡ None
   pub terms : placement.terms ≡ terms_of_order order found
   pub broker : placement.broker ≡ option_map_or (λ a. a.broker) found.account 0
 
 -- For every base and every order that has the terms `terms` in this base, `estimate` equals the
--- model's estimate of the order, if the open shares of its account and symbol are those of lots
--- `ls` that the source may return (`given`). Vacuous if the quantities of these lots do not add up
--- to the shares held of `terms`.
+-- model's estimate of the order, if the open shares of its account and symbol are the shares of
+-- lots `ls` that the source may return (`given`). Vacuous if the quantities of these lots do not
+-- sum to the shares held, `terms.held`.
 abbrev pub MatchesModelEstimate : Terms → (List Lot → Type 0) → Estimate → Type 0
 MatchesModelEstimate terms given estimate =
     (base : Base) (o : model.Order) (ls : List Lot) → AreOrderTermsInBase base o terms
@@ -124,8 +124,8 @@ abbrev pub trade_row_of_order : Order → Terms → (trade stamp : ℕ) → tabl
 trade_row_of_order order terms trade stamp =
     trade_row_with_texts order terms trade stamp order.symbol (model_orders.executor_name (abstract_executor order.executor))
 
--- The TRADE_REQUEST row of `trade`, which `order` placed with the terms `terms`, or none if it is a
--- market order. `broker` is the broker of its account.
+-- The TRADE_REQUEST row of `trade`, which `order` placed with the terms `terms`, or none if the
+-- order is a market order. `broker` is the broker of the order's account.
 abbrev pub request_row_of_order : Order → Terms → (broker trade : ℕ) → Option RequestRow
 request_row_of_order order terms broker trade =
     if is_market_type (trade_type_of_order order.order_type) then None
@@ -139,14 +139,14 @@ request_row_of_order order terms broker trade =
     })
 
 -- The row changes that add a trade: its TRADE row `row`, its first TRADE_HISTORY row and its
--- request, if any, are added, and the last stamp is set to that of the row.
+-- request, if any, are added, and the last stamp is set to the stamp of the row.
 abbrev pub row_changes_of_order : TradeRow → Option RequestRow → List Change
 row_changes_of_order row request =
     change.AddTrade row ∷ change.AddHistory (record { trade = row.id; status = row.status; stamp = row.stamp })
     ∷ map change.AddRequest (option_to_list request) ++ change.SetLastStamp row.stamp ∷ []
 
 -- `changes` are the row changes that add `trade`, which `order` placed with the terms `terms` at
--- `stamp`. `broker` is the broker of its account.
+-- `stamp`. `broker` is the broker of the order's account.
 pub record AreOrderChanges (order : Order) (terms : Terms) (broker trade stamp : ℕ) (changes : List Change) : Type 0 where
   pub row : TradeRow
   pub added : abstract_trade_row row ≡ trade_row_of_order order terms trade stamp

@@ -29,7 +29,7 @@ deal_of_trade_row t price stamp = record { trade = t.id; side = side_of_trade_ty
 
 -- The number of shares of the trade's security that its account holds after the trade, below 0 if
 -- sold short: those in the summary, or 0 if there is none, plus the quantity of a purchase or minus
--- that of a sale.
+-- the quantity of a sale.
 abbrev pub shares_held_after_trade : ResultPlanFacts → ℤ
 shares_held_after_trade found = unwrap_or found.summary (pos 0) +ℤ signed_by_side (side_of_trade_type found.trade.kind) found.trade.qty
 
@@ -39,7 +39,7 @@ abbrev pub commission_of_result : ResultPlanFacts → ℕ → ℕ
 commission_of_result found price = commission (unwrap_or found.rate 0) found.trade.qty price
 
 -- The tax on the realised gain of `values`, in cents, at the tax status of the trade's account and
--- the rates of its customer.
+-- the sum of the tax rates of the account's customer.
 abbrev pub tax_of_result : ResultPlanFacts → Values → ℕ
 tax_of_result found values = tax_on_gain_at_status found.account.tax_status found.rates values
 
@@ -65,8 +65,8 @@ balance_after_settlement_amount found amount = if found.trade.is_cash then found
 abbrev pub balance_after_result : ResultPlanFacts → ℕ → Values → ℤ
 balance_after_result found price values = balance_after_settlement_amount found (settlement_amount_of_result found price values)
 
--- The commissions of the account's broker after the trade, in cents: those before the trade plus
--- the commission of the trade.
+-- The commissions of the account's broker after the trade, in cents: the commissions before the
+-- trade plus the commission of the trade.
 abbrev pub broker_commissions_after_result : ResultPlanFacts → ℕ → ℕ
 broker_commissions_after_result found price = found.broker.commissions + commission_of_result found price
 
@@ -92,8 +92,8 @@ checks_after_reading_lots found price values stamp =
     (found.trade.is_cash && nat_lt greatest_amount (nat_abs (balance_after_result found price values)), Range limit.Balance)
     ∷ (nat_lt greatest_amount (broker_commissions_after_result found price), Range limit.Broker) ∷ due_day_check found.rule stamp ∷ []
 
--- All checks of a result: those that need no lots, then those that need the values of the closed
--- shares.
+-- All checks of a result: the checks that need no lots, then the checks that need the values of the
+-- closed shares or the stamp.
 abbrev pub result_checks : ResultPlanFacts → ℕ → Values → Option ℕ → List RefusalCheck
 result_checks found price values stamp = checks_before_reading_lots found ++ checks_after_reading_lots found price values stamp
 
@@ -112,7 +112,8 @@ reply_figures_of_result found price values stamp = record {
 }
 
 -- The figures of the completed trade from the facts `found`, its price in cents, the values of the
--- closed shares, and its stamp: those in the reply, the shares held, and the broker's commissions.
+-- closed shares, and its stamp: the figures in the reply, and the shares held and the broker's
+-- commissions after the trade.
 abbrev pub figures_of_result : ResultPlanFacts → ℕ → Values → ℕ → ResultFigures
 figures_of_result found price values stamp = record {
   completed = reply_figures_of_result found price values stamp;

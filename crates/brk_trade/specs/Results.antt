@@ -74,11 +74,12 @@ abbrev pub cash_text_part_with_quantity : ℕ → Text
 cash_text_part_with_quantity qty = 32 ∷ decimal qty ++ codes " shares of "
 
 -- The cash text of the trade `t`: the name of its type, a space, its quantity, " shares of " and
--- the name of its security.
+-- `security`, the name of its security.
 abbrev pub cash_text_of_trade : TradeRow → Text → Text
 cash_text_of_trade t security = cash_row_name_from_parts (codes " shares of ") t.kind t.qty security
 
--- The CASH_MOVE row of the completed trade, with the next id, or none if it is a margin trade.
+-- The CASH_MOVE row of the completed trade, with the next id and with the stamp and the settlement
+-- amount of the figures `completed`, or none if the trade is a margin trade.
 abbrev pub cash_row_of_result : ResultPlanFacts → Completed → Option tables.MoveRow
 cash_row_of_result found completed =
     if found.trade.is_cash
@@ -135,7 +136,7 @@ row_changes_of_result found price closed outcome cash =
     ++ change.SetLastStamp outcome.completed.stamp ∷ []
 
 -- `changes` are the row changes that complete the trade of `found` at `price` with the lots of
--- `closed` and the figures `outcome`. They add a cash row if it is a cash trade.
+-- `closed` and the figures `outcome`. They add a cash row if the trade is a cash trade.
 pub record AreResultChanges (found : ResultPlanFacts) (price : ℕ) (closed : ClosedLots) (outcome : ResultFigures) (changes : List Change) : Type 0 where
   pub cash : Option MoveRow
   pub moved : option_map abstract_move_row cash ≡ cash_row_of_result found outcome.completed
@@ -147,7 +148,8 @@ abbrev pub shares_held_before_trade : ResultPlanFacts → ℤ
 shares_held_before_trade found = unwrap_or found.summary (pos 0)
 
 -- The source may return the lots `ls` of a position (`given`), from the end that the trade of
--- `found` closes first; this trade opened none of them; and their quantities add up to the summary.
+-- `found` closes first; this trade opened none of them; and their quantities sum to the shares that
+-- the account holds before the trade (`shares_held_before_trade`).
 abbrev pub AreLotsBeforeTrade : (List Lot → Type 0) → ResultPlanFacts → List Lot → Type 0
 AreLotsBeforeTrade given found ls =
     YieldsPosition given found.trade.is_lifo ls × AreOpenedByOtherTrades found.trade.id ls × (shares_held_before_trade found ≡ lot_quantity_sum ls)
@@ -201,9 +203,9 @@ abbrev pub stamp_or_clock_reading : Option ℕ → ℕ → ℕ
 stamp_or_clock_reading stamp now = unwrap_or stamp now
 
 -- From `before` to `after`, the number of lots requested from the source grew by at most one more
--- than the number of lots that the trade closes or reduces, and not at all if there is no such
--- trade. For an existing trade it is vacuous if no lots of the source match the summary
--- (`AreLotsBeforeTrade`).
+-- than the number of lots that the trade closes or reduces if it is completed at `price` and
+-- `stamp`, and not at all if there is no such trade. For an existing trade it is vacuous if no lots
+-- of the source match the summary (`AreLotsBeforeTrade`).
 abbrev pub ResultReadsAtMostOneLotMore : Option ResultPlanFacts → ℕ → ℕ → (List Lot → Type 0) → (before after : ℕ) → Type 0
 ResultReadsAtMostOneLotMore None price stamp given before after = after ≤ before
 ResultReadsAtMostOneLotMore (Some found) price stamp given before after =

@@ -236,7 +236,8 @@ fn format_trade_cash_text(
     Ok(name)
 }
 
-// Returns the CASH_MOVE row of the completed trade, or `None` if it is a margin trade. Fails if
+// Returns the CASH_MOVE row of the completed trade, with the next id and with the stamp and the
+// settlement amount of the figures `completed`, or `None` if the trade is a margin trade. Fails if
 // memory runs out.
 fn create_result_cash_row(
     alloc: Global,

@@ -264,7 +264,7 @@ fn create_order_request_row(
 }
 
 // Returns the row changes that add the TRADE row `row`, its first TRADE_HISTORY row and its
-// request, if any, and that set the last stamp to that of the row. Fails if memory runs out.
+// request, if any, and that set the last stamp to the stamp of the row. Fails if memory runs out.
 fn create_new_trade_changes(
     alloc: Global,
     row: TradeRow,

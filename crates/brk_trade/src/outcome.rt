@@ -48,7 +48,7 @@ fn signed_quantity_of_side(side: Side, qty: u32) -> i128
 }
 
 // Returns the number of shares of the trade's security that its account holds after the trade,
-// below 0 if sold short, or `None` if its absolute value exceeds 9,999,999,999.
+// below 0 if sold short, or `None` if the absolute value of this number exceeds 9,999,999,999.
 fn shares_held_if_within_limit(found: &ResultPlanFacts) -> Option<i64>
     ensures { MatchOption result
         (nat_lt greatest_summary (nat_abs (spec.shares_held_after_trade found.now)) ≡ true)
@@ -85,9 +85,9 @@ pub(crate) fn checked_rate_and_summary(found: &ResultPlanFacts) -> Result<RateAn
 
 // Returns the figures of the completion, or the first refusal that applies once lots are read:
 // `Range(Balance)`, if the balance after a cash trade would exceed its limit; `Range(Broker)`, if
-// the broker's commissions would exceed theirs; or `ClockEnd`, if `stamp` is `None` or the due day
-// is after 9999-12-31. `known` must be the value that `checked_rate_and_summary` returns, and the
-// sell value at most that of the trade's quantity at the greatest price.
+// the broker's commissions would exceed their limit; or `ClockEnd`, if `stamp` is `None` or the due
+// day is after 9999-12-31. `known` must be the value that `checked_rate_and_summary` returns, and
+// the sell value at most the value of the trade's quantity at the greatest price.
 pub(crate) fn checked_result_figures(
     found: &ResultPlanFacts,
     price: Price,

@@ -33,8 +33,8 @@ fn permission_names_executor(permission: &Permission, executor: &Executor) -> bo
 }
 
 /// Returns true if the executor may place orders for an account of `customer` with these
-/// permissions (Trade-Order): the first name, the last name and the tax id of the executor are
-/// those of the customer or of one permission.
+/// permissions (Trade-Order): the executor has the first name, the last name and the tax id of the
+/// customer or of at least one of the permissions.
 pub fn permitted(customer: &Customer, permissions: &[Permission], executor: &Executor) -> bool
     ensures { result
         ≡ orders.is_customer_or_has_permission (abstract_customer customer.now) (map abstract_permission permissions.now) (abstract_executor executor.now) }

@@ -24,7 +24,8 @@ use Rattle.brk_trade_theorems.specs.Plans.{PlanImplementsCommand}
 use Rattle.brk_trade_theorems.specs.TradePlans.{AreQuotesOfTicks, IsQuoteOfTick}
 
 -- A cancel of the trade `id` with the status `found`, after the last stamp `last` and at the clock
--- reading `now`, is refused as the model refuses it over `base`, and its plan implements it.
+-- reading `now`: its checks, followed by the check that a later stamp exists, refuse it exactly as
+-- the model does over `base`, and its plan implements the command.
 pub record CancelPlanImplementsCommand (base : Base) (id : ℕ) (found : Option Status) (last : Option ℕ) (now : ℕ) : Type 0 where
   -- The first check that refuses gives the refusal of the model.
   pub first : first_refusal (cancel_checks found ++ later_stamp_check last now ∷ []) ≡ refusal_of_command base now (CancelTrade id)
@@ -34,7 +35,8 @@ pub record CancelPlanImplementsCommand (base : Base) (id : ℕ) (found : Option 
   pub done : (plan : Plan) → IsCancelPlan id found last now plan → PlanImplementsCommand base now (CancelTrade id) plan
 
 -- A feed of `ticks` with the quotes `quotes`, after the last stamp `last` and at the clock reading
--- `now`, is refused as the model refuses it over `base`, and its plan implements it.
+-- `now`: its checks, at any stamp, followed by the check that a later stamp exists, refuse it
+-- exactly as the model does over `base`, and its plan implements the command.
 pub record FeedPlanImplementsCommand (base : Base) (ticks : List Tick) (quotes : List SymbolState) (last : Option ℕ) (now : ℕ) : Type 0 where
   -- The first check that refuses, at any stamp, gives the refusal of the model.
   pub first : (stamp : ℕ) → first_refusal (feed_checks stamp ticks quotes ++ later_stamp_check last now ∷ [])
@@ -44,8 +46,10 @@ pub record FeedPlanImplementsCommand (base : Base) (ticks : List Tick) (quotes :
       → step base now (FeedTicks (abstract_ticks ticks)) ≡ Err refusal
   pub done : (plan : Plan) → IsFeedPlan ticks quotes last now plan → PlanImplementsCommand base now (FeedTicks (abstract_ticks ticks)) plan
 
--- The quotes `quotes`, or these with one more, are the quotes of `ticks` followed by `tick`, in the
--- feed `all` over the tables `t`.
+-- In the feed `all` over the tables `t`, `quotes` are the quotes of `ticks` followed by `tick` if
+-- one of `quotes` has the symbol of `tick`, or if this symbol has no row of LAST_TRADE. If none of
+-- `quotes` has the symbol and `tick` is one of `all`, the quotes of `ticks` followed by `tick` are
+-- `quotes` followed by a quote of `tick` (`IsQuoteOfTick`).
 pub record QuotesExtendToTick (t : Tables) (all ticks : List Tick) (tick : Tick) (quotes : List Quote) : Type 0 where
   -- If the tick's symbol has a quote, no further quote is needed.
   pub again : list_any (is_state_of_symbol tick.symbol) (states_of_quotes quotes) ≡ true
@@ -57,9 +61,9 @@ pub record QuotesExtendToTick (t : Tables) (all ticks : List Tick) (tick : Tick)
       → Contains all tick → IsQuoteOfTick t tick all (state_of_quote quote)
       → AreQuotesOfTicks t all (ticks ++ tick ∷ []) (states_of_quotes (quotes ++ quote ∷ []))
 
--- A result of the trade `id` at `price`, in cents, with the facts `found` and the lots `lots`, after
--- the last stamp `last` and at the clock reading `now`: if the facts refuse it, the step of the
--- model over `base` is this refusal, and its plan implements it.
+-- A result of the trade `id` at `price`, in cents, with the facts `found` and the lots `lots`,
+-- after the last stamp `last` and at the clock reading `now`: its refusal by the facts and the lots
+-- is the refusal of the model's step over `base`, and its plan implements the command.
 pub record ResultPlanImplementsCommand (base : Base) (id price : ℕ) (found : Option ResultPlanFacts) (lots : List Lot) (last : Option ℕ) (now : ℕ) : Type 0 where
   pub refused : (refusal : Refusal) → IsResultRefusal found price (EqualsLots lots) last now refusal → step base now (CompleteTrade id price) ≡ Err refusal
   pub done : (plan : Plan) → CompletesExistingTrade found price (EqualsLots lots) last now plan

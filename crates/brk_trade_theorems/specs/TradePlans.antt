@@ -44,8 +44,8 @@ price_span_can_trigger_bid span MarketBuy bid = false
 price_span_can_trigger_bid span MarketSell bid = false
 
 -- The quote has the row of LAST_TRADE of the tick's symbol in the tables. Its requests are exactly
--- those requests of the symbol that a price between the lowest and the highest price of the
--- symbol's ticks in `ticks` can trigger, sorted by trade, ascending.
+-- those requests of the symbol that a price from the lowest to the highest price of `tick` and of
+-- the symbol's ticks in `ticks` can trigger, sorted by trade, ascending.
 pub record IsQuoteOfTick (t : Tables) (tick : Tick) (ticks : List Tick) (quote : SymbolState) : Type 0 where
   pub symbol : quote.last.symbol ≡ tick.symbol
   pub last_trade : last_trade_row_of_symbol t tick.symbol ≡ Some (abstract_last_trade_row quote.last)

@@ -56,7 +56,7 @@ pub fn order_plans_implement_commands()
 /// Proves, for a base that satisfies the books invariant and facts that are true of its tables,
 /// that the refusal of an estimate by the checks of the order is the refusal of its query in the
 /// model. Proves also that an estimate from the lots of the order's account and symbol equals the
-/// estimate of the model, so that its fields are the view of the query.
+/// estimate of the model, and that the query of the model returns the fields of this estimate.
 pub fn estimates_equal_model_estimates()
     ensures refused { (base : Base) (order : Order) (found : OrderPlanFacts) (refusal : Refusal) → BooksInvariant base
         → EstimateFactsMatchTables (sheets base) order found

@@ -14,15 +14,17 @@ ghost use Rattle.brk_trade_theorems.specs.ImplementedPlans.{CancelPlanImplements
 ghost use Rattle.brk_trade_theorems.specs.ResultPlans.{PlanResultPrecondition};
 ghost use Rattle.brk_trade_theorems.specs.TradePlans.{AreQuotesOfTicks, PlanCancelPrecondition, PlanFeedPrecondition};
 
-/// Proves that the checks of a cancel against the status of its trade refuse it exactly as the
-/// model does, and that the plan of a cancel that they accept implements the command.
+/// Proves, under `PlanCancelPrecondition`, that the checks of a cancel against the status of its
+/// trade, followed by the check that a later stamp exists (`later_stamp_check`), refuse it exactly
+/// as the model does, and that the plan of a cancel implements the command.
 pub fn cancel_plans_implement_commands()
     ensures { (base : Base) (id : ℕ) (found : Option Status) (last : Option ℕ) (now : ℕ)
         → PlanCancelPrecondition base id found last now → CancelPlanImplementsCommand base id found last now }
 {}
 
-/// Proves that the checks of a feed against the quotes of its symbols, at any stamp, refuse it
-/// exactly as the model does, and that the plan of a feed implements the command.
+/// Proves, under `PlanFeedPrecondition`, that the checks of a feed against the quotes of its
+/// symbols, at any stamp, followed by the check that a later stamp exists (`later_stamp_check`),
+/// refuse it exactly as the model does, and that the plan of a feed implements the command.
 pub fn feed_plans_implement_commands()
     ensures { (base : Base) (ticks : List Tick) (quotes : List SymbolState) (last : Option ℕ) (now : ℕ)
         → PlanFeedPrecondition base ticks quotes last now → FeedPlanImplementsCommand base ticks quotes last now }
@@ -30,15 +32,17 @@ pub fn feed_plans_implement_commands()
 
 /// Proves that the quotes that a feed needs (`AreQuotesOfTicks`) can be read tick by tick. No
 /// quotes suffice for no ticks. A further tick whose symbol has a quote, or has no row of
-/// LAST_TRADE, needs no further quote. Any other tick needs one more, that of its symbol.
+/// LAST_TRADE, needs no further quote. Any other tick needs one more quote, the quote of its
+/// symbol.
 pub fn quotes_are_read_tick_by_tick()
     ensures none { (t : Tables) (all : List Tick) → AreQuotesOfTicks t all [] [] }
     ensures further { (t : Tables) (all ticks : List Tick) (tick : Tick) (quotes : List Quote)
         → AreQuotesOfTicks t all ticks (states_of_quotes quotes) → QuotesExtendToTick t all ticks tick quotes }
 {}
 
-/// Proves that the refusal of a result by the facts that were read is the refusal of the model, and
-/// that the plan of a result implements the command.
+/// Proves, under `PlanResultPrecondition` with the lots that were read, that the refusal of a
+/// result by its facts and these lots is the refusal of the model's step, and that the plan of a
+/// result implements the command.
 pub fn result_plans_implement_commands()
     ensures { (base : Base) (id price : ℕ) (found : Option ResultPlanFacts) (lots : List Lot) (last : Option ℕ) (now : ℕ)
         → PlanResultPrecondition base id found (EqualsLots lots) last now → ResultPlanImplementsCommand base id price found lots last now }

@@ -81,8 +81,8 @@ CashTextsMatchTables t trades paid = map cash_text_row_of_typed_row paid ≡ map
 abbrev pub SecurityHasName : Tables → Text → Text → Type 0
 SecurityHasName t symbol name = option_map (λ s. s.name) (security_row_with_symbol t symbol) ≡ Some name
 
--- The selection has exactly the trades that the update `u` selects in the tables, with the columns
--- from which their new texts are formed: the trades with its ids, or the first 20, at most, of the
+-- The selection has exactly the trades that the update selects in the tables, with the columns from
+-- which their new texts are formed: the trades with its ids, or the first 20, at most, of the
 -- completed trades of its account or of the completed cash trades of its symbol, within its span of
 -- stamps, the oldest first. The account or the security of the update exists. False if the
 -- selection belongs to another kind of update.
@@ -95,7 +95,8 @@ SelectedTradesMatchTables t (update.CashNames symbol span) (corrected.CashNames 
     SecurityHasName t symbol name × CashTextsMatchTables t (first_twenty_completed_cash_trade_rows_of_symbol symbol span.first span.last t) paid.items
 SelectedTradesMatchTables t _ _ = ⊥
 
--- The update `u` names a trade id, an account or a symbol that does not exist in the tables.
+-- At least one of the trades that the update names by id, or the account or the security that it
+-- names, does not exist in the tables.
 abbrev pub UpdateTargetIsMissing : Tables → told.Update → Type 0
 UpdateTargetIsMissing t (update.Executors ids) = list_any (λ id. is_none (trade_row_with_id t id)) ids ≡ true
 UpdateTargetIsMissing t (update.CashTypes account span) = is_none (account_row_with_id t account) ≡ true
