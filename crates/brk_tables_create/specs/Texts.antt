@@ -56,7 +56,7 @@ create_table_text CashRows = codes "CREATE TABLE CASH_TRANSACTION (CT_T_ID INTEG
 create_table_text CashMoves = codes "CREATE TABLE CASH_MOVE (CM_ID INTEGER PRIMARY KEY NOT NULL, CM_CA_ID INTEGER NOT NULL REFERENCES CUSTOMER_ACCOUNT (CA_ID), CM_T_ID INTEGER UNIQUE REFERENCES TRADE (T_ID), CM_DTS INTEGER NOT NULL, CM_AMT INTEGER NOT NULL, CM_NAME TEXT NOT NULL) STRICT"
 create_table_text SettleRules = codes "CREATE TABLE SETTLE_RULE (SR_ID INTEGER PRIMARY KEY NOT NULL, SR_DAY INTEGER NOT NULL) STRICT"
 
--- The text of a DELETE statement on the table `w`, which compiles if and only if a table of this name
--- exists.
+-- The text of the statement that deletes all rows of the table `w`. A look-up by name compiles it,
+-- without executing it, to test whether a table of this name exists.
 abbrev pub existence_probe_text : DeskTable → List ℕ
 existence_probe_text w = codes "DELETE FROM " ++ table_name w

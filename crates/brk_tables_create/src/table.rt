@@ -105,8 +105,8 @@ impl Table {
         }
     }
 
-    /// Returns the text of a DELETE statement on the table, which compiles if and only if a table of
-    /// this name exists.
+    /// Returns the text of the statement that deletes all rows of the table. A look-up by name
+    /// compiles it, without executing it, to test whether a table of this name exists.
     pub fn existence_probe_text(self) -> &'static str
         ensures { result.now ≡ existence_probe_text (specified_table self) }
     {

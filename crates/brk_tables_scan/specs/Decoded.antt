@@ -157,67 +157,72 @@ pub record ContinuesDecoding (old new are_well_formed : Bool) (Decodes : Type 0)
   -- If the flag is false after the step, it was false before it, or a row of the step is malformed.
   pub form : new ≡ false → (old ≡ false) ⊎ (are_well_formed ≡ false)
 
--- The reads return all rows of DESK, KEPT, BROKER and CUSTOMER, and change nothing. If the flag
--- `new` after the decoding is true, the typed rows `sheets` are the decoded rows, but for the texts
--- of KEPT. If it is false, the flag `old` before the decoding was false, a row is malformed, or
--- DESK does not have exactly one row. The clause on the rows of a table is vacuous if the database
--- does not define it as a desk does.
+-- The reads return all rows of DESK, KEPT, BROKER and CUSTOMER, sorted by key, from an open
+-- database, and change nothing. If the flag `new` after the decoding is true, the typed rows
+-- `sheets` are the decoded rows, but for the texts of KEPT. If it is false, the flag `old` before
+-- the decoding was false, a row is malformed, or DESK does not have exactly one row. The clause on
+-- the rows of a table is vacuous if the database does not define it as a desk does.
 pub record ReadsDeskAndCustomerTables (desk : Schema) (old new : Bool) (sheets : DeskAndCustomerSheets) (a b : State) : Type 0 where
   pub raw : DeskAndCustomerRows
   pub shown : ShowsDeskAndCustomerTables raw a b
   pub decoded : ContinuesDecoding old new (are_desk_and_customer_rows_well_formed desk raw) (DecodesDeskAndCustomerTables desk sheets raw)
 
--- The reads return all rows of CUSTOMER_ACCOUNT, ACCOUNT_PERMISSION, SECURITY and LAST_TRADE, and
--- change nothing. If the flag `new` after the decoding is true, the typed rows `sheets` are the
--- decoded rows. If it is false, the flag `old` before the decoding was false or a row is malformed.
--- The clause on the rows of a table is vacuous if the database does not define it as a desk does.
+-- The reads return all rows of CUSTOMER_ACCOUNT, ACCOUNT_PERMISSION, SECURITY and LAST_TRADE,
+-- sorted by key, from an open database, and change nothing. If the flag `new` after the decoding is
+-- true, the typed rows `sheets` are the decoded rows. If it is false, the flag `old` before the
+-- decoding was false or a row is malformed. The clause on the rows of a table is vacuous if the
+-- database does not define it as a desk does.
 pub record ReadsAccountAndSecurityTables (old new : Bool) (sheets : AccountAndSecuritySheets) (a b : State) : Type 0 where
   pub raw : AccountAndSecurityRows
   pub shown : ShowsAccountAndSecurityTables raw a b
   pub decoded : ContinuesDecoding old new (are_account_and_security_rows_well_formed raw) (DecodesAccountAndSecurityTables sheets raw)
 
--- The reads return all rows of CHARGE, COMMISSION_RATE, TAXRATE and CUSTOMER_TAXRATE, and change
--- nothing. If the flag `new` after the decoding is true, the typed rows `sheets` are the decoded
--- rows. If it is false, the flag `old` before the decoding was false or a row is malformed. The
--- clause on the rows of a table is vacuous if the database does not define it as a desk does.
+-- The reads return all rows of CHARGE, COMMISSION_RATE, TAXRATE and CUSTOMER_TAXRATE, sorted by
+-- key, from an open database, and change nothing. If the flag `new` after the decoding is true, the
+-- typed rows `sheets` are the decoded rows. If it is false, the flag `old` before the decoding was
+-- false or a row is malformed. The clause on the rows of a table is vacuous if the database does
+-- not define it as a desk does.
 pub record ReadsChargeAndRateTables (old new : Bool) (sheets : ChargeAndRateSheets) (a b : State) : Type 0 where
   pub raw : ChargeAndRateRows
   pub shown : ShowsChargeAndRateTables raw a b
   pub decoded : ContinuesDecoding old new (are_charge_and_rate_rows_well_formed raw) (DecodesChargeAndRateTables sheets raw)
 
--- The reads return all rows of TRADE, TRADE_HISTORY, TRADE_REQUEST and HOLDING, and change nothing.
--- If the flag `new` after the decoding is true, the typed rows `sheets` are the decoded rows. If it
--- is false, the flag `old` before the decoding was false or a row is malformed. The clause on the
--- rows of a table is vacuous if the database does not define it as a desk does.
+-- The reads return all rows of TRADE, TRADE_HISTORY, TRADE_REQUEST and HOLDING, sorted by key, from
+-- an open database, and change nothing. If the flag `new` after the decoding is true, the typed
+-- rows `sheets` are the decoded rows. If it is false, the flag `old` before the decoding was false
+-- or a row is malformed. The clause on the rows of a table is vacuous if the database does not
+-- define it as a desk does.
 pub record ReadsTradeAndHoldingTables (old new : Bool) (sheets : TradeAndHoldingSheets) (a b : State) : Type 0 where
   pub raw : TradeAndHoldingRows
   pub shown : ShowsTradeAndHoldingTables raw a b
   pub decoded : ContinuesDecoding old new (are_trade_and_holding_rows_well_formed raw) (DecodesTradeAndHoldingTables sheets raw)
 
 -- The reads return all rows of HOLDING_SUMMARY, HOLDING_HISTORY, SETTLEMENT and CASH_TRANSACTION,
--- and change nothing. If the flag `new` after the decoding is true, the typed rows `sheets` are the
--- decoded rows. If it is false, the flag `old` before the decoding was false or a row is malformed.
--- The clause on the rows of a table is vacuous if the database does not define it as a desk does.
+-- sorted by key, from an open database, and change nothing. If the flag `new` after the decoding is
+-- true, the typed rows `sheets` are the decoded rows. If it is false, the flag `old` before the
+-- decoding was false or a row is malformed. The clause on the rows of a table is vacuous if the
+-- database does not define it as a desk does.
 pub record ReadsSummaryAndSettlementTables (old new : Bool) (sheets : SummaryAndSettlementSheets) (a b : State) : Type 0 where
   pub raw : SummaryAndSettlementRows
   pub shown : ShowsSummaryAndSettlementTables raw a b
   pub decoded : ContinuesDecoding old new (are_summary_and_settlement_rows_well_formed raw) (DecodesSummaryAndSettlementTables sheets raw)
 
--- The reads return all rows of CASH_MOVE and SETTLE_RULE, or none of a table that the schema `desk`
--- does not have, and change nothing. If the flag `new` after the decoding is true, the typed rows
--- `sheets` are the decoded rows. If it is false, the flag `old` before the decoding was false, a
--- row is malformed, or SETTLE_RULE has two rows or more. The clause on the rows of a table is
--- vacuous if the database does not define it as a desk does.
+-- The reads return all rows of CASH_MOVE and SETTLE_RULE, sorted by key, or none of a table that
+-- the schema `desk` does not have, and change nothing. If the flag `new` after the decoding is
+-- true, the typed rows `sheets` are the decoded rows. If it is false, the flag `old` before the
+-- decoding was false, a row is malformed, or SETTLE_RULE has two rows or more. The clause on the
+-- rows of a table is vacuous if the database does not define it as a desk does.
 pub record ReadsLaterSchemaTables (desk : Schema) (old new : Bool) (sheets : LaterSchemaSheets) (a b : State) : Type 0 where
   pub raw : LaterSchemaRows
   pub shown : ShowsLaterSchemaTables desk raw a b
   pub decoded : ContinuesDecoding old new (are_later_schema_rows_well_formed raw) (DecodesLaterSchemaTables sheets raw)
 
--- The reads return all rows of each table of the schema `desk`, and none of other tables. The
--- database was open, and the reads changed nothing. If the flag `new` after the decoding is true,
--- the typed rows `sheets` are the decoded rows, but for the texts of KEPT. If it is false, the flag
--- `old` before the decoding was false or the rows are malformed (`are_raw_sheets_well_formed`). The
--- clause on the rows of a table is vacuous if the database does not define it as a desk does.
+-- The reads return all rows of each table of the schema `desk`, sorted by key, and none of other
+-- tables. The database was open, and the reads changed nothing. If the flag `new` after the
+-- decoding is true, the typed rows `sheets` are the decoded rows, but for the texts of KEPT. If it
+-- is false, the flag `old` before the decoding was false or the rows are malformed
+-- (`are_raw_sheets_well_formed`). The clause on the rows of a table is vacuous if the database does
+-- not define it as a desk does.
 pub record ReadsAndDecodesDeskTables (desk : Schema) (old new : Bool) (sheets : Sheets) (a b : State) : Type 0 where
   pub raw : RawSheets
   pub stays : IsUnchangedAndOpen a b

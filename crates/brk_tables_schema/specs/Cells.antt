@@ -9,15 +9,14 @@ use Rattle.brk_model.specs.Records.{Customer, Permission, Charge, Band, TaxRate,
 use Rattle.brk_model.specs.Tables.{BrokerRow, AccountRow, SecurityRow, LastTradeRow, TradeRow, HistoryRow, RequestRow, HoldingRow, SummaryRow}
 use Rattle.brk_model.specs.Tables.{HoldingHistoryRow, SettlementRow, CashRow, MoveRow}
 
--- The row of DESK: its id, which is 1 (D_ID), the number of the schema (D_SCHEMA), and the stamp of
--- the last accepted command in milliseconds since 1970-01-01 UTC, or `None` (D_LAST).
+-- A row of DESK: its id (D_ID), the number of the schema (D_SCHEMA), and the stamp of the last
+-- accepted command in milliseconds since 1970-01-01 UTC, or `None` if there is none (D_LAST).
 pub record DeskRow : Type 0 where
   pub id : ℕ
   pub schema : ℕ
   pub last : Option ℕ
 
--- A row of SETTLE_RULE: its id, which is 1 (SR_ID), and the settlement day in days since 1970-01-01
--- (SR_DAY).
+-- A row of SETTLE_RULE: its id (SR_ID), and the settlement day in days since 1970-01-01 (SR_DAY).
 pub record RuleRow : Type 0 where
   pub id : ℕ
   pub day : ℕ

@@ -46,8 +46,8 @@ pub data DeskTable : Type 0 where
   CashMoves : DeskTable
   SettleRules : DeskTable
 
--- The rows of DESK in the schema `schema`: exactly one, with the stamp `last` of the last accepted
--- command, or without a stamp.
+-- The rows of DESK in the schema `schema`: exactly one, with the id 1, the number of the schema,
+-- and `last`, the stamp of the last accepted command, or `None`.
 abbrev pub desk_rows : Schema → Option ℕ → List DeskRow
 desk_rows schema last = record { id = 1; schema = schema.number; last = last } ∷ []
 
@@ -55,7 +55,7 @@ desk_rows schema last = record { id = 1; schema = schema.number; last = last } �
 abbrev pub desk_key : DeskRow → List KeyPart
 desk_key r = number r.id ∷ []
 
--- The rows of SETTLE_RULE: one row with the settlement day, or no row if none is set.
+-- The rows of SETTLE_RULE: one row with the id 1 and the settlement day, or no row if none is set.
 abbrev pub rule_rows : Option ℕ → List RuleRow
 rule_rows None = []
 rule_rows (Some day) = record { id = 1; day = day } ∷ []
@@ -64,15 +64,15 @@ rule_rows (Some day) = record { id = 1; day = day } ∷ []
 abbrev pub rule_key : RuleRow → List KeyPart
 rule_key r = number r.id ∷ []
 
--- True if the schema `schema` has the table. The result depends on the schema for CASH_MOVE and
--- SETTLE_RULE only.
+-- True if the schema `schema` has the table: CASH_MOVE and SETTLE_RULE as the schema states, every
+-- other table always.
 abbrev pub schema_has_table : Schema → DeskTable → Bool
 schema_has_table schema CashMoves = schema.has_cash_move_table
 schema_has_table schema SettleRules = schema.has_settle_rule_table
 schema_has_table schema w = true
 
--- The definition of the table `w` of a desk, with its rows at the given tree: its SQL name, columns,
--- keys and foreign keys.
+-- The definition of the table `w` of a desk, with its rows at the given tree: its SQL name,
+-- columns, keys and foreign keys.
 abbrev pub table_definition_at : DeskTable → ℕ → Table
 table_definition_at TheDesk = desk_row_table
 table_definition_at KeptRows = kept_table
@@ -231,8 +231,8 @@ rows_in_schema schema SettleRules t = rule_rows t.rule
 abbrev pub rows_of_table : (w : DeskTable) → Tables → List (RecordOfTable w)
 rows_of_table = rows_in_schema third_schema
 
--- All tables of a desk as the tables of a program: their definitions, records, encodings and
--- orders. The row of DESK has the number of the schema `schema`.
+-- All tables of a desk, also those that `schema` lacks, as the tables of a program: their
+-- definitions, records, encodings and orders. The row of DESK has the number of `schema`.
 abbrev pub desk_tables_of_schema : Schema → ProgramTables DeskTable Tables
 desk_tables_of_schema schema = record {
   shape = table_definition_at;
