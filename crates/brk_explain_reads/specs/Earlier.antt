@@ -3,9 +3,9 @@ use Rattle.std.specs.Prelude.{◌≡◌, ◌+◌, ◌+ℤ◌, if◌then◌else�
 use Rattle.brk_changes.specs.declared.move_row.MoveRow.{MoveRow}
 use Rattle.brk_explain_reads.specs.declared.cash.EarlierCashSum.{EarlierCashSum}
 
--- The visitor `q` is the visitor `p` after it took `row`, with the same `until`. If the stamp of
--- `row` is before `until`, the count of `q` is greater by 1 and its total is greater by the amount
--- of `row`; otherwise its count and its total are those of `p`.
+-- The visitor is `p` before it takes `row`, and `q` after it. If the stamp of `row` is before
+-- `until`, the count of `q` is greater by 1 and its total is greater by the amount of `row`, in
+-- cents; otherwise both are unchanged. `until` is unchanged.
 abbrev pub AddsEarlierCashRow : EarlierCashSum → MoveRow → EarlierCashSum → Type 0
 AddsEarlierCashRow p row q =
     (q.until ≡ p.until) × (q.sum.rows ≡ (if nat_lt row.stamp p.until then p.sum.rows + 1 else p.sum.rows))

@@ -18,7 +18,7 @@ use Rattle.brk_explain_reads.specs.declared.settled.SettlementAndCash.{Settlemen
 use Rattle.brk_explain_reads.specs.declared.terms.TaxRatesAndBand.{TaxRatesAndBand}
 
 -- The cash rows of `account` in the tables `t` with stamps before `until`, sorted by stamp,
--- ascending.
+-- ascending. Rows with equal stamps are in the order of the table CASH_MOVE.
 abbrev pub cash_rows_before_stamp : Tables → ℕ → ℕ → List MoveRow
 cash_rows_before_stamp t account until = filter (λ r. nat_lt r.stamp until) (cash_move_rows_of_account t account)
 

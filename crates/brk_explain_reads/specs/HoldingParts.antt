@@ -29,8 +29,8 @@ AreLotChangesByCompletion t lot all =
     (option_map rows.abstract_lot_change_row all.opening ≡ opened_lot_row t lot)
     × (map abstract_priced_lot_change all.later_changes.items ≡ later_changes_of_lot t lot)
 
--- `lot` if the first argument is a row, which then records the opening of the lot; `None` if the
--- first argument is `None`.
+-- `lot` if the first argument is a row, which is the row of HOLDING_HISTORY that records the
+-- opening of a lot; `None` if the first argument is `None`.
 abbrev pub lot_if_opened : Option HoldingHistoryRow → Option LotDetails → Option LotDetails
 lot_if_opened None lot = None
 lot_if_opened (Some row) lot = lot
@@ -40,7 +40,8 @@ lot_if_opened (Some row) lot = lot
 abbrev pub lot_opened_by_trade : Tables → ℕ → Option LotDetails
 lot_opened_by_trade t trade = lot_if_opened (opened_lot_row t trade) (option_map (lot_with_later_changes t) (trade_row_with_id t trade))
 
--- `one` has the row of `trade` in the tables `t` and the lot that it opened, if any.
+-- `one` has the row of the trade with the id `trade` in the tables `t`, and the lot that this trade
+-- opened, with its later changes, or `None` if it opened none.
 abbrev pub IsTradeWithLot : Tables → ℕ → TradeAndLot → Type 0
 IsTradeWithLot t trade one =
     (trade_row_with_id t trade ≡ Some (abstract_trade_row one.trade)) × (option_map abstract_lot_details one.lot ≡ lot_opened_by_trade t trade)

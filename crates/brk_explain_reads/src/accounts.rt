@@ -15,8 +15,8 @@ use brk_store::Store;
 use sqlite::Alter;
 use std::alloc::Global;
 
-// Returns a holding summary with the last price of its symbol, in cents. Fails with `Memory` or
-// `Store`; with `Store` also if the symbol has no last price.
+// Returns a holding summary with the last price of its symbol, in cents. Writes nothing. Fails with
+// `Memory` or `Store`; with `Store` also if the symbol has no last price.
 fn read_priced_holding<S: Alter>(
     store: &mut Store<S>,
     summary: SummaryRow,
@@ -29,8 +29,8 @@ fn read_priced_holding<S: Alter>(
 }
 
 // Returns the holding summaries of an account with the last prices of their symbols, sorted by
-// symbol, ascending. Fails with `Memory` or `Store`; with `Store` also if a symbol has no last
-// price.
+// symbol, ascending. Writes nothing. Fails with `Memory` or `Store`; with `Store` also if a symbol
+// has no last price.
 fn read_priced_holdings<S: Alter>(
     alloc: Global,
     store: &mut Store<S>,

@@ -88,6 +88,11 @@ impl<E, V: Visitor<TradeRow, E>> Visitor<TradeRow, E> for AccountFilter<'_, V> {
 /// Fails with `Cause` and the visitor's error, or with `Failed` and the fault `Memory` or `Store`
 /// after a prefix of the trades. If the database is still open, it is unchanged, whatever the
 /// result.
+///
+/// `ready`: the visitor must be ready to take records, and is so after the walk. `leads`: the
+/// visitor's `leads` relates the visitor before the walk to the visitor after it.
+///
+/// A crash after the call exposes only states that a crash before the call could expose.
 pub fn visit_completed_trades<S: Alter, E, V: Visitor<TradeRow, E>>(
     alloc: Global,
     store: &mut Store<S>,

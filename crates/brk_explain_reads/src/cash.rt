@@ -82,8 +82,8 @@ fn fault_of_failed_walk(stop: WalkError<Fault>) -> Fault
 }
 
 // Returns the number of the cash rows of an account with stamps before `until`, and the sum of
-// their amounts, in cents. Fails with `Memory` or `Store`; with `Store` also if the number or the
-// sum overflows.
+// their amounts, in cents. Writes nothing. Fails with `Memory` or `Store`; with `Store` also if the
+// number or the sum overflows.
 pub(crate) fn read_cash_sum_before<S: Alter>(
     store: &mut Store<S>,
     account: Id,

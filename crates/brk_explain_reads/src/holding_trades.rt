@@ -51,8 +51,9 @@ fn lot_details_of_opening(
 }
 
 // Returns the lot that the trade with the id opened, with its later changes, or `None` if the trade
-// opened none. Fails with `Memory` or `Store`; with `Store` also if a later trade that changed the
-// lot does not exist or has no price, or if the trade that opened the lot does not exist.
+// opened none. Writes nothing. Fails with `Memory` or `Store`; with `Store` also if a later trade
+// that changed the lot does not exist or has no price, or if the trade that opened the lot does not
+// exist.
 fn read_lot_of_trade<S: Alter>(
     alloc: Global,
     store: &mut Store<S>,
@@ -73,9 +74,9 @@ fn read_lot_of_trade<S: Alter>(
     Ok(Some(lot_details_of_opening(row, &first, later_changes)))
 }
 
-// Returns the trade with the id and the lot that it opened, if any. Fails with `Memory` or `Store`;
-// with `Store` also if the trade does not exist, or if a later trade that changed the lot does not
-// exist or has no price.
+// Returns the trade with the id and the lot that it opened, if any. Writes nothing. Fails with
+// `Memory` or `Store`; with `Store` also if the trade does not exist, or if a later trade that
+// changed the lot does not exist or has no price.
 fn read_trade_and_lot<S: Alter>(
     alloc: Global,
     store: &mut Store<S>,
@@ -101,8 +102,8 @@ fn push_lot_if_any(lots: &mut Vec<LotDetails>, lot: Option<LotDetails>) -> Resul
     Ok(())
 }
 
-// Appends the trade of `one` to the trades of `held`, and the lot of `one`, if any, to its lots. Fails
-// with `Memory` only.
+// Appends the trade of `one` to the trades of `held`, and the lot of `one`, if any, to the lots of
+// `held`. Fails with `Memory` only.
 fn push_trade_and_lot(held: &mut TradesAndLots, one: TradeAndLot) -> Result<(), Fault>
     ensures done { OnOk result (held.new.done.items ≡ held.old.done.items ++ one.trade ∷ []) }
     ensures lots { OnOk result (map abstract_lot_details held.new.lots.items
@@ -116,8 +117,9 @@ fn push_trade_and_lot(held: &mut TradesAndLots, one: TradeAndLot) -> Result<(), 
 }
 
 /// Returns the completed trades of an account in a security, in the order of completion, and the
-/// lots that they opened with their later changes, in the order of opening. Fails with `Memory` or
-/// `Store`; with `Store` also if a trade that changed a lot does not exist or has no price.
+/// lots that they opened with their later changes, in the order of opening. Writes nothing. Fails
+/// with `Memory` or `Store`; with `Store` also if a trade that changed a lot does not exist or has
+/// no price.
 pub(crate) fn read_trades_and_lots_of_holding<S: Alter>(
     alloc: Global,
     store: &mut Store<S>,

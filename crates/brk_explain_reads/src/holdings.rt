@@ -44,8 +44,8 @@ fn quantity_and_price(shares: i64, price: Price) -> QuantityAndPrice
 }
 
 // Returns the quantity that an account holds of a security, 0 if it has no holding summary, and the
-// last price of the security. Fails with `Memory` or `Store`; with `Store` also if the security has
-// no last price.
+// last price of the security. Writes nothing. Fails with `Memory` or `Store`; with `Store` also if
+// the security has no last price.
 fn read_quantity_and_price<S: Alter>(
     store: &mut Store<S>,
     account: Id,

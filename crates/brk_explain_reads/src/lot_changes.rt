@@ -66,8 +66,8 @@ fn push_unless_by_opening_trade(
     Ok(())
 }
 
-// Returns those of `changes` that are by other trades than the one that opened `lot`, in the same
-// sequence. Fails with `Memory` only.
+// Returns the elements of `changes` that another trade made than the one that opened `lot`, in the
+// order of `changes`. Fails with `Memory` only.
 fn changes_by_later_trades(
     alloc: Global,
     changes: &[LotChange],
@@ -98,8 +98,9 @@ fn priced_lot_change(change: &LotChange, stamp: Stamp, price: Price) -> PricedLo
     }
 }
 
-// Returns a change of a lot, with the stamp and the price of the trade that made it. Fails with
-// `Memory` or `Store`; with `Store` also if that trade does not exist or has no price.
+// Returns a change of a lot, with the stamp and the price of the trade that made it. Writes
+// nothing. Fails with `Memory` or `Store`; with `Store` also if that trade does not exist or has no
+// price.
 fn read_priced_lot_change<S: Alter>(
     store: &mut Store<S>,
     change: &LotChange,
@@ -116,8 +117,8 @@ fn read_priced_lot_change<S: Alter>(
 }
 
 // Returns the change with which a lot was opened, if any, and its changes by later trades, sorted
-// by trade id, ascending. Fails with `Memory` or `Store`; with `Store` also if a later trade does
-// not exist or has no price.
+// by trade id, ascending. Writes nothing. Fails with `Memory` or `Store`; with `Store` also if a
+// later trade does not exist or has no price.
 fn read_lot_changes_by_trade_id<S: Alter>(
     alloc: Global,
     store: &mut Store<S>,
@@ -155,8 +156,8 @@ fn sort_changes_by_stamp(
 }
 
 /// Returns the change with which a lot was opened, if any, and its changes by later trades, sorted
-/// by the stamps of these trades, ascending. Fails with `Memory` or `Store`; with `Store` also if a
-/// later trade does not exist or has no price.
+/// by the stamps of these trades, ascending. Writes nothing. Fails with `Memory` or `Store`; with
+/// `Store` also if a later trade does not exist or has no price.
 pub(crate) fn read_lot_changes_by_completion<S: Alter>(
     alloc: Global,
     store: &mut Store<S>,

@@ -21,8 +21,8 @@ pub struct SettlementAndCash {
     pub rule: Option<Day>,
 }
 
-// Returns the settlement and the cash row of the trade with the id, and the settlement day. Fails
-// with `Memory` or `Store`; with `Store` also if the trade has no settlement.
+// Returns the settlement and the cash row of the trade with the id, and the settlement day. Writes
+// nothing. Fails with `Memory` or `Store`; with `Store` also if the trade has no settlement.
 pub(crate) fn read_settlement_of_trade<S: Alter>(
     store: &mut Store<S>,
     trade: Id,

@@ -27,19 +27,23 @@ use Rattle.brk_sql.specs.Rows.{TreeHoldsRecords}
 
 -- ---- The definition of a table
 
--- A column of a STRICT table, with this name and of this kind, NOT NULL and without a default.
+-- A column of a STRICT table, with this name and of this kind, NOT NULL, without a default, and
+-- with the collation BINARY.
 abbrev pub not_null_column : Kind → List ℕ → Column
 not_null_column kind name = record { name = name; kind = kind; is_strict = true; not_null = true; default = Null; collation = Binary }
 
--- A TEXT column of a STRICT table, with this name, NOT NULL and without a default.
+-- A TEXT column of a STRICT table, with this name, NOT NULL, without a default, and with the
+-- collation BINARY.
 abbrev pub text_column : List ℕ → Column
 text_column = not_null_column Text
 
--- An INTEGER column of a STRICT table, with this name, NOT NULL and without a default.
+-- An INTEGER column of a STRICT table, with this name, NOT NULL, without a default, and with the
+-- collation BINARY.
 abbrev pub integer_column : List ℕ → Column
 integer_column = not_null_column Integer
 
--- An INTEGER column of a STRICT table, with this name, which may be null and has no default.
+-- An INTEGER column of a STRICT table, with this name, which may be null, without a default, and
+-- with the collation BINARY.
 abbrev pub nullable_integer_column : List ℕ → Column
 nullable_integer_column name = record (integer_column name) { not_null = false }
 
@@ -105,9 +109,9 @@ abbrev pub has_no_writing_foreign_keys : Table → Bool
 has_no_writing_foreign_keys t = list_all (λ ref. not (foreign_key_writes_rows ref)) t.references
 
 -- The database `new` has a table without rows, whose definition is `shape tree` for its tree `tree`
--- and which is stored at the tree of no table of `old`. It also has all tables of `old`, at the
--- same indexes and with the same rows, and satisfies `IsDatabase`. No foreign key of a table that
--- `old` lacks changes or deletes rows.
+-- and which is stored at the tree of no table of `old`. The database `new` also has all tables of
+-- `old`, at the same indexes and with the same rows, and satisfies `IsDatabase`. No foreign key of
+-- a table that `old` lacks changes or deletes rows.
 pub record CreatesTableOfShape (old new : Database) (shape : ℕ → Table) : Type 0 where
   pub tree : ℕ
   pub at : ℕ
@@ -133,8 +137,9 @@ CreatesEachTable (shape ∷ shapes) old new = (mid : Database) × CreatesTableOf
 
 -- The tables of a program: `W` is the type of their names, and a value of `T` contains a list of
 -- records for each of them. For each table: its definition with the rows at a given tree (`shape`),
--- the type of its records (`Item`), the row that encodes a record (`encode`), the order of its
--- records (`order`), and its list of records in a value of `T` (`list`).
+-- the proof that this definition has this tree (`placed`), the type of its records (`Item`), the
+-- row that encodes a record (`encode`), the order of its records (`order`), and its list of records
+-- in a value of `T` (`list`).
 pub record ProgramTables (W T : Type 0) : Type 1 where
   pub shape : W → ℕ → Table
   pub placed : (w : W) (tree : ℕ) → (shape w tree).tree ≡ tree

@@ -52,7 +52,8 @@ IsDatabaseAuditResultBySchema schema db (Some condition.Schema) = ¬ DatabaseHas
 -- schema with texts in UTF-8, or the audit of its rows returns `Form`.
 IsDatabaseAuditResultBySchema schema db (Some condition.Form) =
     DatabaseHasSchema schema db × ((t : Tables) → HasDeskTablesInSchema schema t db → IsTrue (has_utf8_texts t) → IsAuditResult schema t (Some condition.Form))
--- Any other result, `None` included, is that of the audit of the rows that the database contains.
+-- Any other result, `None` included, is the result of the audit of the rows that the database
+-- contains.
 IsDatabaseAuditResultBySchema schema db answer = (t : Tables) × StoresRowsWithAuditResult schema t db answer
 
 -- `Some schema`: the database `db` has this schema (`DatabaseHasSchema`). `None`: it has none of
@@ -81,16 +82,16 @@ AuditAnswerSatisfies (Err Store) P = ⊤
 -- ---- premises on the database
 
 -- For each schema: if the current database of the connection `held` has all tables of the schema,
--- by name and with exactly their columns, they are defined as a desk defines them, with its types,
--- keys and foreign keys (`TablesWithDeskNamesAreDeskTables`). A database without these tables, for
--- example an empty one, satisfies this premise. Vacuous if the disk assumption fails, or once the
--- database is closed.
+-- by name and with exactly their column names, they are defined as a desk defines them, with its
+-- types, keys and foreign keys (`TablesWithDeskNamesAreDeskTables`). A database without these
+-- tables, for example an empty one, satisfies this premise. Vacuous if the disk assumption fails,
+-- or once the database is closed.
 abbrev pub ConnectionTablesWithDeskNamesAreDeskTables : {S : Type 0} → Ghosts S → Held S → Type 0
 ConnectionTablesWithDeskNamesAreDeskTables g held = HasCleanDisk (state g held) → IsTrue (state g held).is_open → TablesWithDeskNamesAreDeskTables (state g held).now
 
 -- If the current database of the connection `held` has all tables of schema 3, by name and with
--- exactly their columns, they are defined as a desk defines them, with its types, keys and foreign
--- keys. Vacuous if the disk assumption fails, or once the database is closed.
+-- exactly their column names, they are defined as a desk defines them, with its types, keys and
+-- foreign keys. Vacuous if the disk assumption fails, or once the database is closed.
 abbrev pub ConnectionTablesWithThirdSchemaNamesAreDeskTables : {S : Type 0} → Ghosts S → Held S → Type 0
 ConnectionTablesWithThirdSchemaNamesAreDeskTables g held =
     HasCleanDisk (state g held) → IsTrue (state g held).is_open → TablesWithSchemaNamesAreDeskTables third_schema (state g held).now

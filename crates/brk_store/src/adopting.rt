@@ -49,7 +49,7 @@ pub fn audits_return_result_for_stored_rows<S: Alter>()
 {}
 
 /// Proves that an adoption of a database that contains the tables of schema 3 with some rows
-/// satisfies the postcondition of an audit: it writes nothing.
+/// satisfies the postcondition of an audit (`AuditPost`): the adoption writes nothing.
 pub fn adoption_of_third_schema_is_audit<S: Alter>()
     ensures { (old new : Held S) (result : Result (Unit {0}) Fault) (t : Tables)
         → AdoptPost S.Store old new result → HoldsRows S.Store old t → AuditPost S.Store old new result }

@@ -81,10 +81,11 @@ impl<S: Alter> Store<S> {
         }
     }
 
-    /// Returns the number of the next cash row, as `next_cash_row_number` does, and whether there
-    /// are at least `Id::GREATEST` (1,000,000,000,000) deposits and withdrawals together (true: no
-    /// further movement may be booked). If the database is still open, it is unchanged. Fails with
-    /// `Store` only, also if the greatest `MoveId` is in use.
+    /// Returns a pair: the number of the next cash row, which is one more than the greatest number,
+    /// or 1 if there is no cash row; and true if there are at least `Id::GREATEST`
+    /// (1,000,000,000,000) deposits and withdrawals together, so that no further movement may be
+    /// booked. If the database is still open, it is unchanged. Fails with `Store` only, also if the
+    /// greatest `MoveId` is in use.
     pub fn next_movement_number(&mut self) -> Result<(MoveId, bool), Fault>
         ensures read { ReadPost S.Store self.old self.new result (λ number t. (number.0 ≡ last_cash_row_number_or_zero t + 1)
             × (number.1 ≡ nat_le greatest_id (length (filter (λ r. is_none r.trade) t.moves)))) }

@@ -18,7 +18,8 @@ pub fn connection_holds_rows_of_disk_content<S: Alter>()
 {}
 
 /// Proves that a crash of an open store exposes only the disk contents of its last commit. The
-/// premise `is_open` implies the disk assumption: it is false once that has failed.
+/// premise `is_open` implies the disk assumption, because `is_open` is false once a read did not
+/// return what was written.
 pub fn crash_of_open_store_exposes_last_commit<S: Alter>()
     ensures { (store : Held S) → IsTrue (state S.Store store).is_open
         → CrashStatesSatisfy S.Store store (λ trees. trees ≡ (state S.Store store).committed.trees) }

@@ -50,8 +50,8 @@ impl<S: Alter> Store<S> {
         )
     }
 
-    /// Passes the lots of an account to a visitor, sorted by symbol, then by opening stamp. Returns
-    /// `Ok` only after the visitor has taken the last lot.
+    /// Passes the lots of an account to a visitor, sorted by symbol, then by opening stamp, both
+    /// ascending. Returns `Ok` only after the visitor has taken the last lot.
     ///
     /// Fails with `Cause` and the visitor's error, or with `Failed` and the fault `Memory` or
     /// `Store` after a prefix of the lots. If the database is still open, it is unchanged, whatever
@@ -106,7 +106,7 @@ impl<S: Alter> Store<S> {
     /// whatever the result.
     ///
     /// `callable`: the closure must accept every record, at its first and at each later call.
-    /// `called`: it is called with each row, in order, until its first error.
+    /// `called`: the closure is called with each row, in order, until its first error.
     ///
     /// A crash after the call exposes only states that a crash before the call could expose.
     pub fn walk_cash<E: From<Fault>, F: FnMut(&MoveRow) -> Result<(), E> + Drop>(
@@ -129,14 +129,14 @@ impl<S: Alter> Store<S> {
     }
 
     /// Calls a closure with each lot of an account and its symbol, sorted by symbol, then by
-    /// opening stamp. Returns `Ok` only after the last lot.
+    /// opening stamp, both ascending. Returns `Ok` only after the last lot.
     ///
     /// Fails with the closure's first error, or with a fault (`Memory` or `Store`) as an error of
     /// type `E`, after a prefix of the lots. If the database is still open, it is unchanged,
     /// whatever the result.
     ///
     /// `callable`: the closure must accept every record, at its first and at each later call.
-    /// `called`: it is called with each lot, in order, until its first error.
+    /// `called`: the closure is called with each lot, in order, until its first error.
     ///
     /// A crash after the call exposes only states that a crash before the call could expose.
     pub fn walk_lots<E: From<Fault>, F: FnMut(&str, &Lot) -> Result<(), E> + Drop>(

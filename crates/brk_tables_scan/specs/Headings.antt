@@ -24,9 +24,9 @@ select_all_text w = codes "SELECT * FROM " ++ table_name w
 abbrev pub heading_of_table : DeskTable → Heading
 heading_of_table w = (select_all_text w, (table_and_column_names (table_definition_at w 0)).columns)
 
--- If `has` is true, the result of each statement has exactly the column names of its heading, in
--- order. If it is false, the result of some statement does not have them. Each statement up to this
--- one compiles in the schema.
+-- If `has` is true, as it is for an empty list, the result of each statement has exactly the column
+-- names of its heading, in order. If `has` is false, the result of some statement does not have
+-- them. Each statement up to this one compiles in the schema.
 abbrev pub MatchesEachHeading : List Heading → Bool → Schema → Type 0
 MatchesEachHeading [] has schema = has ≡ true
 MatchesEachHeading (h ∷ headings) has schema =

@@ -14,12 +14,12 @@ use Rattle.brk_tables_schema.specs.Cells.{kept_cells}
 abbrev pub keys_of_kept_rows : List typed.Kept → List Key
 keys_of_kept_rows rows = map (λ r. abstract_key r.key) rows
 
--- The raw row `raw` encodes some typed row of KEPT with the key `key`, and with any texts.
+-- The raw row `raw` encodes some typed row of KEPT, which has the key `key` and any texts.
 abbrev pub IsKeyOfRawRow : typed_key.Key → Row → Type 0
 IsKeyOfRawRow key raw = (whole : typed.Kept) × (kept_cells (abstract_kept_row whole) ≡ raw) × (abstract_key whole.key ≡ abstract_key key)
 
--- The raw rows `raw` are, in order, the encodings of some typed rows of KEPT with the keys `keys`, in
--- this order, and with any texts.
+-- The raw rows `raw` encode, in order, some typed rows of KEPT, which have the keys `keys`, in
+-- order, and any texts.
 abbrev pub AreKeysOfRawRows : List typed_key.Key → List Row → Type 0
 AreKeysOfRawRows keys raw =
     (whole : List typed.Kept) × (map (λ r. kept_cells (abstract_kept_row r)) whole ≡ raw) × (keys_of_kept_rows whole ≡ map abstract_key keys)

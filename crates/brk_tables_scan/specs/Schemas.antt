@@ -32,18 +32,18 @@ abbrev pub table_and_column_names : Table → TableAndColumnNames
 table_and_column_names table = record { name = table.name; columns = map (λ c. c.name) table.columns }
 
 -- The table `table` is at the index `at` of `schema`, the list of the tables of the database. It
--- has the name and exactly the columns of `names`, in order.
+-- has the name and exactly the column names of `names`, in order.
 pub record IsTableWithNames (schema : database.Schema) (names : TableAndColumnNames) (at : ℕ) (table : Table) : Type 0 where
   pub named : table_named schema names.name ≡ Some at
   pub found : slice_get schema.tables at ≡ Some table
   pub columns : map (λ c. c.name) table.columns ≡ names.columns
 
--- The database has a table with the name and exactly the columns of `names`, in order.
+-- The database has a table with the name and exactly the column names of `names`, in order.
 abbrev pub HasTableWithNames : database.Schema → TableAndColumnNames → Type 0
 HasTableWithNames schema names = (at : ℕ) × (table : Table) × IsTableWithNames schema names at table
 
 -- For each table of the schema `desk`, the database has a table with its name and exactly its
--- columns, in order.
+-- column names, in order.
 abbrev pub HasTablesOfSchema : Schema → database.Schema → Type 0
 HasTablesOfSchema desk schema = AllByRecursion (λ w. HasTableWithNames schema (table_and_column_names (table_definition_at w 0))) (tables_in_schema desk)
 
@@ -63,9 +63,9 @@ abbrev pub IsOneDeskRowOfSchema : Schema → List Row → Type 0
 IsOneDeskRowOfSchema desk rows = (last : Value) × (rows ≡ (natural_as_value 1 ∷ natural_as_value desk.number ∷ last ∷ []) ∷ [])
 
 -- The database has the schema `desk`: each table of the schema, by its name and with exactly its
--- columns; no table that a later schema adds; and exactly one row of DESK, with the id 1 and the
--- number of the schema. The clause on the row is vacuous if DESK is not defined as a desk defines
--- it.
+-- column names, in order; no table that a later schema adds; and exactly one row of DESK, with the
+-- id 1 and the number of the schema. The clause on the row is vacuous if DESK is not defined as a
+-- desk defines it.
 pub record DatabaseHasSchema (desk : Schema) (db : Database) : Type 0 where
   pub tables : HasTablesOfSchema desk db.schema
   pub later : LacksTablesOfLaterSchemas desk db.schema
@@ -94,14 +94,14 @@ pub record HasDeskDefinitions (desk : Schema) (db : Database) : Type 0 where
       → HasNoWritingForeignKeysAt db.schema tree
   pub keyed : (w : DeskTable) → IsTableOfSchema desk w → (at tree : ℕ) → IsTableAt db.schema (table_definition_at w tree) at → HasDistinctRowids (db.trees tree)
 
--- If the database has each table of the schema `desk`, by its name and with exactly its columns,
--- these tables are defined as a desk defines them (`HasDeskDefinitions`). Vacuous if one of these
--- tables or columns is missing, or if one of the tables has another column.
+-- If the database has each table of the schema `desk`, by its name and with exactly its column
+-- names, these tables are defined as a desk defines them (`HasDeskDefinitions`). Vacuous if one of
+-- these tables is missing or has other column names.
 abbrev pub TablesWithSchemaNamesAreDeskTables : Schema → Database → Type 0
 TablesWithSchemaNamesAreDeskTables desk db = HasTablesOfSchema desk db.schema → HasDeskDefinitions desk db
 
--- For each schema of a desk: if the database has each of its tables, by name and with exactly its
--- columns, these tables are defined as a desk defines them. This is the premise on a database that
--- another program may have created; an empty database satisfies it.
+-- For each schema of a desk: if the database has each of its tables, by its name and with exactly
+-- its column names, these tables are defined as a desk defines them. This is the premise on a
+-- database that another program may have created; an empty database satisfies it.
 abbrev pub TablesWithDeskNamesAreDeskTables : Database → Type 0
 TablesWithDeskNamesAreDeskTables db = (schema : known.Schema) → TablesWithSchemaNamesAreDeskTables (abstract_schema schema) db

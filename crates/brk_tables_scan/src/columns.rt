@@ -37,9 +37,9 @@ fn each_heading_matches<S: Alter>(
     Ok(true)
 }
 
-// Returns true if each table of `schema` has exactly its columns, in order. Checks the tables in
-// order until one differs. Changes nothing. Fails with `Store` only, also if a checked table does
-// not exist.
+// Returns true if each table of `schema` has exactly its column names, in order. Checks the tables
+// in order until one differs. Changes nothing. Fails with `Store` only, also if a checked table
+// does not exist.
 fn tables_have_columns<S: Alter>(tx: &mut Transaction<'_, S>, schema: Schema) -> Result<bool, Fault>
     ensures same_reference { tx.new.conn.ghost_name ≡ tx.old.conn.ghost_name }
     ensures step { IsConnectionStep S.Store tx.old tx.new result (λ has a b. (b.now ≡ a.now)
@@ -53,9 +53,9 @@ fn tables_have_columns<S: Alter>(tx: &mut Transaction<'_, S>, schema: Schema) ->
     }
 }
 
-/// Returns true if each table of `schema` exists by name, with exactly its columns, in order, and
-/// no table exists that a later schema adds. Other properties of the tables are not checked. If it
-/// returns a value, the database was open and is unchanged. Fails with `Store` only.
+/// Returns true if each table of `schema` exists by name, with exactly its column names, in order,
+/// and no table exists that a later schema adds. Other properties of the tables are not checked. If
+/// it returns a value, the database was open and is unchanged. Fails with `Store` only.
 pub fn has_exact_tables_and_columns<S: Alter>(
     tx: &mut Transaction<'_, S>,
     schema: Schema,

@@ -142,8 +142,8 @@ impl Decoder {
         }
     }
 
-    /// Decodes the settlement day, in days since 1970-01-01, from all rows of SETTLE_RULE; it is
-    /// `None` if there is no row. If there are two rows or more, or a malformed one, sets
+    /// Decodes the settlement day, in days since 1970-01-01, from all rows of SETTLE_RULE, or
+    /// returns `None` if there is no row. If there are two rows or more, or a malformed one, sets
     /// `are_well_formed` to false and returns `None`. Fails with `Memory` only.
     pub(crate) fn decode_settlement_day(&mut self, rows: Vec<Row>) -> Result<Option<Day>, Fault>
         ensures decoding { IfOk result (λ day. ContinuesDecoding self.old.are_well_formed self.new.are_well_formed

@@ -12,10 +12,9 @@ use brk_money::Fault;
 use sqlite::{Alter, Transaction};
 use std::alloc::Global;
 
-/// Returns the typed rows of the tables of `schema`, each list sorted by key, ascending. The rows
-/// of KEPT have empty texts, because no condition of an audit reads their texts. Returns `None`
-/// only if a row is malformed or a text is not UTF-8, and only after all tables were read. Changes
-/// nothing.
+/// Returns the typed rows of the tables of `schema`, each list sorted by key, ascending. Of KEPT it
+/// returns the keys alone, because no condition of an audit reads the texts. Returns `None` only if
+/// a row is malformed or a text is not UTF-8, and only after all tables were read. Changes nothing.
 ///
 /// Fails with `Memory` or `Store`. The result is specified only if the database has the schema
 /// `schema` (`database_has_schema`) and its tables are defined as a desk defines them.

@@ -34,7 +34,8 @@ impl<T: Drop> From<AllocFailed<T>> for DecodeError {
 
     ghost from_gives = { λ _ decode_error. decode_error ≡ Refused };
 
-    /// Converts the error of an allocation for a value, which the error contains, to `Memory`.
+    /// Converts to `Memory` the error of a failed allocation, which contains the value to be
+    /// stored.
     fn from(_: AllocFailed<T>) -> DecodeError {
         DecodeError::Memory
     }

@@ -4,11 +4,12 @@ use Rattle.brk_money.specs.Spelling.{Text}
 use Rattle.brk_model.specs.Tables.{Tables, HoldingRow}
 use Rattle.brk_changes.specs.Rows.{lots_oldest_first}
 
--- The number of rows of a page: 16. The last page may have fewer.
+-- The greatest number of rows of a page: 16.
 abbrev pub page_size : ℕ
 page_size = 16
 
--- The elements of `xs` after its first `skipped`, but only the first `page_size` of these.
+-- The first `page_size` elements of `xs` after its first `skipped`, or all of these if there are
+-- fewer.
 abbrev pub page_after_skipped : {X : Type 0} → ℕ → List X → List X
 page_after_skipped skipped xs = take page_size (drop skipped xs)
 

@@ -29,8 +29,8 @@ is_cash_row_between account from to row = (row.account == account) && is_in_rang
 abbrev pub cash_rows_between : ℕ → ℕ → ℕ → Tables → List MoveRow
 cash_rows_between account from to t = rows_sorted_by_key cash_sort_key (filter (is_cash_row_between account from to) t.moves)
 
--- The sort key of a trade: the stamp of its last status change (for a completed trade that of its
--- completion), then its id.
+-- The sort key of a trade: the stamp of its last status change, which is the stamp of completion
+-- for a completed trade, then its id.
 abbrev pub stamp_and_id_key : TradeRow → List KeyPart
 stamp_and_id_key r = number r.stamp ∷ number r.id ∷ []
 

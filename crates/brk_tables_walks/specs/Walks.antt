@@ -26,21 +26,23 @@ TableWalkEndsEarly {X} Begins of takes stops before after (Failed fault) = IsCal
 TableWalkEndsEarly {X} {M} {V} Begins of takes stops before after (Cause e) =
     (taken : List X) × (next : X) × (at : V) × FoldsTo takes before taken at × stops at next e after × Begins (map of (taken ++ next ∷ []))
 
--- The database `db` is open, and the records `all` equal the whole list that `list` selects from
--- the rows that it contains. The last part is vacuous if it does not contain all tables of a desk.
+-- The database `db` is open, and the records `all` equal the list that `list` selects from the rows
+-- of a desk's tables in `db`. The second part is vacuous if `db` does not contain all tables of a
+-- desk.
 abbrev pub AreAllRecordsOfList : {M : Type 0} → State → (Tables → List M) → List M → Type 0
 AreAllRecordsOfList db list all = IsTrue db.is_open × ((t : Tables) → HasDeskTables t db.now → all ≡ list t)
 
--- There are no records in `first`; or the database `db` is open, and `first` is a prefix of the
--- list that `list` selects from the rows that it contains. The last part is vacuous if it does not
--- contain all tables of a desk.
+-- The list `first` is empty; or the database `db` is open, and `first` is a prefix of the list that
+-- `list` selects from the rows of a desk's tables in `db`. The last part is vacuous if `db` does
+-- not contain all tables of a desk.
 abbrev pub IsPrefixOfList : {M : Type 0} → State → (Tables → List M) → List M → Type 0
 IsPrefixOfList {M} db list first = (first ≡ []) ⊎ (IsTrue db.is_open × ((t : Tables) → HasDeskTables t db.now → (rest : List M) × (first ++ rest ≡ list t)))
 
--- The postcondition of a walk, which writes nothing: it passes the records that `list` selects from
--- a desk's tables to a visitor, in order, one at a time, until the visitor stops. `takes` and
--- `stops` relate the visitor before and after it takes a record or stops at one. The clauses on
--- records and on the database are vacuous if the disk assumption fails.
+-- The postcondition of a walk, which writes nothing: the walk passes the records that `list`
+-- selects from a desk's tables to a visitor, in order, one at a time, until the last record, the
+-- error of the visitor or a fault. `takes` and `stops` relate the visitor before and after it takes
+-- a record or stops at one. The clauses on records and on the database are vacuous if the disk
+-- assumption fails.
 pub record TableWalkPost {S X M V E : Type 0} (g : Ghosts S) (old new : Held S) (of : X → M) (list : Tables → List M) (takes : V → X → V → Type 0)
     (stops : V → X → E → V → Type 0)
     (before after : V) (result : Result (Unit {0}) (WalkError E)) : Type 0 where

@@ -17,6 +17,10 @@ use sqlite::{Alter, Connection};
 ///
 /// Stops at the first error and returns it: `Failed` with `Memory` or `Store`, or `Cause` with the
 /// visitor's error. Returns `Ok` only after the last trade. Writes nothing.
+///
+/// Requires that `conn` is in no transaction and that the visitor is ready to take records; both
+/// hold also after the walk. A crash after the walk exposes only states that a crash before it
+/// could expose.
 pub fn walk_completed_trades<S: Alter, E, V: Visitor<TradeRow, E>>(
     conn: &mut Connection<S>,
     visitor: &mut V,

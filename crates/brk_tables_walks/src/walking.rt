@@ -38,6 +38,11 @@ fn decode_record<R: Record>(row: &Row) -> Result<R, Fault>
 /// in the order of the query's result, until all are passed or an error occurs. Fails with `Failed`
 /// and the fault `Memory` or `Store` (`Store` also if a row is malformed), or with `Cause` and the
 /// visitor's error.
+///
+/// Requires that the query `sql` has no RETURNING clause and that the visitor is ready to take
+/// records; the visitor is ready also after the walk. At `Ok` the database is unchanged; at an
+/// error it is unchanged or an open transaction is rolled back. A crash after the walk exposes only
+/// states that a crash before it could expose.
 pub fn walk_query_rows<S: Alter, R: Record, E, V: Visitor<R, E>>(
     conn: &mut Connection<S>,
     sql: &str,
