@@ -61,7 +61,7 @@ pub enum UsageFault {
 }
 
 impl From<AllocError> for UsageFault {
-    /// Returns the usage fault `Memory`: an allocation was refused.
+    /// Returns the usage fault `Memory`, for an allocation that was refused.
     fn from(_error: AllocError) -> UsageFault {
         UsageFault::Memory
     }

@@ -104,7 +104,8 @@ fn view_name_argument<'a>(alloc: Global) -> Arg<'a> {
         .required(true)
 }
 
-// Returns the argument for the arguments of a view, which are any number of texts, perhaps none.
+// Returns the command-line argument for the arguments of a view, which are any number of texts,
+// perhaps none.
 fn repeated_view_argument<'a>(alloc: Global) -> Arg<'a> {
     Arg::new(alloc, "arguments")
         .value_name("ARGUMENT")
@@ -178,8 +179,8 @@ fn serve_command<'a>(alloc: Global) -> Result<Command<'a>, AllocError> {
 }
 
 // Adds the subcommand `added` to `command` and returns the command. Fails if `command` or `added`
-// is an error, or if memory runs out. This is a separate function because the prover needs more
-// than a minute for a function that has several commands.
+// is an error, or if memory runs out. It is a separate function because the prover needs more than
+// a minute for a function that has several commands.
 fn add_subcommand<'a>(
     command: Result<Command<'a>, AllocError>,
     added: Result<Command<'a>, AllocError>,
@@ -187,8 +188,8 @@ fn add_subcommand<'a>(
     command?.subcommand(added?)
 }
 
-// Returns the command `brk` with its version, not yet with its subcommands, one of which the
-// arguments must name. Fails only if memory runs out.
+// Returns the command `brk` with its version and without subcommands. Its arguments must name one
+// of the subcommands that are added to it later. Fails only if memory runs out.
 fn program_command<'a>(alloc: Global) -> Result<Command<'a>, AllocError> {
     Command::new(alloc, "brk")
         .version(VERSION)
@@ -256,8 +257,8 @@ fn statement_job(alloc: Global, matches: &ArgMatches<'_>) -> Result<Job, UsageFa
     })
 }
 
-// Returns the serve job that the arguments request; without them the port is 0 and the number of
-// streams 1. Fails with `Memory` only.
+// Returns the serve job that the arguments request; without `--port` its port is 0, and without
+// `--streams` its number of streams is 1. Fails with `Memory` only.
 fn serve_job(alloc: Global, matches: &ArgMatches<'_>) -> Result<Job, UsageFault> {
     Ok(Job::Serve {
         port: matches.get_one("port").unwrap_or(0),
@@ -281,7 +282,8 @@ fn argument_texts(
     Ok(texts)
 }
 
-// Returns the ask job that the arguments request. Fails with `Memory` only.
+// Returns the ask job that the arguments request: the file, the format, the name of the view and
+// its arguments. Fails with `Memory` only.
 fn ask_job(alloc: Global, matches: &ArgMatches<'_>) -> Result<Job, UsageFault> {
     Ok(Job::Ask {
         db: argument_text(alloc, matches, "db")?,
@@ -292,7 +294,8 @@ fn ask_job(alloc: Global, matches: &ArgMatches<'_>) -> Result<Job, UsageFault> {
     })
 }
 
-// Returns the explain job that the arguments request. Fails with `Memory` only.
+// Returns the explain job that the arguments request: the file and the words of the request. Fails
+// with `Memory` only.
 fn explain_job(alloc: Global, matches: &ArgMatches<'_>) -> Result<Job, UsageFault> {
     Ok(Job::Explain {
         db: argument_text(alloc, matches, "db")?,
@@ -330,8 +333,8 @@ fn job_of_subcommand(
     })
 }
 
-// Converts an error of the argument parser into a usage fault: `Help` with the text for help and
-// the version, `Memory` if memory ran out, otherwise `Words` with the error's text.
+// Converts an error of the argument parser into a usage fault: `Memory` if memory ran out, `Help`
+// with the text if help or the version was requested, otherwise `Words` with the error's text.
 fn usage_fault_of_error(alloc: Global, error: &Error) -> UsageFault {
     let kind = error.kind();
     if kind == ErrorKind::OutOfMemory {
@@ -347,8 +350,8 @@ fn usage_fault_of_error(alloc: Global, error: &Error) -> UsageFault {
     }
 }
 
-/// Returns the usage fault of an argument that is not UTF-8: `Words` with the error text, or
-/// `Memory`.
+/// Returns the usage fault for an argument that is not UTF-8: `Words` with the error text, or
+/// `Memory` if memory runs out.
 pub fn non_utf8_argument_fault(alloc: Global) -> UsageFault {
     match String::from_str(alloc, "error: a word that is no UTF-8\n") {
         Ok(text) => UsageFault::Words(text),

@@ -62,8 +62,8 @@ fn word_of_batch_fault(kind: FaultKind) -> &'static str {
     }
 }
 
-// Executes the input as a batch on the desk at the timestamp `moment`. Appends the lines that it
-// wrote and, if it failed, an output line with `!`, the word for its fault, and the number of
+// Executes the input as a batch on the desk at the timestamp `moment`. Appends the lines that the
+// batch wrote and, if it failed, an output line with `!`, the word for its fault, and the number of
 // decided rows. Fails only if memory runs out.
 fn execute_batch_command(
     alloc: Global,
@@ -93,8 +93,8 @@ fn execute_batch_command(
 }
 
 // Serves the input as a stream of HTTP requests on the desk at the timestamp `moment`. Appends the
-// replies, and then `! done` and their number or, if the stream failed, `! fault`. Fails only if
-// memory runs out.
+// replies, and then `! done` and the number of replies or, if the stream failed, `! fault`. Fails
+// only if memory runs out.
 fn execute_http_command(
     alloc: Global,
     out: &mut String,
@@ -119,9 +119,9 @@ fn execute_http_command(
 }
 
 // Writes the statement of the account and of the first and the last day that `words` names,
-// separated by spaces. Appends the lines that it wrote and, if it failed, `no` and the number of
-// its refusal, or `! fault`. If `words` is malformed, appends only the refusal 18. Fails only if
-// memory runs out.
+// separated by spaces. Appends the lines that were written and, if the statement failed, `no` and
+// the number of its refusal, or `! fault`. If `words` is malformed, appends only the refusal 18.
+// Fails only if memory runs out.
 fn execute_statement_command(
     alloc: Global,
     out: &mut String,
@@ -147,9 +147,9 @@ fn execute_statement_command(
     }
 }
 
-// Writes the explanation that `words` requests. Appends the lines that it wrote and, if it failed,
-// `no` and the number of its refusal, or `! fault`. If `words` requests none, appends only the
-// refusal 18. Fails only if memory runs out.
+// Writes the explanation that `words` requests. Appends the lines that were written and, if the
+// explanation failed, `no` and the number of its refusal, or `! fault`. If `words` requests no
+// explanation, appends only the refusal 18. Fails only if memory runs out.
 fn execute_explain_command(
     alloc: Global,
     out: &mut String,
@@ -215,9 +215,10 @@ fn database_without_desk(place: Place) -> Place {
     }
 }
 
-// Adopts the open database, or that of the open desk, appends the result (`ok`, `damaged` and the
-// condition that fails, or `! fault`), and returns its desk, or the database if the adoption
-// failed. If nothing is open, appends nothing and returns `Nothing`. Fails only if memory runs out.
+// Adopts the open database, or the database of the open desk, appends the result (`ok`, `damaged`
+// and the condition that fails, or `! fault`), and returns its desk, or the database if the
+// adoption failed. If nothing is open, appends nothing and returns `Nothing`. Fails only if memory
+// runs out.
 fn execute_adopt_command(alloc: Global, out: &mut String, place: Place) -> Result<Place, Failed> {
     match place.into_conn() {
         Some(conn) => {
@@ -229,8 +230,8 @@ fn execute_adopt_command(alloc: Global, out: &mut String, place: Place) -> Resul
     }
 }
 
-// Executes the SQL statement `bytes`, as another program would, and appends the output line `! sql`
-// if it fails or is not UTF-8. Fails only if memory runs out.
+// Executes the SQL statement `bytes` on a database, as another program would, and appends the
+// output line `! sql` if the statement fails or is not UTF-8. Fails only if memory runs out.
 fn execute_sql_statement(
     out: &mut String,
     conn: &mut Connection<MemStore>,
@@ -263,9 +264,9 @@ fn execute_sql_command(out: &mut String, place: Place, pieces: &[Piece]) -> Resu
     }
 }
 
-// Appends the rows of all tables, adopts the database again without appending the result, and
-// returns its desk, or the database if the adoption failed. If nothing is open, appends nothing and
-// returns `Nothing`. Fails only if memory runs out.
+// Appends the rows of all tables of the open database as output lines, adopts the database again
+// without appending the result, and returns its desk, or the database if the adoption failed. If
+// nothing is open, appends nothing and returns `Nothing`. Fails only if memory runs out.
 fn execute_tables_command(alloc: Global, out: &mut String, place: Place) -> Result<Place, Failed> {
     match place.into_conn() {
         Some(mut conn) => {

@@ -28,7 +28,7 @@ impl Place {
     }
 
     /// Returns a new desk in memory, or `Nothing` if it cannot be created. Its tables have no rows,
-    /// except for one row of DESK.
+    /// except for one row of the table DESK.
     pub fn with_new_desk(alloc: Global) -> Place {
         let Ok(conn) = Connection::open_in_memory(alloc) else {
             return Place::Nothing;

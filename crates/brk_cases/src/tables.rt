@@ -33,9 +33,9 @@ fn append_table_row(out: &mut String, table: &str, row: &Row) -> Result<(), Fail
     Ok(())
 }
 
-// Appends the rows of a table, sorted by the columns `key` (their places, counted from 1), each as
-// an output line, or the line `! no table` with its name if the rows cannot be read. Fails only if
-// memory runs out.
+// Appends the rows of a table as output lines, sorted by the columns `key` (their places, counted
+// from 1), or the line `! no table` with the name of the table if the rows cannot be read. Fails
+// only if memory runs out.
 fn append_rows_of_table(
     alloc: Global,
     out: &mut String,

@@ -29,7 +29,7 @@ fn append_record_line(out: &mut String, record: &[String]) -> Result<(), Failed>
     Ok(())
 }
 
-// Appends each record of a view as an output line. Fails only if memory runs out.
+// Appends each record of a view, in order, as an output line. Fails only if memory runs out.
 fn append_view_lines(alloc: Global, out: &mut String, view: &View) -> Result<(), Failed> {
     match view_fields(alloc, view) {
         Ok(records) => {
@@ -95,8 +95,9 @@ fn form_of_printed_view(word: &str) -> Form {
 }
 
 /// Prints a view of a desk: `words` contains the format and the name of the view, separated by a
-/// space, and the input lines are its arguments. Appends the printed text and, if it failed, `no`
-/// and the number of the refusal, or `! fault`. Fails only if memory runs out.
+/// space, and the input lines are the arguments of the view. Appends the printed text and, if
+/// printing failed, `no` and the number of the refusal, or `! fault`. Fails only if memory runs
+/// out.
 pub fn execute_print_command(
     alloc: Global,
     out: &mut String,

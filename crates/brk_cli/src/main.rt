@@ -9,9 +9,8 @@ use std::env;
 use std::io::ErrorKind;
 use std::process::ExitCode;
 
-// Returns the command-line arguments, the program's own name first.
-//
-// Fails with `Memory`, or with `Words` if an argument is not UTF-8.
+// Returns the command-line arguments, the program's own name first. Fails with `Memory`, or with
+// `Words` if an argument is not UTF-8.
 fn command_line_arguments(rt: &HostRuntime) -> Result<Vec<String>, UsageFault> {
     match env::args(rt) {
         Ok(words) => {

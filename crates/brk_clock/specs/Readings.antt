@@ -7,8 +7,8 @@ use Rattle.brk_money.specs.Moments.{greatest_stamp}
 use Rattle.brk_clock.specs.declared.moments.ProgramClock.{ProgramClock}
 use Rattle.brk_clock.specs.declared.moments.ProgramClock.TheVariants as moments
 
--- The stamp of a time: its whole milliseconds since 1970-01-01 UTC, or the greatest stamp if it is
--- smaller.
+-- The stamp of a time: its whole milliseconds since 1970-01-01 UTC, or the greatest stamp if the
+-- time is later than this stamp.
 abbrev pub stamp_of_time : SystemTime → ℕ
 stamp_of_time time = min (system_time_nanos time / 1000000) greatest_stamp
 
@@ -18,8 +18,8 @@ abbrev pub program_clock : {R : Type 0} → Bor R → Option ℕ → ProgramCloc
 program_clock machine (Some stamp) = moments.At stamp
 program_clock machine None = moments.Machine machine
 
--- The clock returned the reading `moment` and did not change. A clock with a fixed timestamp
--- returned this timestamp; a reading of the machine's clock is not specified.
+-- The clock returned the reading `moment` and did not change. If the clock has a fixed timestamp,
+-- `moment` is this timestamp; which reading the machine's clock returns is not specified.
 abbrev pub ReturnsReading : {R : Type 0} → ProgramClock R → ℕ → ProgramClock R → Type 0
 ReturnsReading (moments.At stamp) moment new = (moment ≡ stamp) × (new ≡ moments.At stamp)
 ReturnsReading (moments.Machine machine) moment new = new ≡ moments.Machine machine

@@ -5,11 +5,13 @@ use Rattle.brk_money.specs.Kinds.{condition_word}
 use Rattle.brk_money.specs.declared.fault.Fault.{Fault}
 use Rattle.brk_money.specs.declared.fault.Fault.TheVariants as fault
 
--- The bytes of an error line in two parts: the first, the second, and a line feed.
+-- The bytes of the error line whose two parts are `line.0` and `line.1`: the first part, the second
+-- part, and a line feed.
 abbrev pub bytes_of_error_line : Bor (List ℕ) × Bor (List ℕ) → List ℕ
 bytes_of_error_line line = line.0.now ++ (line.1.now ++ (10 ∷ []))
 
--- The bytes of the error line of a fault of a desk, with its line feed.
+-- The bytes of the error line of a fault of a desk, with its line feed: `brk: fault: ` and `memory`
+-- or `store`, or `brk: damaged: ` and the word for the condition that fails.
 abbrev pub error_line_of_fault : Fault → List ℕ
 error_line_of_fault fault.Memory = codes "brk: fault: memory\n"
 error_line_of_fault fault.Store = codes "brk: fault: store\n"

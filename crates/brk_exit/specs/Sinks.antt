@@ -7,11 +7,12 @@ use Rattle.std.specs.Io.KnownBytes.{Appends}
 abbrev pub ReceivesPrefix : Option (List ℕ) → Option (List ℕ) → List ℕ → Type 0
 ReceivesPrefix old new text = (prefix : List ℕ) × (left : List ℕ) × Appends old new prefix × (text ≡ prefix ++ left)
 
--- The sink received a prefix of `text`, perhaps all of it, and its last step, to the state `new`,
--- was a failure.
+-- The sink received a prefix of `text`, perhaps empty or all of it, between the states `old` and
+-- `new`, and its last step, to the state `new`, was a failure.
 abbrev pub SinkFailsWithinText : {S : Type 0} → (S → Option (List ℕ)) → (S → S → Type 0) → S → S → List ℕ → Type 0
 SinkFailsWithinText {S} contents fails old new text = (last : S) × fails last new × ReceivesPrefix (contents old) (contents new) text
 
--- The sink received all of `text`, or it received a prefix of it and then failed.
+-- The sink received all of `text` between the states `old` and `new`, or it received a prefix of
+-- `text` and then failed.
 abbrev pub ReceivesTextOrFails : {S : Type 0} → (S → Option (List ℕ)) → (S → S → Type 0) → S → S → List ℕ → Type 0
 ReceivesTextOrFails contents fails old new text = Appends (contents old) (contents new) text ⊎ SinkFailsWithinText contents fails old new text

@@ -37,8 +37,8 @@ pub enum Ending {
 }
 
 // Returns the error line of a batch that ended early, in two parts: `brk: batch: ` and the cause
-// for a missing or wrong header or end, `brk: fault: ` and the cause if reading or writing failed,
-// and otherwise the error line of the desk's fault.
+// for a missing or wrong header or end record, `brk: fault: ` and `read` or `write` if reading or
+// writing failed, and otherwise the error line of the desk's fault.
 fn batch_error_line(kind: FaultKind) -> ErrorLineParts<'static>
     ensures { line.bytes_of_error_line result ≡ spec.error_line_of_batch kind }
 {
@@ -74,8 +74,8 @@ fn fault_exit_status(fault: Fault) -> u8
     }
 }
 
-// Returns the exit status of a batch that ended early: 1 if its header or its end is missing or
-// wrong, 3 if reading or writing failed, otherwise the exit status of the desk's fault.
+// Returns the exit status of a batch that ended early: 1 if its header or its end record is missing
+// or wrong, 3 if reading or writing failed, otherwise the exit status of the desk's fault.
 fn batch_exit_status(kind: FaultKind) -> u8
     ensures { result ≡ spec.exit_status_of_batch_fault kind }
 {
@@ -99,7 +99,9 @@ fn report_exit_status(fault: &ReportFault) -> u8
 }
 
 // Returns the exit status of an ending: 0 if the job is done or help was requested, 2 if the
-// arguments are wrong, otherwise the exit status of its fault, 1 or 3.
+// arguments are wrong, 3 if a stream ended early, no stream could be accepted, the output could not
+// be written, also to a closed pipe, or memory ran out while the arguments were parsed, and
+// otherwise the exit status of the fault of the open, the batch or the report.
 fn ending_exit_status(ending: &Ending) -> u8
     ensures { result ≡ spec.exit_status ending.now }
 {
@@ -118,8 +120,8 @@ fn ending_exit_status(ending: &Ending) -> u8
     }
 }
 
-/// Returns the ending of the program after the database was closed, with the result `closed`: the
-/// fault of the close if the job was done and the close failed, otherwise `ending`.
+/// Returns the ending of the program after the database was closed with the result `closed`: `Open`
+/// with the fault of the close if the job was done and the close failed, otherwise `ending`.
 pub fn ending_after_close(ending: Ending, closed: Result<(), Fault>) -> Ending
     ensures { result ≡ spec.ending_after_close ending closed }
 {
@@ -129,9 +131,9 @@ pub fn ending_after_close(ending: Ending, closed: Result<(), Fault>) -> Ending
     }
 }
 
-// Sends the error line of a report that is refused or ended early to `errors`: with the number of
-// the refusal, or the fault of the desk or of the writer. If the sink fails, it has received a
-// prefix of the line.
+// Sends to `errors` the error line of a report that is refused or ended early: the number of the
+// refusal, or the error line of the fault of the desk or of the writer. If the sink fails, it has
+// received a prefix of the line, perhaps all of it.
 fn send_report_error_line<S: Sink>(fault: &ReportFault, errors: &mut S) -> Result<(), NotWritten>
     ensures ok { OnOk result (Appends (S.contents errors.old) (S.contents errors.new) (spec.error_line_of_report fault.now)) }
     ensures err { OnErr result (SinkFailsWithinText S.contents S.fails errors.old errors.new (spec.error_line_of_report fault.now)) }
@@ -146,8 +148,8 @@ fn send_report_error_line<S: Sink>(fault: &ReportFault, errors: &mut S) -> Resul
     }
 }
 
-// Sends the error text of arguments that request no job to `errors`, or nothing for help. If the
-// sink fails, it has received a prefix of the text.
+// Sends to `errors` the error text or line of arguments that request no job, or nothing for help.
+// If the sink fails, it has received a prefix of the text, perhaps all of it.
 fn send_usage_error_text<S: Sink>(fault: &UsageFault, errors: &mut S) -> Result<(), NotWritten>
     ensures ok { OnOk result (Appends (S.contents errors.old) (S.contents errors.new) (spec.error_line_of_usage fault.now)) }
     ensures err { OnErr result (SinkFailsWithinText S.contents S.fails errors.old errors.new (spec.error_line_of_usage fault.now)) }
@@ -160,8 +162,9 @@ fn send_usage_error_text<S: Sink>(fault: &UsageFault, errors: &mut S) -> Result<
     }
 }
 
-/// Sends the error line of an ending to `errors`, or nothing for a job that is done, for help and
-/// for a closed pipe. If the sink fails, it has received a prefix of the line.
+/// Sends to `errors` the error line or text of an ending, or nothing for a job that is done, for
+/// help and for a closed pipe. If the sink fails, it has received a prefix of the line, perhaps all
+/// of it.
 pub fn send_error_line<S: Sink>(ending: &Ending, errors: &mut S) -> Result<(), NotWritten>
     ensures ok { OnOk result (Appends (S.contents errors.old) (S.contents errors.new) (spec.error_line ending.now)) }
     ensures err { OnErr result (SinkFailsWithinText S.contents S.fails errors.old errors.new (spec.error_line ending.now)) }
@@ -179,8 +182,9 @@ pub fn send_error_line<S: Sink>(ending: &Ending, errors: &mut S) -> Result<(), N
     }
 }
 
-/// Sends the error line of an ending to `errors`, if it has one, and returns its exit status, which
-/// does not depend on a failure of the sink.
+/// Sends the error line of an ending to `errors`, if the ending has one, and returns the exit
+/// status of the ending, also if the sink fails. The sink has then received a prefix of the line,
+/// perhaps all of it.
 pub fn end_with<S: Sink>(ending: &Ending, errors: &mut S) -> u8
     ensures status { result ≡ spec.exit_status ending.now }
     ensures line { ReceivesTextOrFails S.contents S.fails errors.old errors.new (spec.error_line ending.now) }

@@ -15,7 +15,8 @@ pub trait Sink {
     /// sink that defines no relation of its own.
     ghost fails: { Self → Self → Type 0 } = { λ _ _. Unit {0} };
 
-    /// Sends all bytes to the sink. If it fails, it has received a prefix of them, perhaps all.
+    /// Sends all of `bytes` to the sink. If the sink fails, it has received a prefix of them,
+    /// perhaps all.
     fn send(&mut self, bytes: &[u8]) -> Result<(), NotWritten>
         ensures ok { OnOk result (Appends (contents self.old) (contents self.new) bytes.now) }
         ensures err { OnErr result (SinkFailsWithinText contents fails self.old self.new bytes.now) };
@@ -25,7 +26,8 @@ pub trait Sink {
 impl<W: Write> Sink for W {
     ghost contents = { W.contents };
 
-    /// Writes all bytes by calls of `write`. If the writer fails, it has received a prefix of them.
+    /// Writes all of `bytes` to the writer. If the writer fails, it has received a prefix of them,
+    /// perhaps all.
     fn send(&mut self, bytes: &[u8]) -> Result<(), NotWritten> {
         write_all_bytes(self, bytes)
     }

@@ -29,8 +29,8 @@ pub fn subtract_amounts(one: Wide, other: Wide) -> Result<Wide, Fault>
     }
 }
 
-/// Returns the product of a number of shares and a price, in cents; below 0 if the number is. Fails
-/// with `Store` if the product overflows.
+/// Returns the product of a number of shares and a price, in cents; below 0 if the number is below
+/// 0. Fails with `Store` if the product overflows.
 pub fn value_of_shares_at_price(shares: i64, price: Price) -> Result<Wide, Fault>
     ensures value { IfOk result (λ value. value ≡ shares *ℤ pos price) }
     ensures fault { IfErr result IsCallFault }
@@ -41,8 +41,8 @@ pub fn value_of_shares_at_price(shares: i64, price: Price) -> Result<Wide, Fault
     }
 }
 
-/// Returns `cents` as an amount of the signed type `Wide`. Fails with `Store` if `cents` exceeds
-/// the greatest value of `i128`.
+/// Returns the number `cents` as an amount of the signed type `Wide`. Fails with `Store` if the
+/// number exceeds the greatest value of `i128`.
 pub fn wide_amount_of_cents(cents: u128) -> Result<Wide, Fault>
     ensures amount { IfOk result (λ amount. amount ≡ pos cents) }
     ensures fault { IfErr result IsCallFault }
@@ -53,8 +53,8 @@ pub fn wide_amount_of_cents(cents: u128) -> Result<Wide, Fault>
     }
 }
 
-/// Returns the amount, in cents, as a value of the narrower type `Cents`. Fails with `Store` if its
-/// absolute value exceeds the greatest amount.
+/// Returns the amount, in cents, as a value of the narrower type `Cents`. Fails with `Store` if the
+/// absolute value of the amount exceeds the greatest value of `Cents`.
 pub fn cents_within_limits(amount: Wide) -> Result<Cents, Fault>
     ensures cents { IfOk result (λ cents. cents ≡ amount) }
     ensures fault { IfErr result IsCallFault }

@@ -15,7 +15,8 @@ use brk_money::{Day, Fault, Wide, write_day};
 use brk_report_lines::append_left_aligned;
 use std::alloc::Global;
 
-/// Appends to `out` a label, left-aligned in 15 places, and a space. Fails with `Memory` only.
+/// Appends to `out` a label, padded with spaces to 15 bytes (a longer one whole), and a space.
+/// Fails with `Memory` only.
 pub fn put_label(out: &mut Vec<u8>, label: &str) -> Result<(), Fault>
     ensures ok { OnOk result (out.new.items ≡ out.old.items ++ left_aligned_text 15 label.now ++ 32 ∷ []) }
     ensures fault { OnErr result (result ≡ Err Memory) }
@@ -123,8 +124,8 @@ pub fn put_labeled_amount_line(
     end_line(out)
 }
 
-/// Appends to `out` the line of a label, left-aligned in 15 places, a space, and a day in the format
-/// YYYY-MM-DD, with its line feed. Fails with `Memory` only.
+/// Appends to `out` the line of a label, left-aligned in 15 places, a space, and a day in the
+/// format YYYY-MM-DD, with its line feed. Fails with `Memory` only.
 #[tactic(auto, unfolding(brk_explain_model::specs::Texts::labeled_text))]
 pub fn put_labeled_day_line(out: &mut Vec<u8>, label: &str, day: Day) -> Result<(), Fault>
     ensures ok { OnOk result (out.new.items ≡ out.old.items ++ line_with_line_feed (texts.labeled_text label.now (day_text day))) }

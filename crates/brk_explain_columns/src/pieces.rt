@@ -67,7 +67,8 @@ pub fn put_number(out: &mut Vec<u8>, n: u64) -> Result<(), Fault>
     put_text(out, buffer.format(n).as_bytes())
 }
 
-/// Appends to `out` a text and a number in decimal digits. Fails with `Memory` only.
+/// Appends to `out` a text and, directly after it, a number in decimal digits. Fails with `Memory`
+/// only.
 pub fn put_text_and_number(out: &mut Vec<u8>, text: &str, n: u64) -> Result<(), Fault>
     ensures ok { OnOk result (out.new.items ≡ out.old.items ++ text.now ++ decimal n) }
     ensures fault { OnErr result (result ≡ Err Memory) }
@@ -76,8 +77,8 @@ pub fn put_text_and_number(out: &mut Vec<u8>, text: &str, n: u64) -> Result<(), 
     put_number(out, n)
 }
 
-/// Appends to `out` the title line of an explanation: a text, an id, and `, times in UTC`. Fails
-/// with `Memory` only.
+/// Appends to `out` the title line of an explanation: a text, an id, the text `, times in UTC`, and
+/// a line feed. Fails with `Memory` only.
 pub fn put_title_line(out: &mut Vec<u8>, text: &str, id: Id) -> Result<(), Fault>
     ensures ok { OnOk result (out.new.items ≡ out.old.items ++ line_with_line_feed (text.now ++ decimal id ++ codes ", times in UTC")) }
     ensures fault { OnErr result (result ≡ Err Memory) }
@@ -86,8 +87,8 @@ pub fn put_title_line(out: &mut Vec<u8>, text: &str, id: Id) -> Result<(), Fault
     put_text_line(out, b", times in UTC")
 }
 
-/// Appends to `out` a space, and a text, right-aligned in `places` places, at most 22. Fails with
-/// `Memory` only.
+/// Appends to `out` a space, and a text, right-aligned in `places` places, at most 22; a longer
+/// text is appended whole. Fails with `Memory` only.
 pub fn put_column(out: &mut Vec<u8>, places: usize, text: &[u8]) -> Result<(), Fault>
     requires { places ≤ 22 }
     ensures ok { OnOk result (out.new.items ≡ out.old.items ++ 32 ∷ right_aligned_text places text.now) }
@@ -98,7 +99,7 @@ pub fn put_column(out: &mut Vec<u8>, places: usize, text: &[u8]) -> Result<(), F
 }
 
 /// Appends to `out` a space, and a number in decimal digits, right-aligned in `places` places, at
-/// most 22. Fails with `Memory` only.
+/// most 22; a longer number is appended whole. Fails with `Memory` only.
 pub fn put_number_column(out: &mut Vec<u8>, places: usize, n: u64) -> Result<(), Fault>
     requires { places ≤ 22 }
     ensures ok { OnOk result (out.new.items ≡ out.old.items ++ 32 ∷ right_aligned_text places (decimal n)) }
@@ -108,8 +109,9 @@ pub fn put_number_column(out: &mut Vec<u8>, places: usize, n: u64) -> Result<(),
     put_column(out, places, buffer.format(n).as_bytes())
 }
 
-/// Appends to `out` a space, and a number that may be below 0, right-aligned in `places` places, at
-/// most 22. Fails with `Memory` only.
+/// Appends to `out` a space, and a number in decimal digits, with a minus sign if it is below 0,
+/// right-aligned in `places` places, at most 22; a longer number is appended whole. Fails with
+/// `Memory` only.
 pub fn put_integer_column(out: &mut Vec<u8>, places: usize, n: i128) -> Result<(), Fault>
     requires { places ≤ 22 }
     ensures ok { OnOk result (out.new.items ≡ out.old.items ++ 32 ∷ right_aligned_text places (signed_decimal n)) }
@@ -120,7 +122,8 @@ pub fn put_integer_column(out: &mut Vec<u8>, places: usize, n: i128) -> Result<(
 }
 
 /// Appends to `out` a space, and an amount in cents, written with two decimal places and
-/// right-aligned in `places` places, at most 22. Fails with `Memory` only.
+/// right-aligned in `places` places, at most 22; a longer amount is appended whole. Fails with
+/// `Memory` only.
 pub fn put_cents_column(
     alloc: Global,
     out: &mut Vec<u8>,

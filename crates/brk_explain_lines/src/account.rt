@@ -23,7 +23,9 @@ use brk_ref::AccountRow;
 use brk_report_lines::{append_left_aligned, lot_line};
 use std::alloc::Global;
 
-// Appends to `out` the first lines of the explanation of an account. Fails with `Memory` only.
+// Appends to `out` the first lines of the explanation of an account: the title, the name, the
+// customer, the broker, the tax status, the opening balance, and the column headings of the cash
+// rows. Fails with `Memory` only.
 #[tactic(auto, unfolding(brk_explain_model::specs::AccountLines::account_header_lines))]
 fn put_account_header(alloc: Global, out: &mut Vec<u8>, row: &AccountRow) -> Result<(), Fault>
     ensures ok { OnOk result (out.new.items ≡ out.old.items ++ text_of_lines (lines.account_header_lines (abstract_account_row row.now))) }
@@ -66,7 +68,9 @@ fn put_trade_id_or_hyphen(out: &mut Vec<u8>, trade: Option<Id>) -> Result<(), Fa
     }
 }
 
-// Appends to `out` the line of `cash_posting_text`. Fails with `Memory` only.
+// Appends to `out` the line of a cash row, with a line feed: the word `Posted`, its timestamp, its
+// id, the id of its trade or a hyphen, its amount, `balance`, which is the balance after it, and
+// its name. Fails with `Memory` only.
 #[tactic(auto, unfolding(brk_explain_model::specs::AccountLines::cash_posting_line))]
 fn put_cash_posting(
     alloc: Global,
@@ -97,7 +101,8 @@ pub fn cash_posting_text(alloc: Global, row: &MoveRow, balance: Wide) -> Result<
     Ok(line)
 }
 
-// Appends to `out` the lines of `balance_header_text`. Fails with `Memory` only.
+// Appends to `out` the line of the balance of an account and the line of the column headings of its
+// lots and holdings. Fails with `Memory` only.
 #[tactic(auto, unfolding(brk_explain_model::specs::AccountLines::balance_header_lines))]
 fn put_balance_header(alloc: Global, out: &mut Vec<u8>, row: &AccountRow) -> Result<(), Fault>
     ensures ok { OnOk result (out.new.items ≡ out.old.items ++ text_of_lines (lines.balance_header_lines (abstract_account_row row.now))) }
@@ -121,7 +126,8 @@ pub fn balance_header_text(alloc: Global, row: &AccountRow) -> Result<Vec<u8>, F
     Ok(text)
 }
 
-// Appends to `out` the word `Lot` and a space, and then `lot`. Fails with `Memory` only.
+// Appends to `out` the word `Lot`, padded with spaces to 6 bytes, a space, and the text `lot`.
+// Fails with `Memory` only.
 fn put_word_before_lot(out: &mut Vec<u8>, lot: &[u8]) -> Result<(), Fault>
     ensures ok { OnOk result (out.new.items ≡ out.old.items ++ left_aligned_text 6 (codes "Lot") ++ 32 ∷ lot.now) }
     ensures fault { OnErr result (result ≡ Err Memory) }
@@ -143,8 +149,8 @@ pub fn open_lot_text(alloc: Global, row: &HoldingRow) -> Result<Vec<u8>, Fault>
     Ok(line)
 }
 
-// Returns the market value of a holding, in cents: its quantity times the last price, below 0 if it
-// was sold short. Fails with `Store` if the product overflows.
+// Returns the market value of a holding, in cents: its quantity times the last price, below 0 if
+// the shares were sold short. Fails with `Store` if the product overflows.
 fn market_value_of_holding(held: &PricedHolding) -> Result<Wide, Fault>
     ensures worth { IfOk result (λ worth. worth ≡ lines.market_value_of_holding (abstract_priced_holding held.now)) }
     ensures fault { IfErr result IsCallFault }
@@ -152,8 +158,8 @@ fn market_value_of_holding(held: &PricedHolding) -> Result<Wide, Fault>
     value_of_shares_at_price(held.summary.qty, held.price)
 }
 
-// Returns the sum of the market values of the holdings, in cents. Fails with `Store` if a value or
-// the sum overflows.
+// Returns the sum of the market values of the holdings, in cents, 0 if there are none. Fails with
+// `Store` if a value or the sum overflows.
 fn market_value_of_holdings(all: &[PricedHolding]) -> Result<Wide, Fault>
     ensures total { IfOk result (λ total. total ≡ lines.market_value_of_holdings (map abstract_priced_holding all.now)) }
     ensures fault { IfErr result IsCallFault }
@@ -194,8 +200,9 @@ fn put_quantity_and_price(
     put_cents_column(alloc, out, 10, Wide::from(price))
 }
 
-// Appends to `out` the line of a holding: the word `Held`, its symbol, its quantity, its last price
-// and its market value. Fails with `Memory` or `Store`; with `Store` if the market value overflows.
+// Appends to `out` the line of a holding, with a line feed: the word `Held`, its symbol, its
+// quantity, its last price and its market value. Fails with `Memory` or `Store`; with `Store` if
+// the market value overflows.
 #[tactic(auto, unfolding(brk_explain_model::specs::AccountLines::holding_line))]
 fn put_holding_line(alloc: Global, out: &mut Vec<u8>, held: &PricedHolding) -> Result<(), Fault>
     ensures ok { OnOk result (out.new.items ≡ out.old.items ++ line_with_line_feed (lines.holding_line (abstract_priced_holding held.now))) }
@@ -208,7 +215,8 @@ fn put_holding_line(alloc: Global, out: &mut Vec<u8>, held: &PricedHolding) -> R
     end_line(out)
 }
 
-// Appends to `out` the line of each holding. Fails as `put_holding_line` does.
+// Appends to `out` the line of each holding, in order. Fails with `Memory` or `Store`; with `Store`
+// if a market value overflows.
 fn put_holding_lines(alloc: Global, out: &mut Vec<u8>, all: &[PricedHolding]) -> Result<(), Fault>
     ensures ok { OnOk result (out.new.items ≡ out.old.items ++ text_of_lines (map lines.holding_line (map abstract_priced_holding all.now))) }
     ensures fault { IfErr result IsCallFault }
@@ -220,7 +228,7 @@ fn put_holding_lines(alloc: Global, out: &mut Vec<u8>, all: &[PricedHolding]) ->
 }
 
 // Appends to `out` the last line of the explanation of an account, with the numbers of its cash
-// rows, its lots and the symbols that it holds. Fails with `Memory` only.
+// rows (`cash`), of its lots and of the symbols that it holds. Fails with `Memory` only.
 fn put_account_counts_line(
     out: &mut Vec<u8>,
     cash: u64,
@@ -237,8 +245,8 @@ fn put_account_counts_line(
 }
 
 // Appends to `out` the lines of the market value of the holdings, of the assets, and of the numbers
-// of cash rows, lots and symbols. The assets are the balance plus the market value, in cents. Fails
-// with `Memory` or `Store`; with `Store` if the assets overflow.
+// of cash rows (`cash`), lots and symbols. The assets are the balance plus the market value, in
+// cents. Fails with `Memory` or `Store`; with `Store` if the assets overflow.
 #[tactic(auto, unfolding(brk_explain_model::specs::AccountLines::account_total_lines))]
 fn put_account_total_lines(
     alloc: Global,
@@ -258,7 +266,9 @@ fn put_account_total_lines(
     put_account_counts_line(out, cash, lots, symbols)
 }
 
-// Appends to `out` the lines of `holding_and_total_text`. Fails as it does.
+// Appends to `out` the last lines of the explanation of an account: one for each holding, the
+// market value of the holdings, the assets, and the numbers of cash rows (`cash`), of lots (`lots`)
+// and of held symbols. Fails with `Memory` or `Store`; with `Store` if an amount overflows.
 fn put_holdings_and_totals(
     alloc: Global,
     out: &mut Vec<u8>,
@@ -277,8 +287,8 @@ fn put_holdings_and_totals(
 }
 
 /// Returns the last lines of the explanation of an account: one for each holding, the market value
-/// of the holdings, the assets, and the numbers of cash rows (`cash`), lots and symbols. Fails with
-/// `Memory` or `Store`; with `Store` if an amount overflows.
+/// of the holdings, the assets, and the numbers of cash rows (`cash`), of lots (`lots`) and of held
+/// symbols. Fails with `Memory` or `Store`; with `Store` if an amount overflows.
 pub fn holding_and_total_text(
     alloc: Global,
     row: &AccountRow,

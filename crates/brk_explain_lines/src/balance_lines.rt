@@ -19,8 +19,8 @@ use brk_explain_rows::{OrderDetails, ResultDetails};
 use brk_money::{Fault, Wide};
 use std::alloc::Global;
 
-// Appends to `out` the line of the cash row of a trade, with its id and its name, or with `none` if
-// the trade has no cash row. Fails with `Memory` only.
+// Appends to `out` the line of the cash row of a trade: its id and its name, or `none` if the trade
+// has no cash row. Fails with `Memory` only.
 #[tactic(auto, unfolding(brk_explain_model::specs::TradeLines::trade_cash_row_line))]
 fn put_cash_row_line(out: &mut Vec<u8>, row: &Option<MoveRow>) -> Result<(), Fault>
     ensures ok { OnOk result (out.new.items ≡ out.old.items ++ line_with_line_feed (lines.trade_cash_row_line (option_map abstract_move_row row.now))) }
@@ -33,10 +33,10 @@ fn put_cash_row_line(out: &mut Vec<u8>, row: &Option<MoveRow>) -> Result<(), Fau
     put_spaced_text_line(out, row.name.as_bytes())
 }
 
-/// Appends to `out` the lines of the cash row of a completed trade, of the opening balance, of the
-/// sum of the earlier cash rows, of the balance before the trade, of the amount of the cash row,
-/// and of the balance after the trade. Fails with `Memory` or `Store`; with `Store` if a balance
-/// overflows.
+/// Appends to `out` the lines of the cash row of a completed trade (`none` without one), of the
+/// opening balance, of the sum of the earlier cash rows, of the balance before the trade, of the
+/// amount of the cash row (0.00 without one), and of the balance after the trade. Fails with
+/// `Memory` or `Store`; with `Store` if a balance overflows.
 #[tactic(auto, unfolding(brk_explain_model::specs::TradeLines::trade_balance_lines))]
 pub(crate) fn put_balance_lines(
     alloc: Global,

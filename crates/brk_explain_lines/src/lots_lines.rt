@@ -41,10 +41,10 @@ fn put_price_and_lot_header_lines(
     )
 }
 
-// Appends to `out` the line of a closing by a trade on `side` at `price`: the stamp and the id of
-// the trade that opened the lot, the number of closed shares, the lot's price, the buy value and
-// the sell value of these shares, and the lot's quantity after the closing. Fails with `Memory` or
-// `Store`; with `Store` if a value overflows.
+// Appends to `out` the line of a closing by a trade on `side` at `price`: the word `Closed`, the
+// stamp and the id of the trade that opened the lot, the number of closed shares, the lot's price,
+// the buy value and the sell value of these shares, and the lot's quantity after the closing. Fails
+// with `Memory` or `Store`; with `Store` if a value overflows.
 #[tactic(auto, unfolding(brk_explain_model::specs::TradeLines::closed_lot_line))]
 fn put_closed_lot_line(
     alloc: Global,
@@ -92,8 +92,9 @@ fn put_closed_lot_lines(
     Ok(())
 }
 
-// Appends to `out` the line of the lot that `trade` opened at `price`: the stamp and the id of the
-// trade, the quantity after the change `lot`, and the price. Fails with `Memory` only.
+// Appends to `out` the line of the lot that `trade` opened at `price`: the word `Opened`, the stamp
+// and the id of the trade, the quantity after the change `lot`, and the price. Fails with `Memory`
+// only.
 #[tactic(auto, unfolding(brk_explain_model::specs::TradeLines::opened_lot_line))]
 fn put_opened_lot_line(
     alloc: Global,
@@ -111,8 +112,8 @@ fn put_opened_lot_line(
     end_line(out)
 }
 
-// Appends to `out` the line of the lot that `trade` opened at `price`, or nothing if `lot` is
-// `None`. Fails with `Memory` only.
+// Appends to `out` the line of the lot that `trade` opened at `price` by the change `lot`, or
+// nothing if `lot` is `None`. Fails with `Memory` only.
 #[tactic(auto, unfolding(brk_explain_model::specs::TradeLines::opened_lot_lines))]
 fn put_opened_lot_line_if_any(
     alloc: Global,
@@ -141,8 +142,9 @@ fn count_of_opened_shares(details: &ResultDetails) -> u64
     }
 }
 
-// Appends to `out` the lines of the number of shares that a trade closed and of the number that it
-// opened. Fails with `Memory` or `Store`; with `Store` if the number of closed shares overflows.
+// Appends to `out` the lines of the number of shares that a trade closed and of the number of
+// shares that it opened. Fails with `Memory` or `Store`; with `Store` if the number of closed
+// shares overflows.
 #[tactic(auto, unfolding(brk_explain_model::specs::TradeLines::share_count_lines))]
 fn put_share_count_lines(out: &mut Vec<u8>, details: &ResultDetails) -> Result<(), Fault>
     ensures ok { OnOk result (out.new.items ≡ out.old.items ++ text_of_lines (lines.share_count_lines (abstract_result_details details.now))) }
@@ -175,9 +177,10 @@ fn put_realised_gain_lines(
     put_labeled_amount_line(alloc, out, "Realised gain", gain)
 }
 
-/// Appends to `out` the lines of the price of a completed trade, of its closings, of the lot that
-/// it opened, of the numbers of shares, and of the realised gain. Fails with `Memory` or `Store`;
-/// with `Store` if a number of shares or an amount overflows.
+/// Appends to `out` the lines of the price of a completed trade, of the column headings of its
+/// lots, of its closings, of the lot that it opened, if any, of the numbers of closed and opened
+/// shares, and of the buy value, the sell value and the realised gain. Fails with `Memory` or
+/// `Store`; with `Store` if a number of shares or an amount overflows.
 #[tactic(auto, unfolding(brk_explain_model::specs::TradeLines::lot_and_gain_lines, brk_explain_model::specs::TradeLines::closed_lot_lines))]
 pub(crate) fn put_lot_and_gain_lines(
     alloc: Global,

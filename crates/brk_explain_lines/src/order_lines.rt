@@ -20,8 +20,8 @@ use brk_money::{Fault, Wide};
 use brk_report_lines::append_left_aligned;
 use std::alloc::Global;
 
-// Appends to `out` the line of a status change: its timestamp, and the code and the name of the
-// status. Fails with `Memory` only.
+// Appends to `out` the line of a status change: the word `Status`, its timestamp, and the code and
+// the name of the status. Fails with `Memory` only.
 #[tactic(auto, unfolding(brk_explain_model::specs::TradeLines::status_change_line))]
 fn put_status_line(out: &mut Vec<u8>, row: &HistoryRow) -> Result<(), Fault>
     ensures ok { OnOk result (out.new.items ≡ out.old.items ++ line_with_line_feed (lines.status_change_line (abstract_history_row row.now))) }
@@ -32,7 +32,7 @@ fn put_status_line(out: &mut Vec<u8>, row: &HistoryRow) -> Result<(), Fault>
     put_spaced_text_line(out, row.status.name().as_bytes())
 }
 
-// Appends to `out` the line of each status change. Fails with `Memory` only.
+// Appends to `out` the line of each status change, in order. Fails with `Memory` only.
 fn put_status_lines(out: &mut Vec<u8>, rows: &[HistoryRow]) -> Result<(), Fault>
     ensures ok { OnOk result (out.new.items ≡ out.old.items ++ text_of_lines (map lines.status_change_line (map abstract_history_row rows.now))) }
     ensures fault { OnErr result (result ≡ Err Memory) }
@@ -79,8 +79,8 @@ fn put_trade_type_line(out: &mut Vec<u8>, order: &OrderDetails) -> Result<(), Fa
     put_spaced_text_line(out, order.trade.kind.name().as_bytes())
 }
 
-// Appends to `out` the line of the security of a trade: its symbol in 15 places, and its name.
-// Fails with `Memory` only.
+// Appends to `out` the line of the security of a trade: its symbol, left-aligned in 15 places, and
+// its name. Fails with `Memory` only.
 #[tactic(auto, unfolding(brk_explain_model::specs::Texts::labeled_text))]
 fn put_security_line(out: &mut Vec<u8>, order: &OrderDetails) -> Result<(), Fault>
     ensures ok { OnOk result (out.new.items ≡ out.old.items ++ line_with_line_feed (lines.trade_security_line (abstract_order_details order.now))) }
@@ -136,8 +136,8 @@ fn put_order_terms_lines(
     Ok(())
 }
 
-/// Appends to `out` the lines of the title, of the parties, of the terms of the order, and of the
-/// status changes of a trade. Fails with `Memory` only.
+/// Appends to `out` the lines of the title of the explanation of a trade, of its parties, of the
+/// terms of its order, and of its status changes. Fails with `Memory` only.
 #[tactic(auto, unfolding(brk_explain_model::specs::TradeLines::order_and_status_lines))]
 pub(crate) fn put_order_lines(
     alloc: Global,

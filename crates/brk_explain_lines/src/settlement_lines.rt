@@ -51,8 +51,8 @@ pub(crate) fn put_settlement_lines(
     Ok(())
 }
 
-// Appends to `out` the line of a label and a day in the format YYYY-MM-DD, or `none` if there is no
-// day. Fails with `Memory` only.
+// Appends to `out` the line of a label and a day in the format YYYY-MM-DD, or of the label and
+// `none` if `day` is `None`. Fails with `Memory` only.
 fn put_day_or_none_line(out: &mut Vec<u8>, label: &str, day: Option<Day>) -> Result<(), Fault>
     ensures ok { OnOk result (out.new.items ≡ out.old.items ++ line_with_line_feed (labeled_text label.now (option_map_or day_text day (codes "none")))) }
     ensures fault { OnErr result (result ≡ Err Memory) }

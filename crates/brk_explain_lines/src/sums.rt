@@ -14,7 +14,8 @@ use brk_explain_rows::{Closing, OrderDetails, ResultDetails};
 use brk_money::{Amount, Fault, Price, Qty, Side, TaxRate, TaxStatus, Wide, commission, tax};
 use brk_ref::{Tax, tax_sum};
 
-/// Returns the number of shares that a closing closed.
+/// Returns the number of shares that a closing closed: the absolute difference of the lot's
+/// quantities before and after it.
 pub(crate) fn shares_of_closing(closing: &Closing) -> u64
     ensures { result ≡ trades.shares_of_closing (abstract_closing closing.now) }
 {
@@ -43,7 +44,7 @@ pub(crate) fn sell_value_of_closing(side: Side, price: Price, closing: &Closing)
     }
 }
 
-/// Returns the number of shares that all the closings closed. Fails with `Store` if the sum
+/// Returns the sum of the numbers of shares that the closings closed. Fails with `Store` if the sum
 /// overflows.
 pub(crate) fn total_closed_shares(closings: &[Closing]) -> Result<u64, Fault>
     ensures total { IfOk result (λ total. total ≡ trades.total_closed_shares (map abstract_closing closings.now)) }
@@ -115,8 +116,8 @@ pub(crate) fn realised_gain_of_closings(
     subtract_amounts(sold, bought)
 }
 
-/// Returns the sum of the tax rates, in hundred-thousandths. Fails with `Store` if it exceeds the
-/// greatest tax rate.
+/// Returns the sum of the tax rates, in hundred-thousandths, 0 if there are none. Fails with
+/// `Store` if the sum exceeds the greatest tax rate.
 pub(crate) fn sum_of_tax_rates(rates: &[Tax]) -> Result<TaxRate, Fault>
     ensures total { IfOk result (λ total. total ≡ trades.sum_of_tax_rates (map abstract_tax_rate rates.now)) }
     ensures fault { IfErr result IsCallFault }
@@ -138,9 +139,9 @@ fn is_taxable_status(status: TaxStatus) -> bool
     }
 }
 
-// Returns the tax on a gain, both in cents, at the sum of tax rates `rates`; 0 if gains are not
-// taxable at the tax status. Fails with `Store` if they are taxable and the absolute value of the
-// gain exceeds the greatest amount.
+// Returns the tax, in cents, on the gain `gain`, in cents, at the sum of tax rates `rates`; 0 if
+// gains are not taxable at the tax status. Fails with `Store` if gains are taxable and the absolute
+// value of `gain` exceeds the greatest amount.
 fn tax_on_gain(status: TaxStatus, gain: Wide, rates: TaxRate) -> Result<Wide, Fault>
     ensures tax { IfOk result (λ tax. tax ≡ pos (if base.is_taxable_status status then amounts.tax gain rates else 0)) }
     ensures fault { IfErr result IsCallFault }
@@ -172,8 +173,8 @@ pub(crate) fn tax_at_current_rates(
     tax_on_gain(order.account.account.tax_status, gain, rates)
 }
 
-/// Returns the commission of a trade at the rate of its current band, in cents, or `None` if there
-/// is no band.
+/// Returns the commission of a completed trade at the rate of its current commission band, in
+/// cents, or `None` if there is no band.
 pub(crate) fn commission_in_current_band(
     order: &OrderDetails,
     details: &ResultDetails,
@@ -186,7 +187,7 @@ pub(crate) fn commission_in_current_band(
     }
 }
 
-// Returns the product of a quantity and a price, in cents.
+// Returns the product of the quantity `qty` and the price `price`, in cents.
 fn value_at_price(qty: Qty, price: Price) -> i128
     ensures { result ≡ pos (qty * price) }
 {

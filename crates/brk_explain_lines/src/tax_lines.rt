@@ -22,8 +22,8 @@ use brk_ref::{Band, Tax};
 use brk_report_lines::append_left_aligned;
 use std::alloc::Global;
 
-// Appends to `out` the line of a tax rate: its id, the rate in hundred-thousandths, and its name.
-// Fails with `Memory` only.
+// Appends to `out` the line of a tax rate: the word `Rate`, its id, the rate in
+// hundred-thousandths, and its name. Fails with `Memory` only.
 #[tactic(auto, unfolding(brk_explain_model::specs::TradeLines::tax_rate_line))]
 fn put_tax_rate_line(out: &mut Vec<u8>, rate: &Tax) -> Result<(), Fault>
     ensures ok { OnOk result (out.new.items ≡ out.old.items ++ line_with_line_feed (lines.tax_rate_line (abstract_tax_rate rate.now))) }
@@ -35,7 +35,7 @@ fn put_tax_rate_line(out: &mut Vec<u8>, rate: &Tax) -> Result<(), Fault>
     put_spaced_text_line(out, rate.name.as_str().as_bytes())
 }
 
-// Appends to `out` the line of each tax rate. Fails with `Memory` only.
+// Appends to `out` the line of each tax rate, in order. Fails with `Memory` only.
 fn put_tax_rate_lines(out: &mut Vec<u8>, rates: &[Tax]) -> Result<(), Fault>
     ensures ok { OnOk result (out.new.items ≡ out.old.items ++ text_of_lines (map lines.tax_rate_line (map abstract_tax_rate rates.now))) }
     ensures fault { OnErr result (result ≡ Err Memory) }
@@ -46,7 +46,8 @@ fn put_tax_rate_lines(out: &mut Vec<u8>, rates: &[Tax]) -> Result<(), Fault>
     Ok(())
 }
 
-// Appends to `out` the line of the number of the account's tax status. Fails with `Memory` only.
+// Appends to `out` the line of the number, 0 to 2, of the tax status of a trade's account. Fails
+// with `Memory` only.
 #[tactic(auto, unfolding(brk_explain_model::specs::TradeLines::account_tax_status_lines))]
 fn put_tax_status_line(out: &mut Vec<u8>, order: &OrderDetails) -> Result<(), Fault>
     ensures ok { OnOk result (out.new.items ≡ out.old.items ++ text_of_lines (lines.account_tax_status_lines (abstract_order_details order.now))) }
@@ -56,7 +57,8 @@ fn put_tax_status_line(out: &mut Vec<u8>, order: &OrderDetails) -> Result<(), Fa
     put_labeled_number_line(out, "Tax status", u64::from(status.number()))
 }
 
-// Appends to `out` the line of the sum of tax rates, in hundred-thousandths. Fails with `Memory` only.
+// Appends to `out` the line of the sum of tax rates, in hundred-thousandths: the label `Rates now`,
+// the sum, and ` of 100000`. Fails with `Memory` only.
 fn put_rates_line(out: &mut Vec<u8>, rates: TaxRate) -> Result<(), Fault>
     ensures ok { OnOk result (out.new.items ≡ out.old.items ++ line_with_line_feed (labeled_number (codes "Rates now") rates ++ codes " of 100000")) }
     ensures fault { OnErr result (result ≡ Err Memory) }
@@ -146,8 +148,8 @@ fn put_commission_band_line(out: &mut Vec<u8>, band: &Option<Band>) -> Result<()
     end_line(out)
 }
 
-// Appends to `out` the line of the commission at the rate of the current band, or of `none` if
-// `commission` is `None`. Fails with `Memory` only.
+// Appends to `out` the line of `commission`, which is the commission at the rate of the current
+// band, in cents, or of `none` if `commission` is `None`. Fails with `Memory` only.
 #[tactic(auto, unfolding(brk_explain_model::specs::TradeLines::current_commission_line))]
 fn put_current_commission_line(
     alloc: Global,
@@ -164,7 +166,7 @@ fn put_current_commission_line(
 }
 
 /// Appends to `out` the line of the current commission band of a completed trade, and the line of
-/// the commission at its rate. Fails with `Memory` only.
+/// the commission at its rate, each with `none` if there is no band. Fails with `Memory` only.
 #[tactic(auto, unfolding(brk_explain_model::specs::TradeLines::band_and_commission_lines))]
 pub(crate) fn put_band_and_commission_lines(
     alloc: Global,

@@ -16,10 +16,10 @@ use brk_explain_rows::{OrderDetails, ResultDetails, TradeDetails};
 use brk_money::Fault;
 use std::alloc::Global;
 
-// Appends to `out` those lines of a completed trade that follow its status changes: lots and gain,
-// tax, commission, settlement, due day, balance and counts. Fails with `Memory` or `Store`; with
-// `Store` if an amount overflows or exceeds its limit, or if the tax rates total more than the
-// greatest rate.
+// Appends to `out`, for a completed trade, the lines after its status changes: lots and gain, tax,
+// commission, settlement, due day, balance and counts. Fails with `Memory` or `Store`; with `Store`
+// if an amount overflows or exceeds its limit, or if the tax rates total more than the greatest
+// rate.
 #[tactic(auto, unfolding(brk_explain_model::specs::TradeLines::completed_trade_lines))]
 fn put_completed_trade_lines(
     alloc: Global,
@@ -40,9 +40,9 @@ fn put_completed_trade_lines(
     put_counts_of_completed_trade(out, order, details)
 }
 
-// Appends to `out` those lines of a trade that follow its status changes: the lines of a completed
-// trade if `details` has its results, otherwise the lines of a trade that is not completed. Fails
-// with `Memory` or `Store`; with `Store` if an amount overflows or exceeds its limit, or if the tax
+// Appends to `out` the lines after the status changes of a trade: the lines of a completed trade if
+// `details` has its results, otherwise the lines of a trade that is not completed. Fails with
+// `Memory` or `Store`; with `Store` if an amount overflows or exceeds its limit, or if the tax
 // rates total more than the greatest rate.
 #[tactic(auto, unfolding(brk_explain_model::specs::TradeLines::lines_after_statuses))]
 fn put_lines_after_statuses(
@@ -61,9 +61,9 @@ fn put_lines_after_statuses(
     }
 }
 
-/// Returns all lines of the explanation of a trade as one text. Fails with `Memory` or `Store`;
-/// with `Store` if an amount overflows or exceeds its limit, or if the tax rates total more than
-/// the greatest rate.
+/// Returns all lines of the explanation of a trade as one text, each line with its line feed. Fails
+/// with `Memory` or `Store`; with `Store` if an amount or a number of shares overflows or exceeds
+/// its limit, or if the tax rates total more than the greatest rate.
 #[tactic(auto, unfolding(brk_explain_model::specs::TradeLines::trade_explanation_lines))]
 pub fn trade_explanation_text(alloc: Global, details: &TradeDetails) -> Result<Vec<u8>, Fault>
     ensures text { IfOk result (λ text. text.items ≡ text_of_lines (lines.trade_explanation_lines (abstract_trade_details details.now))) }

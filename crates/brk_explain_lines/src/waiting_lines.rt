@@ -40,7 +40,8 @@ fn commission_remark(status: Status) -> &'static str
     }
 }
 
-// Appends to `out` the text `words` and the price with two decimal places. Fails with `Memory` only.
+// Appends to `out` the text `words` and the price `price` with two decimal places. Fails with
+// `Memory` only.
 fn put_text_and_price(out: &mut Vec<u8>, words: &str, price: Price) -> Result<(), Fault>
     ensures ok { OnOk result (out.new.items ≡ out.old.items ++ (words.now ++ nonnegative_cents_text price)) }
     ensures fault { OnErr result (result ≡ Err Memory) }
@@ -49,9 +50,9 @@ fn put_text_and_price(out: &mut Vec<u8>, words: &str, price: Price) -> Result<()
     write_cents(out, Wide::from(price))
 }
 
-// Appends to `out` the text of the event for which a pending trade of the type waits: a tick at or
-// below `price`, or at or above it for a limit sell; a cancel for a market type. Fails with
-// `Memory` only.
+// Appends to `out` the text of the event for which a pending trade of the type `kind` waits: for a
+// stop-loss or a limit buy a tick at or below `price`, for a limit sell a tick at or above `price`,
+// and for a market type a cancel. Fails with `Memory` only.
 fn put_trigger_condition(out: &mut Vec<u8>, kind: TradeType, price: Price) -> Result<(), Fault>
     ensures ok { OnOk result (out.new.items ≡ out.old.items ++ lines.trigger_condition_text kind price) }
     ensures fault { OnErr result (result ≡ Err Memory) }
@@ -66,7 +67,7 @@ fn put_trigger_condition(out: &mut Vec<u8>, kind: TradeType, price: Price) -> Re
 }
 
 // Appends to `out` the text of the event for which a trade waits, by its status: if it is pending,
-// the tick that triggers it, or `a cancel` for a market type; `a result` if it is submitted; and
+// the tick that triggers it (`a cancel` for a market type); if it is submitted, `a result`; and
 // otherwise `nothing`. Fails with `Memory` only.
 fn put_awaited_event(
     out: &mut Vec<u8>,
@@ -84,7 +85,8 @@ fn put_awaited_event(
     }
 }
 
-// Appends to `out` the line of the event for which a trade waits. Fails with `Memory` only.
+// Appends to `out` the line of the label `Waits for` and the event for which a trade waits. Fails
+// with `Memory` only.
 #[tactic(auto, unfolding(brk_explain_model::specs::Texts::labeled_text))]
 fn put_waiting_line(out: &mut Vec<u8>, trade: &TradeRow) -> Result<(), Fault>
     ensures ok { OnOk result (out.new.items
@@ -112,7 +114,8 @@ fn put_amount_line_with_remark(
     put_spaced_text_line(out, words.as_bytes())
 }
 
-// Appends to `out` the line of the number of status changes. Fails with `Memory` only.
+// Appends to `out` the line of the word `Statuses` and the number `count` of status changes. Fails
+// with `Memory` only.
 fn put_status_count_line(out: &mut Vec<u8>, count: usize) -> Result<(), Fault>
     ensures ok { OnOk result (out.new.items ≡ out.old.items ++ line_with_line_feed (codes "Statuses " ++ decimal count)) }
     ensures fault { OnErr result (result ≡ Err Memory) }
@@ -121,9 +124,9 @@ fn put_status_count_line(out: &mut Vec<u8>, count: usize) -> Result<(), Fault>
     end_line(out)
 }
 
-/// Appends to `out` those lines of a trade that is not completed that follow its status changes:
-/// charge and commission with remarks, the event for which it waits, 0 shares and 0.00 of cash
-/// moved, and the number of its status changes. Fails with `Memory` only.
+/// Appends to `out`, for a trade that is not completed, the lines after its status changes: its
+/// charge and its commission, each with a remark, the event for which it waits, 0 shares and 0.00
+/// of cash moved, and the number of its status changes. Fails with `Memory` only.
 #[tactic(auto, unfolding(brk_explain_model::specs::TradeLines::uncompleted_trade_lines))]
 pub(crate) fn put_uncompleted_trade_lines(
     alloc: Global,

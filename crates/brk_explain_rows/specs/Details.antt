@@ -23,11 +23,12 @@ use Rattle.brk_explain_rows.specs.declared.details.OrderDetails as order_details
 use Rattle.brk_explain_rows.specs.declared.details.ResultDetails as result_details
 use Rattle.brk_explain_rows.specs.declared.details.TradeDetails as trade_details
 
--- The model's closing with the values of the typed closing `c`.
+-- The model's closing of a lot that has the values of the typed closing `c`.
 abbrev pub abstract_closing : closing.Closing → Closing
 abstract_closing c = record { lot = c.lot; stamp = c.stamp; price = c.price; before = c.before; after = c.after }
 
--- The model's facts of a trade as ordered with the values of the typed rows of `o`.
+-- The model's facts of a trade as ordered that have the values of the typed facts `o`: of its
+-- trade, account and security, and its status changes in order.
 abbrev pub abstract_order_details : order_details.OrderDetails → OrderDetails
 abstract_order_details o = record {
   trade = abstract_trade_row o.trade;
@@ -40,7 +41,7 @@ abstract_order_details o = record {
   statuses = map abstract_history_row o.statuses.items;
 }
 
--- The model's results of a completed trade with the values of the typed results `r`.
+-- The model's results of a completed trade that have the values of the typed results `r`.
 abbrev pub abstract_result_details : result_details.ResultDetails → ResultDetails
 abstract_result_details r = record {
   price = r.price;
@@ -55,8 +56,8 @@ abstract_result_details r = record {
   rule = r.rule;
 }
 
--- The model's facts of a trade (as ordered, and its results if it is completed) with the values of
--- the typed facts `s`.
+-- The model's facts of a trade (as ordered, and its results if it is completed) that have the
+-- values of the typed facts `s`.
 abbrev pub abstract_trade_details : trade_details.TradeDetails → TradeDetails
 abstract_trade_details s = record { order = abstract_order_details s.order; result = option_map abstract_result_details s.result }
 
@@ -66,30 +67,31 @@ abbrev pub AreDetailsOfTrade : ℕ → Option trade_details.TradeDetails → Tab
 AreDetailsOfTrade trade None t = trade_row_with_id t trade ≡ None
 AreDetailsOfTrade trade (Some s) t = (u : TradeRow) × (trade_row_with_id t trade ≡ Some u) × (abstract_trade_details s ≡ details_of_trade t u)
 
--- The model's holding summary with its last price, with the values of the typed holding `h`.
+-- The model's holding summary with a last price that has the values of the typed holding `h`.
 abbrev pub abstract_priced_holding : held.PricedHolding → PricedHolding
 abstract_priced_holding h = record { summary = abstract_summary_row h.summary; price = h.price }
 
--- The facts `s` are the row of `account` in the tables `t` and its holding summaries with their
--- last prices. They are `None` if and only if the account does not exist.
+-- The facts `s` are the row of `account` in the tables `t`, and its holding summaries, in the order
+-- of the table, each with the last price of its symbol. They are `None` if and only if the account
+-- does not exist.
 abbrev pub AreDetailsOfAccount : ℕ → Option account_details.AccountDetails → Tables → Type 0
 AreDetailsOfAccount account None t = account_row_with_id t account ≡ None
 AreDetailsOfAccount account (Some s) t =
     (account_row_with_id t account ≡ Some (abstract_account_row s.account)) × (map abstract_priced_holding s.held.items ≡ priced_holdings_of_account t account)
 
--- The model's change of a lot by a later trade, with the values of the typed change `c`.
+-- The model's change of a lot by a later trade that has the values of the typed change `c`.
 abbrev pub abstract_priced_lot_change : priced_lot_change.PricedLotChange → LotChange
 abstract_priced_lot_change c = record { trade = c.trade; stamp = c.stamp; price = c.price; before = c.before; after = c.after }
 
--- The model's lot and its later changes, with the values of the typed lot `l`.
+-- The model's lot with its later changes that has the values of the typed lot `l`.
 abbrev pub abstract_lot_details : lot_details.LotDetails → LotDetails
 abstract_lot_details l = record { trade = abstract_trade_row l.trade; opened = l.opened; changes = map abstract_priced_lot_change l.changes.items }
 
--- The facts `s` are the facts that the explanation of the holding of `account` in the security
--- `symbol` reads from the tables `t`: the rows of the account and of the security, the completed
--- trades of the account in the security, the lots that they opened, the quantity and the last
--- price. A refusal is `NoAccount` if the account does not exist, and `NoSecurity` if the account
--- exists and the security does not.
+-- The facts `s` are exactly the facts that the explanation of the holding of `account` in the
+-- security `symbol` reads from the tables `t`: the rows of the account and of the security, the
+-- completed trades of the account in the security, the lots that these trades opened, the quantity
+-- in the holding summary, 0 without one, and the last price. A refusal is `NoAccount` if the
+-- account does not exist, and `NoSecurity` if the account exists and the security does not.
 abbrev pub AreDetailsOfHolding : ℕ → Text → Result holding_details.HoldingDetails Refusal → Tables → Type 0
 AreDetailsOfHolding account symbol (Err refusal) t =
     ((account_row_with_id t account ≡ None) × (refusal ≡ NoAccount))

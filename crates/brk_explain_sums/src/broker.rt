@@ -18,7 +18,8 @@ use brk_money::{Fault, Wide};
 use brk_ref::BrokerRow;
 use std::alloc::Global;
 
-// Appends to `out` the first lines of the explanation of a broker. Fails with `Memory` only.
+// Appends to `out` the first lines of the explanation of a broker: the title, the name, and the
+// column headings of the trades. Fails with `Memory` only.
 #[tactic(auto, unfolding(brk_explain_model::specs::BrokerLines::broker_header_lines))]
 fn put_broker_header(out: &mut Vec<u8>, row: &BrokerRow) -> Result<(), Fault>
     ensures ok { OnOk result (out.new.items ≡ out.old.items ++ text_of_lines (lines.broker_header_lines (abstract_broker_row row.now))) }
@@ -43,8 +44,9 @@ pub fn broker_header_text(alloc: Global, row: &BrokerRow) -> Result<Vec<u8>, Fau
     Ok(text)
 }
 
-// Appends to `out` the line of a completed trade in the explanation of a broker. Fails with
-// `Memory` only.
+// Appends to `out` the line of a completed trade in the explanation of a broker, with a line feed:
+// the word `Trade`, its timestamp, its id, its account, its commission, and `total`, the sum of the
+// commissions up to and including this trade. Fails with `Memory` only.
 #[tactic(auto, unfolding(brk_explain_model::specs::BrokerLines::trade_commission_line))]
 fn put_trade_commission(
     alloc: Global,
@@ -64,8 +66,8 @@ fn put_trade_commission(
 }
 
 /// Returns the line of a completed trade in the explanation of a broker, with a line feed: the word
-/// `Trade`, its timestamp, its id, its account, its commission, and `total`, which is the sum of
-/// the commissions up to and including it. Fails with `Memory` only.
+/// `Trade`, its timestamp, its id, its account, its commission, and `total`, the sum of the
+/// commissions up to and including this trade. Fails with `Memory` only.
 pub fn trade_commission_text(alloc: Global, row: &TradeRow, total: Wide) -> Result<Vec<u8>, Fault>
     ensures line { IfOk result (λ line. line.items ≡ line_with_line_feed (lines.trade_commission_line (abstract_trade_row row.now) total)) }
     ensures fault { OnErr result (result ≡ Err Memory) }
@@ -86,7 +88,9 @@ fn put_broker_counts_line(out: &mut Vec<u8>, accounts: usize, trades: u64) -> Re
     end_line(out)
 }
 
-// Appends to `out` the last lines of the explanation of a broker. Fails with `Memory` only.
+// Appends to `out` the last lines of the explanation of a broker: the commission total and the
+// trade count in its row, and the numbers of its accounts and of their completed trades. Fails with
+// `Memory` only.
 #[tactic(auto, unfolding(brk_explain_model::specs::BrokerLines::broker_total_lines))]
 fn put_broker_totals(
     alloc: Global,

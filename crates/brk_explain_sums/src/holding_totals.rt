@@ -22,8 +22,8 @@ use brk_explain_rows::LotDetails;
 use brk_money::{Fault, Price, Wide};
 use std::alloc::Global;
 
-// Appends to `out` the lines of the total purchases, the total sales, the realised gain and the
-// cost basis of a holding. Fails with `Memory` only.
+// Appends to `out` the lines of the total purchases `bought`, the total sales `sold`, the realised
+// gain `gain` and the cost basis `cost` of a holding, in cents. Fails with `Memory` only.
 #[tactic(auto, unfolding(brk_explain_model::specs::HoldingLines::purchase_sale_and_cost_lines))]
 fn put_purchase_sale_and_cost_lines(
     alloc: Global,
@@ -42,9 +42,9 @@ fn put_purchase_sale_and_cost_lines(
     put_labeled_amount_line(alloc, out, "Cost basis", cost)
 }
 
-// Appends to `out` the lines of the quantity, the last price, the market value and the unrealised
-// gain of a holding, which is the market value minus its cost basis `cost`. Fails with `Memory` or
-// `Store`; with `Store` if an amount overflows.
+// Appends to `out` the lines of the quantity `shares`, the last price `price`, the market value and
+// the unrealised gain of a holding; the gain is the market value minus the cost basis `cost`, in
+// cents. Fails with `Memory` or `Store`; with `Store` if an amount overflows.
 #[tactic(auto, unfolding(brk_explain_model::specs::HoldingLines::holding_value_lines))]
 fn put_holding_value_lines(
     alloc: Global,
@@ -86,8 +86,8 @@ fn put_holding_counts_line(
 
 /// Appends to `out` the last lines of the explanation of a holding: purchases, sales, realised
 /// gain, cost basis, the quantity `shares`, the last price `price`, the market value, the
-/// unrealised gain, and the counts. Fails with `Memory` or `Store`; with `Store` if an amount
-/// overflows or a trade has no price.
+/// unrealised gain, and the numbers of trades, lots, open lots and changes. Fails with `Memory` or
+/// `Store`; with `Store` if an amount or a number overflows or a trade has no price.
 #[tactic(auto, unfolding(brk_explain_model::specs::HoldingLines::holding_total_lines))]
 pub(crate) fn put_holding_total_lines(
     alloc: Global,

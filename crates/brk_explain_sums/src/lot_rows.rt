@@ -20,9 +20,9 @@ use brk_explain_rows::{LotDetails, PricedLotChange};
 use brk_money::{Fault, Price};
 use std::alloc::Global;
 
-// Appends to `out` the line of the opening of a lot: the timestamp and the id of the trade that
-// opened it, the opened quantity, the price, and their product. Fails with `Memory` or `Store`;
-// with `Store` if the product overflows or the trade that opened the lot has no price.
+// Appends to `out` the line of the opening of a lot: the word `Lot`, the timestamp and the id of
+// the trade that opened it, the opened quantity, the price, and their product. Fails with `Memory`
+// or `Store`; with `Store` if the product overflows or the trade that opened the lot has no price.
 #[tactic(auto, unfolding(brk_explain_model::specs::HoldingLines::lot_opening_line))]
 fn put_lot_opening_line(alloc: Global, out: &mut Vec<u8>, lot: &LotDetails) -> Result<(), Fault>
     ensures ok { OnOk result (out.new.items ≡ out.old.items ++ line_with_line_feed (lines.lot_opening_line (abstract_lot_details lot.now))) }
@@ -37,9 +37,10 @@ fn put_lot_opening_line(alloc: Global, out: &mut Vec<u8>, lot: &LotDetails) -> R
     end_line(out)
 }
 
-// Appends to `out` the line of a later change of a lot that was opened at `price`: its stamp, its
-// trade, the change of the quantity, the price of the trade, the realised gain, and the quantity
-// after it. Fails with `Memory` or `Store`; with `Store` if the gain overflows.
+// Appends to `out` the line of a later change of a lot that was opened at `price`: the word
+// `Change`, the stamp and the id of the trade that made the change, the change of the quantity, the
+// price of this trade, the realised gain, and the quantity after the change. Fails with `Memory` or
+// `Store`; with `Store` if the gain overflows.
 #[tactic(auto, unfolding(brk_explain_model::specs::HoldingLines::lot_change_line))]
 fn put_lot_change_line(
     alloc: Global,
@@ -66,8 +67,8 @@ fn put_lot_change_line(
     end_line(out)
 }
 
-// Appends to `out` a line for each later change of a lot that was opened at `price`. Fails with
-// `Memory` or `Store`; with `Store` if a gain overflows.
+// Appends to `out` a line for each later change of a lot that was opened at `price`, in order.
+// Fails with `Memory` or `Store`; with `Store` if a gain overflows.
 fn put_lot_change_lines(
     alloc: Global,
     out: &mut Vec<u8>,
@@ -83,9 +84,10 @@ fn put_lot_change_lines(
     Ok(())
 }
 
-// Appends to `out` the line of the remaining shares of a lot: the id of the trade that opened it,
-// the remaining quantity, the price at which it was opened, and their product. Fails with `Memory`
-// or `Store`; with `Store` if the product overflows or the trade that opened the lot has no price.
+// Appends to `out` the line of the remaining shares of a lot: the word `Left`, spaces in place of a
+// stamp, the id of the trade that opened the lot, the remaining quantity, the price at which the
+// lot was opened, and their product. Fails with `Memory` or `Store`; with `Store` if the product
+// overflows or the trade that opened the lot has no price.
 #[tactic(auto, unfolding(brk_explain_model::specs::HoldingLines::lot_remainder_line))]
 fn put_lot_remainder_line(alloc: Global, out: &mut Vec<u8>, lot: &LotDetails) -> Result<(), Fault>
     ensures ok { OnOk result (out.new.items ≡ out.old.items ++ line_with_line_feed (lines.lot_remainder_line (abstract_lot_details lot.now))) }

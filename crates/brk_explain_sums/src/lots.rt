@@ -29,8 +29,8 @@ fn quantity_decrease_of_change(change: &PricedLotChange) -> i128
     i128::from(change.before) - i128::from(change.after)
 }
 
-// Returns the price of the trade that made a change minus `price`, at which the lot was opened, in
-// cents.
+// Returns the price of the trade that made a change minus `price`, the price at which the lot was
+// opened, in cents; below 0 if the price of the trade is lower.
 fn price_increase_of_change(price: Price, change: &PricedLotChange) -> i128
     ensures { result ≡ pos (abstract_priced_lot_change change.now).price -ℤ pos price }
 {
@@ -38,8 +38,8 @@ fn price_increase_of_change(price: Price, change: &PricedLotChange) -> i128
 }
 
 /// Returns the realised gain, in cents, of a change of a lot that was opened at `price`: the
-/// quantity before the change minus the quantity after it, times the price of the change minus
-/// `price`. Fails with `Store` if the product overflows.
+/// quantity before the change minus the quantity after it, multiplied by the increase from `price`
+/// to the price of the change. Fails with `Store` if the product overflows.
 pub(crate) fn realised_gain_of_change(price: Price, change: &PricedLotChange) -> Result<Wide, Fault>
     ensures gain { IfOk result (λ gain. gain ≡ holdings.realised_gain_of_change price (abstract_priced_lot_change change.now)) }
     ensures fault { IfErr result IsCallFault }
@@ -50,7 +50,8 @@ pub(crate) fn realised_gain_of_change(price: Price, change: &PricedLotChange) ->
     }
 }
 
-// Returns the quantity of a lot after the last of its changes, or `opened` if there is none.
+// Returns the quantity of a lot after the last of its changes, or the quantity `opened` if there is
+// no change.
 fn quantity_after_changes(opened: i64, changes: &[PricedLotChange]) -> i64
     ensures { result ≡ quantity_after_changes opened (map abstract_priced_lot_change changes.now) }
 {
@@ -80,8 +81,8 @@ pub(crate) fn remaining_cost_of_lot(lot: &LotDetails) -> Result<Wide, Fault>
     value_of_shares_at_price(remaining_quantity_of_lot(lot), price)
 }
 
-// Returns the sum of the realised gains, in cents, of changes of a lot that was opened at `price`.
-// Fails with `Store` if a value overflows.
+// Returns the sum of the realised gains, in cents, of changes of a lot that was opened at `price`;
+// 0 if there are none. Fails with `Store` if a gain or the sum overflows.
 fn realised_gain_of_changes(price: Price, changes: &[PricedLotChange]) -> Result<Wide, Fault>
     ensures total { IfOk result (λ total. total ≡ total_by (holdings.realised_gain_of_change price) (map abstract_priced_lot_change changes.now)) }
     ensures fault { IfErr result IsCallFault }
@@ -94,8 +95,8 @@ fn realised_gain_of_changes(price: Price, changes: &[PricedLotChange]) -> Result
     Ok(total)
 }
 
-// Returns the sum of the realised gains of the changes of a lot, in cents. Fails with `Store` if a
-// value overflows, or if the trade that opened the lot has no price.
+// Returns the sum of the realised gains of the changes of a lot, in cents; 0 if it has none. Fails
+// with `Store` if a gain or the sum overflows, or if the trade that opened the lot has no price.
 fn realised_gain_of_lot(lot: &LotDetails) -> Result<Wide, Fault>
     ensures gain { IfOk result (λ gain. gain ≡ holdings.realised_gain_of_lot (abstract_lot_details lot.now)) }
     ensures fault { IfErr result IsCallFault }
@@ -104,8 +105,8 @@ fn realised_gain_of_lot(lot: &LotDetails) -> Result<Wide, Fault>
     realised_gain_of_changes(price, &lot.changes)
 }
 
-/// Returns the sum of the realised gains of all lots, in cents. Fails with `Store` if a value
-/// overflows, or if a trade that opened a lot has no price.
+/// Returns the sum of the realised gains of all lots, in cents; 0 if there are none. Fails with
+/// `Store` if a gain or the sum overflows, or if a trade that opened a lot has no price.
 pub(crate) fn realised_gain_of_lots(lots: &[LotDetails]) -> Result<Wide, Fault>
     ensures total { IfOk result (λ total. total ≡ holdings.realised_gain_of_lots (map abstract_lot_details lots.now)) }
     ensures fault { IfErr result IsCallFault }
@@ -118,8 +119,8 @@ pub(crate) fn realised_gain_of_lots(lots: &[LotDetails]) -> Result<Wide, Fault>
     Ok(total)
 }
 
-/// Returns the sum of the costs of the remaining shares of all lots, in cents. Fails with `Store`
-/// if a value overflows, or if a trade that opened a lot has no price.
+/// Returns the sum of the costs of the remaining shares of all lots, in cents; 0 if there are none.
+/// Fails with `Store` if a cost or the sum overflows, or if a trade that opened a lot has no price.
 pub(crate) fn remaining_cost_of_lots(lots: &[LotDetails]) -> Result<Wide, Fault>
     ensures total { IfOk result (λ total. total ≡ holdings.remaining_cost_of_lots (map abstract_lot_details lots.now)) }
     ensures fault { IfErr result IsCallFault }
@@ -132,7 +133,7 @@ pub(crate) fn remaining_cost_of_lots(lots: &[LotDetails]) -> Result<Wide, Fault>
     Ok(total)
 }
 
-// Returns 0 if the quantity is 0, otherwise 1.
+// Returns 0 if the quantity `left` is 0, otherwise 1.
 fn one_if_not_zero(left: i64) -> u64
     ensures { result ≡ (if not (is_zero left) then 1 else 0) }
 {

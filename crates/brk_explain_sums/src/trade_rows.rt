@@ -18,9 +18,9 @@ use brk_explain_columns::{
 use brk_money::Fault;
 use std::alloc::Global;
 
-// Appends to `out` the line of a completed trade: its stamp, its id, its signed quantity, its
-// price, its signed value, the quantity `held` after it, and its type. Fails with `Memory` or
-// `Store`; with `Store` if the value overflows or the trade has no price.
+// Appends to `out` the line of a completed trade: the word `Trade`, its stamp, its id, its signed
+// quantity, its price, its signed value, the quantity `held` after it, and the code of its type.
+// Fails with `Memory` or `Store`; with `Store` if the value overflows or the trade has no price.
 #[tactic(auto, unfolding(brk_explain_model::specs::HoldingLines::holding_trade_line))]
 fn put_holding_trade_line(
     alloc: Global,
@@ -40,9 +40,9 @@ fn put_holding_trade_line(
     put_spaced_text_line(out, row.kind.code().as_bytes())
 }
 
-/// Appends to `out` a line for each completed trade of a holding, with the quantity of the holding
-/// after it. Fails with `Memory` or `Store`; with `Store` if a quantity or a value overflows or a
-/// trade has no price.
+/// Appends to `out` a line for each completed trade of a holding, in order, with the quantity of
+/// the holding after this trade. Fails with `Memory` or `Store`; with `Store` if a quantity or a
+/// value overflows or a trade has no price.
 pub(crate) fn put_holding_trade_lines(
     alloc: Global,
     out: &mut Vec<u8>,

@@ -11,7 +11,7 @@ use brk_changes::TradeRow;
 use brk_explain_columns::{add_amounts, value_of_shares_at_price};
 use brk_money::{Fault, Price, Side, Wide};
 
-/// Returns the price of a completed trade. Fails with `Store` if it has none.
+/// Returns the price at which a trade was completed. Fails with `Store` if its row has no price.
 pub(crate) fn completion_price_of_trade(row: &TradeRow) -> Result<Price, Fault>
     ensures price { IfOk result (λ price. price ≡ details.completion_price_or_zero (abstract_trade_row row.now)) }
     ensures fault { IfErr result IsCallFault }
@@ -43,8 +43,8 @@ pub(crate) fn signed_value_of_trade(row: &TradeRow) -> Result<Wide, Fault>
     value_of_shares_at_price(signed_quantity_of_trade(row), price)
 }
 
-/// Returns the quantity `held` before a trade plus the quantity of the trade, which counts below 0
-/// for a sale. Fails with `Store` if the sum overflows.
+/// Returns the quantity `held` before a trade plus the quantity of the trade if it is a purchase,
+/// or minus it if it is a sale. Fails with `Store` if the sum overflows.
 pub(crate) fn quantity_held_after_trade(held: i64, row: &TradeRow) -> Result<i64, Fault>
     ensures held { IfOk result (λ after. after ≡ held +ℤ holdings.signed_quantity_of_trade (abstract_trade_row row.now)) }
     ensures fault { IfErr result IsCallFault }

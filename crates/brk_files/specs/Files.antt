@@ -10,7 +10,9 @@ use Rattle.sqlite.specs.Closing.{IsCopied}
 
 -- The connection `conn` to a database file is new, and under the disk assumption it is open.
 pub record IsNewConnectionToFile {D : Type 0} {g : Ghosts D} (conn : Held (FileStore D g)) : Type 0 where
+  -- The connection is open. Vacuous if the disk assumption fails.
   pub opened : HasCleanDisk (file_state conn) → IsOpened conn
+  -- The connection is new.
   pub fresh : IsNew conn
 
 -- The last commit of the connection `conn` is in a database file, also without its log, and a crash

@@ -14,7 +14,7 @@ use Rattle.brk_store.specs.Holds.{IsDiskContentOfRows, CrashStatesSatisfy}
 -- The store was adopted from a connection in the state `found`. If the tables of `found` satisfy
 -- `ConnectionTablesWithDeskNamesAreDeskTables`, its rows pass the audit of their schema, the store
 -- represents the base that these rows determine, and a crash exposes only the tables of this base.
--- This is vacuous if the disk assumption fails, or once the store is closed.
+-- This second sentence is vacuous if the disk assumption fails, or once the store is closed.
 pub record RepresentsRowsOfFile {S : Type 0} (g : Ghosts S) (store : Held S) : Type 0 where
   -- The state of the connection when the file was opened.
   pub found : Held S

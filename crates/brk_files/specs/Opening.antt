@@ -11,14 +11,14 @@ use Rattle.brk_store.specs.Audited.{AdoptPost}
 use Rattle.brk_store.specs.Holds.{CreatePost}
 use Rattle.brk_files.specs.Files.{IsNewConnectionToFile, HasLastCommitInFile}
 
--- `Ok`: adopting the database of the connection `conn` as a store succeeded, with this store.
--- `Err`: it failed with this fault.
+-- The result of adopting the database of the connection `conn` as a store. `Ok`: the adoption
+-- succeeded with this store. `Err`: the adoption failed with this fault.
 abbrev pub IsAdoptionResult : {D : Type 0} {g : Ghosts D} → Held (FileStore D g) → Result (Held (FileStore D g)) Fault → Type 0
 IsAdoptionResult conn (Ok store) = AdoptPost over_files conn store (Ok tt)
 IsAdoptionResult {D} {g} conn (Err fault) = (left : Held (FileStore D g)) × AdoptPost over_files conn left (Err fault)
 
--- A desk was created over a new connection and closed, and then the new connection `conn` was
--- opened.
+-- A desk was created over a new connection and closed, with its last commit in the file, and then
+-- the new connection `conn` was opened.
 pub record FollowsCreationOfDesk {D : Type 0} {g : Ghosts D} (conn : Held (FileStore D g)) : Type 0 where
   pub first : Held (FileStore D g)
   pub desk : Held (FileStore D g)
@@ -27,16 +27,16 @@ pub record FollowsCreationOfDesk {D : Type 0} {g : Ghosts D} (conn : Held (FileS
   pub closed : HasLastCommitInFile desk
   pub opened : IsNewConnectionToFile conn
 
--- The creation of a desk over a new connection failed with `Damaged(NotEmpty)`, the error for a
+-- The creation of a desk over a new connection failed with `Damaged(NotEmpty)`, the fault for a
 -- database that has one of the tables of a desk, and `conn` is the connection after it.
 pub record FollowsRefusedCreation {D : Type 0} {g : Ghosts D} (conn : Held (FileStore D g)) : Type 0 where
   pub first : Held (FileStore D g)
   pub began : IsNewConnectionToFile first
   pub refused : CreatePost over_files first conn (Err (fault.Damaged condition.NotEmpty))
 
--- The postcondition of opening an existing desk. `Ok` and `Damaged`: a new connection was opened,
--- and the result is that of adopting its database; `Damaged(Schema)` may also be returned without a
--- connection. Nothing is specified for `Memory` and `Store`.
+-- The postcondition of opening an existing desk. `Ok` and `Damaged`: a new connection to a file was
+-- opened, and the result is the result of adopting its database; `Damaged(Schema)` may also be
+-- returned without a connection. Nothing is specified for `Memory` and `Store`.
 abbrev pub OpenPost : {D : Type 0} {g : Ghosts D} → Result (Held (FileStore D g)) Fault → Type 0
 OpenPost {D} {g} (Ok store) = (conn : Held (FileStore D g)) × IsNewConnectionToFile conn × IsAdoptionResult conn (Ok store)
 OpenPost {D} {g} (Err (fault.Damaged c)) =
@@ -44,14 +44,14 @@ OpenPost {D} {g} (Err (fault.Damaged c)) =
 OpenPost (Err fault.Memory) = Unit {0}
 OpenPost (Err fault.Store) = Unit {0}
 
--- The connection `conn` is to a newly created desk, or to a database that has one of the tables of
--- a desk.
+-- The connection `conn` is to a newly created desk, which was closed and opened again, or to a
+-- database in which the creation of a desk failed because it has one of the tables of a desk.
 abbrev pub HasNewDeskOrDeskTable : {D : Type 0} {g : Ghosts D} → Held (FileStore D g) → Type 0
 HasNewDeskOrDeskTable conn = FollowsCreationOfDesk conn ⊎ FollowsRefusedCreation conn
 
 -- The postcondition of opening a desk that is created if there is none. `Ok` and `Damaged`: the
--- result is that of adopting the database of a connection to a new desk, or to a database that has
--- one of the tables of a desk. Nothing is specified for `Memory` and `Store`.
+-- result is the result of adopting the database of a connection to a newly created desk, or to a
+-- database that has one of the tables of a desk. Nothing is specified for `Memory` and `Store`.
 abbrev pub OpenOrCreatePost : {D : Type 0} {g : Ghosts D} → Result (Held (FileStore D g)) Fault → Type 0
 OpenOrCreatePost {D} {g} (Ok store) = (conn : Held (FileStore D g)) × HasNewDeskOrDeskTable conn × IsAdoptionResult conn (Ok store)
 OpenOrCreatePost {D} {g} (Err (fault.Damaged c)) = (conn : Held (FileStore D g)) × HasNewDeskOrDeskTable conn × IsAdoptionResult conn (Err (fault.Damaged c))

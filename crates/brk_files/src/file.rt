@@ -19,7 +19,7 @@ use std::io::ErrorKind;
 pub type FileDesk = Store<FileStore<File>>;
 
 // Closes the files of a connection. At `Ok` the database file contains the last commit even without
-// its log. Fails with `Store` only; the files are then closed too.
+// its log. Fails with `Store` only; the files are then also closed.
 fn close_connection(conn: Connection<FileStore<File>>) -> Result<(), Fault>
     ensures closed { OnOk result (HasLastCommitInFile conn) }
     ensures fault { OnErr result (result ≡ Err fault.Store) }

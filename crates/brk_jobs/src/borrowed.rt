@@ -1,6 +1,7 @@
 use std::alloc::{AllocError, Global};
 
-/// Returns the bytes of the texts as borrowed slices, in order. Fails only if memory runs out.
+/// Returns the bytes of the arguments `texts` as borrowed slices, in order. Fails only if memory
+/// runs out.
 pub fn bytes_of_arguments<'a>(
     alloc: Global,
     texts: &'a [String],

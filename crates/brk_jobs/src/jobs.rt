@@ -81,10 +81,10 @@ fn execute_job<R: Read + Drop, W: Write>(
     }
 }
 
-/// Executes the job that the command-line arguments request, the program's own name first, and
-/// returns the outcome of the job; `Usage` if they request help, the version or no job, and
-/// `Output` if the help or the version cannot be written. A batch is read from `input`. The output
-/// of the job, also help, is written to `output`.
+/// Parses the command-line arguments `words`, the program's own name first, executes the job that
+/// they request, and returns the outcome of the job; `Usage` if they request help, the version or
+/// no job, and `Output` if the help or the version cannot be written. A batch is read from `input`.
+/// The output of the job, also help, is written to `output`.
 pub fn execute_arguments<R: Read + Drop, W: Write>(
     rt: &HostRuntime,
     words: Vec<String>,

@@ -14,7 +14,7 @@ pub(crate) struct PipeWriter<'a, W> {
 }
 
 impl<'a, W> PipeWriter<'a, W> {
-    /// Returns a writer to `output`, whose pipe is not known to be closed.
+    /// Returns a writer that passes the bytes on to `output`, and has recorded no closed pipe.
     pub(crate) fn new(output: &'a mut W) -> PipeWriter<'a, W> {
         PipeWriter {
             output,
@@ -22,9 +22,9 @@ impl<'a, W> PipeWriter<'a, W> {
         }
     }
 
-    /// Returns the ending of a job that wrote a text to this writer, with the result `written`:
-    /// `Done`, `ClosedPipe` if the pipe was closed, and otherwise `Report` with the refusal or the
-    /// fault.
+    /// Returns the ending of a job that wrote a text to this writer with the result `written`:
+    /// `Done`, `ClosedPipe` if the writer failed and its pipe was closed, and otherwise `Report`
+    /// with the refusal or the fault.
     pub(crate) fn ending(&self, written: Result<(), ReportFault>) -> Ending {
         match written {
             Ok(()) => Ending::Done,
@@ -35,7 +35,8 @@ impl<'a, W> PipeWriter<'a, W> {
 }
 
 impl<W: Write> Write for PipeWriter<'_, W> {
-    /// Writes as the other writer does, and notes an error of a closed pipe.
+    /// Writes the bytes to the other writer, returns its result, and records it if the error is
+    /// that the pipe is closed.
     fn write(&mut self, bytes: &[u8]) -> io::Result<usize> {
         let written = self.output.write(bytes);
         if let Err(error) = &written {
@@ -44,7 +45,7 @@ impl<W: Write> Write for PipeWriter<'_, W> {
         written
     }
 
-    /// Flushes the other writer.
+    /// Flushes the other writer, and returns its result.
     fn flush(&mut self) -> io::Result<()> {
         self.output.flush()
     }

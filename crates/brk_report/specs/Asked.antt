@@ -22,8 +22,9 @@ use Rattle.brk_view.specs.declared.view.View.{View}
 abbrev pub FailsWritingNothing : Option Text → Option Text → Result (Unit {0}) ReportFault → ReportFault → Type 0
 FailsWritingNothing before after result fault = (after ≡ before) × (result ≡ Err fault)
 
--- `Ok`: the text `text` was written. `Desk`: memory ran out, and nothing was written. `Write`: a
--- prefix of `text` was written, perhaps all of it. The result is never `Refused`.
+-- The result of writing the text `text`. `Ok`: exactly `text` was written. `Desk`: memory ran out,
+-- and nothing was written. `Write`: a prefix of `text` was written, perhaps empty or all of it. The
+-- result is never `Refused`.
 abbrev pub WritesTextOrFails : Text → Option Text → Option Text → Result (Unit {0}) ReportFault → Type 0
 WritesTextOrFails text before after (Ok u) = Appends before after text
 WritesTextOrFails text before after (Err (Refused refusal)) = ⊥

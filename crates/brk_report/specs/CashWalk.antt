@@ -1,4 +1,4 @@
--- The lines that a walk over the cash rows of an account writes, and how far it has come.
+-- The lines that a walk over the cash rows of an account writes, and the progress of this walk.
 use Rattle.std.specs.Prelude.{◌≡◌, ℕ, ◌+◌, ℤ, ◌+ℤ◌, Bool, true, false, List, [], ◌∷◌, ◌++◌, Option, Result, Ok, Err, codes, length, map, nat_lt}
 use Rattle.std.specs.Io.KnownBytes.{Appends}
 use Rattle.brk_money.specs.Spelling.{Text}
@@ -9,43 +9,49 @@ use Rattle.brk_report.specs.declared.statements.visitors.CashProgress.{CashProgr
 use Rattle.brk_report_lines.specs.Written.{FailsWithinFirstLines}
 use Rattle.brk_report_lines.specs.declared.fault.LinesFault.{LinesFault}
 
--- The line of the opening amount `opening`, in cents, or no line if the Boolean is true: the line
--- is then written already.
+-- The line of the opening amount `opening`, in cents, or no line if the Boolean is true, which
+-- means that this line is written already.
 abbrev pub opening_line_unless : Bool → ℤ → List Text
 opening_line_unless true opening = []
 opening_line_unless false opening = amount_line (codes "Opening") opening ∷ []
 
--- How far a walk has come before its first row, from the balance `opening` on, in cents: no line is
--- written.
+-- The progress of a walk over cash rows before its first row: no line is written, no row is
+-- counted, and the total is the balance `opening`, in cents.
 abbrev pub progress_before_rows : ℤ → CashProgress
 progress_before_rows opening = record { is_opened = false; count = 0; total = opening }
 
--- How far the walk has come after the cash row `row`. The Boolean is true if the row is before the
--- first stamp; it is then added to the total alone.
+-- The progress of the walk after the cash row `row`, if its progress before the row is `p`: the
+-- amount of the row is added to the total. If the Boolean is false, the row is also counted, and
+-- the line of the opening amount is recorded as written. The Boolean is true if the row is before
+-- the first stamp.
 abbrev pub progress_after_row : Bool → CashProgress → MoveRow → CashProgress
 progress_after_row true p row = record { is_opened = p.is_opened; count = p.count; total = p.total +ℤ row.amount }
 progress_after_row false p row = record { is_opened = true; count = p.count + 1; total = p.total +ℤ row.amount }
 
--- The lines that the walk writes for the cash row `row`: none if it is before the first stamp (the
--- Boolean is true), otherwise the line of the opening amount, unless it is written, and the line of
--- the row.
+-- The lines that the walk writes for the cash row `row`, if its progress before the row is `p`:
+-- none if the Boolean is true, which means that the row is before the first stamp; otherwise the
+-- line of the opening amount, which is the total of `p`, unless this line is written already, and
+-- the line of the row.
 abbrev pub lines_of_row : Bool → CashProgress → MoveRow → List Text
 lines_of_row true p row = []
 lines_of_row false p row = opening_line_unless p.is_opened p.total ++ cash_row_line row ∷ []
 
--- How far the walk has come after the rows, one after another, if `first` is the first stamp.
+-- The progress of the walk after the cash rows, one after another, if its progress before them is
+-- `p` and `first` is the first stamp; `p` itself if there are no rows.
 abbrev pub progress_after_rows : ℕ → CashProgress → List MoveRow → CashProgress
 progress_after_rows first p [] = p
 progress_after_rows first p (row ∷ rows) = progress_after_rows first (progress_after_row (nat_lt row.stamp first) p row) rows
 
--- The lines that the walk writes for the rows, one after another, if `first` is the first stamp.
+-- The lines that the walk writes for the cash rows, one after another, if its progress before them
+-- is `p` and `first` is the first stamp; none if there are no rows.
 abbrev pub lines_of_rows : ℕ → CashProgress → List MoveRow → List Text
 lines_of_rows first p [] = []
 lines_of_rows first p (row ∷ rows) =
     lines_of_row (nat_lt row.stamp first) p row ++ lines_of_rows first (progress_after_row (nat_lt row.stamp first) p row) rows
 
--- `Ok`: exactly the lines of the walk over the rows were written, from the balance `opening` on, in
--- cents, and the result is how far it has come. `Err`: writing them failed as
+-- The result of a walk over the cash rows `rows` from the balance `opening`, in cents, with the
+-- first stamp `first`. `Ok`: exactly the lines of the walk (`lines_of_rows`) were written, and
+-- `moved` is the progress after all rows. `Err`: writing the lines failed as
 -- `FailsWithinFirstLines` specifies.
 abbrev pub WritesLinesOfWalk : List MoveRow → ℕ → ℤ → Option Text → Option Text → Result CashProgress LinesFault → Type 0
 WritesLinesOfWalk rows first opening old new (Ok moved) =
@@ -53,17 +59,18 @@ WritesLinesOfWalk rows first opening old new (Ok moved) =
     × (moved ≡ progress_after_rows first (progress_before_rows opening) rows)
 WritesLinesOfWalk rows first opening old new (Err e) = FailsWithinFirstLines (lines_of_rows first (progress_before_rows opening) rows) old new e
 
--- The line of the opening amount: `opening` plus the amounts of the cash rows of `account` before
--- the day `from`, in cents; and a line for each of its cash rows from the day `from` to the day
--- `to`, both included.
+-- The line of the opening amount, which is `opening` plus the amounts of the cash rows of `account`
+-- before the day `from`, in cents; and a line for each of its cash rows from the day `from` to the
+-- day `to`, both included.
 abbrev pub opening_and_cash_lines : Tables → ℕ → ℕ → ℕ → ℤ → List Text
 opening_and_cash_lines t account from to opening =
     amount_line (codes "Opening") (opening +ℤ cash_row_total (cash_move_rows_before_day from (cash_move_rows_of_account t account)))
     ∷ map cash_row_line (cash_move_rows_within_days from to (cash_move_rows_of_account t account))
 
--- `Ok`: exactly these lines were written, and the result has the number of the cash rows that have
--- a line and, in cents, `opening` plus the amounts of all cash rows up to the day `to`. `Err`:
--- writing them failed as `FailsWithinFirstLines` specifies.
+-- The result of writing `opening_and_cash_lines`. `Ok`: exactly these lines were written, the count
+-- of `moved` is the number of the cash rows from the day `from` to the day `to`, and its total is,
+-- in cents, `opening` plus the amounts of the cash rows before the day `from` and of the counted
+-- ones. `Err`: writing the lines failed as `FailsWithinFirstLines` specifies.
 abbrev pub WritesCashLines : Tables → ℕ → ℕ → ℕ → ℤ → Option Text → Option Text → Result CashProgress LinesFault → Type 0
 WritesCashLines t account from to opening old new (Ok moved) =
     Appends old new (text_of_lines (opening_and_cash_lines t account from to opening))

@@ -26,12 +26,13 @@ WritesCountedLines lines n old new (Err e) = FailsWithinFirstLines lines old new
 abbrev pub account_cash_lines : Tables → ℕ → ℤ → List Text
 account_cash_lines t account opening = cash_posting_lines opening (account_cash_rows_by_stamp t account)
 
--- The lines of the lots of `account` in the tables `t`.
+-- A line for each lot of `account` in the tables `t`, sorted by symbol, then by opening stamp, both
+-- ascending.
 abbrev pub account_lot_lines : Tables → ℕ → List Text
 account_lot_lines t account = map open_lot_line (holding_rows_of_account t account)
 
--- All lines of the explanation of `account`, from its row and its holdings in `details` and from its
--- cash rows and lots in the tables `t`.
+-- All lines of the explanation of `account`, from its row and its holdings in `details` and from
+-- its cash rows and lots in the tables `t`.
 abbrev pub all_account_lines : Tables → ℕ → AccountDetails → List Text
 all_account_lines t account details =
     account_header_lines (abstract_account_row details.account)
@@ -46,8 +47,8 @@ all_account_lines t account details =
 abbrev pub broker_trade_lines : Tables → ℕ → List Text
 broker_trade_lines t broker = trade_commission_lines (completed_trades_of_broker t broker)
 
--- All lines of the explanation of `broker`, from its row and its number of accounts in `details` and
--- from the completed trades of its accounts in the tables `t`.
+-- All lines of the explanation of `broker`, from its row and its number of accounts in `details`
+-- and from the completed trades of its accounts in the tables `t`.
 abbrev pub all_broker_lines : Tables → ℕ → BrokerDetails → List Text
 all_broker_lines t broker details =
     broker_header_lines (abstract_broker_row details.broker)

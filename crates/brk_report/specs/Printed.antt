@@ -6,8 +6,8 @@ use Rattle.brk_model.specs.Queries.{Query, View, PositionOf, PositionOfTaxId, Su
 use Rattle.brk_money.specs.Spelling.{Text}
 use Rattle.csv.specs.Writing.{default_writer, row_text}
 
--- The names of the fields of a query's view, or an empty list if the records of this view have
--- different fields.
+-- The names of the fields of the records of a query's view, in order, or an empty list for a query
+-- whose records have different fields.
 abbrev pub field_names_of_view : Query → List Text
 field_names_of_view (PositionOf customer) = codes "account" ∷ codes "balance" ∷ codes "holdings" ∷ []
 field_names_of_view (PositionOfTaxId tax_id) = codes "account" ∷ codes "balance" ∷ codes "holdings" ∷ []
@@ -17,13 +17,13 @@ field_names_of_view (EstimateOf order) =
 field_names_of_view (VolumeOf sector names) = codes "broker" ∷ codes "id" ∷ codes "volume" ∷ []
 field_names_of_view query = []
 
--- A list with one record, the names `names`, or an empty list if there is no name.
+-- A list with one record, whose fields are the names `names`, or an empty list if there is no name.
 abbrev pub names_as_records : List Text → View
 names_as_records [] = []
 names_as_records (name ∷ names) = (name ∷ names) ∷ []
 
--- A list with one record, the names of the fields of a query's view, or an empty list if the
--- records of this view have different fields.
+-- A list with one record, whose fields are the names of the fields of a query's view, or an empty
+-- list if the records of this view have different fields.
 abbrev pub field_name_records : Query → View
 field_name_records query = names_as_records (field_names_of_view query)
 
@@ -37,8 +37,8 @@ csv_text records = flat_map (row_text default_writer) records
 abbrev pub json_line_text : View → Text
 json_line_text records = json_records_object (codes "view") records ++ 10 ∷ []
 
--- The records that are written for a query: those of its view, and before them a record with the
--- names of its fields if `form.heads` is true and all records have the same fields.
+-- The records that are written for a query: those of its view, and, if `form.heads` is true and all
+-- records of the view have the same fields, before them a record with the names of these fields.
 abbrev pub records_to_print : Form → Query → View → View
 records_to_print form query records = if form.heads then field_name_records query ++ records else records
 

@@ -3,7 +3,8 @@ use Rattle.brk_explain_model.specs.Explain.{ExplainRequest, TradeOf, AccountOf, 
 use Rattle.brk_report.specs.declared.explanations.parse.ExplainRequest as asked
 use Rattle.brk_report.specs.declared.explanations.parse.ExplainRequest.TheVariants as form
 
--- The model's request for an explanation with the values of the program's request.
+-- The model's request for an explanation that has the form (trade, account, holding or broker), the
+-- ids and the symbol of the program's request.
 abbrev pub abstract_explain_request : asked.ExplainRequest → ExplainRequest
 abstract_explain_request (form.Trade id) = TradeOf id
 abstract_explain_request (form.Account id) = AccountOf id

@@ -29,20 +29,20 @@ pub record PreservesDesk {S : Type 0} (g : Ghosts S) (old new : Held S) : Type 0
   -- if the disk assumption fails.
   pub survives : Survives (state g old) (state g new) (λ _. ⊥)
 
--- All tables that the store held before the call, in the state `old`, satisfy `So`. Vacuous if some
--- read up to the return of the call did not return what was written.
+-- All tables that the store held before the call, in the state `old`, satisfy `So`. Vacuous if the
+-- disk assumption fails up to the state `new`, after the call.
 abbrev pub HoldsForStoredTables : {S : Type 0} → Ghosts S → Held S → Held S → (Tables → Type 0) → Type 0
 HoldsForStoredTables g old new So = HasCleanDisk (state g new) → (t : Tables) → HoldsRows g old t → So t
 
--- The fault is the fault `Memory` or `Store` of the desk, or a fault of the writer.
+-- The fault is a fault of the desk, `Memory` or `Store`, or a fault of the writer.
 abbrev pub IsMemoryStoreOrWriteFault : LinesFault → Type 0
 IsMemoryStoreOrWriteFault (lines.Desk fault) = IsCallFault fault
 IsMemoryStoreOrWriteFault lines.Write = Unit {0}
 
 -- ---- the parts of a statement
 
--- `Ok`: exactly the lines of the lots of `account` were written, and the count is their number.
--- `Err`: writing them failed as `FailsWithinFirstLines` specifies.
+-- The result of writing a line for each lot of `account`. `Ok`: exactly these lines were written,
+-- and `count` is their number. `Err`: writing them failed as `FailsWithinFirstLines` specifies.
 abbrev pub WritesLotLines : Tables → ℕ → Option Text → Option Text → Result ℕ LinesFault → Type 0
 WritesLotLines t account old new (Ok count) =
     Appends old new (text_of_lines (map lot_line (holding_rows_of_account t account))) × (count ≡ length (holding_rows_of_account t account))
@@ -50,8 +50,8 @@ WritesLotLines t account old new (Err e) = FailsWithinFirstLines (map lot_line (
 
 -- ---- the whole
 
--- The statement of `account` from the day `from` to the day `to` is not refused, and `lines` are
--- its lines.
+-- The day `to` is not before the day `from`, the account with the id `account` exists, and `lines`
+-- are the lines of its statement from the day `from` to the day `to`.
 abbrev pub AreStatementLines : Tables → ℕ → ℕ → ℕ → List Text → Type 0
 AreStatementLines t account from to lines =
     (nat_lt to from ≡ false)
@@ -59,9 +59,10 @@ AreStatementLines t account from to lines =
 
 -- The result of writing the statement of `account` from the day `from` to the day `to`. `Ok`:
 -- exactly the text of the model's statement was written. `Refused`: the model refuses the statement
--- with this refusal. `Desk`: the fault is `Memory` or `Store`, and nothing was written, or the
--- first lines whole, without the last one. `Write`: the first lines were written whole, and then a
--- prefix of the next one.
+-- with this refusal; the output is not specified here. `Desk`: the fault is `Memory` or `Store`,
+-- and nothing was written, or the first lines of the statement whole, perhaps none and never the
+-- last one. `Write`: the first lines were written whole, perhaps none, and then a prefix of the
+-- next one.
 abbrev pub WritesStatement : Tables → ℕ → ℕ → ℕ → Option Text → Option Text → Result (Unit {0}) ReportFault → Type 0
 WritesStatement t account from to old new (Ok u) = (text : Text) × (statement t account from to ≡ Ok text) × Appends old new text
 WritesStatement t account from to old new (Err (Refused refusal)) = statement t account from to ≡ Err refusal
@@ -69,18 +70,19 @@ WritesStatement t account from to old new (Err (Desk fault)) =
     IsCallFault fault × (Appends old new [] ⊎ ((lines : List Text) × AreStatementLines t account from to lines × WritesProperPrefixOfLines lines old new))
 WritesStatement t account from to old new (Err Write) = (lines : List Text) × AreStatementLines t account from to lines × WritesLinesAndPartOfNext lines old new
 
--- The fault is a refusal, the fault `Memory` or `Store` of the desk, or a fault of the writer.
+-- The fault is a refusal, a fault of the desk, `Memory` or `Store`, or a fault of the writer.
 abbrev pub IsRefusalOrMemoryStoreOrWriteFault : ReportFault → Type 0
 IsRefusalOrMemoryStoreOrWriteFault (Refused refusal) = Unit {0}
 IsRefusalOrMemoryStoreOrWriteFault (Desk fault) = IsCallFault fault
 IsRefusalOrMemoryStoreOrWriteFault Write = Unit {0}
 
 -- The postcondition of writing the statement of `account` from the day `from` to the day `to`,
--- between the states `old` and `new` of the desk's store; `before` and `after` are the writer's
--- content.
+-- between the states `old` and `new` of the desk's store: the output is as `WritesStatement`
+-- specifies, a fault of the desk is `Memory` or `Store`, the desk is unchanged, and nothing is
+-- written if the statement is refused. `before` and `after` are the writer's content.
 pub record StatementPost {S : Type 0} (g : Ghosts S) (old new : Held S) (account from to : ℕ) (before after : Option Text)
     (result : Result (Unit {0}) ReportFault) : Type 0 where
-  -- The output is that of `WritesStatement` for all rows that the store held before the call.
+  -- The output is as `WritesStatement` specifies for all rows that the store held before the call.
   -- Vacuous if some read up to the return of the call did not return what was written.
   pub written : HoldsForStoredTables g old new (λ t. WritesStatement t account from to before after result)
   -- A fault of the desk is `Memory` or `Store`. This does not depend on the disk assumption.

@@ -16,10 +16,10 @@ abbrev pub statement_header_lines : ℕ → Text → ℕ → ℕ → List Text
 statement_header_lines account name from to =
     (codes "Statement of account " ++ decimal account) ∷ name ∷ (codes "From " ++ day_text from ++ codes " to " ++ day_text to) ∷ []
 
--- The line of the opening amount: `opening` plus the amounts of the cash rows of `account` before
--- the day `from`, in cents; a line for each of its cash rows from the day `from` to the day `to`,
--- both included; and the line of the closing amount: the opening amount plus the amounts of these
--- rows.
+-- The line of the opening amount, which is `opening` plus the amounts of the cash rows of `account`
+-- before the day `from`, in cents; a line for each of its cash rows from the day `from` to the day
+-- `to`, both included; and the line of the closing amount, which is the opening amount plus the
+-- amounts of the cash rows that have a line.
 abbrev pub cash_and_closing_lines : Tables → ℕ → ℕ → ℕ → ℤ → List Text
 cash_and_closing_lines t account from to opening =
     opening_and_cash_lines t account from to opening
@@ -27,10 +27,9 @@ cash_and_closing_lines t account from to opening =
     +ℤ cash_row_total (cash_move_rows_within_days from to (cash_move_rows_of_account t account)))
     ∷ []
 
--- `Ok`: exactly the lines of the opening amount, of the cash rows from the day `from` to the day
--- `to`, and of the closing amount (`cash_and_closing_lines`) were written, and the count is the
--- number of these cash rows.
--- `Err`: writing them failed as `FailsWithinLines` specifies.
+-- The result of writing `cash_and_closing_lines`. `Ok`: exactly these lines were written, and
+-- `count` is the number of the cash rows from the day `from` to the day `to`. `Err`: writing them
+-- failed as `FailsWithinLines` specifies.
 abbrev pub WritesCashAndClosingLines : Tables → ℕ → ℕ → ℕ → ℤ → Option Text → Option Text → Result ℕ LinesFault → Type 0
 WritesCashAndClosingLines t account from to opening old new (Ok count) =
     Appends old new (text_of_lines (cash_and_closing_lines t account from to opening))
@@ -38,7 +37,7 @@ WritesCashAndClosingLines t account from to opening old new (Ok count) =
 WritesCashAndClosingLines t account from to opening old new (Err e) = FailsWithinLines (cash_and_closing_lines t account from to opening) old new e
 
 -- A line for each lot of `account`, the line of the market value `holdings`, in cents, and the line
--- of the number of cash rows, `cash`, and of lots.
+-- of the numbers of cash rows, `cash`, and of lots.
 abbrev pub lot_and_total_lines : Tables → ℕ → ℤ → ℕ → List Text
 lot_and_total_lines t account holdings cash =
     map lot_line (holding_rows_of_account t account) ++ amount_line (codes "Holdings") holdings

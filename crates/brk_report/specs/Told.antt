@@ -14,10 +14,10 @@ use Rattle.brk_report_lines.specs.declared.fault.ReportFault.{ReportFault}
 use Rattle.brk_report_lines.specs.declared.fault.ReportFault.TheVariants.{Refused, Desk, Write}
 
 -- The result of writing `told`, which is lines or a refusal. `Ok`: `told` is lines, and exactly
--- these were written. `Refused`: `told` is this refusal. `Desk`: the fault is `Memory` or `Store`,
--- and nothing was written, or, if `told` is lines, the first lines whole, without the last one.
--- `Write`: `told` is lines, and the first lines were written whole, and then a prefix of the next
--- one.
+-- these were written. `Refused`: `told` is this refusal; the output is not specified here. `Desk`:
+-- the fault is `Memory` or `Store`, and nothing was written, or, if `told` is lines, the first
+-- lines whole, perhaps none and never the last one. `Write`: `told` is lines, and the first lines
+-- were written whole, perhaps none, and then a prefix of the next one.
 abbrev pub WritesLinesOrRefuses : Result (List Text) Refusal → Option Text → Option Text → Result (Unit {0}) ReportFault → Type 0
 WritesLinesOrRefuses told old new (Ok u) = (lines : List Text) × (told ≡ Ok lines) × Appends old new (text_of_lines lines)
 WritesLinesOrRefuses told old new (Err (Refused refusal)) = told ≡ Err refusal
@@ -26,14 +26,17 @@ WritesLinesOrRefuses told old new (Err (Desk fault)) =
 WritesLinesOrRefuses told old new (Err Write) = (lines : List Text) × (told ≡ Ok lines) × WritesLinesAndPartOfNext lines old new
 
 -- The postcondition of writing the lines that `told` gives for the tables of a desk, or of
--- returning the refusal that it gives. The output is as specified (`WritesLinesOrRefuses`), a fault
--- of the desk is `Memory` or `Store`, the desk is unchanged, and nothing is written at a refusal.
+-- returning the refusal that it gives: the output is as `WritesLinesOrRefuses` specifies, a fault
+-- of the desk is `Memory` or `Store`, the desk is unchanged, and nothing is written if the result
+-- is a refusal. `before` and `after` are the writer's content.
 pub record WriteLinesPost {S : Type 0} (g : Ghosts S) (old new : Held S) (told : Tables → Result (List Text) Refusal) (before after : Option Text)
     (result : Result (Unit {0}) ReportFault) : Type 0 where
-  -- The output is as specified for the rows that the store holds, whatever they are.
+  -- The output is as `WritesLinesOrRefuses` specifies for all rows that the store held before the
+  -- call. Vacuous if some read up to the return of the call did not return what was written.
   pub written : HoldsForStoredTables g old new (λ t. WritesLinesOrRefuses (told t) before after result)
   -- A fault of the desk is `Memory` or `Store`. This does not depend on the disk assumption.
   pub fault : IfErr result IsRefusalOrMemoryStoreOrWriteFault
+  -- The desk is unchanged.
   pub keeps : PreservesDesk g old new
   -- Nothing is written at a refusal.
   pub unwritten : (refusal : _) → result ≡ Err (Refused refusal) → after ≡ before

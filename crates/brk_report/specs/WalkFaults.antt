@@ -5,7 +5,7 @@ use Rattle.brk_report_lines.specs.declared.fault.LinesFault.{LinesFault}
 use Rattle.brk_report_lines.specs.declared.fault.LinesFault.TheVariants.{Desk}
 
 -- The fault with which writing lines fails if its walk failed with this error: the fault of the
--- desk (`Failed`), or the fault with which the visitor stopped the walk (`Cause`).
+-- desk for `Failed`, and the fault with which the visitor stopped the walk for `Cause`.
 abbrev pub fault_of_walk_error : WalkError LinesFault → LinesFault
 fault_of_walk_error (Failed fault) = Desk fault
 fault_of_walk_error (Cause fault) = fault

@@ -4,8 +4,8 @@ use Rattle.brk_report_lines.specs.declared.fault.LinesFault.TheVariants as lines
 use Rattle.brk_report_lines.specs.declared.fault.ReportFault.{ReportFault}
 use Rattle.brk_report_lines.specs.declared.fault.ReportFault.TheVariants.{Desk, Write}
 
--- The fault with which a report fails if writing its lines failed: the same fault, of the desk or
--- of the writer. It is never a refusal.
+-- The fault with which a report fails if writing its lines failed with the given fault: `Desk` with
+-- the fault of the desk, or `Write`. It is never a refusal.
 abbrev pub report_fault_of_lines_fault : LinesFault → ReportFault
 report_fault_of_lines_fault (lines.Desk fault) = Desk fault
 report_fault_of_lines_fault lines.Write = Write

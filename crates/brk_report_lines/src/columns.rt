@@ -17,8 +17,8 @@ fn append_spaces(out: &mut Vec<u8>, count: usize) -> Result<(), Fault>
     Ok(())
 }
 
-/// Appends `text`, then spaces up to a width of `places` bytes. A longer text is appended whole.
-/// Fails with `Memory` only.
+/// Appends `text`, and then spaces up to a width of `places` bytes, at most 22. A longer text is
+/// appended whole. Fails with `Memory` only.
 pub fn append_left_aligned(out: &mut Vec<u8>, places: usize, text: &[u8]) -> Result<(), Fault>
     requires { places ≤ 22 }
     ensures ok { OnOk result (out.new.items ≡ out.old.items ++ left_aligned_text places text.now) }
@@ -28,8 +28,8 @@ pub fn append_left_aligned(out: &mut Vec<u8>, places: usize, text: &[u8]) -> Res
     append_spaces(out, places.saturating_sub(text.len()))
 }
 
-/// Appends spaces, then `text`, to a width of `places` bytes. A longer text is appended whole.
-/// Fails with `Memory` only.
+/// Appends spaces, and then `text`, to a width of `places` bytes, at most 22. A longer text is
+/// appended whole. Fails with `Memory` only.
 pub fn append_right_aligned(out: &mut Vec<u8>, places: usize, text: &[u8]) -> Result<(), Fault>
     requires { places ≤ 22 }
     ensures ok { OnOk result (out.new.items ≡ out.old.items ++ right_aligned_text places text.now) }

@@ -26,8 +26,8 @@ pub fn statement_title_line(alloc: Global, account: Id) -> Result<Vec<u8>, Fault
     Ok(line)
 }
 
-/// Returns the line of a statement that has the name of the account, with its line feed. Fails with
-/// `Memory` only.
+/// Returns the line of a statement that consists of the name of the account, with its line feed.
+/// Fails with `Memory` only.
 pub fn account_name_line(alloc: Global, name: &Name) -> Result<Vec<u8>, Fault>
     ensures line { IfOk result (λ line. line.items ≡ line_with_line_feed name.now) }
     ensures fault { OnErr result (result ≡ Err Memory) }
@@ -51,9 +51,9 @@ pub fn first_and_last_day_line(alloc: Global, from: Day, to: Day) -> Result<Vec<
     Ok(line)
 }
 
-/// Returns the line with `word`, padded to 10 bytes, a space, and `amount`, which is in cents, as
-/// text with two decimal places, right-aligned in 22 bytes. A longer text is written whole. Fails
-/// with `Memory` only.
+/// Returns the line, with its line feed, of `word`, padded to 10 bytes, a space, and `amount`,
+/// which is in cents, as text with two decimal places, right-aligned in 22 bytes. A longer word or
+/// amount is written whole. Fails with `Memory` only.
 pub fn amount_line(alloc: Global, word: &str, amount: Wide) -> Result<Vec<u8>, Fault>
     ensures line { IfOk result (λ line. line.items ≡ line_with_line_feed (statement.amount_line word.now amount)) }
     ensures fault { OnErr result (result ≡ Err Memory) }
@@ -69,7 +69,7 @@ pub fn amount_line(alloc: Global, word: &str, amount: Wide) -> Result<Vec<u8>, F
 }
 
 /// Returns the last line of a statement, `Cash rows N, lots N`, with the number of cash rows,
-/// `cash`, and the number of lots, `lots`. Fails with `Memory` only.
+/// `cash`, and the number of lots, `lots`, and its line feed. Fails with `Memory` only.
 pub fn row_counts_line(alloc: Global, cash: u64, lots: u64) -> Result<Vec<u8>, Fault>
     ensures line { IfOk result (λ line. line.items ≡ line_with_line_feed (codes "Cash rows " ++ decimal cash ++ codes ", lots " ++ decimal lots)) }
     ensures fault { OnErr result (result ≡ Err Memory) }

@@ -9,7 +9,7 @@ use brk_io::write_all_bytes;
 use brk_money::Fault;
 use std::io::Write;
 
-/// Writes the line `line`, or nothing if `line` is a fault. Fails with `Desk` and this fault, and
+/// Writes the line `line`, or nothing if `line` is a fault. Fails with `Desk` and this fault, or
 /// with `Write` after a prefix of the line, perhaps all of it, if the writer fails or accepts no
 /// byte.
 pub fn write_line<W: Write>(writer: &mut W, line: Result<Vec<u8>, Fault>) -> Result<(), LinesFault>
@@ -28,7 +28,7 @@ pub fn write_line<W: Write>(writer: &mut W, line: Result<Vec<u8>, Fault>) -> Res
 }
 
 /// Writes `text`, which is one or more lines, or nothing if `text` is a fault. Fails with `Desk`
-/// and this fault, and with `Write` after a prefix of the text, perhaps all of it, if the writer
+/// and this fault, or with `Write` after a prefix of the text, perhaps all of it, if the writer
 /// fails or accepts no byte.
 pub fn write_lines<W: Write>(writer: &mut W, text: Result<Vec<u8>, Fault>) -> Result<(), LinesFault>
     ensures written { (line : Text) (lines : List Text) → IfOk text (λ t. t.items ≡ text_of_lines (line ∷ lines)) → IfErr text IsCallFault

@@ -38,19 +38,20 @@ impl Clock for Still {
 }
 
 /// Creates a store in the database of a connection, by `Store::create`. Fails with the connection
-/// and the fault.
+/// and the fault if the store cannot be created.
 pub fn create_store<S: Alter + Drop>(
     conn: Connection<S>,
 ) -> Result<Store<S>, (Connection<S>, Fault)> {
     Store::create(conn)
 }
 
-/// Returns the connection of the store of a desk.
+/// Returns the connection of the store of a desk, without the desk.
 pub fn connection_of_desk<S: Alter + Drop>(desk: Desk<S>) -> Connection<S> {
     desk.into_store().into_conn()
 }
 
-/// Executes a batch on a desk, by `run_batch`, and returns its result.
+/// Executes the batch that `reader` returns on a desk at 2024-03-01 00:00 UTC, by `run_batch`, and
+/// writes its lines to `writer`. Returns the counts of its rows, or the fault.
 pub fn run_batch_of_reader<R: Read + Drop, W: Write, S: Alter>(
     alloc: Global,
     reader: R,
@@ -66,7 +67,8 @@ pub fn run_batch_of_reader<R: Read + Drop, W: Write, S: Alter>(
     )
 }
 
-/// Serves a stream of HTTP requests on a desk, by `serve_stream`, and returns its result.
+/// Serves the stream of HTTP requests that `reader` returns on a desk at 2024-03-01 00:00 UTC, by
+/// `serve_stream`, and writes the replies to `writer`. Returns the number of replies, or the fault.
 pub fn serve_stream_of_reader<R: Read + Drop, W: Write, S: Alter>(
     alloc: Global,
     reader: R,
@@ -82,7 +84,8 @@ pub fn serve_stream_of_reader<R: Read + Drop, W: Write, S: Alter>(
     )
 }
 
-/// Writes the statement of an account of a desk, by `statement`, and returns its result.
+/// Writes to `writer` the statement of the account of `asked` for its days, on a desk, by
+/// `statement`. Fails with the fault of the statement.
 pub fn write_statement<W: Write, S: Alter>(
     alloc: Global,
     asked: Asked,

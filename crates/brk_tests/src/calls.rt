@@ -13,9 +13,9 @@ use std::alloc::{AllocError, Global};
 use std::process::Abort;
 use std::test::Fail;
 
-// Returns the text of an outcome: `ok` and the stamp of a command whose reply is only its stamp,
-// `again` and the stored reply, `no` and the refusal of a command or a query, the number of trades
-// in the view of submitted trades and the word `trades`, and `something else` for any other
+// Returns the text of an outcome: `ok,` and the stamp of a command whose reply is only its stamp;
+// `again,` and the stored reply; `no,` and the refusal of a command or a query; the number of
+// trades in the view of submitted trades and the word `trades`; and `something else` for any other
 // outcome. Fails only if memory runs out.
 fn format_outcome(alloc: Global, outcome: &Outcome) -> Result<String, AllocError> {
     match outcome {
@@ -30,9 +30,8 @@ fn format_outcome(alloc: Global, outcome: &Outcome) -> Result<String, AllocError
     }
 }
 
-// Executes calls on a desk as one run, and checks that the texts of their outcomes, as
-// `format_outcome` returns them, are exactly `wanted`, in order. Fails if the run fails or an
-// outcome differs.
+// Executes calls on a desk as one run, and checks that the texts of their outcomes, in the form of
+// `format_outcome`, are exactly `wanted`, in order. Fails if the run fails or an outcome differs.
 fn expect_run_outcomes<S: Alter>(
     rt: &impl Abort,
     alloc: Global,
@@ -50,8 +49,9 @@ fn expect_run_outcomes<S: Alter>(
     Ok(())
 }
 
-// Executes calls on a new desk in the database of a connection as one run, and checks their outcomes
-// as `expect_run_outcomes`. Fails without a connection.
+// Executes calls as one run on a new desk in the database of a connection, and checks that the
+// texts of their outcomes are exactly `wanted` (`expect_run_outcomes`). Fails without a connection,
+// if the run fails, or if an outcome differs.
 fn expect_outcomes_on_new_desk<S: Alter + Drop>(
     rt: &impl Abort,
     alloc: Global,
@@ -63,8 +63,9 @@ fn expect_outcomes_on_new_desk<S: Alter + Drop>(
     expect_run_outcomes(rt, alloc, &mut desk, calls, wanted)
 }
 
-// Executes calls on a desk in the database of a connection after the batch `SET` as one run, and
-// checks their outcomes as `expect_run_outcomes`. Fails without a connection.
+// Executes calls as one run on a new desk in the database of a connection, after the batch `SET`,
+// and checks that the texts of their outcomes are exactly `wanted` (`expect_run_outcomes`). Fails
+// without a connection, if the run fails, or if an outcome differs.
 fn expect_outcomes_after_set<S: Alter + Drop>(
     rt: &impl Abort,
     alloc: Global,

@@ -4,7 +4,7 @@ use sqlite::{Alter, Connection, MemStore};
 use std::alloc::Global;
 use std::test::Fail;
 
-/// Returns the connection. Fails without one.
+/// Returns the connection `conn`. Fails if it is `None`.
 pub fn expect_connection<S: Alter + Drop>(
     conn: Option<Connection<S>>,
 ) -> Result<Connection<S>, Fail> {

@@ -16,8 +16,8 @@ pub struct Step<'a> {
     pub lines: &'a str,
 }
 
-/// Returns a new desk in the database of a connection. Its tables have no rows, except for one row of
-/// DESK. Fails without a connection, and if the desk cannot be created.
+/// Returns a new desk in the database of a connection. Its tables have no rows, except for one row
+/// of the table DESK. Fails without a connection, and if the desk cannot be created.
 pub fn new_desk<S: Alter + Drop>(conn: Option<Connection<S>>) -> Result<Desk<S>, Fail> {
     match create_store(expect_connection(conn)?) {
         Ok(store) => Ok(Desk::new(store)),
@@ -41,8 +41,8 @@ pub fn desk_with_reference_data<S: Alter + Drop>(
     Ok(desk)
 }
 
-/// Executes a batch on a desk at 2024-03-01 00:00 UTC. Returns the bytes that it wrote and its
-/// result, the counts of its rows or the fault.
+/// Executes a batch on a desk at 2024-03-01 00:00 UTC. Returns the bytes that the batch wrote, and
+/// the counts of its rows or the fault.
 pub fn run_batch_at_desk<S: Alter>(
     alloc: Global,
     desk: &mut Desk<S>,
@@ -53,9 +53,9 @@ pub fn run_batch_at_desk<S: Alter>(
     (lines, ended)
 }
 
-// Checks that a batch wrote exactly the lines `wanted`. Fails with `name` and the number of the
-// first line that differs, with `name` if lines are missing or there are more, and if the bytes
-// `told` are not UTF-8.
+// Checks that the bytes `told` that a batch wrote are exactly the lines `wanted`. Fails with `name`
+// and the number of the first line that differs, with `name` if lines are missing or there are
+// more, and if the bytes are not UTF-8.
 fn expect_batch_lines(name: &str, told: &[u8], wanted: &str) -> Result<(), Fail> {
     let Ok(told) = str::from_utf8(told) else {
         return Err("no text")?;
@@ -73,8 +73,8 @@ fn expect_batch_lines(name: &str, told: &[u8], wanted: &str) -> Result<(), Fail>
     Ok(())
 }
 
-// Checks that a batch completed, and that the wanted lines `lines` end with the end line of its
-// counts. Fails with `name` if not, or if memory runs out.
+// Checks that a batch completed, and that the lines `lines` end with the end line of its counts.
+// Fails with `name` if not, or if memory runs out.
 fn expect_batch_counts(
     alloc: Global,
     name: &str,
@@ -92,9 +92,9 @@ fn expect_batch_counts(
     }
 }
 
-/// Executes the batch of `step` on a desk at 2024-03-01 00:00 UTC, and checks that it completes,
-/// that it writes exactly the lines of `step`, and that these end with the end line of its counts.
-/// Fails with `name` if not.
+/// Executes the batch of `step` on a desk at 2024-03-01 00:00 UTC, and checks that the batch
+/// completes, that it writes exactly the lines of `step`, and that these lines end with the end
+/// line of its counts. Fails with `name` if not.
 pub fn expect_batch_result<S: Alter>(
     alloc: Global,
     desk: &mut Desk<S>,

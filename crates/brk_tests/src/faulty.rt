@@ -4,8 +4,8 @@ use std::alloc::Global;
 use std::io;
 use std::io::{Error, ErrorKind, Read, Write};
 
-/// A reader that returns the first bytes, then fails once, and after that returns the other bytes, at
-/// most `size` bytes at a call. If `fault` is `None`, it does not fail.
+/// A reader that returns the first bytes, then fails once, and after that returns the other bytes,
+/// at most `size` bytes at a call. If `fault` is `None`, it does not fail.
 #[derive(Drop)]
 pub struct Failing<'a> {
     before: &'a [u8],
@@ -27,7 +27,7 @@ impl<'a> Failing<'a> {
         }
     }
 
-    /// Returns a reader of `bytes` that returns at most `size` of them at a call, and does not fail.
+    /// Returns a reader of `bytes` that returns at most `size` bytes at a call, and does not fail.
     pub fn reader_in_pieces(bytes: &'a [u8], size: usize) -> Failing<'a> {
         Failing {
             before: bytes,

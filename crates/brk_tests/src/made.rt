@@ -14,7 +14,7 @@ fn connection_after_creation<S: Alter + Drop>(conn: Connection<S>) -> Result<Con
 }
 
 // Creates the tables of a store in the database of a connection. Returns `None` if they can be
-// created, and otherwise the fault, and true if no transaction is open after it.
+// created, and otherwise the fault, with true if no transaction is open after it.
 fn fault_of_creation<S: Alter + Drop>(conn: Connection<S>) -> Option<(Fault, bool)> {
     match create_store(conn) {
         Ok(_) => None,
@@ -22,9 +22,9 @@ fn fault_of_creation<S: Alter + Drop>(conn: Connection<S>) -> Option<(Fault, boo
     }
 }
 
-// Creates the tables of a store in the database of a connection, and returns the result of a second
-// creation in it, as `fault_of_creation`. Fails without a connection, and if the first creation
-// fails.
+// Creates the tables of a store in the database of a connection, and then a second time. Returns
+// `None` if the second creation succeeds, and otherwise its fault, with true if no transaction is
+// open after it. Fails without a connection, and if the first creation fails.
 fn fault_of_second_creation<S: Alter + Drop>(
     conn: Option<Connection<S>>,
 ) -> Result<Option<(Fault, bool)>, Fail> {
@@ -54,8 +54,9 @@ fn count_rows_of_first<S: Alter>(conn: &mut Connection<S>) -> Result<i64, Fail> 
 }
 
 // Creates the table FIRST, with one row whose column B is 1, and then the tables of a store in the
-// database of a connection. Returns the number of such rows after it. Fails without a connection, if
-// the tables cannot be created, and if the rows cannot be counted.
+// database of a connection. Returns the number of rows of FIRST whose column B is 1 after the
+// creation. Fails without a connection, if the tables cannot be created, and if the rows cannot be
+// counted.
 fn rows_of_first_after_creation<S: Alter + Drop>(conn: Option<Connection<S>>) -> Result<i64, Fail> {
     let mut conn = expect_connection(conn)?;
     conn.execute_batch(
@@ -74,8 +75,9 @@ fn creation_preserves_other_tables(rt: HostRuntime) -> Result<(), Fail> {
 }
 
 // Creates a table whose name differs from that of a desk's table only in upper and lower case, and
-// then the tables of a store in the database of a connection. Returns the result as
-// `fault_of_creation`. Fails without a connection, and if the first table cannot be created.
+// then the tables of a store in the database of a connection. Returns `None` if the creation of the
+// store succeeds, and otherwise its fault, with true if no transaction is open after it. Fails
+// without a connection, and if the first table cannot be created.
 fn fault_of_creation_beside_a_desk_table<S: Alter + Drop>(
     conn: Option<Connection<S>>,
 ) -> Result<Option<(Fault, bool)>, Fail> {

@@ -75,9 +75,10 @@ fn expect_totals_after_trades<S: Alter>(
     Ok(())
 }
 
-// Executes the rows as one batch on a new desk in the database of a connection. Checks that all 1,000
-// rows are accepted, that the line of the last row and the end line are the wanted ones, and the
-// totals by `expect_totals_after_trades`. Returns the lines. Fails without a connection.
+// Executes the rows as one batch on a new desk in the database of a connection. Checks that all
+// 1,000 rows are accepted, that the line of the last row and the end line are the wanted ones, and
+// that the totals after the trades are right (`expect_totals_after_trades`). Returns the lines.
+// Fails without a connection.
 fn run_and_check_batch<S: Alter + Drop>(
     rt: &impl Abort,
     alloc: Global,
@@ -125,8 +126,8 @@ fn run_calls_of_rows<S: Alter>(
     Ok(out)
 }
 
-// Appends the line of the accepted row `n` with this outcome, as a batch writes it. Fails if the
-// row was not accepted.
+// Appends the line of the accepted row `n` with this outcome, in the form in which a batch writes
+// it. Fails if the row was not accepted.
 fn append_accepted_line(
     alloc: Global,
     lines: &mut String,
@@ -141,8 +142,8 @@ fn append_accepted_line(
     Ok(())
 }
 
-// Returns the lines of accepted rows with these outcomes, as a batch writes them. Fails if a row
-// was not accepted.
+// Returns the lines of accepted rows with these outcomes, in order, in the form in which a batch
+// writes them. Fails if a row was not accepted.
 fn lines_of_outcomes(alloc: Global, outcomes: &[Outcome]) -> Result<String, Fail> {
     let mut lines = String::new(alloc);
     for (outcome, n) in outcomes.iter().zip(1..=2 * TRADES) {
@@ -152,8 +153,9 @@ fn lines_of_outcomes(alloc: Global, outcomes: &[Outcome]) -> Result<String, Fail
 }
 
 // Executes the calls of all rows as one run on a new desk in the database of a connection, checks
-// the totals by `expect_totals_after_trades`, and returns the lines that a batch would write for the
-// rows, without its end line. Fails without a connection, and if a row is not accepted.
+// that the totals after the trades are right (`expect_totals_after_trades`), and returns the lines
+// that a batch would write for the rows, without its end line. Fails without a connection, and if a
+// row is not accepted.
 fn run_rows_and_check_totals<S: Alter + Drop>(
     rt: &impl Abort,
     alloc: Global,

@@ -51,9 +51,9 @@ fn batch_of_one_sale(alloc: Global, account: u64, shares: u64) -> Result<String,
     )?)
 }
 
-// Returns true if a desk in the files `held` completes the sale of `shares` shares of an account
-// when its database file accepts `calls` calls and fails at each later one. The desk caches one
-// page of the file, so it reads each other page anew. Fails if memory runs out.
+// Returns true if a desk in the files `held` completes the sale of `shares` shares of an account if
+// its database file accepts `calls` calls and fails at each later call. The desk caches one page of
+// the file, and reads each other page from the file. Fails if memory runs out.
 fn sale_completes_within_calls(
     alloc: Global,
     held: &Held,

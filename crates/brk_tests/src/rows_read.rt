@@ -26,8 +26,9 @@ fn batch_of_one_share_purchases(alloc: Global) -> Result<String, Fail> {
     Ok(batch)
 }
 
-// Returns a store in the database of a connection, on which account 100 has `LOTS` lots of one share
-// each. Fails without a connection, if the batch of the purchases fails, or if memory runs out.
+// Returns a store in the database of a connection, on which account 100 has `LOTS` lots of one
+// share each. Fails without a connection, if the batch of the purchases fails, or if memory runs
+// out.
 fn store_with_forty_lots<S: Alter + Drop>(
     alloc: Global,
     conn: Option<Connection<S>>,
@@ -93,8 +94,9 @@ fn expect_rows_read_by_sales<S: Alter>(
     Ok(())
 }
 
-// Checks, in a store in the database of a connection, that each sale of `SALES` reads only the rows
-// that it needs. Fails without a connection.
+// Checks, in a store in the database of a connection, that each sale of `SALES` touches the wanted
+// number of lots and reads the wanted number of rows, with the first and with the last lots first.
+// Fails without a connection.
 fn expect_rows_read_in<S: Alter + Drop>(
     rt: &impl Abort,
     alloc: Global,

@@ -89,7 +89,7 @@ fn append_row(lines: &mut String, row: &Row) -> Result<(), Unread> {
 }
 
 // Appends the name of a table and its rows, sorted by their first two columns, as lines. Fails if
-// they cannot be read or printed.
+// the rows cannot be read or printed.
 fn append_table<S: Alter>(
     alloc: Global,
     lines: &mut String,
@@ -105,7 +105,8 @@ fn append_table<S: Alter>(
     Ok(())
 }
 
-// Appends the names and the rows of these tables as lines. Fails if they cannot be read or printed.
+// Appends the names and the rows of these tables, in order, as lines. Fails if the rows cannot be
+// read or printed.
 fn append_tables<S: Alter>(
     alloc: Global,
     lines: &mut String,
@@ -118,8 +119,8 @@ fn append_tables<S: Alter>(
     Ok(())
 }
 
-/// Returns the names and the rows of all tables of a desk as lines. Fails if they cannot be read or
-/// printed.
+/// Returns the names and the rows of all tables of a desk as lines. Fails if the rows cannot be
+/// read or printed.
 pub fn read_all_tables<S: Alter>(
     alloc: Global,
     conn: &mut Connection<S>,

@@ -104,7 +104,8 @@ pub fn append_purchase(
     Ok(())
 }
 
-/// Appends the last line of a batch of `rows` rows. Fails only if memory runs out.
+/// Appends the end record of a batch of `rows` rows, with a line feed. Fails only if memory runs
+/// out.
 pub fn append_end(batch: &mut String, rows: u64) -> Result<(), Fail> {
     writeln!(batch, "end,{rows}")?;
     Ok(())
@@ -121,8 +122,8 @@ pub fn format_batch(alloc: Global, rows: &[&str]) -> Result<String, Fail> {
     Ok(batch)
 }
 
-/// Appends a line for each reply, as a batch writes it: the number of its row, counted from
-/// `first`, the word `word`, and the reply. Fails only if memory runs out.
+/// Appends a line for each reply in `lines`, in the form in which a batch writes it: the number of
+/// its row, counted from `first`, the word `word`, and the reply. Fails only if memory runs out.
 pub fn append_reply_lines(
     told: &mut String,
     first: u64,
@@ -138,8 +139,8 @@ pub fn append_reply_lines(
 }
 
 /// Returns all lines of a batch on a desk that has accepted its first `booked` rows before, or all
-/// of them if there are fewer: the stored replies to these rows, the other rows accepted, and the
-/// end line. `lines` are the replies to all rows. Fails only if memory runs out.
+/// of its rows if `booked` is greater: the stored replies to these rows, the other rows accepted,
+/// and the end line. `lines` are the replies to all rows. Fails only if memory runs out.
 pub fn lines_of_retry(alloc: Global, lines: &[&str], booked: usize) -> Result<String, Fail> {
     let (again, rest) = lines.split_at(booked.min(lines.len()));
     let mut told = String::new(alloc);

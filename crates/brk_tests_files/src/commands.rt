@@ -32,8 +32,8 @@ fn append_marked_lines(out: &mut String, mark: char, bytes: &[u8]) -> Result<(),
 }
 
 // Executes the program `brk` in this process with the command-line arguments `words` and this
-// input. Appends the lines of its output after `>`, the lines of its error text after `!`, and its
-// exit status after `=`. Fails only if memory runs out.
+// input. Appends the lines of its output, each after `>` and a space, the lines of its error text
+// after `!`, and its exit status after `=`. Fails only if memory runs out.
 fn run_program_and_append_output(
     rt: &HostRuntime,
     out: &mut String,

@@ -3,14 +3,14 @@
 use sqlite::Connection;
 use std::fs;
 
-/// Writes the bytes `bytes` as the whole file at a path, in place of an earlier file. Returns true
-/// if that succeeds.
+/// Writes `bytes` as the whole content of the file at a path, in place of an earlier file. Returns
+/// true if the write succeeds.
 pub fn write_file(rt: &HostRuntime, path: &str, bytes: &[u8]) -> bool {
     fs::write(rt, path, bytes).is_ok()
 }
 
 /// Copies a file: `paths` contains the paths of the file and of its copy, separated by a space.
-/// Returns true if that succeeds, and false also if `paths` has no space.
+/// Returns true if the copy succeeds, and false also if `paths` has no space.
 pub fn copy_file(rt: &HostRuntime, paths: &str) -> bool {
     match paths.split_once(' ') {
         Some((from, to)) => fs::copy(rt, from, to).is_ok(),
@@ -19,7 +19,7 @@ pub fn copy_file(rt: &HostRuntime, paths: &str) -> bool {
 }
 
 /// Removes the second half of a file; if its number of bytes is odd, the byte in the middle too.
-/// Returns true if that succeeds.
+/// Returns true if the file can be read and written.
 pub fn remove_second_half_of_file(rt: &HostRuntime, path: &str) -> bool {
     match fs::read(rt, path) {
         Ok(whole) => write_file(rt, path, &whole[..whole.len() / 2]),
@@ -27,8 +27,8 @@ pub fn remove_second_half_of_file(rt: &HostRuntime, path: &str) -> bool {
     }
 }
 
-/// Executes an SQL statement on the database in a file, and closes the database. Returns true if
-/// the statement and the closing succeed, and false also if the statement is not UTF-8 or the file
+/// Executes the SQL statement `sql` on the database in a file, and closes the database. Returns
+/// true if the statement and the closing succeed, and false also if `sql` is not UTF-8 or the file
 /// cannot be opened as a database.
 pub fn execute_sql_in_file(rt: &HostRuntime, path: &str, sql: &[u8]) -> bool {
     let Ok(sql) = str::from_utf8(sql) else {

@@ -43,8 +43,8 @@ fn command_begun_by_line(alloc: Global, line: &str) -> Option<Due<'_>> {
     })
 }
 
-// Adds an input line and a line feed to the input of the pending command, and returns this command,
-// or `None` if there is none. Fails only if memory runs out.
+// Adds the input line `text` and a line feed to the input of the pending command, and returns this
+// command, or `None` if there is none. Fails only if memory runs out.
 fn add_input_to_pending_command<'a>(
     due: Option<Due<'a>>,
     text: &str,

@@ -245,8 +245,8 @@ impl Write for Choppy {
     }
 }
 
-// Executes a batch that `reader` returns on a new test desk, at the timestamp 7, and writes its
-// lines to `out`. Returns its result, the counts or the fault.
+// Executes the batch that `reader` returns on a new test desk, at the timestamp 7, and writes its
+// lines to `out`. Returns the counts of its rows, or the fault.
 fn run_batch_on_new_desk<R: Read + Drop, W: Write>(
     alloc: Global,
     reader: R,
@@ -259,7 +259,7 @@ fn run_batch_on_new_desk<R: Read + Drop, W: Write>(
     execute_batch_on_desk::<R, W, Fixed, Last>(alloc, reader, out, &mut clock, &mut desk)
 }
 
-// Checks that a batch that `reader` returns has the result `wanted` on a new test desk, at the
+// Checks that the batch that `reader` returns has the result `wanted` on a new test desk, at the
 // timestamp 7, and that it writes exactly the bytes `lines`.
 fn expect_batch<R: Read + Drop>(
     rt: &impl Abort,
@@ -274,7 +274,8 @@ fn expect_batch<R: Read + Drop>(
     expect_equal(rt, out.as_slice(), lines);
 }
 
-// Returns the result of a batch with these numbers of accepted, repeated and refused rows.
+// Returns the result of a completed batch with these numbers of accepted, repeated and refused
+// rows.
 fn batch_counts(ok: u64, again: u64, no: u64) -> Result<Counts, BatchFault> {
     Ok(Counts { ok, again, no })
 }
@@ -293,8 +294,8 @@ const WHOLE: &[u8] =
 const LINES: &[u8] = b"1,ok,7\n2,again,5,CNCL\n3,no,14,accounts\n4,no,18\n5,no,8\nend,1,1,3\n";
 
 // Checks that each row of the batch `WHOLE`, which has an accepted, a repeated and three refused
-// rows, has its line, followed by the end line of its counts, if the batch is read whole or byte by
-// byte.
+// rows, has its line, followed by the end line of the counts, both if the batch is read whole and
+// if it is read byte by byte.
 #[test]
 fn each_row_of_a_batch_gets_a_line(rt: HostRuntime) {
     expect_batch(&rt, rt.alloc(), WHOLE, batch_counts(1, 1, 3), LINES);

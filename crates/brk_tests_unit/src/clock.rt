@@ -14,7 +14,7 @@ use std::time::Duration;
 struct Stopped(Option<Duration>);
 
 impl rt::Clock for Stopped {
-    // Returns 7 seconds.
+    // Returns the fixed monotonic time of 7 seconds.
     fn monotonic(&self) -> io::Result<Duration> {
         Ok(Duration::from_secs(7))
     }

@@ -46,7 +46,7 @@ fn exit_status_and_line_of_batch_faults(rt: HostRuntime) {
 }
 
 // Checks that a refused report has the exit status 1 and an error line with the number of the
-// refusal, and that a failed one has 3 and the error line of the fault.
+// refusal, and that a report that failed has the exit status 3 and the error line of its fault.
 #[test]
 fn exit_status_and_line_of_report_faults(rt: HostRuntime) {
     let alloc = rt.alloc();

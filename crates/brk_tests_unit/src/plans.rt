@@ -58,8 +58,8 @@ fn a_feed_beyond_volume_limit_is_refused(rt: HostRuntime) {
 }
 
 // Returns the facts of the tables on which the plan for a purchase of ABC depends: `trades` as the
-// last trade id, none if it is out of range, a last price of 10.00, a commission rate of one
-// percent, a charge of 5.00, and assets of 10000.00.
+// last trade id, or no trade if it is beyond the limits of an id, a last price of 10.00, a
+// commission rate of one percent, a charge of 5.00, and assets of 10000.00.
 fn purchase_facts(rt: &impl Abort, trades: u64) -> OrderPlanFacts {
     let account = OrderAccount {
         broker: Id::new(1).expect(rt, "broker"),
@@ -111,7 +111,8 @@ fn an_order_beyond_greatest_trade_id_is_refused(rt: HostRuntime) {
     expect_purchase_reply(&rt, rt.alloc(), 1_000_000_000_000, "no,14,trades");
 }
 
-// Returns whether a price of these cents triggers a pending trade of this type with a bid of 10.00.
+// Returns true if a price of `cents` cents triggers a pending trade of the type `kind` with a bid
+// of 10.00.
 fn cents_trigger_trade(rt: &impl Abort, kind: TradeType, cents: u32) -> bool {
     let bid = Price::new(1_000).expect(rt, "bid");
     price_triggers_trade(kind, bid, Price::new(cents).expect(rt, "price"))
@@ -126,9 +127,9 @@ const TRIGGERS: [(TradeType, bool, bool, bool); 5] = [
     (TradeType::MarketSell, false, false, false),
 ];
 
-// Checks, for a price below, at and above the bid, that exactly a price at or below it triggers a
-// stop-loss or a limit buy, that exactly a price at or above it triggers a limit sell, and that
-// none triggers a market order.
+// Checks that a stop-loss and a limit buy are triggered by a price below or at their bid and not by
+// one above it, that a limit sell is triggered by a price at or above its bid and not by one below
+// it, and that no price triggers a market order.
 #[test]
 fn prices_trigger_pending_trades(rt: HostRuntime) {
     for (kind, is_below, is_at, is_above) in &TRIGGERS {

@@ -20,8 +20,8 @@ fn millis_or_minus_one(at: Option<Stamp>) -> i64 {
     }
 }
 
-// Appends a space and a word to the text, for each word, and returns the text. Fails only if memory
-// runs out.
+// Appends each of `words`, after a space, to the text, in order, and returns the text. Fails only
+// if memory runs out.
 fn append_words(mut text: String, words: &[String]) -> Result<String, AllocError> {
     for word in words {
         text.push_str(" ")?;
@@ -76,7 +76,7 @@ fn format_job(alloc: Global, job: &Job) -> Result<String, AllocError> {
     }
 }
 
-// Returns the name of the program and these arguments.
+// Returns the name of the program, `brk`, and then the arguments `words`, in order.
 fn words_with_program_name(rt: &impl Abort, alloc: Global, words: &[&str]) -> Vec<String> {
     let name = String::from_str(alloc, "brk").expect(rt, "memory");
     let mut all = vec![in alloc; name].expect(rt, "memory");
@@ -87,9 +87,9 @@ fn words_with_program_name(rt: &impl Abort, alloc: Global, words: &[&str]) -> Ve
     all
 }
 
-// Returns the text of a parsed job, or `wrong:` with the error text, `help:` with the help or
-// version text, `day` for a malformed day, or `memory` if memory ran out. Fails only if memory runs
-// out.
+// Returns the text of a parsed job, or `wrong: ` with the error text, `help: ` with the help or
+// version text, `day` for a malformed day, or `memory` if memory ran out during the parsing. Fails
+// only if memory runs out.
 fn format_parsed_job(alloc: Global, read: &Result<Job, UsageFault>) -> Result<String, AllocError> {
     match read {
         Ok(job) => format_job(alloc, job),
@@ -100,8 +100,8 @@ fn format_parsed_job(alloc: Global, read: &Result<Job, UsageFault>) -> Result<St
     }
 }
 
-// Checks that these arguments, after the name of the program, are parsed to the job with the text
-// `wanted`, or are reported with it (`format_parsed_job`).
+// Checks that the arguments `words`, after the name of the program, are parsed to the job or the
+// usage fault with the text `wanted` (`format_parsed_job`).
 fn expect_parsed_arguments(rt: &impl Abort, alloc: Global, words: &[&str], wanted: &str) {
     let read = read_words(words_with_program_name(rt, alloc, words));
     let told = format_parsed_job(alloc, &read).expect(rt, "memory");
@@ -502,7 +502,8 @@ const HELPS: [(&[&str], &str); 4] = [
     (&["--help"], HELP),
 ];
 
-// Checks that these arguments are reported with the text `help`, after the word `kind`.
+// Checks that the arguments `words` are reported with the word `kind`, a colon, a space and the
+// text `help`.
 fn expect_help(rt: &impl Abort, alloc: Global, words: &[&str], kind: &str, help: &str) {
     let text = format!(in alloc; "{kind}: {help}").expect(rt, "memory");
     expect_parsed_arguments(rt, alloc, words, text.as_str());

@@ -169,10 +169,10 @@ fn write_broker_explanation<W: Write, S: Alter>(
 /// Fails with `Refused` and nothing written if a record does not exist: with refusal 5 (`NoTrade`)
 /// for the trade, 1 (`NoAccount`) for the account, also of a holding, 4 (`NoSecurity`) for the
 /// security of a holding whose account exists, and 3 (`NoBroker`) for the broker. Fails with
-/// `Desk(Memory)` or `Desk(Store)`; `Desk(Store)` may also mean that a row that another row requires
-/// does not exist, or that an amount overflows or exceeds its limit. After `Desk` only whole lines
-/// are written, from the first on and never the last one. After `Write` whole lines are written,
-/// from the first on, and a part of the next one.
+/// `Desk(Memory)` or `Desk(Store)`; `Desk(Store)` may also mean that a row that another row
+/// requires does not exist, or that an amount overflows or exceeds its limit. After `Desk` only
+/// whole lines are written, from the first on and never the last one. After `Write` whole lines are
+/// written, from the first on, and a part of the next one.
 ///
 /// A crash after the call exposes only states that a crash before the call could expose.
 pub fn write_explanation<W: Write, S: Alter>(

@@ -87,9 +87,9 @@ fn parse_holding_request(alloc: Global, words: &[&[u8]]) -> Planned<ExplainReque
     Ok(Ok(ExplainRequest::Holding { account, symbol }))
 }
 
-// Returns the request with the first word `form` (`trade`, `account`, `holding` or `broker`) and
-// the other words `words`. Refuses another first word, and malformed or missing words, with
-// `BadText`. Fails with `Memory` only.
+// Returns the request of the kind `form`, the first word (`trade`, `account`, `holding` or
+// `broker`), with the ids and the symbol in the other words, `words`. Refuses another first word,
+// and malformed, missing or surplus words, with `BadText`. Fails with `Memory` only.
 #[tactic(auto, unfolding(brk_explain_model::specs::Explain::read_explain_request))]
 fn parse_request_of_kind(alloc: Global, form: &[u8], words: &[&[u8]]) -> Planned<ExplainRequest>
     ensures read { IfOk result (λ read. ParsesAs abstract_explain_request read (model.read_explain_request (form.now ∷ texts_of_fields words.now))) }
@@ -111,7 +111,7 @@ fn parse_request_of_kind(alloc: Global, form: &[u8], words: &[&[u8]]) -> Planned
 }
 
 /// Returns the request for an explanation from the words of a command line: `trade ID`,
-/// `account ID`, `holding ACCOUNT SYMBOL` or `broker ID`. Refuses another first word, a wrong
+/// `account ID`, `holding ACCOUNT SYMBOL` or `broker ID`. Refuses another or no first word, a wrong
 /// number of words, a malformed id or a malformed symbol with `BadText`. Fails with `Memory` only.
 #[tactic(auto, unfolding(brk_explain_model::specs::Explain::read_explain_request))]
 pub fn parse_explain_request(alloc: Global, words: &[&[u8]]) -> Planned<ExplainRequest>

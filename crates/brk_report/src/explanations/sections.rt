@@ -17,10 +17,10 @@ use sqlite::Alter;
 use std::alloc::Global;
 use std::io::Write;
 
-/// Writes a line for each cash row of an account, sorted by stamp, with the balance after it, which
-/// starts from the balance `opening`, in cents. Returns the number of cash rows. Fails with `Desk`
-/// if a read fails, memory runs out, or a balance or the number overflows, and with `Write` if the
-/// writer fails. The open database is unchanged.
+/// Writes a line for each cash row of an account, sorted by stamp, ascending, with the balance
+/// after it; the balance before the first one is `opening`, in cents. Returns the number of cash
+/// rows. Fails with `Desk` if a read fails, memory runs out, or a balance or the number overflows,
+/// and with `Write` if the writer fails. If the database is still open, it is unchanged.
 pub(crate) fn write_cash_posting_lines<W: Write, S: Alter>(
     alloc: Global,
     desk: &mut Desk<S>,
@@ -47,9 +47,10 @@ pub(crate) fn write_cash_posting_lines<W: Write, S: Alter>(
     }
 }
 
-/// Writes a line for each lot of an account, sorted by symbol, then by opening stamp, ascending,
-/// and returns the number of lots. Fails with `Desk` if a read fails, memory runs out or the number
-/// overflows, and with `Write` if the writer fails. If the database is still open, it is unchanged.
+/// Writes a line for each lot of an account, sorted by symbol, then by opening stamp, both
+/// ascending, and returns the number of lots. Fails with `Desk` if a read fails, memory runs out or
+/// the number overflows, and with `Write` if the writer fails. If the database is still open, it is
+/// unchanged.
 pub(crate) fn write_open_lot_lines<W: Write, S: Alter>(
     alloc: Global,
     desk: &mut Desk<S>,

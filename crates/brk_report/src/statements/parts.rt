@@ -17,8 +17,8 @@ use sqlite::Alter;
 use std::alloc::Global;
 use std::io::Write;
 
-/// Writes the first three lines of a statement: the title, the name of the account and the days.
-/// Fails with `Desk(Memory)` or `Write`.
+/// Writes the first three lines of a statement: the title with the id `account`, the name of the
+/// account, and the first day `from` and the last day `to`. Fails with `Desk(Memory)` or `Write`.
 pub(crate) fn write_header_lines<W: Write>(
     alloc: Global,
     account: Id,
@@ -34,12 +34,12 @@ pub(crate) fn write_header_lines<W: Write>(
     write_line(writer, first_and_last_day_line(alloc, from, to))
 }
 
-/// Writes the line of the opening amount, which is `opening` plus the cash rows of an account
-/// before the day `from`, a line for each of its cash rows from the day `from` to the day `to`,
-/// both included, and the line of the closing amount, which is the opening amount plus these rows,
-/// in cents. Returns the number of the rows that have a line. If the database is still open, it is
-/// unchanged. Fails with `Desk` if a read fails, memory runs out, or the amount or the number
-/// overflows, or with `Write`.
+/// Writes the line of the opening amount, which is `opening` plus the amounts of the cash rows of
+/// an account before the day `from`, a line for each of its cash rows from the day `from` to the
+/// day `to`, both included, and the line of the closing amount, which is the opening amount plus
+/// the amounts of the rows with a line, in cents. Returns the number of these rows. If the database
+/// is still open, it is unchanged. Fails with `Desk` if a read fails, memory runs out, or an amount
+/// or the number overflows, or with `Write`.
 pub(crate) fn write_cash_and_closing_lines<W: Write, S: Alter>(
     alloc: Global,
     desk: &mut Desk<S>,
@@ -61,7 +61,7 @@ pub(crate) fn write_cash_and_closing_lines<W: Write, S: Alter>(
 }
 
 /// Writes a line for each lot of an account, the line of the market value `holdings`, in cents, and
-/// the line of the number of cash rows, `cash`, and of lots. If the database is still open, it is
+/// the line of the numbers of cash rows, `cash`, and of lots. If the database is still open, it is
 /// unchanged. Fails with `Desk` if a read fails, memory runs out or the number of lots overflows,
 /// or with `Write`.
 pub(crate) fn write_lot_and_total_lines<W: Write, S: Alter>(

@@ -18,9 +18,10 @@ use std::io::Write;
 
 // Adds up the amounts of the cash rows of an account up to the stamp `last`, from the balance
 // `opening` on, in cents. Writes a line for each cash row from the stamp `first` on, and before the
-// first of these lines that of the opening amount, which is the total of the earlier rows. Returns
-// how far it has come. If the database is still open, it is unchanged. Fails with `Desk` if a read
-// fails, memory runs out, or the number or the sum overflows, or with `Write`.
+// first of these lines the line of the opening amount, which is the total of the earlier rows.
+// Returns the total, the number of the rows with a line, and whether the line of the opening amount
+// is written. If the database is still open, it is unchanged. Fails with `Desk` if a read fails,
+// memory runs out, or the number or the sum overflows, or with `Write`.
 fn walk_cash_rows<W: Write, S: Alter>(
     alloc: Global,
     desk: &mut Desk<S>,
@@ -53,10 +54,10 @@ fn walk_cash_rows<W: Write, S: Alter>(
 
 /// Writes the line of the opening amount, which is `opening` plus the amounts of the cash rows of
 /// an account before the day `from`, and a line for each of its cash rows from the day `from` to
-/// the day `to`, both included. Returns the number of the latter rows, and `opening` plus the
-/// amounts of all these rows, in cents. Walks over the cash rows once. If the database is still
-/// open, it is unchanged. Fails with `Desk` if a read fails, memory runs out, or the number or the
-/// sum overflows, or with `Write`.
+/// the day `to`, both included. Returns the number of the rows with a line, and `opening` plus the
+/// amounts of all cash rows up to the day `to`, in cents. If the database is still open, it is
+/// unchanged. Fails with `Desk` if a read fails, memory runs out, or the number or the sum
+/// overflows, or with `Write`.
 pub(crate) fn write_opening_and_cash_lines<W: Write, S: Alter>(
     alloc: Global,
     desk: &mut Desk<S>,
@@ -85,9 +86,9 @@ pub(crate) fn write_opening_and_cash_lines<W: Write, S: Alter>(
     Ok(moved)
 }
 
-/// Writes a line for each lot of an account, sorted by symbol, then by opening stamp, and returns
-/// the number of lots. If the database is still open, it is unchanged. Fails with `Desk` if a read
-/// fails, memory runs out or the number overflows, or with `Write`.
+/// Writes a line for each lot of an account, sorted by symbol, then by opening stamp, both
+/// ascending, and returns the number of lots. If the database is still open, it is unchanged. Fails
+/// with `Desk` if a read fails, memory runs out or the number overflows, or with `Write`.
 pub(crate) fn write_lot_lines<W: Write, S: Alter>(
     alloc: Global,
     desk: &mut Desk<S>,

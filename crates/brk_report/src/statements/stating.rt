@@ -16,10 +16,10 @@ use std::io::Write;
 /// The cause of a failure to write a statement.
 pub type StatementFault = ReportFault;
 
-// Writes all lines of the statement of an account that exists, from the day `from` to the day `to`,
-// both included. `head` has the name, the opening balance and the market value of the account. If
-// the database is still open, it is unchanged. Fails with `Desk` if a read fails, memory runs out
-// or a sum overflows, or with `Write`.
+// Writes all lines of the statement of an account from the day `from` to the day `to`, both
+// included. `head` has the name, the opening balance and the market value of the account. If the
+// database is still open, it is unchanged. Fails with `Desk` if a read fails, memory runs out, or a
+// sum or a number of rows overflows, or with `Write`.
 fn write_statement_lines<W: Write, S: Alter>(
     alloc: Global,
     desk: &mut Desk<S>,

@@ -58,8 +58,8 @@ fn is_before_stamp(item: &MoveRow, first: Stamp) -> bool
     item.stamp.get() < first.get()
 }
 
-/// Writes the line of the opening amount, in cents, unless `is_written` is true. Fails with
-/// `Desk(Memory)` or `Write`.
+/// Writes the line of the opening amount `opening`, in cents, or nothing if `is_written` is true.
+/// Fails with `Desk(Memory)` or `Write`.
 pub(crate) fn write_opening_line_unless<W: Write>(
     alloc: Global,
     is_written: bool,
@@ -74,8 +74,9 @@ pub(crate) fn write_opening_line_unless<W: Write>(
     write_line(writer, amount_line(alloc, "Opening", opening))
 }
 
-// Writes the line of the opening amount, unless it is written, and the line of the cash row
-// `item`. The opening amount is the total so far. Fails with `Desk(Memory)` or `Write`.
+// Writes the line of the opening amount, which is the total of `moved`, unless `moved` records that
+// this line is written, and then the line of the cash row `item`. Fails with `Desk(Memory)` or
+// `Write`.
 fn write_opening_and_row_lines<W: Write>(
     alloc: Global,
     moved: CashProgress,
@@ -112,8 +113,9 @@ impl<R: Line, W: Write> Visitor<R, LinesFault> for LineWriter<'_, W> {
 
     ghost stops = { λ p r e q. FailsWithinLines (R.line r ∷ []) (W.contents p.writer.now) (W.contents q.writer.now) e };
 
-    /// Writes the line of the record and counts the record. Fails with `Desk` and the fault of the
-    /// line, with `Desk(Store)` if the count overflows, or with `Write`.
+    /// Writes the line of the record and counts the record. Fails with `Desk` and the fault of
+    /// formatting the line, `Memory` or `Store`, with `Desk(Store)` if the count overflows, or with
+    /// `Write`.
     fn visit(&mut self, item: &R) -> Result<(), LinesFault> {
         let Some(count) = self.count.checked_add(1) else {
             return Err(LinesFault::Desk(Fault::Store));
@@ -128,7 +130,7 @@ impl<R: Line, W: Write> Visitor<R, LinesFault> for LineWriter<'_, W> {
     ghost transitive = { λ _ _ _ a b. b ∙ a };
 }
 
-/// How far the walk over the cash rows of an account has come.
+/// The progress of a walk over the cash rows of an account.
 #[derive(Clone, Copy)]
 pub struct CashProgress {
     /// True if the line of the opening amount is written.
@@ -151,7 +153,8 @@ pub struct CashLineWriter<'a, W> {
 }
 
 impl<W> CashLineWriter<'_, W> {
-    /// Returns how far the visitor has come.
+    /// Returns the progress of the walk so far: whether the line of the opening amount is written,
+    /// the number of rows with a line, and the total, in cents.
     pub fn progress(&self) -> CashProgress
         ensures { result ≡ self.now.moved }
     {
@@ -177,10 +180,10 @@ impl<W: Write> Visitor<MoveRow, LinesFault> for CashLineWriter<'_, W> {
 
     ghost stops = { λ p r e q. FailsWithinFirstLines (lines_of_row (nat_lt r.stamp p.first) p.moved (abstract_move_row r)) (W.contents p.writer.now) (W.contents q.writer.now) e };
 
-    /// Adds the amount of the cash row to the total. If the row is not before the first stamp,
-    /// writes its line, after that of the opening amount if this is not written, and counts the
-    /// row. Fails with `Desk(Memory)`, with `Desk(Store)` if the total or the count overflows, or
-    /// with `Write`.
+    /// Adds the amount of the cash row to the total. If the row is not before the first stamp, also
+    /// writes its line, after the line of the opening amount unless this was written before, and
+    /// counts the row. Fails with `Desk(Memory)`, with `Desk(Store)` if the total or the count
+    /// overflows, or with `Write`.
     fn visit(&mut self, item: &MoveRow) -> Result<(), LinesFault> {
         let total = total_plus_amount(self.moved.total, item.amount)?;
         if is_before_stamp(item, self.first) {

@@ -43,7 +43,7 @@ fn format_view(alloc: Global, query: &Query, view: &View, form: Form) -> Result<
 // names of its fields first if `form.heads` is true and all its records have the same fields.
 //
 // Fails with `Desk(Memory)` and nothing written, or with `Write` after a prefix of the text,
-// perhaps all of it.
+// perhaps empty or all of it.
 fn write_view<W: Write>(
     alloc: Global,
     query: &Query,

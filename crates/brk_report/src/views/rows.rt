@@ -36,7 +36,7 @@ fn format_csv_row(alloc: Global, texts: &[String]) -> Result<Vec<u8>, AllocError
     }
 }
 
-/// Returns records as rows of CSV, in order, each with its line feed. Fails only if memory runs
+/// Returns the records as rows of CSV, in order, each with its line feed. Fails only if memory runs
 /// out.
 pub fn format_csv_rows(alloc: Global, records: &[Vec<String>]) -> Result<Vec<u8>, AllocError>
     ensures { IfOk result (λ text. text.items ≡ csv_text (map texts_of_record records.now)) }
@@ -49,8 +49,8 @@ pub fn format_csv_rows(alloc: Global, records: &[Vec<String>]) -> Result<Vec<u8>
     Ok(text)
 }
 
-/// Returns records as one line of JSON, `{"view":[["TEXT",..],..]}`, with its line feed. Fails only
-/// if memory runs out.
+/// Returns the records as one line of JSON, `{"view":[["TEXT",..],..]}`, with its line feed. Fails
+/// only if memory runs out.
 pub fn format_json_line(alloc: Global, records: &[Vec<String>]) -> Result<Vec<u8>, AllocError>
     ensures { IfOk result (λ text. text.items ≡ json_line_text (map texts_of_record records.now)) }
 {

@@ -75,8 +75,8 @@ pub fn all_lines_of_retry(alloc: Global, booked: usize) -> Result<String, Fail> 
     lines_of_retry(alloc, &LINES, booked)
 }
 
-/// Checks that a batch ended with the fault `wanted`, and that the bytes `told`, which it wrote,
-/// are exactly the lines `lines`. Fails with `name` if not.
+/// Checks that a batch ended with the fault `wanted`, and that the bytes `told`, which the batch
+/// wrote, are exactly the lines `lines`. Fails with `name` if not.
 pub fn expect_batch_fault(
     name: &str,
     ended: Result<Counts, BatchFault>,
@@ -93,7 +93,8 @@ pub fn expect_batch_fault(
 
 /// Executes the whole batch on a desk that has accepted its first `booked` rows before. Checks that
 /// these rows have their stored replies and the others are accepted with the replies `LINES`, and
-/// that all tables after it are those after one execution. Fails with `name` if not.
+/// that the tables after the batch are `TABLES`, those after one execution. Fails with `name` if
+/// not.
 pub fn expect_completed_batch<S: Alter + Drop>(
     alloc: Global,
     mut desk: Desk<S>,

@@ -12,10 +12,10 @@ use std::alloc::Global;
 use std::io::ErrorKind;
 use std::test::Fail;
 
-// Executes a batch on a new desk in the database of a connection, with a reader that fails once with
-// the error `kind` after `len` bytes, and then retries the batch. Checks that the first run fails
-// with `Read` after the lines of the decided rows, and that the retry completes: a row is decided if
-// the record after it was read. Fails without a connection.
+// Executes a batch on a new desk in the database of a connection, with a reader that fails once
+// with the error `kind` after `len` bytes, and then retries the batch. Checks that the first run
+// fails with `Read` after the lines of the decided rows, and that the retry completes: a row is
+// decided if the record after it was read. Fails without a connection.
 fn expect_batch_read_fault<S: Alter + Drop>(
     alloc: Global,
     conn: Option<Connection<S>>,

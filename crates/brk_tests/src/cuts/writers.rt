@@ -14,8 +14,8 @@ use std::io::ErrorKind;
 use std::test::Fail;
 
 // Executes a batch on a new desk in the database of a connection, with a writer that has room for
-// `room` bytes, and then fails once with the error `fault`, or, if `fault` is `None`, once accepts no
-// byte, and then retries the batch. Checks that the first run fails with `Write` after the first
+// `room` bytes, and then fails once with the error `fault`, or, if `fault` is `None`, once accepts
+// no byte, and then retries the batch. Checks that the first run fails with `Write` after the first
 // `room` bytes of `lines`, and that the retry completes: a row whose line was not written remains
 // committed. Fails without a connection.
 fn expect_batch_write_fault<S: Alter + Drop>(

@@ -77,7 +77,7 @@ impl Observation {
     }
 }
 
-// Returns the end of a batch with this result.
+// Returns the end of a batch: `Done` if it completed, otherwise `OtherFault`.
 fn end_of_batch(ended: Result<Counts, BatchFault>) -> Ended {
     match ended {
         Ok(_) => Ended::Done,
@@ -85,7 +85,8 @@ fn end_of_batch(ended: Result<Counts, BatchFault>) -> Ended {
     }
 }
 
-// Returns the end of a statement with this result.
+// Returns the end of the statement of an account: `Done` if it completed, `StoreFault` if it failed
+// with `Store`, otherwise `OtherFault`.
 fn end_of_statement(ended: Result<(), ReportFault>) -> Ended {
     match ended {
         Ok(()) => Ended::Done,
@@ -94,7 +95,8 @@ fn end_of_statement(ended: Result<(), ReportFault>) -> Ended {
     }
 }
 
-// Returns the end of a stream with this result.
+// Returns the end of a stream: `Served` with the number of replies if it completed, otherwise
+// `OtherFault`.
 fn end_of_stream(ended: Result<u64, ServeFault>) -> Ended {
     match ended {
         Ok(replies) => Ended::Served(replies),
@@ -102,7 +104,8 @@ fn end_of_stream(ended: Result<u64, ServeFault>) -> Ended {
     }
 }
 
-// Executes SQL statements on a database, and returns the end. Statements that are not UTF-8 fail.
+// Executes the SQL statements `input` on a database. Returns `Done`, or `OtherFault` if a statement
+// fails or `input` is not UTF-8.
 fn execute_sql<S: Alter>(conn: &mut Connection<S>, input: &[u8]) -> Ended {
     let Ok(text) = str::from_utf8(input) else {
         return Ended::OtherFault;
@@ -114,7 +117,7 @@ fn execute_sql<S: Alter>(conn: &mut Connection<S>, input: &[u8]) -> Ended {
 }
 
 // Creates a desk in the database of a connection, or, if the database has tables of a desk already,
-// adopts this desk. Returns the connection if the desk is neither created nor adopted.
+// adopts this desk. Fails with the connection if the desk is neither created nor adopted.
 fn create_or_adopt_desk<S: Alter + Drop>(
     alloc: Global,
     conn: Connection<S>,
@@ -129,8 +132,8 @@ fn create_or_adopt_desk<S: Alter + Drop>(
     }
 }
 
-// Performs a task of a desk with this input at 2024-03-01 00:00 UTC, appends the bytes that it writes to `lines`,
-// and returns its end.
+// Performs a task of a desk with the input `input` at 2024-03-01 00:00 UTC, appends the bytes that
+// the task writes to `lines`, and returns the end of the task.
 fn perform_task<S: Alter>(
     alloc: Global,
     desk: &mut Desk<S>,
@@ -145,9 +148,9 @@ fn perform_task<S: Alter>(
     }
 }
 
-// Creates or adopts the desk in the database of a connection, performs its task with this input, and
-// returns the connection. Records the bytes that the task writes and its end in `seen`. Performs nothing if the
-// desk is neither created nor adopted.
+// Creates or adopts the desk in the database of a connection, performs the task `task` of this desk
+// with the input `input`, and returns the connection. Records the bytes that the task writes and
+// its end in `seen`. Performs nothing if the desk is neither created nor adopted.
 fn perform_task_of_desk<S: Alter + Drop>(
     alloc: Global,
     conn: Connection<S>,
@@ -164,8 +167,8 @@ fn perform_task_of_desk<S: Alter + Drop>(
     }
 }
 
-// Performs a task of a desk with this input and audits the desk. Records the bytes that the task writes, its end
-// and the result of the audit in `seen`.
+// Performs a task of a desk with the input `input`, and then audits the desk. Records the bytes
+// that the task writes, its end and whether the audit passed in `seen`.
 fn perform_task_and_audit<S: Alter>(
     alloc: Global,
     desk: &mut Desk<S>,
@@ -185,9 +188,10 @@ fn tables_or_empty<S: Alter>(alloc: Global, conn: &mut Connection<S>) -> String 
     }
 }
 
-/// Reads all tables in the database of a connection, creates or adopts the desk there, performs its
-/// task, audits it, reads the tables again, and returns the connection. Records what is observed in
-/// `seen`. Performs nothing after the first reading if the desk is neither created nor adopted.
+/// Reads all tables in the database of a connection, creates or adopts the desk there, performs the
+/// task `task` with the input `input`, audits the desk, reads the tables again, and returns the
+/// connection. Records what is observed in `seen`. Performs nothing after the first reading if the
+/// desk is neither created nor adopted.
 pub fn observe_task_of_desk<S: Alter + Drop>(
     alloc: Global,
     mut conn: Connection<S>,
@@ -207,9 +211,9 @@ pub fn observe_task_of_desk<S: Alter + Drop>(
     }
 }
 
-/// Performs a job with this input on the database of a connection, as far as possible, at 2024-03-01 00:00 UTC, and
-/// returns the connection. Records what is observed in `seen`. A task of a desk is not begun if the
-/// desk can be neither created nor adopted.
+/// Performs a job with the input `input` on the database of a connection, as far as possible, at
+/// 2024-03-01 00:00 UTC, and returns the connection. Records what is observed in `seen`. A task of
+/// a desk is not begun if the desk can be neither created nor adopted.
 pub fn perform_job<S: Alter + Drop>(
     alloc: Global,
     mut conn: Connection<S>,

@@ -7,8 +7,8 @@ use crate::worked::{LAST_FIRST_LINES, LAST_FIRST_ROWS, LINES, ROWS, format_batch
 use std::alloc::Global;
 use std::test::Fail;
 
-// Executes a batch on the desk in these files, and returns the files after it. Fails with `name` if
-// the batch does not write exactly the lines `lines`, or if the audit after it fails.
+// Executes a batch on the desk in the files `held`, and returns the files after it. Fails with
+// `name` if the batch does not write exactly the lines `lines`, or if the audit after it fails.
 fn expect_batch_in_files(
     alloc: Global,
     held: &Held,
@@ -31,7 +31,7 @@ fn expect_batch_in_files(
 
 // Executes the rows as a batch on a desk in files, opens the files again and retries the batch.
 // Checks that the first run accepts all rows with the replies `lines`, that the retry returns these
-// as stored replies, and that an audit passes after each run. Fails with `name` if not.
+// replies as stored ones, and that an audit passes after each run. Fails with `name` if not.
 fn expect_trades_stored_and_repeated(
     alloc: Global,
     name: &str,

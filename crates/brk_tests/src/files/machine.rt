@@ -75,9 +75,9 @@ impl Held {
     }
 }
 
-// Opens these files, performs a job with this input on the database in them, and closes them, as far as possible.
-// Records the observation of the job in `seen`, and returns the files. Performs nothing if a sync of
-// a file has failed or the database cannot be opened.
+// Opens these files, performs a job with the input `input` on the database in them, and closes
+// them, as far as possible. Records the observation of the job in `seen`, and returns the files.
+// Performs nothing if a sync of a file has failed or the database cannot be opened.
 //
 // It is the only function of these tests that names a database over files: the proof of each
 // function that does takes some twenty seconds.
@@ -129,8 +129,8 @@ fn files_until_crash(
 }
 
 // Appends to `bytes` the bytes that a file has after the restart: without those that were not
-// synced if `loses` is true. Returns true if a sync of the file had failed, or its next call would
-// fail. Fails only if memory runs out.
+// synced if `loses` is true. Returns true if a sync of the file had failed before, or if its next
+// call would fail. Fails only if memory runs out.
 fn append_bytes_after_crash(
     file: &mut Fuse<Memory>,
     loses: bool,
@@ -145,8 +145,8 @@ fn append_bytes_after_crash(
 }
 
 // Returns the bytes of the files after the restart, without those that were not synced if `loses`
-// is true, and true if a sync of one of the files had failed or its next call would fail. Fails
-// only if memory runs out.
+// is true, and true if a sync of one of the files had failed before or the next call of one of them
+// would fail. Fails only if memory runs out.
 fn files_after_crash(
     alloc: Global,
     files: Files<Fuse<Memory>>,
@@ -176,9 +176,10 @@ pub fn options_with_one_cached_page() -> Options {
     options
 }
 
-/// Performs a job with this input on the database in these files until the machine crashes, at the call of the file
-/// that `stop` names, or to its end. Returns the observation of the job, the files after it, and
-/// whether the machine crashed. Fails if memory runs out.
+/// Performs a job with the input `input` on the database in the files `held` until the machine
+/// crashes, at the call of the file that `stop` names, or to the end of the job. Returns the
+/// observation of the job, the files after it, and whether the machine crashed. Fails if memory
+/// runs out.
 pub fn perform_job_until_crash(
     alloc: Global,
     held: &Held,
@@ -198,10 +199,10 @@ pub fn perform_job_until_crash(
     })
 }
 
-/// Executes a batch on the desk in these files until the machine crashes, at the call of the file
-/// that `stop` names, or to its end. Returns the observation of the batch, with all tables before
-/// and after it and an audit, the files after it, and whether the machine crashed. Fails if memory
-/// runs out.
+/// Executes a batch on the desk in the files `held` until the machine crashes, at the call of the
+/// file that `stop` names, or to the end of the batch. Returns the observation of the batch, with
+/// all tables before and after it and an audit, the files after it, and whether the machine
+/// crashed. Fails if memory runs out.
 pub fn run_batch_until_crash(
     alloc: Global,
     held: &Held,
@@ -223,8 +224,9 @@ pub fn files_with_reference_data(alloc: Global) -> Result<Held, Fail> {
     Ok(held)
 }
 
-/// Executes SQL statements on the database in these files, as another program would, and returns
-/// the files after them. Fails if the files cannot be opened, a statement fails or memory runs out.
+/// Executes the SQL statements `text` on the database in the files `held`, as another program
+/// would, and returns the files after them. Fails if the files cannot be opened, a statement fails
+/// or memory runs out.
 pub fn files_after_sql(alloc: Global, held: &Held, text: &str) -> Result<Held, Fail> {
     let Sent { seen, held, .. } = perform_job_until_crash(
         alloc,

@@ -41,9 +41,9 @@ const WANTED: &[u8] = b"Statement of account 100\n\
     Holdings                  1500.00\n\
     Cash rows 3, lots 1\n";
 
-// Writes the statement of account 100 for March 2024 on the desk in the files `held`, whose database
-// file accepts `calls` calls and fails at each later call. Returns the observation. Fails if memory
-// runs out.
+// Writes the statement of account 100 for March 2024 on the desk in the files `held`, whose
+// database file accepts `calls` calls and fails at each later call. Returns the observation. Fails
+// if memory runs out.
 fn write_statement_over_failing_disk(
     alloc: Global,
     held: &Held,
@@ -62,8 +62,8 @@ fn write_statement_over_failing_disk(
     Ok(seen)
 }
 
-// Returns true if a text consists of the first whole lines of the statement, perhaps none, but not
-// all of them.
+// Returns true if a text consists of the first whole lines of the statement `WANTED`, perhaps none,
+// but not all of them.
 fn is_proper_prefix_of_statement(text: &[u8]) -> bool {
     let is_whole = text.is_empty() || text.ends_with(b"\n");
     is_whole && text.len() < WANTED.len() && WANTED.starts_with(text)

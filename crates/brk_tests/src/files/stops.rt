@@ -105,8 +105,8 @@ fn has_lines_audit_and_tables(seen: &Observation, lines: &str, tables: &str) -> 
 }
 
 // Creates a desk until the crash `stop`, and then executes the batch `SET` on the desk that is
-// opened or created from the files. Returns two flags: true if the batch has the lines `SET_LINES`
-// and the tables `tables` after it, and the audit passes; and true if there was a crash. Fails if
+// opened or created from the files. Returns two flags: true if the batch has the lines `SET_LINES`,
+// the tables after it are `tables` and the audit passes; and true if there was a crash. Fails if
 // memory runs out.
 fn set_up_desk_after_creation_crash(
     alloc: Global,
@@ -134,9 +134,9 @@ fn expect_creation_crash_recovered(
     Ok(was_stopped)
 }
 
-// Returns the number of rows of the batch, at most six, that are committed after a crash with the
-// tables `found`: the number of the written lines `told`, or one more. `tables` are the tables
-// after each number of rows. Returns `None` if `found` are the tables of neither number.
+// Returns the number of rows of the batch that are committed after a crash with the tables `found`:
+// the number of lines in `told`, at most six, or one more. `tables` are the tables after each
+// number of rows. Returns `None` if `found` are the tables after neither number of rows.
 fn committed_rows_after_crash(told: &[u8], found: &str, tables: &[String]) -> Option<usize> {
     let mut settled = 0usize;
     for byte in told {
@@ -188,8 +188,8 @@ fn crash_and_retry_batch(
 }
 
 // Checks that the lines until the crash are a prefix of the lines `whole` of the batch, that a run
-// without a crash has all of these lines and the tables `last`, and that the retry has the lines
-// `rest` and the tables `last`. The audits after both complete runs must pass.
+// without a crash has exactly the lines `whole` and the tables `last`, and that the retry has the
+// lines `rest` and the tables `last`. The audits after both complete runs must pass.
 fn expect_lines_and_tables(
     stop: MachineCrash,
     twice: &CrashAndRetry,
@@ -213,7 +213,8 @@ fn expect_lines_and_tables(
 }
 
 // Checks that the tables after the crash contain the rows with a written line, or one row more, and
-// that the retry completes the batch. `tables` are the tables after each number of rows.
+// that the retry completes the batch: it has the stored replies to these rows, accepts the others,
+// and has the last of `tables`, which are the tables after each number of rows.
 fn expect_retry_completes(
     alloc: Global,
     stop: MachineCrash,
@@ -300,7 +301,7 @@ fn crash_and_retry_upgrade(
 // Upgrades the desk of an older schema in the files `start` until the crash `stop`, and then
 // retries the upgrade. Checks that the upgrade is atomic, that no line of a batch is written before
 // the upgrade is committed, and that the retry completes the upgrade with the tables `tables`,
-// those of schema 3. Returns true if there was a crash.
+// which are the desk's tables in schema 3. Returns true if there was a crash.
 fn expect_upgrade_crash_recovered(
     alloc: Global,
     stop: MachineCrash,
@@ -350,7 +351,7 @@ fn expect_crash_recovered(alloc: Global, stop: MachineCrash, work: Work<'_>) -> 
 }
 
 // Performs the work with each crash of `STOPS` at each call of its file, until a run has no crash,
-// and checks each recovery. Fails if a run without a crash is not reached.
+// and checks that the desk recovers from each crash. Fails if a run without a crash is not reached.
 fn expect_each_crash_recovered(alloc: Global, work: Work<'_>) -> Result<(), Fail> {
     for stop in STOPS {
         let mut was_stopped = true;
@@ -401,7 +402,7 @@ fn crashes_while_a_batch_is_executed(rt: HostRuntime) -> Result<(), Fail> {
 }
 
 // Upgrades a desk that the SQL statements `change` convert to an older schema, with each crash of
-// `STOPS` at each call of its file, and checks each recovery.
+// `STOPS` at each call of its file, and checks each recovery (`expect_upgrade_crash_recovered`).
 fn upgrade_with_crash_at_each_call(alloc: Global, change: &str) -> Result<(), Fail> {
     let (start, tables) = files_of_older_schema(alloc, change)?;
     let work = Work::Upgrade {

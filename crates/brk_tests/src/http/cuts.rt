@@ -96,8 +96,8 @@ fn replies_within_length(
 }
 
 // Serves the first `len` bytes of the stream on a new desk in the database of a connection. Checks
-// that each whole request has its reply, and that a request that is cut has the reply 400. Fails if
-// not, and without a connection.
+// that each request within them has its reply, and that a request of which only a part is within
+// them has the reply 400. Fails if not, and without a connection.
 fn expect_cut_stream<S: Alter + Drop>(
     alloc: Global,
     conn: Option<Connection<S>>,
@@ -131,7 +131,7 @@ fn streams_cut_at_each_byte(rt: HostRuntime) -> Result<(), Fail> {
 }
 
 // Returns the replies to all three requests as one text. If `executed` is true, the desk has
-// executed the first request before, so that the first reply is the stored one; otherwise it has
+// executed the first request before, and the first reply is the stored one; otherwise the desk has
 // executed none. Fails only if memory runs out.
 fn all_replies_of_retry(alloc: Global, all: &Three, executed: bool) -> Result<String, AllocError> {
     let first = if executed { 1 } else { 0 };
@@ -161,8 +161,9 @@ fn expect_completed_stream<S: Alter + Drop>(
 
 // Serves the stream on a new desk in the database of a connection, with a reader that fails once
 // with the error `kind` after `len` bytes. Checks that the stream fails with `Read` after the
-// replies to the requests that were read whole, and that a retry completes, with the stored reply to
-// the first request if and only if this request was read whole before. Fails without a connection.
+// replies to the requests that were read whole, and that a retry completes, with the stored reply
+// to the first request if and only if this request was read whole before. Fails without a
+// connection.
 fn expect_stream_read_fault<S: Alter + Drop>(
     alloc: Global,
     conn: Option<Connection<S>>,
@@ -198,10 +199,10 @@ fn stream_readers_failing_at_each_byte(rt: HostRuntime) -> Result<(), Fail> {
 }
 
 // Serves the stream on a new desk in the database of a connection, with a writer that has room for
-// `room` bytes, and then fails once with the error `fault`, or, if `fault` is `None`, once accepts no
-// byte. Checks that the stream fails with `Write` after the first `room` bytes of the replies, and
-// that a retry completes, with the stored reply to the first request: a request is executed before
-// its reply is written. Fails without a connection.
+// `room` bytes, and then fails once with the error `fault`, or, if `fault` is `None`, once accepts
+// no byte. Checks that the stream fails with `Write` after the first `room` bytes of the replies,
+// and that a retry completes, with the stored reply to the first request: a request is executed
+// before its reply is written. Fails without a connection.
 fn expect_stream_write_fault<S: Alter + Drop>(
     alloc: Global,
     conn: Option<Connection<S>>,

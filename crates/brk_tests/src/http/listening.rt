@@ -53,7 +53,7 @@ const PEERS: [(&str, Option<&str>); 6] = [
 
 // Connects a peer to the listener, sends the bytes `input` and returns the stream of the peer. If
 // `waits` is true, shuts down the writing side of the stream after the bytes. Fails if the peer
-// cannot connect or send.
+// cannot connect, send or shut down.
 fn connect_peer(
     rt: &HostRuntime,
     listener: &TcpListener,
@@ -99,8 +99,8 @@ fn expect_peer_replies(
     Ok(())
 }
 
-// Serves `streams` streams of the listener on a desk at 2024-03-01 00:00 UTC, and returns the
-// result.
+// Serves `streams` streams of the listener on a desk at 2024-03-01 00:00 UTC, in sequence, by
+// `serve_on`. Fails with the fault of `serve_on`.
 fn serve_at_first_timestamp<S: Alter>(
     alloc: Global,
     listener: &mut TcpListener,

@@ -20,7 +20,7 @@ pub enum WantedReply {
 }
 
 /// Serves a stream, whose bytes arrive in pieces of at most `size` bytes, on a desk at 2024-03-01
-/// 00:00 UTC. Returns the bytes that it wrote and its result: the number of replies, or the fault.
+/// 00:00 UTC. Returns the bytes that were written, and the number of replies or the fault.
 pub fn serve_stream_in_pieces<S: Alter>(
     alloc: Global,
     desk: &mut Desk<S>,
@@ -57,8 +57,8 @@ pub fn format_wanted_reply(alloc: Global, wanted: WantedReply) -> Result<String,
     )
 }
 
-// Returns true if a stream wrote exactly the wanted replies and completed with their number. Fails
-// only if memory runs out.
+// Returns true if the bytes `out` that a stream wrote are exactly the wanted replies, and the
+// stream completed with their number. Fails only if memory runs out.
 fn has_wanted_replies(
     alloc: Global,
     out: &[u8],
@@ -73,8 +73,8 @@ fn has_wanted_replies(
 }
 
 /// Serves a stream, whose bytes arrive in pieces of at most `size` bytes, on a new desk in the
-/// database of a connection after the batch `SET`. Returns the bytes that it wrote and its result.
-/// Fails without a connection, and if the desk cannot be created.
+/// database of a connection after the batch `SET`. Returns the bytes that were written, and the
+/// number of replies or the fault. Fails without a connection, and if the desk cannot be created.
 pub fn serve_stream_on_new_desk<S: Alter + Drop>(
     alloc: Global,
     conn: Option<Connection<S>>,
@@ -86,8 +86,8 @@ pub fn serve_stream_on_new_desk<S: Alter + Drop>(
 }
 
 /// Serves a stream in pieces of 4,096, of seven and of one byte, each time on a new desk in memory
-/// after the batch `SET`. Returns true if each time the replies are the wanted ones. Fails if a
-/// desk cannot be created or memory runs out.
+/// after the batch `SET`. Returns true if the stream has exactly the wanted replies each time.
+/// Fails if a desk cannot be created or memory runs out.
 pub fn has_wanted_replies_in_all_pieces(
     alloc: Global,
     bytes: &[u8],

@@ -62,8 +62,8 @@ struct Seen {
     left: u64,
 }
 
-// Subtracts 1 from the number of rows that the walk may still pass. Fails with `At` and the trade
-// `trade` (0 for a movement) if this number is 0, which stops the walk.
+// Subtracts 1 from the number of rows that the walk may still pass. If this number is 0, fails with
+// `At` and the trade `trade` (0 for a movement), which stops the walk.
 fn count_row(seen: &mut Seen, trade: u64) -> Result<(), Ended> {
     if seen.left == 0 {
         return Err(Ended::At(trade));
@@ -72,9 +72,9 @@ fn count_row(seen: &mut Seen, trade: u64) -> Result<(), Ended> {
     Ok(())
 }
 
-// Counts a cash row and appends its number, trade (0 for a movement), stamp, amount in cents and
-// text to the rows as a line. Fails with `At` if no more rows may be passed, and with `Memory` if
-// memory runs out.
+// Counts a cash row (`count_row`) and appends its number, trade (0 for a movement), stamp, amount
+// in cents and text to the rows as a line. Fails with `At` if no more rows may be passed, and with
+// `Memory` if memory runs out.
 fn record_cash_row(seen: &mut Seen, row: &MoveRow) -> Result<(), Ended> {
     let trade = row.trade.map_or(0, Id::get);
     count_row(seen, trade)?;
@@ -159,8 +159,8 @@ const CASH: [(i64, i64, u64, &str, Result<(), Ended>); 10] = [
     ),
 ];
 
-// Returns a desk in the database of a connection after the batch `SET` and `TRADES`. Fails without a
-// connection, and if one of the batches fails.
+// Returns a desk in the database of a connection after the batch `SET` and `TRADES`. Fails without
+// a connection, and if one of the batches fails.
 fn desk_with_trades<S: Alter + Drop>(
     alloc: Global,
     conn: Option<Connection<S>>,
@@ -170,7 +170,7 @@ fn desk_with_trades<S: Alter + Drop>(
     Ok(desk)
 }
 
-// Walks over the cash rows of an account between two stamps, both included, and records them in
+// Walks over the cash rows of an account between two stamps, both included, and records the rows in
 // `seen`. Returns the result of the walk.
 fn record_cash_rows<S: Alter>(
     desk: &mut Desk<S>,
@@ -187,8 +187,8 @@ fn record_cash_rows<S: Alter>(
     )
 }
 
-// Checks each walk of `CASH` over the cash rows of account 100 on a desk in the database of a
-// connection: its rows and its result. Fails without a connection.
+// Checks, for each walk of `CASH` over the cash rows of account 100 on a desk in the database of a
+// connection, that its rows and its result are the wanted ones. Fails without a connection.
 fn expect_cash_rows_in<S: Alter + Drop>(
     rt: &impl Abort,
     alloc: Global,
@@ -236,8 +236,8 @@ const LOTS: [(u64, u64, &str, Result<(), Ended>); 5] = [
     (101, 9, "", Ok(())),
 ];
 
-// Walks over the lots of the account with the number `account`, and records them in `seen`.
-// Returns the result of the walk. Fails if the number is not that of an account.
+// Walks over the lots of the account with the id `account`, and records the lots in `seen`. Returns
+// the result of the walk. Fails if `account` is not within the limits of an id.
 fn record_lots<S: Alter>(
     desk: &mut Desk<S>,
     account: u64,
@@ -250,8 +250,8 @@ fn record_lots<S: Alter>(
     ))
 }
 
-// Checks each walk of `LOTS` over the lots of an account on a desk in the database of a connection:
-// its lots and its result. Fails without a connection.
+// Checks, for each walk of `LOTS` over the lots of an account on a desk in the database of a
+// connection, that its lots and its result are the wanted ones. Fails without a connection.
 fn expect_lots_in<S: Alter + Drop>(
     rt: &impl Abort,
     alloc: Global,

@@ -46,8 +46,9 @@ const WANTED: &str = "Statement of account 100\n\
     Holdings                  1500.00\n\
     Cash rows 3, lots 1\n";
 
-// Returns the error of a writer with room for `room` bytes, by the remainder of `room` divided by
-// 3: `None` for 0, so that it accepts no byte, `Other` for 1, and `Interrupted` for 2.
+// Returns the error with which a writer with room for `room` bytes fails, by the remainder of
+// `room` divided by 3: `None` for 0, which means that it accepts no byte, `Other` for 1, and
+// `Interrupted` for 2.
 fn write_error_for_room(room: usize) -> Option<ErrorKind> {
     match room % 3 {
         0 => None,
@@ -85,8 +86,10 @@ fn expect_statement_write_fault<S: Alter>(
     Ok(())
 }
 
-// Checks the statement of a desk in the database of a connection with a writer that has room for each
-// number of its bytes, as `expect_statement_write_fault`. Fails without a connection.
+// Checks, for each number of bytes of the statement from 0 to all, that the statement on a desk in
+// the database of a connection, with a writer that has room for this number, writes exactly its
+// first bytes and fails with `Write`, or completes if all are written
+// (`expect_statement_write_fault`). Fails without a connection.
 fn expect_statement_write_faults_in<S: Alter + Drop>(
     rt: &impl Abort,
     alloc: Global,
