@@ -483,15 +483,14 @@ use Rattle.brk_money.specs.Kinds.{{trade_type_code, trade_status_code, tax_statu
 use Rattle.brk_model.specs.Records.{{{RECORDS}}}
 use Rattle.brk_model.specs.Tables.{{{ROWS}}}
 
--- The row of DESK: its id, which is 1 (D_ID), the number of the schema (D_SCHEMA), and the stamp of
--- the last accepted command in milliseconds since 1970-01-01 UTC, or `None` (D_LAST).
+-- A row of DESK: its id (D_ID), the number of the schema (D_SCHEMA), and the stamp of the last
+-- accepted command in milliseconds since 1970-01-01 UTC, or `None` if there is none (D_LAST).
 pub record DeskRow : Type 0 where
   pub id : ℕ
   pub schema : ℕ
   pub last : Option ℕ
 
--- A row of SETTLE_RULE: its id, which is 1 (SR_ID), and the settlement day in days since 1970-01-01
--- (SR_DAY).
+-- A row of SETTLE_RULE: its id (SR_ID), and the settlement day in days since 1970-01-01 (SR_DAY).
 pub record RuleRow : Type 0 where
   pub id : ℕ
   pub day : ℕ
@@ -536,8 +535,8 @@ use Rattle.brk_tables_schema.specs.Order.{{ordering_by_key}}
 pub data DeskTable : Type 0 where
 {both(lambda d: f'  {d[2]} : DeskTable')}
 
--- The rows of DESK in the schema `schema`: exactly one, with the stamp `last` of the last accepted
--- command, or without a stamp.
+-- The rows of DESK in the schema `schema`: exactly one, with the id 1, the number of the schema,
+-- and `last`, the stamp of the last accepted command, or `None`.
 abbrev pub desk_rows : Schema → Option ℕ → List DeskRow
 desk_rows schema last = record {{ id = 1; schema = schema.number; last = last }} ∷ []
 
@@ -545,7 +544,7 @@ desk_rows schema last = record {{ id = 1; schema = schema.number; last = last }}
 abbrev pub desk_key : DeskRow → List KeyPart
 desk_key r = number r.id ∷ []
 
--- The rows of SETTLE_RULE: one row with the settlement day, or no row if none is set.
+-- The rows of SETTLE_RULE: one row with the id 1 and the settlement day, or no row if none is set.
 abbrev pub rule_rows : Option ℕ → List RuleRow
 rule_rows None = []
 rule_rows (Some day) = record {{ id = 1; day = day }} ∷ []
@@ -554,14 +553,14 @@ rule_rows (Some day) = record {{ id = 1; day = day }} ∷ []
 abbrev pub rule_key : RuleRow → List KeyPart
 rule_key r = number r.id ∷ []
 
--- True if the schema `schema` has the table. The result depends on the schema for CASH_MOVE and
--- SETTLE_RULE only.
+-- True if the schema `schema` has the table: CASH_MOVE and SETTLE_RULE as the schema states, every
+-- other table always.
 abbrev pub schema_has_table : Schema → DeskTable → Bool
 {chr(10).join(f'schema_has_table schema {d[2]} = schema.{LATER[d[0]]}' for d in DATA if d[0] in LATER)}
 schema_has_table schema w = true
 
--- The definition of the table `w` of a desk, with its rows at the given tree: its SQL name, columns,
--- keys and foreign keys.
+-- The definition of the table `w` of a desk, with its rows at the given tree: its SQL name,
+-- columns, keys and foreign keys.
 abbrev pub table_definition_at : DeskTable → ℕ → Table
 {both(lambda d: f'table_definition_at {d[2]} = {d[0]}_table')}
 
@@ -594,8 +593,8 @@ abbrev pub rows_in_schema : Schema → (w : DeskTable) → Tables → List (Reco
 abbrev pub rows_of_table : (w : DeskTable) → Tables → List (RecordOfTable w)
 rows_of_table = rows_in_schema third_schema
 
--- All tables of a desk as the tables of a program: their definitions, records, encodings and
--- orders. The row of DESK has the number of the schema `schema`.
+-- All tables of a desk, also those that `schema` lacks, as the tables of a program: their
+-- definitions, records, encodings and orders. The row of DESK has the number of `schema`.
 abbrev pub desk_tables_of_schema : Schema → ProgramTables DeskTable Tables
 desk_tables_of_schema schema = record {{
   shape = table_definition_at;
@@ -735,13 +734,13 @@ abbrev pub specified_table : Table → DeskTable
 abbrev pub create_table_text : DeskTable → List ℕ
 {chr(10).join(f'create_table_text {d[2]} = codes "{create_text(d)}"' for d in DATA)}
 
--- The text of a DELETE statement on the table `w`, which compiles if and only if a table of this name
--- exists.
+-- The text of the statement that deletes all rows of the table `w`. A look-up by name compiles it,
+-- without executing it, to test whether a table of this name exists.
 abbrev pub existence_probe_text : DeskTable → List ℕ
 existence_probe_text w = codes "DELETE FROM " ++ table_name w
 """
     save('crates/brk_tables_create/specs/Texts.antt', out)
-    probe = 'Returns the text of a DELETE statement on the table, which compiles if and only if a table of\n    /// this name exists.'
+    probe = 'Returns the text of the statement that deletes all rows of the table. A look-up by name\n    /// compiles it, without executing it, to test whether a table of this name exists.'
     def function(name, what, contract, text):
         return f"""
     /// {what}
@@ -1169,7 +1168,7 @@ def read_group(word, field, tables):
     types = ''.join(f'    {sheet_field(d)}: {VALUES[d[0]][0] if d[0] in VALUES else f"Vec<{sheet_type(d)}>"},\n' for d in tables)
     reads = ''.join(f'    let {sheet_field(d)} = {reading(d)};\n' for d in tables)
     fields = ''.join(f'        {sheet_field(d)},\n' for d in tables)
-    returned = {'DeskAndCustomer': 'Returns the last stamp in DESK and the decoded rows of KEPT (with empty texts), BROKER and CUSTOMER, each list sorted by key.',
+    returned = {'DeskAndCustomer': 'Returns the last stamp in DESK, the keys of the rows of KEPT, and the decoded rows of BROKER and CUSTOMER, each list sorted by key.',
                 'LaterSchema': 'Returns the decoded rows of CASH_MOVE, sorted by key, and the settlement day in SETTLE_RULE, or none of a table that `schema` lacks.'}
     shown = returned.get(word, f'Returns the decoded rows of {named(tables)}, each list sorted by key.')
     counted = {'DeskAndCustomer': ', or DESK not exactly one row,', 'LaterSchema': ', or SETTLE_RULE two rows or more,'}.get(word, ',')
@@ -1221,7 +1220,7 @@ use std::alloc::Global;
     out += ''.join(read_group(word, field, tables) for word, field, _, tables in groups())
     schema = lambda word: 'schema, ' if word in ('DeskAndCustomer', 'LaterSchema') else ''
     out += f"""
-{remark('Returns the decoded rows of the tables of `schema`, each list sorted by key, ascending, and the rows of KEPT with empty texts. The list of a table that `schema` lacks is empty. If a table has a malformed row, DESK not exactly one row, or SETTLE_RULE two rows or more, sets `are_well_formed` of the decoder to false and returns no rows of this table. Fails with `Memory` or `Store` only.', '///')}
+{remark('Returns the decoded rows of the tables of `schema`, of KEPT the keys alone, each list sorted by key, ascending. The list of a table that `schema` lacks is empty. If a table has a malformed row, DESK not exactly one row, or SETTLE_RULE two rows or more, sets `are_well_formed` of the decoder to false and returns no rows of this table. Fails with `Memory` or `Store` only.', '///')}
 pub(crate) fn read_all_tables<S: Alter>(
     tx: &mut Transaction<'_, S>,
     alloc: Global,
@@ -1340,7 +1339,8 @@ def reads_group(word, field, tables):
     counted = {'DeskAndCustomer': ', a row is malformed, or DESK does not have exactly one row', 'LaterSchema': ', a row is malformed, or SETTLE_RULE has two rows or more'}
     false = f'If it is false, the flag `old` before the decoding was false{counted.get(word, " or a row is malformed")}.'
     true = f'If the flag `new` after the decoding is true, the typed rows `sheets` are the decoded rows{but_texts}.'
-    told = f'The reads return all rows of {named(tables)}{none}, and change nothing. {true} {false} The clause on the rows of a table is vacuous if the database does not define it as a desk does.'
+    opened = ', sorted by key' if word == 'LaterSchema' else ', sorted by key, from an open database'
+    told = f'The reads return all rows of {named(tables)}{opened}{none}, and change nothing. {true} {false} The clause on the rows of a table is vacuous if the database does not define it as a desk does.'
     return f"""
 {remark(told)}
 pub record Reads{word}Tables {desk}(old new : Bool) (sheets : {word}Sheets) (a b : State) : Type 0 where
@@ -1397,11 +1397,12 @@ pub record ContinuesDecoding (old new are_well_formed : Bool) (Decodes : Type 0)
   -- If the flag is false after the step, it was false before it, or a row of the step is malformed.
   pub form : new ≡ false → (old ≡ false) ⊎ (are_well_formed ≡ false)
 {''.join(reads_group(word, field, tables) for word, field, _, tables in groups())}
--- The reads return all rows of each table of the schema `desk`, and none of other tables. The
--- database was open, and the reads changed nothing. If the flag `new` after the decoding is true,
--- the typed rows `sheets` are the decoded rows, but for the texts of KEPT. If it is false, the flag
--- `old` before the decoding was false or the rows are malformed (`are_raw_sheets_well_formed`). The
--- clause on the rows of a table is vacuous if the database does not define it as a desk does.
+-- The reads return all rows of each table of the schema `desk`, sorted by key, and none of other
+-- tables. The database was open, and the reads changed nothing. If the flag `new` after the
+-- decoding is true, the typed rows `sheets` are the decoded rows, but for the texts of KEPT. If it
+-- is false, the flag `old` before the decoding was false or the rows are malformed
+-- (`are_raw_sheets_well_formed`). The clause on the rows of a table is vacuous if the database does
+-- not define it as a desk does.
 pub record ReadsAndDecodesDeskTables (desk : Schema) (old new : Bool) (sheets : Sheets) (a b : State) : Type 0 where
   pub raw : RawSheets
   pub stays : IsUnchangedAndOpen a b
