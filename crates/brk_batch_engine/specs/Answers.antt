@@ -28,7 +28,7 @@ CallRefinesStep {S = S} meets_disk_assumption represents step old new now comman
 abbrev pub PreservesRepresentedBases : {D S : Type 0} → (D → Type 0) → (D → S → Type 0) → D → D → Type 0
 PreservesRepresentedBases {S = S} meets_disk_assumption represents old new = meets_disk_assumption new → (base : S) → represents old base → represents new base
 
--- The desk represents `base`, and if the flag is true, a crash exposes only this base.
+-- The desk represents `base`, and if the Boolean argument is true, a crash exposes only this base.
 abbrev pub RepresentsDurably : {D S : Type 0} → (D → S → Type 0) → (D → S → S → Type 0) → Bool → D → S → Type 0
 RepresentsDurably represents crash_exposes_only false desk base = represents desk base
 RepresentsDurably represents crash_exposes_only true desk base = represents desk base × crash_exposes_only desk base base
@@ -43,7 +43,7 @@ IsFailedCallCrashSafe {S = S} meets_disk_assumption represents crash_exposes_onl
 -- Row `n` of `batch` has the answer `answer`, and the desk changed from `old` to `new`, the clock
 -- from `clock` to `later`. A malformed row is refused with its refusal, and desk and clock are
 -- unchanged. A well-formed row reads the clock once and is one call of the desk, under the key of
--- the row, which refines `step` for both flags of `represents`.
+-- the row, which refines `step`, both for `represents false` and for `represents true`.
 abbrev pub RowHasAnswer : {D S X C : Type 0} → (D → Type 0) → (Bool → D → S → Type 0) → RowCallRelation D X → RowStep S X → (C → ℕ → C → Type 0) → ReadResult X
     → Text → ℕ → Answer → D → D → C → C → Type 0
 RowHasAnswer meets_disk_assumption represents acts step gives (Err refusal) batch n answer old new clock later = (answer ≡ Refused refusal) × (new ≡ old) × (later ≡ clock)

@@ -52,7 +52,8 @@ HasRecordAfterRows text name rows = 0 < length rows → (next : Fields) × Begin
 
 -- The progress of a batch that a fault ended: after the header of the batch `name`, the text begins
 -- with the rows `rows`, which have the answers `answers`, and if there are rows, with one more
--- record. The list `told` has the `count` answers that the batch decided.
+-- record. The clock was read once for each of the timestamps `moments` of these rows. The list
+-- `told` has the `count` answers that the batch decided.
 pub record BatchProgress {S X C : Type 0} (form : Fields → ReadResult X) (step : RowStep S X) (gives : C → ℕ → C → Type 0)
     (text : Option Text) (span : EnvironmentChange S C) (count : ℕ) : Type 0 where
   -- The name of the batch, its first rows with their answers, and all decided answers.
@@ -72,8 +73,8 @@ pub record BatchProgress {S X C : Type 0} (form : Fields → ReadResult X) (step
   pub next : HasRecordAfterRows text name rows
   pub counted : count ≡ length told
 
--- The lines of all answers in `told` were written, or the lines of all of them but the last.
--- Vacuous if the writer's content before is unknown.
+-- The lines of all answers in `told` were written, or the lines of all of them but the last, and
+-- nothing else. Vacuous if the writer's content before is unknown.
 abbrev pub WritesAllLinesOrAllButLast : Option Text → Option Text → List Answer → Type 0
 WritesAllLinesOrAllButLast old new told =
     Appends old new (answer_lines_from 1 told)
@@ -92,9 +93,10 @@ WritesPartOfLastLine old new told =
 abbrev pub WritesPartOfEndLine : Option Text → Option Text → List Answer → Type 0
 WritesPartOfEndLine old new told = (k : ℕ) × Appends old new (answer_lines_from 1 told ++ take k (batch_end_line told))
 
--- The decided answers `told` equal `answers`; or the text ends without an end record
--- (`EndsWithoutEndRecord`), and `told` has the answers and the refusal of its last row, or no
--- answer if the text has only its header.
+-- The answers `told` equal `answers`; or the text ends without an end record after the header of
+-- the batch `name` and the rows `rows` (`EndsWithoutEndRecord`), and `told` is `answers` followed
+-- by the refusal of one more row, the last of the text, or is empty if the text has only its
+-- header.
 abbrev pub MayAddCutRowRefusal : Option Text → Text → List Fields → List Answer → List Answer → Type 0
 MayAddCutRowRefusal text name rows answers told = (told ≡ answers) ⊎ model.EndsWithoutEndRecord text name rows answers told
 
@@ -126,18 +128,18 @@ BatchFailsWith form step gives text span count (kinds.Desk fault) =
     ⊎ ((s : BatchProgress form step gives text span count) × (span.later ≡ s.mid) × (fault ≡ Memory)
     × MayAddCutRowRefusal text s.name s.rows s.answers s.told × WritesAllLinesOrAllButLast span.old span.new s.told))
 
--- The result of the batch: at `Ok` the text has the correct end record, and the counts are the
--- numbers of accepted, repeated and refused answers to all its rows; at an error the fault has the
--- effect that `BatchFailsWith` specifies.
+-- The result of the batch: at `Ok` the batch ended with the correct end record (`BatchEndsWith`),
+-- and the counts are the numbers of accepted, repeated and refused answers to all its rows; at an
+-- error the fault has the effect that `BatchFailsWith` specifies.
 abbrev pub IsBatchResult : {S X C : Type 0} → (Fields → ReadResult X) → RowStep S X → (C → ℕ → C → Type 0) → Option Text → EnvironmentChange S C
     → Result Counts BatchFault → Type 0
 IsBatchResult form step gives text span (Ok counts) =
     (c : BatchEndsWith form step gives text span model.CorrectEnd (counts.ok + counts.again + counts.no)) × (counts ≡ counts_of_answers c.answered.answers)
 IsBatchResult form step gives text span (Err fault) = BatchFailsWith form step gives text span fault.rows fault.kind
 
--- The batch ended with the fault `cause` of the desk at the row after the decided rows. This row
--- has a record after it and is a command, for which the clock was read once, and the lines of the
--- decided rows were written.
+-- The call of the row after the decided rows failed with the fault `cause` of the desk, which ended
+-- the batch. This row has a record after it and is a command, for which the clock was read once,
+-- and exactly the lines of the decided rows were written.
 pub record NextRowFails {S X C : Type 0} (form : Fields → ReadResult X) (step : RowStep S X) (gives : C → ℕ → C → Type 0)
     (text : Option Text) (span : EnvironmentChange S C) (fault : BatchFault) : Type 0 where
   -- The fault of the desk, which is `Memory` or `Store`.
@@ -201,8 +203,8 @@ BatchMatchesScript form gives text script outside result =
     × (BatchMatchesAnsweredScript form gives text script outside result ⊎ BatchMatchesFailedScript form gives text script outside result)
 
 -- The desk changed from `first` to `last` only by the calls of some script, with their outcomes,
--- and the script matches the batch (`BatchMatchesScript`). It does not depend on the disk
--- assumption.
+-- and this script matches the batch (`BatchMatchesScript`), whether or not the disk assumption
+-- holds.
 abbrev pub ChangesOnlyByRowCalls : {D X C : Type 0} → RowCallRelation D X → (Fields → ReadResult X) → (C → ℕ → C → Type 0) → Option Text → D → D
     → ClockAndWriterChange C → Result Counts BatchFault → Type 0
 ChangesOnlyByRowCalls {X = X} acts form gives text first last outside result =

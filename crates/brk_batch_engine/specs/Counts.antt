@@ -7,7 +7,7 @@ use Rattle.brk_model.specs.Lines.{repeated_answer_count, done_answer_count, refu
 use Rattle.brk_model.specs.Rows.{comma_separated_text}
 use Rattle.brk_batch_engine.specs.declared.counts.Counts.{Counts}
 
--- The numbers of accepted (`ok`), of repeated (`again`) and of refused answers (`no`) in the list.
+-- The number of accepted (`ok`), of repeated (`again`) and of refused answers (`no`) in `answers`.
 abbrev pub counts_of_answers : List Answer → Counts
 counts_of_answers answers = record { ok = done_answer_count answers; again = repeated_answer_count answers; no = refused_answer_count answers }
 

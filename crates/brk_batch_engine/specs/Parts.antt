@@ -46,7 +46,8 @@ CutRowEndsBatchWith old new text kinds.BadHeader = ⊥
 CutRowEndsBatchWith old new text kinds.BadEnd = ⊥
 
 -- Reading the header of the text failed with this fault. `BadHeader`: the text has no header.
--- `Desk`: memory ran out. `Read`: nothing is specified of the text. No other fault is possible.
+-- `Desk`: the fault is `Memory`. `Read`: nothing is specified of the text. No other fault is
+-- possible.
 abbrev pub HeaderReadFailsWith : Option Text → FaultKind → Type 0
 HeaderReadFailsWith text kinds.BadHeader = HasNoHeader text
 HeaderReadFailsWith text kinds.Read = Unit {0}

@@ -29,31 +29,33 @@ use Rattle.brk_io.specs.declared.batch_fault.FaultKind.{FaultKind}
 use Rattle.brk_io.specs.declared.batch_fault.FaultKind.TheVariants as kinds
 use Rattle.brk_batch_engine.specs.declared.counts.Counts.{Counts}
 
--- In every text, the reader `new` has read the record `row` after the records that `old` has read.
+-- In every text, if the reader `old` has read exactly the first records `before`, then the reader
+-- `new` has read exactly these and the record `row` after them.
 abbrev pub ReadsOneRecord : {R : Type 0} → (R → Option Text) → Reader R → Reader R → Fields → Type 0
 ReadsOneRecord rem old new row =
     (text : Option Text) (before : List Fields) → ReaderIsAfterRecords text before (reader_state old) (source_of rem old)
     → ReaderIsAfterRecords text (before ++ (row ∷ [])) (reader_state new) (source_of rem new)
 
--- In every text, no record is left after the records that the reader has read.
+-- Every text of which the reader has read exactly the first records `before` has no other record.
 abbrev pub HasNoRecordLeft : {R : Type 0} → (R → Option Text) → Reader R → Type 0
 HasNoRecordLeft rem reader =
     (text : Option Text) (before : List Fields) → ReaderIsAfterRecords text before (reader_state reader) (source_of rem reader) → HasExactlyRecords text before
 
--- Reading a record failed with the fault `kind`: the reader failed, or memory ran out.
+-- The fault `kind` is one of reading a record: `Read`, the reader failed, or `Desk(Memory)`, memory
+-- ran out.
 abbrev pub IsReadFault : FaultKind → Type 0
 IsReadFault kind = (kind ≡ kinds.Read) ⊎ (kind ≡ kinds.Desk Memory)
 
--- No row was read, and the batch ended with `fault`, before any row was decided. `NoEnd`: no record
--- is left. Otherwise reading failed.
+-- No record was read after the header, and the batch ended with `fault`, before any row was
+-- decided: with `NoEnd` if no record is left, otherwise with a fault of reading (`IsReadFault`).
 abbrev pub FirstRowEndsBatchWith : {R : Type 0} → (R → Option Text) → Reader R → BatchFault → Type 0
 FirstRowEndsBatchWith rem reader fault =
     ((fault ≡ record { rows = 0; kind = kinds.NoEnd }) × HasNoRecordLeft rem reader)
     ⊎ ((kind : FaultKind) × (fault ≡ record { rows = 0; kind = kind }) × IsReadFault kind)
 
--- No record after the row was read, and the batch ended with `fault`. Either reading failed, and
--- nothing was written; or no record is left, and the row was refused, or its line was not written
--- (`CutRowEndsBatchWith`).
+-- No record after the row was read, and the batch ended with `fault`. Either reading failed, the
+-- row is not decided, and nothing was written; or no record is left, the row is refused with
+-- `BadText`, and its line was written or writing it failed (`CutRowEndsBatchWith`).
 abbrev pub NextRecordEndsBatchWith : {R : Type 0} → (R → Option Text) → Reader R → ℕ → Option Text → Option Text → BatchFault → Type 0
 NextRecordEndsBatchWith rem reader settled old new fault =
     ((kind : FaultKind) × (fault ≡ record { rows = settled; kind = kind }) × IsReadFault kind × (new ≡ old))
@@ -70,9 +72,9 @@ pub record RowIsDecidedAndWritten {D S X C : Type 0} (meets_disk_assumption : D 
   pub written : Appends outside.old outside.new (answer_line (settled + 1) answer)
   pub counted : more ≡ counts_with_answer counts answer
 
--- The row was not decided, and the batch ended with the fault `fault` of the desk: the row failed
--- (`RowFailsWith`), the desk represents the bases that it represented before, and nothing was
--- written.
+-- The row was not decided, and the batch ended with `fault`, a fault of the desk, `Memory` or
+-- `Store`: the row failed (`RowFailsWith`), the desk represents the bases that it represented
+-- before, and nothing was written.
 pub record RowIsNotDecided {D S X C : Type 0} (meets_disk_assumption : D → Type 0) (represents : D → S → Type 0) (crash_exposes_only : D → S → S → Type 0) (acts : RowCallRelation D X) (step : RowStep S X)
     (gives : C → ℕ → C → Type 0) (read : ReadResult X) (batch : Text) (settled : ℕ) (first last : D) (outside : ClockAndWriterChange C) (fault : BatchFault) : Type 0 where
   pub cause : Fault
@@ -82,7 +84,8 @@ pub record RowIsNotDecided {D S X C : Type 0} (meets_disk_assumption : D → Typ
   pub represented : PreservesRepresentedBases meets_disk_assumption represents first last
   pub unwritten : outside.new ≡ outside.old
 
--- The row has an answer, but its line was not written, and the batch ended with `fault`.
+-- The row has an answer, but writing its line failed (`LineWriteFailsWith`), and the batch ended
+-- with `fault`: a prefix of the line was written, perhaps all of it, or nothing.
 pub record RowLineIsNotWritten {D S X C : Type 0} (meets_disk_assumption : D → Type 0) (represents : D → S → Type 0) (crash_exposes_only : D → S → S → Type 0) (acts : RowCallRelation D X) (step : RowStep S X)
     (gives : C → ℕ → C → Type 0) (read : ReadResult X) (batch : Text) (settled : ℕ) (first last : D) (outside : ClockAndWriterChange C) (fault : BatchFault) : Type 0 where
   pub answer : Answer
@@ -91,7 +94,8 @@ pub record RowLineIsNotWritten {D S X C : Type 0} (meets_disk_assumption : D →
   pub is : fault ≡ record { rows = settled + 1; kind = kind }
   pub part : LineWriteFailsWith outside.old outside.new (answer_line (settled + 1) answer) kind
 
--- The batch ended with `fault` at the row: it was not decided, or its line was not written.
+-- The batch ended with `fault` at the row after the decided rows: the row was not decided, or it
+-- was decided and writing its line failed.
 abbrev pub RowEndsBatchWith : {D S X C : Type 0} → (D → Type 0) → (D → S → Type 0) → (D → S → S → Type 0) → RowCallRelation D X → RowStep S X → (C → ℕ → C → Type 0)
     → ReadResult X → Text → ℕ → D → D → ClockAndWriterChange C → BatchFault → Type 0
 RowEndsBatchWith meets_disk_assumption represents crash_exposes_only acts step gives read batch settled first last outside fault =

@@ -15,8 +15,8 @@ use brk_ref::{Answer, BatchName, Key, RowNumber};
 use csv::ByteRecord;
 use std::alloc::Global;
 
-// Returns the key of row `n` of a batch, the name of the batch and `n`, which must be from 1 to
-// 67,108,864. Fails with `Memory` only.
+// Returns the key of row `n` of the batch with the name `batch`: this name and `n`, which must be
+// from 1 to 67,108,864. Fails with `Memory` only.
 fn row_key(batch: &BatchName, n: u64) -> Result<Key, Fault>
     requires first { 1 ≤ n }
     requires last { n ≤ most_input_bytes }

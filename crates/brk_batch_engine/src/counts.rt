@@ -24,8 +24,9 @@ impl Counts {
         no: 0,
     };
 
-    // Returns the counts with 1 added to the number of accepted, repeated or refused rows, by the
-    // kind of the answer.
+    // Returns the counts with 1 added to one of them, by the kind of `answer`: to the number of
+    // accepted rows (`ok`), of repeated rows (`again`) or of refused rows (`no`). Each count must
+    // be less than 2^64 - 1.
     pub(crate) fn with_answer<R>(self, answer: &Answer<R>) -> Counts
         requires ok { self.ok + 1 < 2 ^ 64 }
         requires again { self.again + 1 < 2 ^ 64 }

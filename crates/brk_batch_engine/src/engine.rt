@@ -29,7 +29,8 @@ use std::alloc::Global;
 use std::io::{Read, Take, Write};
 use std::mem;
 
-// Writes the line of the answer to row `n`: `n,ok,FIELDS`, `n,again,FIELDS` or `n,no,FIELDS`.
+// Writes the line of the answer `answer` to row `n`: `n,ok,FIELDS`, `n,again,FIELDS` or
+// `n,no,FIELDS`.
 //
 // Fails with `Write`, after a prefix of the line, or with `Desk(Memory)` and nothing written.
 fn write_answer_line<W: Write, D: Rows>(
@@ -51,9 +52,9 @@ fn write_answer_line<W: Write, D: Rows>(
     }
 }
 
-// Writes the line that refuses row `n` with `BadText`, because the input has no record after it.
-// Returns the fault that ends the batch: `NoEnd`, or `Write` or `Desk(Memory)` if the line could
-// not be written.
+// Writes the line that refuses row `n`, the last row of an input without an end record, with
+// `BadText`. Returns the fault that ends the batch: `NoEnd`, or `Write` or `Desk(Memory)` if the
+// line could not be written.
 fn write_refusal_of_cut_row<W: Write, D: Rows>(alloc: Global, writer: &mut W, n: u64) -> FaultKind
     ensures { CutRowEndsBatchWith (W.contents writer.old) (W.contents writer.new) (answer_line n (Refused BadText)) result }
 {
@@ -63,8 +64,8 @@ fn write_refusal_of_cut_row<W: Write, D: Rows>(alloc: Global, writer: &mut W, n:
     }
 }
 
-// Checks that `row` is the correct end record of a batch of `n` rows, and writes the end line with
-// the counts `counts`.
+// Checks that the record `row` is the correct end record of a batch of `n` rows, and writes the end
+// line with the counts `counts`.
 //
 // Fails, with `n` decided rows, with `BadEnd` if the record is wrong, or with `Desk(Memory)`, and
 // nothing is then written; or with `Write` after a prefix of the line.
@@ -154,7 +155,7 @@ fn read_first_row<R: Read>(records: &mut Reader<R>, row: &mut ByteRecord) -> Res
 }
 
 // Reads the record after row `settled + 1` into `after`, and writes nothing. If no record is left,
-// writes the line that refuses this row.
+// writes the line that refuses this row with `BadText`. `settled` must be less than 67,108,864.
 //
 // Fails with `Read` or `Desk(Memory)`, and nothing written, if the record could not be read; the
 // row is then not decided. If no record is left, fails with `NoEnd`, or with `Write` or
@@ -191,10 +192,11 @@ fn read_record_after_row<R: Read, W: Write, D: Rows>(
 }
 
 // Executes row `settled + 1` of the batch `name` on the desk, and writes its line. Returns the
-// counts with its answer added.
+// counts with its answer added. `settled` must be less than 67,108,864 and equal the sum of the
+// counts.
 //
 // Fails with `Desk`, `Memory` or `Store`, and nothing written, if the row is not decided; with
-// `Write` or `Desk(Memory)` if it is decided and its line could not be written.
+// `Write` or `Desk(Memory)` if the row is decided and its line could not be written.
 fn execute_row_and_write_line<W: Write, C: Clock, D: Rows>(
     alloc: Global,
     name: &BatchName,
@@ -230,13 +232,13 @@ fn execute_row_and_write_line<W: Write, C: Clock, D: Rows>(
 }
 
 // Executes the rows after the header of the batch `name`, writes their lines and the end line, and
-// returns the counts of the answers. A row is executed after the record after it has been read.
-// Each record has at least one byte, so the number of rows is at most the number of bytes, which
-// limits the loop.
+// returns the counts of the answers. Reads one record ahead: a row is executed only after the
+// record that follows it has been read. Each record has at least one byte, which limits the number
+// of rows, and of turns of the loop, to the number of bytes.
 //
 // At an error returns the fault with the number of decided rows, whose changes remain: `NoEnd` if
-// the input ends without an end record, `BadEnd` if that is wrong, `Read` or `Write` if the reader
-// or the writer fails, or `Desk` with `Memory` or `Store`.
+// the input ends without an end record, `BadEnd` if the end record is wrong, `Read` or `Write` if
+// the reader or the writer fails, or `Desk` with `Memory` or `Store`.
 fn execute_rows_and_write_lines<R: Read, W: Write, C: Clock, D: Rows>(
     alloc: Global,
     records: &mut Reader<R>,

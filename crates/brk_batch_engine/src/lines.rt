@@ -25,8 +25,8 @@ fn answer_text<D: Rows>(alloc: Global, answer: &Answer<D::Reply>) -> Result<Stri
     }
 }
 
-/// Returns the line of row `n` with this answer and a line feed: `n,ok,FIELDS`, `n,again,FIELDS` or
-/// `n,no,FIELDS`. Fails only if memory runs out.
+/// Returns the line of row `n` with the answer `answer`, `n,ok,FIELDS`, `n,again,FIELDS` or
+/// `n,no,FIELDS`, with its line feed. Fails only if memory runs out.
 pub fn row_answer_line<D: Rows>(
     alloc: Global,
     n: u64,

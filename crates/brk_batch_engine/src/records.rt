@@ -21,8 +21,9 @@ use std::io::{Read, Take};
 /// ignored.
 pub const MAXIMUM_INPUT_BYTES: u64 = 67_108_864;
 
-/// Returns a reader of the records in the first `MAXIMUM_INPUT_BYTES` bytes of an input. Records
-/// are comma-separated, have any number of fields, and none of them is a header row.
+/// Returns a reader of the records in the first `MAXIMUM_INPUT_BYTES` bytes of `reader`. The fields
+/// of a record are separated by commas, a record has any number of fields, and the first record is
+/// not skipped as a header.
 pub fn new_record_reader<R: Read + Drop>(alloc: Global, reader: R) -> Reader<Take<R>>
     ensures setup { IsBatchReader result }
     ensures start { ReaderIsAfterRecords (option_map input_text (R.remaining reader)) [] (reader_state result) (source_of (take_remaining R.remaining) result) }
@@ -83,7 +84,7 @@ fn field_equals(row: &ByteRecord, i: usize, text: &[u8]) -> bool
     }
 }
 
-// Returns true if a record has exactly two fields, `first` and `second`.
+// Returns true if a record has exactly two fields, `first` and then `second`.
 #[tactic(auto, using(crate::proofs::Reading::pair_found, crate::proofs::Reading::pair_fields))]
 fn has_exactly_two_fields(row: &ByteRecord, first: &[u8], second: &[u8]) -> bool
     ensures { IsTrue result ↔ (fields_of row.now ≡ first.now ∷ second.now ∷ []) }
@@ -104,8 +105,8 @@ pub fn begins_with_end_field(row: &ByteRecord) -> bool
     field_equals(row, 0, b"end")
 }
 
-/// Returns true if a record is the correct end record after `n` rows: the two fields `end` and `n`
-/// in decimal digits.
+/// Returns true if a record is the correct end record after `n` rows: exactly the two fields `end`
+/// and `n` in decimal digits.
 pub fn is_correct_end_record(row: &ByteRecord, n: u64) -> bool
     ensures { IsTrue result ↔ (fields_of row.now ≡ correct_end_record n) }
 {
@@ -113,8 +114,8 @@ pub fn is_correct_end_record(row: &ByteRecord, n: u64) -> bool
     has_exactly_two_fields(row, b"end", buffer.format(n).as_bytes())
 }
 
-/// Returns the name of the batch if the record is a header, `batch` and a well-formed name,
-/// otherwise `None`. Fails with `Memory` only.
+/// Returns the name of the batch if the record is a header, which is exactly the two fields `batch`
+/// and a well-formed name, otherwise `None`. Fails with `Memory` only.
 #[tactic(auto, using(crate::proofs::Reading::header_name_is))]
 pub fn batch_name_in_header(alloc: Global, row: &ByteRecord) -> Result<Option<BatchName>, Fault>
     ensures header { IfOk result (λ found. MatchOption found

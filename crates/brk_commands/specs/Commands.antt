@@ -5,7 +5,7 @@ use Rattle.brk_orders.specs.Records.{movement_command, abstract_order, completio
 use Rattle.brk_commands.specs.declared.command.Command as told
 use Rattle.brk_commands.specs.declared.command.Command.TheVariants as command
 
--- The model's command with the values of a typed command, by its kind.
+-- The model's command that a typed command represents: of the corresponding kind, with its values.
 abbrev pub abstract_command : told.Command → Command
 abstract_command (command.Add reference) = books.command_adding_record reference
 abstract_command (command.Order order) = PlaceOrder (abstract_order order)

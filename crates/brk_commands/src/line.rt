@@ -24,8 +24,8 @@ fn booked_reply_text(alloc: Global, stamp: Stamp) -> Result<String, AllocError>
     String::from_str(alloc, digits.format(stamp.get().unsigned_abs()))
 }
 
-// Appends the seven fields of an estimate, each after a comma: the price, the buy value, the sell
-// value, the tax, the commission, the charge and the assets. Fails if memory runs out.
+// Appends to `line` the seven fields of an estimate, each after a comma: the price, the buy value,
+// the sell value, the tax, the commission, the charge and the assets. Fails if memory runs out.
 fn append_estimate_fields(line: &mut String, estimate: &Estimate) -> Result<(), AllocError>
     ensures { OnOk result (string_bytes line.new
         ≡ string_bytes line.old ++ fields_after_separators 44 (model.estimate_fields (abstract_estimate estimate.now))) }
@@ -68,7 +68,7 @@ fn ordered_reply_text(alloc: Global, ordered: &Ordered) -> Result<String, AllocE
     Ok(line)
 }
 
-// Appends a comma and the id of a trade, in decimal digits. Fails if memory runs out.
+// Appends to `line` a comma and the id of a trade, in decimal digits. Fails if memory runs out.
 fn append_trade_id_after_comma(line: &mut String, trade: Id) -> Result<(), AllocError>
     ensures { OnOk result (string_bytes line.new ≡ string_bytes line.old ++ (44 ∷ decimal trade)) }
 {
@@ -76,7 +76,7 @@ fn append_trade_id_after_comma(line: &mut String, trade: Id) -> Result<(), Alloc
 }
 
 // Returns the line of a `Ticked` reply: the stamp and the ids of the triggered trades, joined by
-// commas. Fails if memory runs out.
+// commas; only the stamp if there are none. Fails if memory runs out.
 fn ticked_reply_text(alloc: Global, stamp: Stamp, triggered: &[Id]) -> Result<String, AllocError>
     ensures { IfOk result (λ line. string_bytes line ≡ model.line_text (replies.Ticked stamp triggered.now)) }
 {
@@ -107,8 +107,8 @@ pub fn day_text(alloc: Global, day: Day) -> Result<String, Fault>
     Ok(text)
 }
 
-// Appends the commission, the tax and the settlement amount of a completed trade, each after a
-// comma. Fails if memory runs out.
+// Appends to `line` the commission, the tax and the settlement amount of a completed trade, each
+// after a comma. Fails if memory runs out.
 fn append_commission_tax_and_amount(
     line: &mut String,
     completed: &Completed,
@@ -123,15 +123,15 @@ fn append_commission_tax_and_amount(
     )
 }
 
-// Appends a comma and `day`, the text of a day. Fails if memory runs out.
+// Appends to `line` a comma and the text `day`, such as `2024-03-01`. Fails if memory runs out.
 fn append_day_field(line: &mut String, day: &str) -> Result<(), AllocError>
     ensures { OnOk result (string_bytes line.new ≡ string_bytes line.old ++ fields_after_separators 44 (day.now ∷ [])) }
 {
     write!(line, ",{day}")
 }
 
-// Appends the buy value and the sell value of the closed shares, and the balance, each after a
-// comma. Fails if memory runs out.
+// Appends to `line` the buy value and the sell value of the shares that a completed trade closed,
+// and the balance of its account, each after a comma. Fails if memory runs out.
 fn append_values_and_balance(line: &mut String, completed: &Completed) -> Result<(), AllocError>
     ensures { OnOk result (string_bytes line.new
         ≡ string_bytes line.old ++ fields_after_separators 44 (drop 4 (model.completion_fields (abstract_completion completed.now)))) }
@@ -184,8 +184,8 @@ fn moved_reply_text(
     )
 }
 
-/// Returns the line of a reply: its fields, the stamp first, joined by commas. Fails with `Memory`
-/// only.
+/// Returns the line of a reply, as it is stored under a key: its fields, the stamp first, joined by
+/// commas. Fails with `Memory` only.
 pub fn line_text(alloc: Global, reply: &Reply) -> Result<String, Fault>
     ensures line { IfOk result (λ line. string_bytes line ≡ model.line_text (abstract_reply reply.now)) }
     ensures fault { OnErr result (result ≡ Err Memory) }

@@ -45,8 +45,8 @@ pub fn movement_row_text(alloc: Global, movement: &Movement) -> Result<String, A
     }
 }
 
-// Returns the row of the kind `oneday` with `day`, the text of a day: the two fields joined by byte
-// 31. Fails if memory runs out.
+// Returns the row that sets the settlement day, from the text `day` of this day: `oneday` and
+// `day`, joined by byte 31. Fails if memory runs out.
 fn settlement_day_row_from_day_text(alloc: Global, day: &str) -> Result<String, AllocError>
     ensures { IfOk result (λ row. string_bytes row ≡ join_with_byte 31 (codes "oneday" ∷ day.now ∷ [])) }
 {

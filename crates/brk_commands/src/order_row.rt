@@ -14,15 +14,16 @@ use brk_money::{Id, OrderType};
 use brk_orders::{Completion, Order, Tick};
 use std::alloc::{AllocError, Global};
 
-/// Returns the word for the account type of a trade: `cash` if `is_cash`, otherwise `margin`.
+/// Returns the word for how an order or a trade is paid: `cash` if `is_cash` is true, otherwise
+/// `margin`.
 pub fn cash_or_margin_word(is_cash: bool) -> &'static str
     ensures { result.now ≡ model.cash_or_margin_word is_cash }
 {
     if is_cash { "cash" } else { "margin" }
 }
 
-/// Returns the word for the sequence in which a trade closes lots: `lifo` if `is_lifo` (the newest
-/// first), otherwise `fifo` (the oldest first).
+/// Returns the word for the sequence in which an order or a trade closes lots: `lifo` if `is_lifo`
+/// is true (the newest first), otherwise `fifo` (the oldest first).
 pub fn lifo_or_fifo_word(is_lifo: bool) -> &'static str
     ensures { result.now ≡ model.lifo_or_fifo_word is_lifo }
 {
@@ -43,8 +44,8 @@ fn first_order_fields_text(alloc: Global, order: &Order) -> Result<String, Alloc
     )
 }
 
-// Appends byte 31 and the price of `order_type`, or only byte 31 if this type has no price. Fails
-// if memory runs out.
+// Appends byte 31 and the price of `order_type`, such as `10.00`, or only byte 31 if this type has
+// no price. Fails if memory runs out.
 fn append_price_field(row: &mut String, order_type: OrderType) -> Result<(), AllocError>
     ensures { OnOk result (string_bytes row.new
         ≡ string_bytes row.old ++ fields_after_separators 31 (option_map_or model.nonnegative_cents_text (price_of_order order_type) [] ∷ [])) }

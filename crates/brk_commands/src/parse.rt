@@ -128,9 +128,9 @@ fn parse_customer_tax_command(fields: &[&[u8]]) -> Result<Command, Refusal>
     }
 }
 
-// Parses a command of a kind other than `broker`, `customer` and `account` from the fields after
-// the kind. Refuses an unknown kind, and these three, with `BadText`, and malformed fields with the
-// refusal of their format check. Fails with `Memory` only.
+// Parses a command of the kind `kind`, other than `broker`, `customer` and `account`, from the
+// fields after the kind. Refuses an unknown kind, and these three, with `BadText`, and malformed
+// fields with the refusal of their format check. Fails with `Memory` only.
 fn parse_command_except_parties(alloc: Global, kind: &[u8], fields: &[&[u8]]) -> Planned<Command>
     ensures read { IfOk result (λ read. ParsesAs abstract_command read (parse_by_first_field (other_reference_row_parsers ++ order_row_parsers
         ++ result_row_parsers ++ update_row_parsers ++ movement_and_settlement_day_row_parsers) (kind.now

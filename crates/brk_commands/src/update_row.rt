@@ -11,7 +11,7 @@ use brk_orders::{Span, Update};
 use brk_ref::Symbol;
 use std::alloc::{AllocError, Global};
 
-// Appends byte 31 and the id of a trade, in decimal digits. Fails if memory runs out.
+// Appends to `row` byte 31 and the id of a trade, in decimal digits. Fails if memory runs out.
 fn append_trade_id_after_separator(row: &mut String, trade: Id) -> Result<(), AllocError>
     ensures { OnOk result (string_bytes row.new ≡ string_bytes row.old ++ 31 ∷ decimal trade) }
 {

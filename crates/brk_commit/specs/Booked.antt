@@ -42,10 +42,11 @@ IsDiskContentAfterCommand g old now command key trees =
     × ((base : Base) → Represents g old base → IsTrue (has_utf8_texts (sheets (base_after_keyed_command base now command key))))
 
 -- The postcondition of a call that executes a command, between the states `old` and `new` of the
--- store. At `Ok` the call refines the model's step for the command. At an error a store that is
--- still open is unchanged, also after a crash; if the call closed it, a crash may expose the
--- command as committed. `brk_store/specs/Holds.antt` explains the terms of the clauses; `g` is the
--- specification of the storage `S`.
+-- store. At `Ok` the call refines the model's step for the command. A refusal, a stored reply or an
+-- error changes nothing in a store that is still open. A crash after the call exposes a state that
+-- a crash before it could expose, or the tables after the command; after `Done` only these tables.
+-- `brk_store/specs/Holds.antt` explains the terms of the clauses; `g` is the specification of the
+-- storage `S`.
 pub record CommandPost {S : Type 0} (g : Ghosts S) (old new : Held S) (now : ℕ) (command : Command) (key : Option Key)
     (result : Result CommandAnswer Fault) : Type 0 where
   -- At `Ok` the call refines the model's step. Vacuous if the disk assumption fails.

@@ -51,8 +51,8 @@ fn prove_command_and_key_are_well_formed(command: &Command, key: Option<&Key>)
 ///
 /// After a fault that closed the store, too, a crash may expose the command as committed. Retry
 /// after a fault: after `Store`, which may have closed the store, first drop it, and open and adopt
-/// the file again. Under the same key the command is executed at most once. Without a key a retry
-/// may execute it twice, so before it read the tables, after `Store` those of the reopened file.
+/// the file again. Under one key a command is accepted at most once. A retry without a key may
+/// execute the command a second time: read the tables first, after `Store` in the reopened file.
 pub fn execute_and_commit_command<S: Alter>(
     alloc: Global,
     store: &mut Store<S>,

@@ -25,8 +25,9 @@ use brk_trade::{Change, Plan};
 use sqlite::Alter;
 use std::alloc::Global;
 
-// Returns the row of KEPT under a key, with the stored request and the stored reply, or `None` if
-// there is no key or no such row. Changes nothing. Fails with `Memory` or `Store` only.
+// Returns the row of KEPT under the key `key`, which has the stored request and the stored reply,
+// or `None` if there is no key or no such row. Changes nothing. Fails with `Memory` or `Store`
+// only.
 pub(crate) fn read_stored_reply<S: Alter>(
     store: &mut Store<S>,
     key: Option<&Key>,

@@ -24,9 +24,9 @@ use Rattle.brk_decisions.specs.declared.amounts.ValuedSummaries.{ValuedSummaries
 abbrev pub IsCustomerWithId : Tables → ℕ → Customer → Type 0
 IsCustomerWithId t id customer = find (λ r. r.id == id) t.customers ≡ Some (abstract_customer customer)
 
--- The facts `tested` that decide on the order `order` of the customer equal those of the tables
--- `t`: the last price, whether the executor is permitted, the charge and the commission rate. The
--- rate is specified only if the security of the order exists.
+-- The facts `tested` that the checks of the order `order` of the customer `customer` test agree
+-- with the tables `t`: the last price of its symbol, whether its executor is permitted, the charge
+-- and the commission rate. The rate is specified only if the security of the order exists.
 pub record CustomerOrderFactsMatchTables (t : Tables) (order : Order) (customer : Customer) (tested : OrderCheckFacts) : Type 0 where
   pub last_price : tested.last_price ≡ last_price_of_symbol t order.symbol
   pub is_permitted : tested.is_permitted
@@ -53,17 +53,17 @@ pub record AreValuedSummariesOfAccount (t : Tables) (account : ℕ) (held : Valu
   pub rows : map abstract_summary_row held.rows.items ≡ filter (λ r. r.account == account) t.summaries
   pub value : held.value ≡ market_value_of_account t account
 
--- `assets` is the account's balance plus the market value of its holdings in the tables `t`, in
--- cents, and `shares` its number of shares of the security with the symbol `symbol`, or `None` if
--- it has no summary of the security.
+-- `assets` is the balance in the row `account` plus the market value of the account's holdings in
+-- the tables `t`, in cents, and `shares` its number of shares of the security with the symbol
+-- `symbol`, or `None` if it has no summary of the security.
 pub record AreAssetsAndSharesOfAccount (t : Tables) (account : AccountRow) (symbol : Text) (assets : ℤ) (shares : Option ℤ) : Type 0 where
   pub assets_total : assets ≡ account.balance +ℤ market_value_of_account t account.account.id
   pub shares_held : shares ≡ option_map (λ r. r.qty) (summary_row_of_position t account.account.id symbol)
 
--- The amounts for the estimate of an order of the account equal those of the tables `t`: the sum of
--- the customer's tax rates in hundred-thousandths, the account's balance plus the market value of
--- its holdings in cents, and the number of shares in the holding summary of the order's account and
--- symbol, or `None` if there is no summary.
+-- The amounts `amounts` for the estimate of the order `order` of the account `account` agree with
+-- the tables `t`: the sum of the tax rates of the account's customer in hundred-thousandths, the
+-- account's balance plus the market value of its holdings in cents, and the account's number of
+-- shares of the order's security, or `None` if it has no summary of the security.
 pub record EstimateAmountsMatchTables (t : Tables) (account : AccountRow) (order : Order) (amounts : Amounts) : Type 0 where
   pub rates : amounts.rates ≡ customer_tax_rate_sum t account.account.customer
   pub held : AreAssetsAndSharesOfAccount t account order.symbol amounts.assets amounts.summary
@@ -89,8 +89,8 @@ order_facts_with_account account tested amounts = record {
   last_trade = None;
 }
 
--- If `account` is the row of the order's account, the facts `found` for the estimate of the order
--- equal those of the tables `t` (`EstimateFactsMatchTables`). Vacuous otherwise.
+-- If `account` is the row of the order's account in the tables `t`, the facts `found` for the
+-- estimate of the order agree with these tables (`EstimateFactsMatchTables`). Vacuous otherwise.
 abbrev pub EstimateFactsMatchIfAccountOfOrder : Tables → Order → AccountRow → OrderPlanFacts → Type 0
 EstimateFactsMatchIfAccountOfOrder t order account found =
     Some (abstract_account_row account) ≡ account_row_with_id t order.account → EstimateFactsMatchTables t order found

@@ -28,48 +28,50 @@ IsAccountWithId t id account = account_row_with_id t id ≡ Some (abstract_accou
 abbrev pub IsSecurityWithSymbol : Tables → Text → Security → Type 0
 IsSecurityWithSymbol t symbol security = security_row_with_symbol t symbol ≡ Some (abstract_security_row security)
 
--- The totals `numbers`, a number of trades and a sum of commissions in cents, equal those in the
--- row of the broker with the id `id`. Vacuous if this broker does not exist.
+-- The totals `numbers`, a number of completed trades and a sum of commissions in cents, equal the
+-- totals in the row of the broker with the id `id`. Vacuous if this broker does not exist.
 abbrev pub AreTotalsOfBroker : Tables → ℕ → BrokerTotals → Type 0
 AreTotalsOfBroker t id numbers = IfSome (find (λ r. r.id == id) t.brokers) (λ b. (pos numbers.trades ≡ b.trades) × (numbers.commissions ≡ b.commissions))
 
--- The facts `parties` of the account in the row `row` equal those of the tables `t`: the fields of
--- the row, the tier and the tax rates of its customer, and the totals of its broker. The tier is
--- specified only if the customer exists, and the totals only if the broker exists.
+-- The facts `parties` of the account in the row `row` agree with the tables `t`: the broker, the
+-- tax status and the balance in the row, the tier and the sum of the tax rates of the account's
+-- customer, and the totals of its broker. The tier is specified only if the customer exists, and
+-- the totals only if the broker exists.
 pub record PartyFactsMatchTables (t : Tables) (row : AccountRow) (parties : PartyFacts) : Type 0 where
   pub account : parties.account ≡ result_account_of_row row
   pub tier : IfSome (find (λ r. r.id == row.customer) t.customers) (λ c. parties.tier ≡ c.tier)
   pub rates : parties.rates ≡ customer_tax_rate_sum t row.customer
   pub broker : AreTotalsOfBroker t row.broker parties.broker
 
--- The facts `listed` of the trade's security, whose row is `row`, equal those of the tables `t`:
--- the name in the row, and the commission rate of the band for the trade's quantity, type and
--- exchange at the customer tier `tier`.
+-- The facts `listed` of the trade's security, whose row is `row`, agree with the tables `t`: the
+-- name in the row, and the commission rate of the band for the trade's quantity, type and exchange
+-- at the customer tier `tier`, or `None` if there is no such band.
 pub record SecurityFactsMatchTables (t : Tables) (trade : TradeRow) (tier : ℕ) (row : SecurityRow) (listed : SecurityFacts) : Type 0 where
   pub name : listed.name ≡ row.name
   pub rate : listed.rate ≡ option_map (λ b. b.rate) (commission_band_of_quantity t tier trade.kind row.exchange trade.qty)
 
--- The facts for the cash row of a result equal those of the tables `t`: the settlement day, or
--- `None` if none is set, and the number of the next cash row.
+-- The facts `posting` for the cash row of a result agree with the tables `t`: the settlement day,
+-- or `None` if none is set, and the number of the next cash row.
 pub record PostingFactsMatchTables (t : Tables) (posting : Posting) : Type 0 where
   pub rule : posting.rule ≡ t.rule
   pub next : posting.next ≡ last_cash_row_number_or_zero t + 1
 
--- The facts `found` for the decision on a result are for the trade `trade`, and equal those of the
+-- The facts `found` for the decision on a result are for the trade `trade`, and agree with the
 -- tables `t` (`ResultFactsMatchTables`).
 pub record AreResultFactsOfTrade (t : Tables) (trade : TradeRow) (found : ResultPlanFacts) : Type 0 where
   pub own : found.trade ≡ trade
   pub read : ResultFactsMatchTables t found
 
--- The facts `found` for the decision on a result are for the trade with the id `id` and equal those
--- of the tables `t`; they are `None` if this trade does not exist.
+-- The facts `found` for the decision on a result are for the trade with the id `id`, and agree with
+-- the tables `t` (`ResultFactsMatchTables`). They are `None` if and only if this trade does not
+-- exist.
 pub record AreResultFactsOfTradeWithId (t : Tables) (id : ℕ) (found : Option ResultPlanFacts) : Type 0 where
   pub trade : trade_row_with_id t id ≡ option_map (λ f. abstract_trade_row f.trade) found
   pub read : IfSome found (λ f. AreResultFactsOfTrade t f.trade f)
 
--- A list of lots equals the lots of the position of the trade in the facts, in the order in which
--- the trade closes them. If there are no facts, because the trade does not exist, the list is
--- empty.
+-- The list of lots equals the lots of the position of the trade in the facts: the oldest first, or
+-- the newest first if the trade closes the newest lots first (`is_lifo`). Without facts, because
+-- the trade does not exist, the list is empty.
 abbrev pub AreLotsOfTradedPosition : Tables → Option ResultPlanFacts → List Lot → Type 0
 AreLotsOfTradedPosition t None = EqualsLots []
 AreLotsOfTradedPosition t (Some f) = EqualsLots (list_reversed_if_lifo f.trade.is_lifo (lots_of_position t f.trade.account f.trade.symbol))

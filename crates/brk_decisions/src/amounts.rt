@@ -58,7 +58,7 @@ pub(crate) fn read_tax_rate_sum<S: Alter>(
 }
 
 // Returns an amount in cents plus the market value of a holding summary at a price, or `None` if
-// the sum overflows.
+// the market value or the sum overflows.
 fn add_market_value(amount: Wide, row: &SummaryRow, price: Price) -> Option<Wide>
     ensures { IfSome result (λ sum. sum ≡ amount +ℤ row.now.qty *ℤ pos price) }
 {

@@ -20,9 +20,10 @@ use brk_trade::{
 use sqlite::Alter;
 use std::alloc::Global;
 
-// Returns the quote of a tick's symbol: its last trade, and the pending requests that some price of
-// the feed's ticks may trigger, read by one statement for each trade type. Returns `None` if the
-// symbol has no last trade. Changes nothing. Fails with `Memory` or `Store` only.
+// Returns the quote of a tick's symbol: its last trade, and its pending requests that a price from
+// the lowest to the highest price of this symbol's ticks in `ticks` can trigger, read by one
+// statement for each trade type. Returns `None` if the symbol has no last trade. Changes nothing.
+// Fails with `Memory` or `Store` only.
 fn read_quote_of_tick<S: Alter>(
     alloc: Global,
     store: &mut Store<S>,
@@ -51,8 +52,8 @@ fn read_quote_of_tick<S: Alter>(
 }
 
 // Returns the stamp of the last accepted command, or `None` if there is none, and one quote for
-// each symbol of the ticks that has a last trade. Changes nothing. Fails with `Memory` or `Store`
-// only.
+// each symbol of `ticks` that has a last trade: this trade, and the pending requests that the ticks
+// of the symbol can trigger. Changes nothing. Fails with `Memory` or `Store` only.
 fn read_last_stamp_and_quotes<S: Alter>(
     alloc: Global,
     store: &mut Store<S>,

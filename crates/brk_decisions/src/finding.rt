@@ -79,8 +79,8 @@ fn count_accounts<S: Alter>(
     Ok(store.accounts_of_customer(alloc, customer)?.len())
 }
 
-// Returns the fact that decides on a new broker: whether its id exists. Changes nothing. Fails with
-// `Memory` or `Store` only.
+// Returns the fact that decides on a new broker: whether a broker with its id exists. Changes
+// nothing. Fails with `Memory` or `Store` only.
 fn read_broker_facts<S: Alter>(
     store: &mut Store<S>,
     broker: &Broker,
@@ -95,8 +95,8 @@ fn read_broker_facts<S: Alter>(
     })
 }
 
-// Returns the facts that decide on a new customer: whether its id and its tax id exist. Changes
-// nothing. Fails with `Memory` or `Store` only.
+// Returns the facts that decide on a new customer: whether a customer with its id exists, and
+// whether one with its tax id exists. Changes nothing. Fails with `Memory` or `Store` only.
 fn read_customer_facts<S: Alter>(
     store: &mut Store<S>,
     customer: &Customer,
@@ -114,9 +114,9 @@ fn read_customer_facts<S: Alter>(
     })
 }
 
-// Returns the facts that decide on a new account: whether its id, its customer and its broker
-// exist, and the number of accounts of its customer. Changes nothing. Fails with `Memory` or
-// `Store` only.
+// Returns the facts that decide on a new account: whether an account with its id, its customer and
+// its broker exist, and the number of accounts of its customer. Changes nothing. Fails with
+// `Memory` or `Store` only.
 fn read_account_facts<S: Alter>(
     alloc: Global,
     store: &mut Store<S>,
@@ -139,8 +139,8 @@ fn read_account_facts<S: Alter>(
     })
 }
 
-// Returns the fact that decides on a new security: whether its symbol exists. Changes nothing.
-// Fails with `Memory` or `Store` only.
+// Returns the fact that decides on a new security: whether a security with its symbol exists.
+// Changes nothing. Fails with `Memory` or `Store` only.
 fn read_listing_facts<S: Alter>(
     store: &mut Store<S>,
     symbol: &Symbol,
@@ -155,8 +155,8 @@ fn read_listing_facts<S: Alter>(
     })
 }
 
-// Returns the fact that decides on a new tax: whether its id exists. Changes nothing. Fails with
-// `Memory` or `Store` only.
+// Returns the fact that decides on a new tax: whether a tax with its id exists. Changes nothing.
+// Fails with `Memory` or `Store` only.
 fn read_tax_facts<S: Alter>(store: &mut Store<S>, id: Id) -> Result<ReferenceFacts, Fault>
     ensures read { ReadPost S.Store store.old store.new result (λ found t. found.same_id ≡ contains_tax_rate t id) }
     ensures fault { IfErr result IsCallFault }

@@ -34,8 +34,9 @@ fn order_facts_without_account() -> OrderPlanFacts
     }
 }
 
-// Returns the facts for an order of the account `account`, from the facts `tested` and the amounts
-// `amounts`. The greatest trade id, which an estimate does not need, is `None`.
+// Returns the facts for an order of the account `account`: its broker and tax status, the facts
+// `tested`, and the amounts `amounts`. The greatest trade id, which an estimate does not need, is
+// `None`.
 fn order_facts_with_account(
     account: &AccountRow,
     tested: OrderCheckFacts,
@@ -60,10 +61,11 @@ fn order_facts_with_account(
 }
 
 // Returns the facts that decide on the estimate of an order whose account is `account`: its broker
-// and tax status, the last price, the permission, the charge, the rates, the assets and the shares
-// held. Changes nothing. Fails with `Memory` or `Store` only; with `Store` also if the account's
-// customer or one of the customer's taxes does not exist, the tax rates total more than the
-// greatest rate, a held symbol has no last price, or a sum overflows.
+// and tax status, the last price of the order's security, whether the executor may order, the
+// charge, the commission rate and the sum of the tax rates, the account's assets and its shares of
+// the security. Changes nothing. Fails with `Memory` or `Store` only; with `Store` also if the
+// account's customer or one of the customer's taxes does not exist, the tax rates total more than
+// the greatest rate, a held symbol has no last price, or a sum overflows.
 fn read_estimate_facts_with_account<S: Alter>(
     alloc: Global,
     store: &mut Store<S>,
@@ -79,10 +81,11 @@ fn read_estimate_facts_with_account<S: Alter>(
     Ok(order_facts_with_account(account, tested, amounts))
 }
 
-/// Returns the facts that decide on the estimate of an order. If the order's account does not
-/// exist, each is `None`, false or 0. Changes nothing. Fails with `Memory` or `Store` only; with
-/// `Store` also if the account's customer or one of the customer's taxes does not exist, the tax
-/// rates total more than the greatest rate, a held symbol has no last price, or a sum overflows.
+/// Returns the facts that decide on the estimate of an order: those of its account, its customer
+/// and its security. If the order's account does not exist, each fact is `None`, false or 0.
+/// Changes nothing. Fails with `Memory` or `Store` only; with `Store` also if the account's
+/// customer or one of the customer's taxes does not exist, the tax rates total more than the
+/// greatest rate, a held symbol has no last price, or a sum overflows.
 pub(crate) fn read_estimate_facts<S: Alter>(
     alloc: Global,
     store: &mut Store<S>,
@@ -100,10 +103,10 @@ pub(crate) fn read_estimate_facts<S: Alter>(
     }
 }
 
-/// Returns the facts that decide on an order: those of its estimate, and the greatest trade id.
-/// Changes nothing. Fails with `Memory` or `Store` only; with `Store` also if the account's
-/// customer or one of the customer's taxes does not exist, the tax rates total more than the
-/// greatest rate, a held symbol has no last price, or a sum overflows.
+/// Returns the facts that decide on an order: the facts for its estimate, and the greatest trade
+/// id, or `None` if there is no trade. Changes nothing. Fails with `Memory` or `Store` only; with
+/// `Store` also if the account's customer or one of the customer's taxes does not exist, the tax
+/// rates total more than the greatest rate, a held symbol has no last price, or a sum overflows.
 pub(crate) fn read_order_facts<S: Alter>(
     alloc: Global,
     store: &mut Store<S>,

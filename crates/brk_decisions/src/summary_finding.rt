@@ -19,7 +19,8 @@ fn shares_of_summary(summary: &SummaryRow) -> i64
     summary.qty
 }
 
-// Returns the number of shares of a holding summary, or `None` if there is no summary.
+// Returns the number of shares of a holding summary, below 0 if they were sold short, or `None` if
+// there is no summary.
 fn shares_of_optional_summary(summary: Option<SummaryRow>) -> Option<i64>
     ensures { result ≡ option_map (λ r. r.qty) summary }
 {

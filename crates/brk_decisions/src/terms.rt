@@ -127,8 +127,9 @@ pub(crate) fn read_charge_facts<S: Alter>(
     })
 }
 
-// Returns the fact that decides on a new commission band: whether it overlaps an existing band.
-// Changes nothing. Fails with `Memory` or `Store` only.
+// Returns the fact that decides on a new commission band: whether it shares a quantity with an
+// existing band of its tier, trade type and exchange. Changes nothing. Fails with `Memory` or
+// `Store` only.
 pub(crate) fn read_band_facts<S: Alter>(
     alloc: Global,
     store: &mut Store<S>,
@@ -145,10 +146,11 @@ pub(crate) fn read_band_facts<S: Alter>(
     })
 }
 
-// Returns the facts that decide on a new tax of a customer: whether the customer exists and pays
-// this tax, the rate of the tax, and the sum of the rates that the customer pays. Changes nothing.
-// Fails with `Memory` or `Store` only; with `Store` also if one of the taxes that the customer pays
-// does not exist.
+// Returns the facts that decide on a new tax of a customer: whether the customer exists, whether
+// the customer already pays this tax, the rate of the tax (`None` if the tax does not exist), and
+// the sum of the rates that the customer pays (`None` if it exceeds the greatest rate). Changes
+// nothing. Fails with `Memory` or `Store` only; with `Store` also if one of the taxes that the
+// customer pays does not exist.
 pub(crate) fn read_customer_tax_facts<S: Alter>(
     alloc: Global,
     store: &mut Store<S>,

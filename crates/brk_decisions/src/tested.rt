@@ -51,8 +51,9 @@ pub(crate) fn read_last_price<S: Alter>(
     }
 }
 
-// Returns true if an executor may order for an account of a customer: the executor is the customer
-// or has a permission of the account. Changes nothing. Fails with `Memory` or `Store` only.
+// Returns true if an executor may order for an account of a customer: the executor has the names
+// and the tax id of the customer, or those of the account's permission for this tax id. Changes
+// nothing. Fails with `Memory` or `Store` only.
 fn is_executor_permitted<S: Alter>(
     store: &mut Store<S>,
     account: Id,

@@ -70,8 +70,8 @@ pub record AskPost {S : Type 0} (g : Ghosts S) (old new : Held S) (query : Query
   pub clean : HasCleanDisk (state g new) → HasCleanDisk (state g old)
 
 -- The call `call`, a command or a query, was executed at the clock reading `now`, changed the state
--- `old` to the state `new`, and had the outcome `outcome`: the call returned a result with this
--- outcome that satisfies its postcondition, `CommandPost` for a command and `AskPost` for a query.
+-- of the desk from `old` to `new`, and had the outcome `outcome`: its result has this outcome and
+-- satisfies the postcondition, `CommandPost` for a command and `AskPost` for a query.
 abbrev pub OutcomePost : {S : Type 0} → Ghosts S → Held S → Held S → ℕ → Call → Outcome → Type 0
 OutcomePost g old new now (call.Do command key) outcome =
     (result : Result CommandAnswer Fault) × (outcome ≡ outcome_of_command result)
@@ -98,7 +98,7 @@ HasAcknowledgedCommands base calls outcomes trees =
     (after : Base) × CrashMayExposeBase base (map model_call calls) (map model_outcome outcomes) after × IsDiskContentOfRows (sheets after) trees
     × IsTrue (has_utf8_texts (sheets after))
 
--- The store was open before the calls, and for each base that it represented, `trees` are disk
+-- The store was open before the calls, and for each base that it represented then, `trees` are disk
 -- contents that a crash may expose after the calls from this base (`HasAcknowledgedCommands`).
 abbrev pub CrashMayExposeDiskContent : {S : Type 0} → Ghosts S → Held S → List (ℕ × Call) → List Outcome → Trees → Type 0
 CrashMayExposeDiskContent g old calls outcomes trees =
@@ -164,9 +164,10 @@ pub record RunGuarantee {S : Type 0} (g : Ghosts S) (old new : Held S) (calls : 
       → HoldsRows g old (tables_upgraded_from_schema (abstract_schema schema) rows) → IsTrue (has_utf8_texts rows) → PassesAudit (abstract_schema schema) rows
       → ReachesBasePassingAudit g new (base_of_tables rows) calls outcomes
 
--- The postcondition of an audit of the desk's store, which writes nothing: that of an audit of a
--- store (`AuditPost`); and if the store represents a base, it still does after the audit, and the
--- result is not `Damaged`.
+-- The postcondition of an audit of the desk's store, which writes nothing: the audit satisfies
+-- `AuditPost`, the postcondition of an audit of a store; the store represents every base that it
+-- represented before; and under the disk assumption, if it represents a base, the result is not
+-- `Damaged`.
 pub record DeskAuditPost {S : Type 0} (g : Ghosts S) (old new : Held S) (result : Result (Unit {0}) Fault) : Type 0 where
   -- It satisfies the postcondition of an audit of a store.
   pub audited : AuditPost g old new result

@@ -8,16 +8,16 @@ use Rattle.brk_model.specs.Keyed.{keyed_step}
 use Rattle.brk_model.specs.Records.{Key}
 use Rattle.brk_model.specs.Run.{Call, Do, Outcome, Did, Failed, Run}
 
--- The outcome acknowledges no change: it is not `Did` with the answer `Done`. `Again` returns a
--- stored reply and acknowledges no change.
+-- The outcome acknowledges no change: it is any outcome but `Did` with the answer `Done`. The
+-- answer `Again` returns a stored reply and acknowledges no change.
 abbrev pub AcknowledgesNothing : Outcome → Type 0
 AcknowledgesNothing (Did (Done reply)) = ⊥
 AcknowledgesNothing _ = Unit {0}
 
--- The run was `earlier`, then a command that returned a fault, then `later`. `before` is the base
--- after `earlier`, and `after` the base after the command on `before`, as if it had not failed. No
--- call in `later` has the outcome `Done`; so `after` has the changes of `earlier` and of the
--- command, and no other.
+-- The run was `earlier`, then a command that returned a fault, then `later`, in which no call has
+-- the outcome `Done`. `before` is the base after `earlier`, and `after` the base after the command
+-- on `before`, as if it had not failed: `after` has the changes of `earlier` and of the command,
+-- and no other.
 pub record HasUnacknowledgedCommand (base : Base) (calls : List (ℕ × Call)) (outcomes : List Outcome) (after : Base) : Type 0 where
   -- The calls before the command, the command with its clock reading and its key, and the calls
   -- after it.

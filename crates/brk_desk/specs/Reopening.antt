@@ -23,9 +23,9 @@ pub record RepresentsDurableBase {S : Type 0} (g : Ghosts S) (store : Held S) (b
   pub crash_exposes_only_base : CrashStatesSatisfy g store (IsDiskContentOfRows (sheets base))
 
 -- `conn` is in the state of a new connection to a database with the disk contents `trees`. Under
--- the disk assumption it is as after `sqlite3_open`: it is open, in autocommit mode, without
--- savepoints, `sqlite3_changes()` and `sqlite3_last_insert_rowid()` are 0; its current database
--- equals its committed one, and its disk contents are `trees`.
+-- the disk assumption this is the state after `sqlite3_open`: open, in autocommit mode, without
+-- savepoints, with `sqlite3_changes()` and `sqlite3_last_insert_rowid()` 0, and with a current
+-- database that is committed.
 pub record IsNewConnectionToDiskContent {S : Type 0} (g : Ghosts S) (trees : Trees) (conn : Held S) : Type 0 where
   -- The connection is to a database with these disk contents.
   pub over : IsConnectionToDiskContent g trees conn
@@ -55,8 +55,8 @@ pub record AdoptsBaseWithoutDamage {S : Type 0} (g : Ghosts S) (store : Held S) 
   -- At `Ok` the store represents `base`, and a crash exposes, in the desk's tables, only its rows.
   pub represented : OnOk result (RepresentsDurableBase g store base)
 
--- The adoption with the result `result` did not fail with `Damaged`. `store` is the store at `Ok`,
--- and at `Memory` or `Store` the returned connection. It represents a base that satisfies `May`,
+-- The adoption with the result `result` did not fail with `Damaged`. `store`, which is the store at
+-- `Ok` and the returned connection at `Memory` or `Store`, represents a base that satisfies `May`,
 -- and a crash exposes, in the desk's tables, only the rows of this base.
 pub record FindsBaseWithoutDamage {S : Type 0} (g : Ghosts S) (store : Held S) (result : Result (Unit {0}) Fault) (May : Base → Type 0) : Type 0 where
   -- The base that is represented after the adoption.

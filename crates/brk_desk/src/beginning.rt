@@ -25,8 +25,8 @@ ghost use Rattle.brk_changes.specs.declared.schema.Schema.{Schema};
 
 use sqlite::Alter;
 
-/// Proves that a store whose tables have no rows, for example a newly created one, represents the
-/// empty base.
+/// Proves that a store that holds tables without rows, for example a newly created one, represents
+/// the empty base.
 pub fn new_stores_represent_the_empty_base<S: Alter>()
     ensures { (store : Held S) → HoldsRows S.Store store tables_without_rows → Represents S.Store store empty_base }
 {}

@@ -112,9 +112,9 @@ impl<S: Alter> Desk<S> {
     /// tables after the command; after `Done` it exposes only the tables after the command.
     ///
     /// Retry after a fault: after `Store`, which may have closed the store, first drop the desk,
-    /// and open and adopt the file again. Under the same key the command is accepted at most once.
-    /// Without a key a retry may accept it twice, so before it read the tables, after `Store` those
-    /// of the reopened file.
+    /// and open and adopt the file again. Under one key a command is accepted at most once. A retry
+    /// without a key may execute the command a second time: read the tables first, after `Store` in
+    /// the reopened file.
     pub fn call(
         &mut self,
         alloc: Global,
@@ -174,8 +174,9 @@ impl<S: Alter> Desk<S> {
         Ok(())
     }
 
-    // Executes a call at the clock reading `now` and returns its outcome: the answer to a command,
-    // the view or the refusal of a query, or the fault of the call.
+    // Executes the call `call`, a command or a query, at the clock reading `now` and returns its
+    // outcome: the answer to a command, the view or the refusal of a query, or the fault of the
+    // call.
     fn execute_call(&mut self, alloc: Global, now: Stamp, call: &Call) -> Outcome
         ensures executed { OutcomePost S.Store self.old self.new now call.now result }
     {

@@ -12,8 +12,8 @@ use sqlite::Alter;
 
 /// Proves that calls of a desk, executed in order with nothing between them, satisfy
 /// `IsRunWithOutcomes`: the postcondition and the guarantee of a run follow from the postconditions
-/// of the single calls (`one_run`). So they hold for the calls of `Desk::run`, and for calls of
-/// `Desk::call` and `Desk::ask` in order.
+/// of the single calls (`one_run`). They therefore hold for the calls of `Desk::run`, and for calls
+/// of `Desk::call` and `Desk::ask` in order.
 ///
 /// `joined_runs`: two runs, the second of which begins in the state in which the first ends, are
 /// one run of all their calls.

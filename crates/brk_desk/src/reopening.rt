@@ -28,13 +28,17 @@ ghost use Rattle.brk_store.specs.Holds.{CreatePost};
 
 use sqlite::Alter;
 
-/// Proves that recovery never reports damage. Let a store represent a base, and let a crash expose
-/// only the tables of this base. If a crash state of a call or a run of this store is opened and
-/// adopted, the adoption does not fail with `Damaged`. The same holds after a crash that follows an
-/// adoption of rows that pass their audit, and after a crash that follows a creation, except for
-/// states that were possible before it. The adoption may fail with `Memory` or `Store`. All clauses
-/// are under the disk assumption: every read so far returned what was written. They are on a crash
-/// after a call has returned, not on one within a call.
+/// Proves that recovery never reports damage: the adoption of a crash state does not fail with
+/// `Damaged`. This holds after a crash that follows a call or a run of a store that represented a
+/// base, if a crash before exposed only the tables of this base (`crash_after_call`,
+/// `crash_after_run`); after a crash that follows an adoption of rows that pass their audit
+/// (`crash_after_adoption`); and after a crash that follows a creation, except for states that were
+/// possible before it (`crash_after_creation`). The adoption may fail with `Memory` or `Store`.
+/// After a creation or an adoption, a crash exposes only the tables of the represented base
+/// (`created`, `adopted`).
+///
+/// All clauses are under the disk assumption: every read so far returned what was written. They are
+/// on a crash after a call has returned, not on one within a call.
 pub fn recovery_never_reports_damage<S: Alter>()
     // After the creation of the tables, the store represents the empty base, and a crash exposes
     // only its tables.
@@ -48,7 +52,7 @@ pub fn recovery_never_reports_damage<S: Alter>()
         → HasCleanDisk (state S.Store store) → RepresentsAuditedRowsDurably S.Store conn store }
     // After a crash that follows the adoption of a newly opened database whose rows pass the audit
     // of their schema, perhaps an older one, a later adoption does not fail with `Damaged`. If it
-    // succeeds, the store represents the base that the same rows determine.
+    // succeeds, the store represents the base that these rows determine.
     ensures crash_after_adoption { (trees : Trees) (before at_crash reopened adopted : Held S)
         (interrupted result : Result (Unit {0}) faults.Fault) (schema : Schema) (rows : Tables)
         → IsNewConnectionToDiskContent S.Store trees before → StoresRowsWithAuditResult (abstract_schema schema) rows (state S.Store before).now None

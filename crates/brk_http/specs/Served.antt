@@ -11,8 +11,9 @@ use Rattle.brk_http_engine.specs.declared.stream.ServeFault.{ServeFault}
 use Rattle.brk_http_listener.specs.Listening.{ServeRelation}
 
 -- A stream that ended with the result `ended` changed the desk from the state `old` to the state
--- `new` only by a sequence of its calls, with their outcomes. The number of replies and the number
--- of calls are within their limits.
+-- `new` only by a sequence of its calls, with their outcomes. There are at most 1,000 replies,
+-- fewer before a fault, and at most one call for each reply and one more after a fault of memory or
+-- of the writer.
 pub record ServesStreamByCalls {S : Type 0} (g : Ghosts S) (old new : Held S) (ended : Result ℕ ServeFault) : Type 0 where
   pub calls : List (ℕ × Call)
   pub outcomes : List Outcome

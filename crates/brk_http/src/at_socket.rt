@@ -32,8 +32,9 @@ fn set_socket_time_limits(stream: &TcpStream) -> io::Result<()> {
 }
 
 // Shuts down the writing side of a socket, and then reads and drops the bytes that still arrive,
-// until the peer closes its side or after 128 reads, so that the kernel does not drop the last
-// reply. Fails if the shutdown fails, the time limit of the reads cannot be set, or a read fails.
+// until the peer closes its side or after 128 reads. This keeps the kernel from dropping the last
+// reply. Fails if the shutdown fails, the time limit of the reads, 250 ms, cannot be set, or a read
+// fails.
 fn drain_before_close(stream: &TcpStream) -> io::Result<()> {
     stream.shutdown(Shutdown::Write)?;
     stream.set_read_timeout(Some(Duration::from_millis(DRAIN_TIMEOUT_MILLISECONDS)))?;

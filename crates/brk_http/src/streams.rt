@@ -47,7 +47,7 @@ pub fn serve_stream<R: Read + Drop, W: Write, C: Clock, S: Alter>(
     // For any stream, at most 1,000 requests are answered, and fewer before a fault.
     ensures few { IfOk result (λ count. count ≤ most_requests_per_stream) }
     ensures early { IfErr result (λ fault. fault.done < most_requests_per_stream) }
-    // For any stream, the desk changed only by a sequence of its calls, so every guarantee of a run
+    // For any stream, the desk changed only by a sequence of its calls. Every guarantee of a run
     // holds. There is at most one call for each answered request, and one more after a fault of the
     // writer or of memory. If the reader has specified content, its requests make exactly these
     // calls, and the replies follow from their outcomes.

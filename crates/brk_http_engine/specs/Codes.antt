@@ -31,11 +31,12 @@ query_outcome_in_model shown (Ok (Ok view)) = run.Saw (shown view)
 query_outcome_in_model shown (Ok (Err refusal)) = run.NoView refusal
 query_outcome_in_model shown (Err fault) = run.Failed fault
 
--- The bytes of each text of a list, in the order of the list.
+-- The list of the bytes of each of the strings `texts`, in order.
 abbrev pub bytes_of_texts : Vec (String Global) → List Text
 bytes_of_texts texts = map string_bytes texts.items
 
--- The bytes of each text of each record, as a view of the model.
+-- The list of the records `records`, in order, each as the list of the bytes of its strings: a view
+-- of the model.
 abbrev pub bytes_of_records : Vec (Vec (String Global)) → queries.View
 bytes_of_records records = map bytes_of_texts records.items
 
@@ -45,8 +46,8 @@ abbrev pub route_in_model : {V : Type 0} → (V → Text) → Route V → routes
 route_in_model text (route.ToRow key) = routes.ToRow (key_in_model key)
 route_in_model text (route.ToView view) = routes.ToView (text view)
 
--- The call that a request makes in the model, or its response if the request makes no call;
--- `command` and `query` map commands and queries to those of the model.
+-- The model's call that the call of a request represents or, if the request makes no call, the
+-- model's response to it; `command` and `query` map commands and queries to those of the model.
 abbrev pub call_in_model : {X Q : Type 0} → (X → model.Command) → (Q → queries.Query) → RequestedCall X Q → asked.RequestDemand
 call_in_model command query (asking.Wrong problem) = asked.ResponseOnly (FromProblem problem)
 call_in_model command query (asking.BadRow refusal) = asked.ResponseOnly (FromOutcome (run.Did (model.Refused refusal)))

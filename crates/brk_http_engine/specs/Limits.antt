@@ -7,22 +7,23 @@ use Rattle.brk_http_engine.specs.declared.turning.FaultKind.TheVariants as kinds
 use Rattle.brk_http_engine.specs.declared.stream.ServeFault.{ServeFault}
 
 -- The greatest number of calls of the desk that the request at which this fault ended the stream
--- made: 0 if the reader failed, otherwise 1.
+-- makes: 0 if the reader failed, 1 if the writer failed or memory ran out.
 abbrev pub call_limit_at_fault : FaultKind → ℕ
 call_limit_at_fault kinds.Read = 0
 call_limit_at_fault kinds.Write = 1
 call_limit_at_fault kinds.Memory = 1
 
--- The greatest number of calls of the desk that a turn of a stream with this result made: 0 if the
--- input was at its end, 1 after a reply, and otherwise the limit at the fault.
+-- The greatest number of calls of the desk that a turn of a stream with this result makes: 0 if no
+-- input was left, 1 after a reply, and after a fault the limit at this fault
+-- (`call_limit_at_fault`).
 abbrev pub call_limit_of_turn : Result ExchangeResult FaultKind → ℕ
 call_limit_of_turn (Ok turn.Ended) = 0
 call_limit_of_turn (Ok turn.Open) = 1
 call_limit_of_turn (Ok turn.Closed) = 1
 call_limit_of_turn (Err kind) = call_limit_at_fault kind
 
--- The greatest number of calls of the desk that a stream with this result made: 1 for each reply,
--- and after a fault also the limit at this fault.
+-- The greatest number of calls of the desk that a stream with this result makes: 1 for each reply,
+-- and after a fault also the limit at this fault (`call_limit_at_fault`).
 abbrev pub call_limit_of_stream : Result ℕ ServeFault → ℕ
 call_limit_of_stream (Ok count) = count
 call_limit_of_stream (Err fault) = fault.done + call_limit_at_fault fault.kind

@@ -18,14 +18,15 @@ ChangesOnlyByCalls acts most old new =
 abbrev pub CallScript : Type 0
 CallScript = List (ℕ × Call) × List Outcome
 
--- The relation of a call of a scripted desk, whose states are scripts: `call` at the clock reading
+-- The relation of a call of a scripted desk, whose state is a script: `call` at the clock reading
 -- `now` is the first call of `script`, `outcome` is its first outcome, and `rest` is the script
--- without both.
+-- without both. False if the script has no call or no outcome left.
 abbrev pub IsNextScriptedCall : CallRelation CallScript
 IsNextScriptedCall script now call outcome rest = (script.0 ≡ (now, call) ∷ rest.0) × (script.1 ≡ outcome ∷ rest.1)
 
--- The stream with the content `input` makes exactly the calls of `script`, in order, and its
--- replies and its result follow from the outcomes of `script`.
+-- The stream with the content `input` makes exactly the calls of `script`, in order, which has
+-- exactly one outcome for each, and the replies and the result of the stream follow from these
+-- outcomes.
 abbrev pub StreamMatchesScript : {C : Type 0} → RequestParsers → (C → ℕ → C → Type 0) → Text → CallScript → ClockAndWriterChange C → Result ℕ ServeFault
     → Type 0
 StreamMatchesScript forms gives input script outside result =

@@ -22,9 +22,10 @@ use Rattle.brk_http_engine.specs.declared.turning.FaultKind.{FaultKind}
 use Rattle.brk_http_engine.specs.declared.turning.FaultKind.TheVariants as kinds
 use Rattle.brk_http_engine.specs.declared.stream.ServeFault.{ServeFault}
 
--- After `n` replies the request at the front of `input` was answered with `reply`: it was executed,
--- or it could not be read. After the reply the stream has the state `next`: it is finished, or it
--- continues with the rest of the input. The clock was read once for each of the timestamps `taken`.
+-- After `n` replies the request at the front of `input` has the reply `reply`: the request was
+-- executed, or it could not be read. After this reply the stream has the state `next`: it is
+-- finished, or it continues with the rest of the input. The clock was read once for each of the
+-- timestamps `taken`. It is not stated that the reply was written.
 pub record ExchangeHasReply {B C : Type 0} (forms : RequestParsers) (does : CallRelation B) (gives : C → ℕ → C → Type 0) (n : ℕ) (input : Text)
     (span : EnvironmentChange B C) (reply : Text) (next : StreamState) : Type 0 where
   pub taken : List ℕ
@@ -35,7 +36,8 @@ pub record ExchangeHasReply {B C : Type 0} (forms : RequestParsers) (does : Call
 
 -- After `n` replies the request `request` was executed, and `reply` is its reply. The reply is the
 -- last of its stream (`closes`) if it reaches the limit of replies, if the request asks to close
--- the stream, or if the desk failed. The clock was read once for each of the timestamps `taken`.
+-- the stream, or if the desk failed. The clock was read once for each of the timestamps `taken`. It
+-- is not stated that the reply was written.
 pub record ExecutesRequest {B C : Type 0} (forms : RequestParsers) (does : CallRelation B) (gives : C → ℕ → C → Type 0) (n : ℕ) (request : Request)
     (span : EnvironmentChange B C) (closes : Bool) (reply : Text) : Type 0 where
   pub taken : List ℕ
@@ -60,9 +62,9 @@ ExchangeCompletesWith forms does gives n input span left turn.Open =
     × (left ≡ Some rest)
 
 -- The turn after `n` replies failed with this fault. `Read`: nothing changed and nothing was
--- written. `Memory`: nothing was written, but the request may have been executed. `Write`: the
--- request was executed or could not be read, and a prefix of its reply was written, perhaps all of
--- it.
+-- written. `Memory`: nothing was written, and either nothing changed, or the request was executed
+-- or could not be read. `Write`: the request was executed or could not be read, and a prefix of its
+-- reply was written, perhaps all of it.
 abbrev pub ExchangeFailsWith : {B C : Type 0} → RequestParsers → CallRelation B → (C → ℕ → C → Type 0) → ℕ → Text → EnvironmentChange B C → FaultKind → Type 0
 ExchangeFailsWith forms does gives n input span kinds.Read = IsUnchangedEnvironment span
 ExchangeFailsWith forms does gives n input span kinds.Memory =

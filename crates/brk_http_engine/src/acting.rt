@@ -52,7 +52,8 @@ fn execute_row_command<D: Service>(
     }
 }
 
-// Executes a query and returns the response: the view, the refusal, or the fault of the desk.
+// Executes a query, without a reading of the clock, and returns the response: the view, the
+// refusal, or the fault of the desk.
 fn execute_query<D: Service>(
     alloc: Global,
     desk: &mut D::Desk,

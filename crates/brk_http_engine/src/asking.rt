@@ -31,8 +31,9 @@ pub enum RequestedCall<X, Q> {
     View(Q),
 }
 
-// Parses the texts of a body for a route: as a row or as the arguments of a view. Returns the call,
-// or the refusal if the row or the query is malformed. Fails with `Memory` only.
+// Parses the texts of a body for the route `route`: as the fields of a row or as the arguments of a
+// view. Returns the call, or the refusal if the row or the query is malformed. Fails with `Memory`
+// only.
 fn parse_call_of_route<D: Service>(
     alloc: Global,
     route: Route<D::ViewName>,
@@ -57,8 +58,8 @@ fn parse_call_of_route<D: Service>(
 
 /// Returns the call that a request makes, or the first reason why it makes none: its target has no
 /// route, its method is not POST, its body is not a JSON list of texts, or its row or query is
-/// malformed. Fails with `Memory` only. Whether the request asks to close the stream is of no
-/// effect.
+/// malformed. The result does not depend on the close flag of the request. The router must have
+/// exactly the three routes, and no view may have an empty name. Fails with `Memory` only.
 #[tactic(auto, unfolding(brk_http_model::specs::Asked::demand_of_request), using(crate::proofs::AskLemmas::no_route, crate::proofs::AskLemmas::no_post, crate::proofs::AskLemmas::no_texts, crate::proofs::AskLemmas::all_there))]
 pub fn parse_call_of_request<D: Service>(
     alloc: Global,

@@ -8,8 +8,8 @@ ghost use Rattle.brk_http_engine.specs.Words.{member_name_text};
 use serde_json::{Value, json};
 use std::alloc::{AllocError, Global};
 
-// Returns the texts in a list of JSON values, or `None` if one of the values is not a string. Fails
-// only if memory runs out.
+// Returns the texts of the JSON values `values`, in order, or `None` if one of the values is not a
+// string. Fails only if memory runs out.
 fn texts_of_values(alloc: Global, values: &[Value]) -> Result<Option<Vec<String>>, AllocError>
     ensures found { IfOk result (λ o. IfSome o (λ v. map view values.now ≡ map string (map string_bytes v.items))) }
     ensures none { IfOk result (λ o. IfNone o ((ts : List (List ℕ)) → map view values.now ≢ map string ts)) }
@@ -63,7 +63,7 @@ pub enum MemberName {
     Error,
 }
 
-// Returns the JSON list of these texts, as strings. Fails only if memory runs out.
+// Returns the JSON list of the texts `texts`, as strings, in order. Fails only if memory runs out.
 fn json_list_of_texts(alloc: Global, texts: &[String]) -> Result<Value, AllocError>
     ensures { IfOk result (λ v. view v ≡ spec.json_array_of_texts (map string_bytes texts.now)) }
 {
@@ -74,7 +74,8 @@ fn json_list_of_texts(alloc: Global, texts: &[String]) -> Result<Value, AllocErr
     Ok(Value::Array(list))
 }
 
-// Returns the JSON list of these records, each a list of strings. Fails only if memory runs out.
+// Returns the JSON list of the records `records`, in order, each a list of strings. Fails only if
+// memory runs out.
 fn json_list_of_records(alloc: Global, records: &[Vec<String>]) -> Result<Value, AllocError>
     ensures { IfOk result (λ v. view v ≡ array (items_of (map spec.json_array_of_texts (map bytes_of_texts records.now)))) }
 {
@@ -99,8 +100,8 @@ fn json_object_of_member(alloc: Global, word: MemberName, value: Value) -> Resul
     }
 }
 
-/// Returns the JSON text `{"NAME":["TEXT",..]}` for the member name `word` and these texts. Fails
-/// only if memory runs out.
+/// Returns the JSON text `{"NAME":["TEXT",..]}` of the object whose one member has the name `word`
+/// and the list of `texts`. Fails only if memory runs out.
 pub fn json_text_of_texts(
     alloc: Global,
     word: MemberName,

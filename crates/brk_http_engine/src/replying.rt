@@ -18,7 +18,8 @@ use brk_money::{Fault, Refusal};
 use http::StatusCode;
 use std::alloc::{AllocError, Global};
 
-// Returns the HTTP status of the reply to a request with this problem: 413, 400, 501, 404 or 405.
+// Returns the HTTP status of the reply to a request with this problem: 413 for `TooLarge`, 400 for
+// `BadRequest`, 501 for `NotImplemented`, 404 for `NotFound`, or 405 for `NotAllowed`.
 fn status_of_problem(problem: RequestProblem) -> StatusCode
     ensures { status_text result ≡ http_status_of_problem problem }
 {
@@ -31,7 +32,8 @@ fn status_of_problem(problem: RequestProblem) -> StatusCode
     }
 }
 
-// Returns the text in the body of the error reply to a request with this problem.
+// Returns the text in the body of the error reply to a request with this problem, such as `too
+// large`.
 fn text_of_problem(problem: RequestProblem) -> &'static str
     ensures { result.now ≡ text_of_problem problem }
 {
@@ -56,7 +58,7 @@ fn fault_word(fault: Fault) -> &'static str
 }
 
 // Returns the HTTP status of a response: 200 for a reply, a stored reply or a view, 409 for a
-// refusal, 503 for a fault of the desk, otherwise the status of the problem.
+// refusal, 503 for a fault of the desk, otherwise that of the problem (`status_of_problem`).
 fn status_of_response<R, V>(response: &ServiceResponse<R, V>) -> StatusCode
     ensures { (reply : R → model.Reply) (shown : V → queries.View) → status_text result ≡ http_status_of_response (response_in_model reply shown response.now) }
 {
@@ -71,8 +73,8 @@ fn status_of_response<R, V>(response: &ServiceResponse<R, V>) -> StatusCode
     }
 }
 
-// Returns true if the response is the problem that the method of the request is not POST, so that
-// the reply names the allowed method.
+// Returns true if the response is the problem `NotAllowed`: the method of the request is not POST,
+// and the reply names the allowed method.
 fn is_method_refusal<R, V>(response: &ServiceResponse<R, V>) -> bool
     ensures { (reply : R → model.Reply) (shown : V → queries.View) → result ≡ is_method_not_allowed (response_in_model reply shown response.now) }
 {
@@ -235,9 +237,9 @@ fn reply_bytes(
     Ok(text)
 }
 
-/// Returns the bytes of the reply with this response: its status, head and JSON body. The head has
-/// an `Allow: POST` line if the method of the request is not POST, and a `Connection: close` line
-/// if `closes` is true. Fails only if memory runs out.
+/// Returns the bytes of the reply that reports this response: the head, with its status, and the
+/// JSON body. The head has an `Allow: POST` line if the response is the problem `NotAllowed`, and a
+/// `Connection: close` line if `closes` is true. Fails only if memory runs out.
 pub fn reply_text<D: Service>(
     alloc: Global,
     response: &ServiceResponse<D::Reply, D::View>,

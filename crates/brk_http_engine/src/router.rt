@@ -30,7 +30,7 @@ pub fn new_router(alloc: Global) -> Result<Router<RouteKind>, InsertError>
     Ok(router)
 }
 
-/// Returns true if one of the routes matches `target`.
+/// Returns true if one of the routes of the router matches `target`.
 pub fn matches_any_route(router: &Router<RouteKind>, target: &str) -> bool
     ensures { result ≡ is_some (first router.now target.now) }
 {

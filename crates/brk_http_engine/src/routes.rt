@@ -52,8 +52,8 @@ fn has_first_segment(first: &str, word: &str, name: &str) -> bool
     word == name
 }
 
-// Returns the route of a view if the parts are those of a target `/ask/VIEW` and this view exists,
-// otherwise `None`.
+// Returns the route to the view with the name `view` if `first`, `word` and `view` are the parts of
+// a target `/ask/VIEW`, split at `/`, and this view exists, otherwise `None`.
 fn parse_view_route<D: Service>(first: &str, word: &str, view: &str) -> Option<Route<D::ViewName>>
     ensures { option_map (route_in_model D.view_text) result ≡ route_of_segments D.forms.views (first.now ∷ word.now ∷ view.now ∷ []) }
 {
@@ -66,8 +66,9 @@ fn parse_view_route<D: Service>(first: &str, word: &str, view: &str) -> Option<R
     }
 }
 
-// Returns the route of a row with its key if the parts are those of a target `/rows/BATCH/N` and
-// the key is well-formed, otherwise `None`. Fails with `Memory` only.
+// Returns the route to a row with its key if `first`, `word`, `batch` and `n` are the parts of a
+// target `/rows/BATCH/N`, split at `/`, and the key is well-formed, otherwise `None`. Fails with
+// `Memory` only.
 fn parse_keyed_row_route<D: Service>(
     alloc: Global,
     first: &str,
@@ -88,8 +89,8 @@ fn parse_keyed_row_route<D: Service>(
     }
 }
 
-// Returns the route of a row without a key if the parts are those of the target `/rows`, otherwise
-// `None`.
+// Returns the route to a row without a key if `first` and `word` are the parts of the target
+// `/rows`, split at `/`, otherwise `None`.
 fn parse_unkeyed_row_route<D: Service>(first: &str, word: &str) -> Option<Route<D::ViewName>>
     ensures { option_map (route_in_model D.view_text) result ≡ route_of_segments D.forms.views (first.now ∷ word.now ∷ []) }
 {
@@ -100,8 +101,8 @@ fn parse_unkeyed_row_route<D: Service>(first: &str, word: &str) -> Option<Route<
     }
 }
 
-// Returns the route of a target that was split at `/` into these parts, or `None` if it has no
-// route. Fails with `Memory` only.
+// Returns the route of a target that was split at `/` into the parts `parts`, or `None` if the
+// target has no route. Fails with `Memory` only.
 fn route_of_segments<D: Service>(
     alloc: Global,
     parts: &[&str],
@@ -117,7 +118,8 @@ fn route_of_segments<D: Service>(
     }
 }
 
-/// Returns the route of a request target, or `None` if it is not UTF-8 or has no route. Fails with
+/// Returns the route of a request target, or `None` if the target is not UTF-8 or has no route. The
+/// router must have exactly the three routes, and no view may have an empty name. Fails with
 /// `Memory` only.
 #[tactic(auto, unfolding(brk_http_model::specs::Routes::route_of_target))]
 pub fn route_of_target<D: Service>(

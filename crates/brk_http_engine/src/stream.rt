@@ -23,8 +23,8 @@ pub struct ServeFault {
     pub kind: FaultKind,
 }
 
-// Serves the requests of a stream with a router of the three routes, in order, at most 1,000, and
-// returns the number of replies.
+// Serves the requests of a stream, in order, at most 1,000, and returns the number of replies. The
+// router must have exactly the three routes, and no view may have an empty name.
 //
 // Fails with the fault, `Read`, `Write` or `Memory`, and the number of replies before it.
 fn serve_with_router<R: Read + Drop, W: Write, C: Clock, D: Service>(

@@ -47,8 +47,9 @@ pub enum FaultKind {
     Memory,
 }
 
-// Returns true if the reply after `done` replies is the last of its stream: it reaches the limit,
-// the request asks to close the stream (`closes`), or the desk failed (`failed`).
+// Returns true if the reply after `done` replies, which must be fewer than 1,000, is the last of
+// its stream: it is the reply number 1,000, the request asks to close the stream (`closes`), or the
+// desk failed (`failed`).
 fn is_last_reply(done: u64, closes: bool, failed: bool) -> bool
     requires few { done < most_requests_per_stream }
     ensures { result ≡ ((done + 1 == most_requests_per_stream) || closes || failed) }
@@ -72,8 +73,10 @@ enum OutOfMemoryPoint {
     After,
 }
 
-// Executes the request that has these positions in the buffer, after `done` replies, and returns
-// its reply and whether it is the last of the stream.
+// Executes the request that has the positions `places` in the buffer, after `done` replies, and
+// returns its reply with a flag that is true if this reply is the last of the stream. Makes at most
+// one call of the desk. `done` must be less than 1,000, the positions must be within the buffer,
+// the router must have exactly the three routes, and no view may have an empty name.
 //
 // Fails with `Before` if memory ran out before the execution, and with `After` if it ran out after
 // it.

@@ -37,23 +37,24 @@ pub record AcceptHasResult {L C D X : Type 0} (accepts : AcceptRelation L X) (ol
   pub desk : new.desk ≡ old.desk
 
 -- The next stream of the listener has this end. `None`: the accept failed because the peer broke
--- the stream off, and clock and desk are unchanged. Otherwise the stream was accepted and served
--- with this result.
+-- the stream off (`Aborted`), and clock and desk are unchanged. Otherwise the stream was accepted
+-- and served with this result.
 abbrev pub HandlesStream : {L C D X : Type 0} → AcceptRelation L X → ServeRelation C D X → ListenerClockAndDesk L C D → StreamEnd → ListenerClockAndDesk L C D
     → Type 0
 HandlesStream accepts serves old None new = AcceptHasResult accepts old (Err Aborted) new
 HandlesStream {X = X} accepts serves old (Some ended) new =
     (stream : X) × accepts old.listener (Ok stream) new.listener × serves old.clock old.desk stream ended new.clock new.desk
 
--- The listener may accept the next stream: the stream with this end did not end because memory ran
--- out.
+-- The listener may accept the next stream after one with this end: that stream did not end because
+-- memory ran out. True of a stream that its peer broke off.
 abbrev pub MayAcceptNextStream : StreamEnd → Type 0
 MayAcceptNextStream None = Unit {0}
 MayAcceptNextStream (Some (Ok count)) = Unit {0}
 MayAcceptNextStream (Some (Err fault)) = fault.kind ≢ Memory
 
 -- From the state `old` to the state `new` exactly the next streams of the listener were handled,
--- with these ends, in this order, and none of them ended because memory ran out.
+-- one for each of these ends, in order, and none of them ended because memory ran out. Without ends
+-- `new` equals `old`.
 abbrev pub HandlesStreamsInOrder : {L C D X : Type 0} → AcceptRelation L X → ServeRelation C D X → ListenerClockAndDesk L C D → List StreamEnd
     → ListenerClockAndDesk L C D → Type 0
 HandlesStreamsInOrder accepts serves old [] new = new ≡ old
@@ -63,7 +64,7 @@ HandlesStreamsInOrder {L} {C} {D} accepts serves old (end ∷ ends) new =
 -- The postcondition of accepting and serving `streams` streams in sequence. `Ok`: exactly `streams`
 -- streams were handled. `Stream`: fewer streams were handled, and then one more was accepted and
 -- served, and ended with this fault, because memory ran out. `Net`: fewer streams were handled, the
--- next accept failed, and it did not change clock and desk.
+-- next accept failed with `Failed`, and it changed neither the clock nor the desk.
 abbrev pub ServeEachStreamPost : {L C D X : Type 0} → AcceptRelation L X → ServeRelation C D X → ℕ → ListenerClockAndDesk L C D → Result (Unit {0}) ListenFault
     → ListenerClockAndDesk L C D → Type 0
 ServeEachStreamPost accepts serves streams old (Ok done) new =

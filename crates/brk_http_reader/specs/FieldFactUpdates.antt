@@ -19,8 +19,9 @@ facts_with_field s p = record {
 }
 
 -- The facts of all fields `ps` of a head: whether there is a `Transfer-Encoding` (`chunked`),
--- whether the request asks to close the stream, whether there is a `Content-Length`, and the body
--- length in bytes or the problem with it.
+-- whether `Connection: close` asks to close the stream (`closes`), whether there is a
+-- `Content-Length` (`any_length`), and the body length in bytes, 0 without a `Content-Length`, or
+-- the problem with it (`len`).
 abbrev pub facts_of_fields : List HeadField → FieldFactsSoFar
 facts_of_fields ps = record {
   chunked = has_field_named (codes "transfer-encoding") ps;

@@ -25,9 +25,10 @@ request_at_positions buffer r = record {
 }
 
 -- The result of `read_next_request`, the first argument, represents `found`, the result of reading
--- in the model: no byte left, a request that cannot be read because of the same problem, or a
--- complete request. After a complete request, the bytes of `buffer` after its body and the bytes
--- `left` in the reader are together the rest of the input; false if `left` is unknown.
+-- the first request in the model: no byte left, a request that cannot be read because of this
+-- problem, or a complete request. After a complete request, the bytes of `buffer` after its body
+-- and the bytes `left` in the reader are together the rest of the input; false if `left` is
+-- unknown.
 abbrev pub MatchesNextRequest : NextRequest → List ℕ → Option (List ℕ) → RequestReading → Type 0
 MatchesNextRequest Ended buffer left found = found ≡ NoBytesLeft
 MatchesNextRequest (Broken b) buffer left found = found ≡ Unreadable b

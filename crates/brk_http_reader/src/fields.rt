@@ -94,7 +94,7 @@ struct FieldFactsSoFar {
 
 /// Returns the facts `seen` of the fields that were read so far, updated for one more field with
 /// this name and value. After a second `Content-Length` field the length is the problem
-/// `BadRequest`.
+/// `BadRequest`. If `seen` has no length above 65,536, neither has the result.
 fn facts_with_one_more_field(seen: FieldFactsSoFar, name: &[u8], value: &[u8]) -> FieldFactsSoFar
     ensures value { result ≡ facts_with_field seen (name.now, value.now) }
     ensures small { IfOk seen.len (λ n. n ≤ spec.most_body_bytes) → IfOk result.len (λ n. n ≤ spec.most_body_bytes) }
@@ -118,7 +118,8 @@ fn facts_with_one_more_field(seen: FieldFactsSoFar, name: &[u8], value: &[u8]) -
 }
 
 /// Returns the body length and the close flag that the fields of a head give. `headers` are the
-/// positions of their names and values in `front`.
+/// positions of their names and values in `front`, and must be within it.
+///
 /// The length is at most 65,536 bytes, and 0 without a `Content-Length` field. Instead of a length
 /// the result has the problem `NotImplemented` if there is a `Transfer-Encoding` field; otherwise
 /// `BadRequest` if `Content-Length` is repeated or not one or more digits, and `TooLarge` if it has

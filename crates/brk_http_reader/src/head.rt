@@ -26,16 +26,17 @@ pub struct HeadFacts {
     pub len: Result<usize, RequestProblem>,
 }
 
-// Returns true if `a` or `b`, or both, are true.
+// Returns true if at least one of `a` and `b` is true.
 fn is_either_true(a: bool, b: bool) -> bool
     ensures { result ≡ (a || b) }
 {
     a || b
 }
 
-/// Parses the head at the front of `front`. Returns the positions of its method and target, which
-/// are within `front`, its close flag and its body length, or `None` if these bytes do not begin
-/// with a head of at most 100 fields.
+/// Parses the head with which the bytes `front` begin. Returns the positions of its method and
+/// target, which are within `front`, its close flag, and its body length, at most 65,536 bytes, or
+/// the problem with the fields that give it. Returns `None` if `front` does not begin with a head
+/// of at most 100 fields.
 pub fn parse_head(front: &[u8]) -> Option<HeadFacts>
     ensures within { IfSome result (λ facts. IsWithin (length front.now) facts.method × IsWithin (length front.now) facts.target) }
     ensures small { IfSome result (λ facts. IfOk facts.len (λ n. n ≤ most_body_bytes)) }

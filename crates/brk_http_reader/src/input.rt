@@ -89,10 +89,9 @@ pub fn read_into_buffer<R: Read>(reader: &mut R, buffer: &mut Vec<u8>) -> Result
 }
 
 /// Reads until the buffer begins with a whole head, has 16,384 bytes without the end of a head, or
-/// the input has ended. Returns the position at which the head ends, or the reason why it has no
-/// end.
-///
-/// Fails with `Read` or `Memory`.
+/// the input has ended. Returns the position at which the head ends, which is within the buffer, or
+/// the reason why it has no end: no byte was left, the head is too long, or the input ended within
+/// it.
 pub fn read_head<R: Read>(reader: &mut R, buffer: &mut Vec<u8>) -> Result<HeadEnd, InputFault>
     ensures moves { OnOk result (ReadsIntoBuffer (R.remaining reader.old) (R.remaining reader.new) buffer.old.items buffer.new.items) }
     ensures within { IfOk result (λ end. HeadEndIsWithin end (length buffer.new.items)) }
@@ -117,8 +116,8 @@ pub fn read_head<R: Read>(reader: &mut R, buffer: &mut Vec<u8>) -> Result<HeadEn
     }
 }
 
-/// Reads until the buffer has at least `len` bytes. Returns true, or false if the input ends before
-/// that.
+/// Reads until the buffer has at least `len` bytes, and returns true. Returns false if the input
+/// ends before the buffer has so many bytes.
 ///
 /// Fails with `Read` or `Memory`.
 pub fn read_body<R: Read>(

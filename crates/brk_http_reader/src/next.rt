@@ -31,8 +31,8 @@ pub enum NextRequest {
     Whole(RequestPositions),
 }
 
-/// Reads the next request into the buffer, up to the end of its body, and returns the positions of
-/// its parts.
+/// Reads the request with which the buffer and the input after it begin into the buffer, up to the
+/// end of its body, and returns the positions of its parts, which are within the buffer.
 ///
 /// Returns `Ended` if no byte is left, and `Broken` with a problem if no request can be read. Fails
 /// with `Read` or `Memory`.

@@ -7,8 +7,8 @@ use Rattle.brk_model.specs.Sheets.{sheets}
 use Rattle.brk_store.specs.Audited.{IsConsistent}
 use Rattle.brk_store.specs.Holds.{IsDiskContentOfRows, CrashStatesSatisfy}
 
--- A crash exposes only the tables of `base` or the tables of `other`, and if it exposes those of
--- `other`, then `other` is consistent.
+-- All that a crash may expose are the tables of `base` or, only if `other` is consistent, the
+-- tables of `other`.
 abbrev pub CrashExposesOnlyOneOf : {S : Type 0} → Ghosts S → Held S → Base → Base → Type 0
 CrashExposesOnlyOneOf g desk base other =
     CrashStatesSatisfy g desk (λ trees. IsDiskContentOfRows (sheets base) trees ⊎ (IsDiskContentOfRows (sheets other) trees × IsConsistent other))

@@ -18,14 +18,14 @@ use Rattle.brk_model.specs.Records.{Key}
 use Rattle.brk_model.specs.Run.{Call, Do, Outcome}
 use Rattle.brk_money.specs.Spelling.{Text}
 
--- The model's call of the desk for a row of a batch, with its clock reading: the command of the row
--- under its key.
+-- The model's call of the desk for the call of a row of a batch, with its clock reading: the
+-- command of the row under its key.
 abbrev pub desk_call_of_row : ℕ × (Command × Key) → ℕ × Call
 desk_call_of_row call = (call.0, Do call.1.0 (Some call.1.1))
 
 -- A call of the desk at the clock reading `now`, with the command of the row `row` under its key,
--- changed the state `old` to the state `new` and had the outcome `outcome`, with the effect that
--- `OutcomePost` specifies.
+-- changed the state of the desk from `old` to `new` and had the outcome `outcome`, with the effect
+-- that `OutcomePost` specifies.
 pub record RowCallHasOutcome {S : Type 0} (g : Ghosts S) (old : Held S) (now : ℕ) (row : Command × Key) (outcome : Outcome) (new : Held S) : Type 0 where
   -- The call of the desk and its outcome; in the model they are the call of the row and `outcome`.
   pub made : made.Call

@@ -46,7 +46,7 @@ pub fn run_batch<R: Read + Drop, W: Write, C: Clock, S: Alter>(
     clock: &mut C,
     desk: &mut Desk<S>,
 ) -> Result<Counts, BatchFault>
-    // For any result, the desk changed only by these calls, in order, with these outcomes, so every
+    // For any result, the desk changed only by these calls, in order, with these outcomes. Every
     // guarantee of a run holds. Each decided row that is well-formed and has a record after it is
     // one of the calls, under its key, and one more call may have failed at the end. The clock is
     // read once for each call, and the lines follow from the outcomes.

@@ -7,7 +7,7 @@ abbrev pub ClockReturnsInOrder : {C : Type 0} → (C → ℕ → C → Type 0) �
 ClockReturnsInOrder gives old [] new = new ≡ old
 ClockReturnsInOrder {C} gives old (moment ∷ moments) new = (mid : C) × gives old moment mid × ClockReturnsInOrder gives mid moments new
 
--- The clock was read at most once from `old` to `new`: it is unchanged, or one reading satisfies
--- `gives`.
+-- The change of the clock from `old` to `new` is possible by at most one reading: `new` equals
+-- `old`, or some reading from `old` to `new` satisfies `gives`.
 abbrev pub ReadsClockAtMostOnce : {C : Type 0} → (C → ℕ → C → Type 0) → C → C → Type 0
 ReadsClockAtMostOnce gives old new = (new ≡ old) ⊎ ((moment : ℕ) × gives old moment new)

@@ -14,12 +14,13 @@ abbrev pub last_status_stamp : Tables → ℕ → ℕ
 last_status_stamp t trade = option_map_or (λ r. r.stamp) (trade_row_with_id t trade) 0
 
 -- All changes of the lot with the id `lot`, one for each row of HOLDING_HISTORY with this lot, in
--- the order of the table, each with the stamp of the last status of the trade that made the change.
+-- the order of the table, each with the stamp of the last status of the trade that made the change,
+-- or 0 if that trade does not exist.
 abbrev pub stamped_changes_of_lot : Tables → ℕ → List LotTouch
 stamped_changes_of_lot t lot = map (stamped_lot_change t) (filter (λ r. r.lot == lot) t.holding_history)
 
--- `lots` has the id `trade` and the first 20 of all changes of the lots that this trade touched, if
--- these changes are sorted by stamp, then by lot, ascending.
+-- `lots` has the id `trade` and at most 20 changes of the lots that this trade touched, by any
+-- trade: the first when all of them are sorted by stamp, then by lot, ascending.
 abbrev pub AreTouchedLotsOfTrade : ℕ → TouchedLots → Tables → Type 0
 AreTouchedLotsOfTrade trade lots t =
     (lots.trade ≡ trade)

@@ -14,12 +14,12 @@ use Rattle.brk_view.specs.declared.volumes.BrokerVolume.{BrokerVolume}
 abbrev pub is_symbol_in_sector : Tables → Text → Text → Bool
 is_symbol_in_sector t sector symbol = option_map_or (λ s. bytes_eq s.sector sector) (security_row_with_symbol t symbol) false
 
--- True if the request is one of the broker `broker`, and its security is in the sector.
+-- True if the request is one of the broker `broker`, and its security exists and is in the sector.
 abbrev pub is_sector_request_of_broker : Tables → Text → ℕ → RequestRow → Bool
 is_sector_request_of_broker t sector broker r = (r.broker == broker) && is_symbol_in_sector t sector r.symbol
 
--- The list `found` with the request `row` appended if it is one of the broker and its security is
--- in the sector, otherwise `found`.
+-- If the request `row` is one of the broker `broker` and its security is in the sector `sector`:
+-- the list `found` with `row` added at its end. Otherwise: the list `found`.
 abbrev pub requests_with_row_of_broker_in_sector : Tables → Text → ℕ → read.RequestRow → List read.RequestRow → List read.RequestRow
 requests_with_row_of_broker_in_sector t sector broker row found =
     if is_sector_request_of_broker t sector broker (abstract_request_row row) then found ++ row ∷ [] else found

@@ -56,10 +56,10 @@ fn read_balances_and_market_values<S: Alter>(
     Ok(worths)
 }
 
-// Returns the view of the balances and the market values of the accounts of the customer with this
-// id, sorted by market value, then by id, ascending. Refuses with `NoCustomer` if there is no such
-// customer. Changes nothing. Fails with `Memory` or `Store` only; with `Store` also if a held
-// symbol has no last price or a sum overflows.
+// Returns the view of the balances and the market values of the accounts of the customer with the
+// id `customer`, sorted by market value, then by id, ascending. Refuses with `NoCustomer` if there
+// is no such customer. Changes nothing. Fails with `Memory` or `Store` only; with `Store` also if a
+// held symbol has no last price or a sum overflows.
 pub(crate) fn view_of_account_values<S: Alter>(
     alloc: Global,
     store: &mut Store<S>,
@@ -76,10 +76,10 @@ pub(crate) fn view_of_account_values<S: Alter>(
     Ok(Ok(view))
 }
 
-// Returns the view of the balances and the market values of the accounts of the customer with this
-// tax id, sorted by market value, then by id, ascending. Refuses with `NoCustomer` if there is no
-// such customer. Changes nothing. Fails with `Memory` or `Store` only; with `Store` also if a held
-// symbol has no last price or a sum overflows.
+// Returns the view of the balances and the market values of the accounts of the customer with the
+// tax id `tax_id`, sorted by market value, then by id, ascending. Refuses with `NoCustomer` if
+// there is no such customer. Changes nothing. Fails with `Memory` or `Store` only; with `Store`
+// also if a held symbol has no last price or a sum overflows.
 pub(crate) fn view_of_account_values_by_tax_id<S: Alter>(
     alloc: Global,
     store: &mut Store<S>,

@@ -38,8 +38,8 @@ fn read_all_rows_of_trade<S: Alter>(
     create_looked_up_trade(alloc, trade, settlement, cash, &history)
 }
 
-// Returns the given trades, in their order, each with its settlement, cash row and history. Changes
-// nothing. Fails with `Memory` or `Store` only.
+// Returns the trades `trades`, in order, each with its settlement and its cash row, if they exist,
+// and its history. Changes nothing. Fails with `Memory` or `Store` only.
 fn read_all_rows_of_trades<S: Alter>(
     alloc: Global,
     store: &mut Store<S>,
@@ -58,9 +58,9 @@ fn read_all_rows_of_trades<S: Alter>(
     Ok(found)
 }
 
-// Returns the view of the trades with these ids, the oldest first, each with its settlement, cash
-// row and history. Refuses with `NoTrade` if one of the trades does not exist. Changes nothing.
-// Fails with `Memory` or `Store` only.
+// Returns the view of the trades with the ids in `trades`, the oldest first, each with its
+// settlement, cash row and history. Refuses with `NoTrade` if one of the trades does not exist.
+// Changes nothing. Fails with `Memory` or `Store` only.
 pub(crate) fn view_of_trades_by_ids<S: Alter>(
     alloc: Global,
     store: &mut Store<S>,

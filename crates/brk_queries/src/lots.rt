@@ -14,8 +14,8 @@ use brk_view::{LotTouch, TouchedLots, View, lookup_lots, merge_lot_changes_into_
 use sqlite::Alter;
 use std::alloc::Global;
 
-// Returns the stamp of the last status of a trade that must exist. Changes nothing. Fails with
-// `Memory` or `Store` only; with `Store` also if the trade does not exist.
+// Returns the stamp of the last status of a trade. Changes nothing. Fails with `Memory` or `Store`
+// only; with `Store` also if the trade does not exist.
 fn require_last_status_stamp<S: Alter>(store: &mut Store<S>, trade: Id) -> Result<Stamp, Fault>
     ensures read { ReadPost S.Store store.old store.new result (λ stamp t. stamp ≡ last_status_stamp t trade) }
     ensures fault { IfErr result IsCallFault }
@@ -50,9 +50,9 @@ fn read_stamped_changes_of_lot<S: Alter>(
     Ok(touches)
 }
 
-// Returns the id of a trade and the first 20 of all changes of the lots that it touched, sorted by
-// stamp, then by lot, ascending. Changes nothing. Fails with `Memory` or `Store` only; with `Store`
-// also if a trade that made one of the changes does not exist.
+// Returns the id of a trade and at most 20 changes, by any trade, of the lots that it touched: the
+// first of all of them by stamp, then by lot, ascending. Changes nothing. Fails with `Memory` or
+// `Store` only; with `Store` also if a trade that made one of the changes does not exist.
 fn read_changes_of_touched_lots<S: Alter>(
     alloc: Global,
     store: &mut Store<S>,

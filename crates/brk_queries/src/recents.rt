@@ -27,9 +27,9 @@ fn append_history_rows(history: &mut Vec<HistoryRow>, rows: &[HistoryRow]) -> Re
     Ok(())
 }
 
-// Returns the last ten trades of an account, the most recent first, and their status changes (of
-// TRADE_HISTORY), trade by trade in this order. Changes nothing. Fails with `Memory` or `Store`
-// only.
+// Returns the last ten trades of an account, or all if it has fewer, the most recent first, and
+// their status changes (of TRADE_HISTORY), trade by trade in this order. Changes nothing. Fails
+// with `Memory` or `Store` only.
 fn read_recent_trades_with_history<S: Alter>(
     alloc: Global,
     store: &mut Store<S>,

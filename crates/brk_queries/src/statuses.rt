@@ -19,8 +19,8 @@ use brk_view::{TradeStatus, View, status};
 use sqlite::Alter;
 use std::alloc::Global;
 
-// Returns a trade with its security, which must exist. Changes nothing. Fails with `Memory` or
-// `Store` only; with `Store` also if the security does not exist.
+// Returns the trade `trade` with its security. Changes nothing. Fails with `Memory` or `Store`
+// only; with `Store` also if the security does not exist.
 fn read_trade_with_security<S: Alter>(
     store: &mut Store<S>,
     trade: TradeRow,
@@ -35,15 +35,15 @@ fn read_trade_with_security<S: Alter>(
     }
 }
 
-// Returns true if the trade of `status` has this symbol.
+// Returns true if the trade in `status`, a trade with its security, has the symbol `symbol`.
 fn is_trade_of_symbol(status: &TradeStatus, symbol: &Symbol) -> bool
     ensures { result ≡ bytes_eq status.now.trade.symbol symbol.now }
 {
     status.trade.symbol.as_str() == symbol.as_str()
 }
 
-// Returns the security of the first trade of `statuses` in the symbol, or `None` if there is no
-// such trade. Fails with `Memory` only.
+// Returns the security of the first trade in `statuses` that has the symbol `symbol`, or `None` if
+// there is no such trade. Fails with `Memory` only.
 fn security_of_symbol(statuses: &[TradeStatus], symbol: &Symbol) -> Result<Option<Security>, Fault>
     ensures security { IfOk result (λ security. security
         ≡ option_map (λ s. s.security) (find (λ s. bytes_eq s.trade.symbol symbol.now) statuses.now)) }
@@ -59,9 +59,9 @@ fn security_of_symbol(statuses: &[TradeStatus], symbol: &Symbol) -> Result<Optio
     Ok(Some(security))
 }
 
-// Returns the last fifty trades of an account, the most recent first, each with its security. Reads
-// the security of each symbol once. Changes nothing. Fails with `Memory` or `Store` only; with
-// `Store` also if one of the securities does not exist.
+// Returns the last fifty trades of an account, or all if it has fewer, the most recent first, each
+// with its security. Reads the security of each symbol once. Changes nothing. Fails with `Memory`
+// or `Store` only; with `Store` also if one of the securities does not exist.
 fn read_recent_trades_with_securities<S: Alter>(
     alloc: Global,
     store: &mut Store<S>,

@@ -19,9 +19,10 @@ use brk_trade::{CashText, SettlementText, TextUpdate};
 use sqlite::Alter;
 use std::alloc::Global;
 
-// Returns the trades of an account that an update of cash types selects, the first twenty that were
-// completed in the span, the oldest first, each with the cash type of its settlement. Changes
-// nothing. Fails with `Memory` or `Store` only; with `Store` also if one of them has no settlement.
+// Returns the trades of an account that an update of cash types selects, at most twenty, each with
+// the cash type of its settlement: the first that were completed in the span, the oldest first.
+// Changes nothing. Fails with `Memory` or `Store` only; with `Store` also if one of them has no
+// settlement.
 fn read_trades_with_cash_types<S: Alter>(
     alloc: Global,
     store: &mut Store<S>,
@@ -45,9 +46,10 @@ fn read_trades_with_cash_types<S: Alter>(
     Ok(settled)
 }
 
-// Returns the cash trades of a symbol that an update of cash names selects, the first twenty that
-// were completed in the span, the oldest first, each with the name of its cash row. Changes
-// nothing. Fails with `Memory` or `Store` only; with `Store` also if one of them has no cash row.
+// Returns the cash trades of a symbol that an update of cash names selects, at most twenty, each
+// with the name of its cash row: the first that were completed in the span, the oldest first.
+// Changes nothing. Fails with `Memory` or `Store` only; with `Store` also if one of them has no
+// cash row.
 fn read_cash_trades_with_names<S: Alter>(
     alloc: Global,
     store: &mut Store<S>,
@@ -97,9 +99,9 @@ fn account_row_exists<S: Alter>(store: &mut Store<S>, account: Id) -> Result<boo
     Ok(store.account(account)?.is_some())
 }
 
-// Returns the trades of an account that an update of cash types selects, each with its cash type,
-// or `None` if the account does not exist. Changes nothing. Fails with `Memory` or `Store` only;
-// with `Store` also if one of the trades has no settlement.
+// Returns the trades of an account that an update of cash types selects, each with the cash type of
+// its settlement, or `None` if the account does not exist. Changes nothing. Fails with `Memory` or
+// `Store` only; with `Store` also if one of the trades has no settlement.
 pub(crate) fn read_trades_of_cash_type_update<S: Alter>(
     alloc: Global,
     store: &mut Store<S>,

@@ -10,21 +10,22 @@ use Rattle.brk_model.specs.Lists.{distinct_texts}
 abbrev pub contains_name : List Text → Text → Bool
 contains_name names name = list_any (bytes_eq name) names
 
--- The list `names`, with `name` added at its end if it is not one of them.
+-- The list `names`, with `name` added at its end if no element of `names` equals it.
 abbrev pub names_with_new_name : List Text → Text → List Text
 names_with_new_name names name = if contains_name names name then names else names ++ name ∷ []
 
--- The names of `more` that are not in `names`, each at its first position only.
+-- The names of `more` that are not in `names`, in order, each only where it first occurs in `more`.
 abbrev pub distinct_new_names : List Text → List Text → List Text
 distinct_new_names names more = filter (λ name. not (contains_name names name)) (distinct_texts more)
 
--- The list `names` followed by those parsed names that are not in it, each at its first position
--- only; the refusal of parsing if there is one.
+-- The list `names` followed by the parsed names that are not in it, in order, each only where it
+-- first occurs; the refusal of parsing if there is one.
 abbrev pub names_then_new_names : List Text → ReadResult (List Text) → ReadResult (List Text)
 names_then_new_names names (Ok more) = Ok (names ++ distinct_new_names names more)
 names_then_new_names names (Err refusal) = Err refusal
 
--- The parsed names, each at its first position only; the refusal of parsing if there is one.
+-- The parsed names, in order, each only where it first occurs; the refusal of parsing if there is
+-- one.
 abbrev pub distinct_parsed_names : ReadResult (List Text) → ReadResult (List Text)
 distinct_parsed_names (Ok names) = Ok (distinct_texts names)
 distinct_parsed_names (Err refusal) = Err refusal

@@ -14,20 +14,20 @@ use Rattle.brk_view.specs.Status.{rows_of_trade_status, trade_row_with_security}
 use Rattle.brk_view.specs.declared.view.View.{View}
 use Rattle.brk_view.specs.declared.view.View.TheVariants as view
 
--- The first twenty trades of the tables `t` that pass `test`, sorted by stamp, then by id,
--- ascending, each with its settlements, its cash rows and its statuses.
+-- The first twenty trades of the tables `t` that pass `test`, or all if there are fewer, sorted by
+-- stamp, then by id, ascending, each with its settlements, its cash rows and its statuses.
 abbrev pub first_twenty_trades_with_rows : Tables → (TradeRow → Bool) → List LookedUpRows
 first_twenty_trades_with_rows t test = map (table_rows_of_trade t) (take 20 (trade_rows_oldest_first (filter test t.trades)))
 
--- The last fifty trades of `account` in the tables `t`, sorted by stamp, then by id, descending,
--- each with its security.
+-- The last fifty trades of `account` in the tables `t`, or all if it has fewer, sorted by stamp,
+-- then by id, descending, each with its security, or with none if this security does not exist.
 abbrev pub last_fifty_trades_with_security : Tables → ℕ → List (TradeRow × Option SecurityRow)
 last_fifty_trades_with_security t account = map (trade_row_with_security t) (take 50 (trade_rows_recent_first (trade_rows_of_account t account)))
 
 -- The view is of the kind of the query, and its rows of trades and of lot changes equal, in all
 -- columns, those that the query selects from the tables `t`. False if the view is of another kind.
--- For a query of accounts, of submitted trades, of an estimate or of volumes it states the kind
--- only.
+-- For a query of the values of a customer's accounts, of submitted trades, of an estimate or of
+-- volumes only the kind is stated; for one of recent trades, the kind and the trades.
 abbrev pub HasRowsOfQuery : Query → View → Tables → Type 0
 HasRowsOfQuery (PositionOf customer) (view.Position accounts) t = Unit {0}
 HasRowsOfQuery (PositionOfTaxId tax_id) (view.Position accounts) t = Unit {0}

@@ -22,7 +22,7 @@ use Rattle.brk_view.specs.declared.lookups.StampedStatus.{StampedStatus}
 abbrev pub is_older_status : StampedStatus → StampedStatus → Bool
 is_older_status a b = nat_lt a.stamp b.stamp
 
--- True if the trade `a` has a smaller stamp than the trade `b`, or the same stamp and a smaller id.
+-- True if the trade `a` has a smaller stamp than the trade `b`, or an equal stamp and a smaller id.
 abbrev pub is_older_trade : TradeRow → TradeRow → Bool
 is_older_trade a b = is_pair_less a.stamp b.stamp a.id b.id
 
@@ -34,22 +34,24 @@ status_of_typed_history_row r = record { stamp = r.stamp; status = r.status }
 abbrev pub history_status_record : StampedStatus → List Text
 history_status_record m = codes "history" ∷ decimal m.stamp ∷ trade_status_code m.status ∷ []
 
--- The first five of the fifteen fields of the trade `t`: the word `trade`, its id, its stamp, and
--- the codes of its status and type.
+-- The first five of the fifteen fields of the record of the looked-up trade `t`: the word `trade`,
+-- its id, its stamp, and the codes of its status and type.
 abbrev pub first_five_trade_fields : tables.TradeRow → List Text
 first_five_trade_fields t = codes "trade" ∷ decimal t.id ∷ decimal t.stamp ∷ trade_status_code t.status ∷ trade_type_code t.kind ∷ []
 
--- The fields 6 to 9 of the trade `t`: its symbol, quantity, bid price and executor.
+-- The fields 6 to 9 of the record of the looked-up trade `t`: its symbol, quantity, bid price and
+-- executor.
 abbrev pub order_fields_of_trade : tables.TradeRow → List Text
 order_fields_of_trade t = t.symbol ∷ decimal t.qty ∷ nonnegative_cents_text t.bid ∷ t.executor ∷ []
 
--- The fields 10 to 13 of the trade `t`: its price, which is empty if the trade has none, its
--- charge, commission and tax.
+-- The fields 10 to 13 of the record of the looked-up trade `t`: its price, which is empty if the
+-- trade has none, its charge, commission and tax.
 abbrev pub price_and_cost_fields : tables.TradeRow → List Text
 price_and_cost_fields t =
     option_map_or nonnegative_cents_text t.price [] ∷ nonnegative_cents_text t.charge ∷ nonnegative_cents_text t.commission ∷ nonnegative_cents_text t.tax ∷ []
 
--- The last two of the fifteen fields of the trade `t`: `cash` or `margin`, and `lifo` or `fifo`.
+-- The last two of the fifteen fields of the record of the looked-up trade `t`: `cash` or, if it is
+-- no cash trade, `margin`; and `lifo` if it closes the newest lots first, otherwise `fifo`.
 abbrev pub account_type_and_closing_order_fields : tables.TradeRow → List Text
 account_type_and_closing_order_fields t = cash_or_margin_word t.is_cash ∷ lifo_or_fifo_word t.is_lifo ∷ []
 
@@ -94,8 +96,8 @@ table_rows_of_trade t row = record {
 }
 
 -- `settlement`, `cash` and `history` are exactly the SETTLEMENT, the CASH_MOVE and the
--- TRADE_HISTORY rows of `trade` in the tables `t`. So `trade` has at most one settlement and at
--- most one cash row.
+-- TRADE_HISTORY rows of `trade` in the tables `t`, which therefore have at most one settlement and
+-- at most one cash row of `trade`. `None` means that there is none.
 pub record AreRowsOfTrade (t : Tables) (trade : TradeRow) (settlement : Option SettlementRow) (cash : Option MoveRow) (history : List HistoryRow) : Type 0 where
   pub settlement_rows : option_to_list (option_map abstract_settlement_row settlement) ≡ filter (λ s. s.trade == trade.id) t.settlements
   pub cash_rows : option_to_list (option_map abstract_move_row cash) ≡ filter (model.is_cash_row_of_trade trade.id) t.moves

@@ -14,8 +14,8 @@ use Rattle.brk_view.specs.declared.lots.TouchedLots.{TouchedLots}
 abbrev pub is_earlier_lot_change : LotTouch → LotTouch → Bool
 is_earlier_lot_change a b = is_pair_less a.stamp b.stamp a.change.lot b.change.lot
 
--- The record of the lot change `touch`: its lot, its trade, and the quantity of the lot before and
--- after it.
+-- The record of the lot change `touch`: the lot, the trade that made the change, and the number of
+-- shares of the lot before and after it, below 0 if they were sold short.
 abbrev pub lot_change_record : LotTouch → List Text
 lot_change_record touch = decimal touch.change.lot ∷ decimal touch.change.trade ∷ signed_decimal touch.change.before ∷ signed_decimal touch.change.after ∷ []
 
@@ -41,9 +41,10 @@ changes_of_touched_lots t trade = map (stamped_lot_change t) (filter (λ row. tr
 abbrev pub first_trade_since_stamp : Tables → ℕ → ℕ → List TradeRow
 first_trade_since_stamp t account first = take 1 (trade_rows_oldest_first (filter (λ row. nat_le first row.stamp) (trade_rows_of_account t account)))
 
--- `lots` has the oldest trade of `account` with a stamp of at least `first`, and the first twenty
--- changes of the lots that it touched, sorted by stamp, then by lot, in the tables `t`. `lots` is
--- `None` if and only if there is no such trade.
+-- `lots` has the id of the oldest trade of `account` with a stamp of at least `first`, and at most
+-- twenty changes, by any trade, of the lots that it touched: the first when all of them in the
+-- tables `t` are sorted by stamp, then by lot, ascending. `lots` is `None` if and only if there is
+-- no such trade.
 pub record AreTouchedLots (t : Tables) (account first : ℕ) (lots : Option TouchedLots) : Type 0 where
   pub found : map (λ row. row.id) (first_trade_since_stamp t account first) ≡ option_to_list (option_map (λ l. l.trade) lots)
   pub changes : IfSome lots (λ l. l.changes.items ≡ take 20 (sort_by is_earlier_lot_change (changes_of_touched_lots t l.trade)))

@@ -5,7 +5,7 @@ use Rattle.brk_view.specs.declared.query.Query.{Query}
 use Rattle.brk_view.specs.declared.query.Query.TheVariants.{Position, PositionOfTaxId, Recent, Status, Submitted, Estimate}
 use Rattle.brk_view.specs.declared.query.Query.TheVariants.{Trades, AccountTrades, SymbolTrades, Lots, Volume}
 
--- The model's query with the values of a typed query, by its kind.
+-- The model's query that a typed query represents: of the corresponding kind, with its values.
 abbrev pub abstract_query : Query → model.Query
 abstract_query (Position customer) = model.PositionOf customer
 abstract_query (PositionOfTaxId tax_id) = model.PositionOfTaxId tax_id

@@ -9,7 +9,8 @@ use Rattle.brk_money.specs.Kinds.{trade_status_name}
 use Rattle.brk_money.specs.Spelling.{Text}
 use Rattle.brk_view.specs.declared.recents.Activity.{Activity}
 
--- True if the status `a` is before `b` when they are sorted by stamp, then by trade, descending.
+-- True if the status `a` has a greater stamp than the status `b`, or an equal stamp and a trade
+-- with a greater id.
 abbrev pub is_newer_status : HistoryRow → HistoryRow → Bool
 is_newer_status a b = is_pair_less b.stamp a.stamp b.trade a.trade
 

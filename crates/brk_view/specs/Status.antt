@@ -18,13 +18,13 @@ use Rattle.brk_view.specs.declared.statuses.TradeStatus.{TradeStatus}
 abbrev pub party_names_record : AccountStatus → List Text
 party_names_record a = a.last_name ∷ a.first_name ∷ a.broker ∷ []
 
--- The first five of the ten fields of the trade `t`: its id, its stamp, the names of its status and
--- type, and its symbol.
+-- The first five of the ten fields of the record of the trade `t` in the view of an account's
+-- status: its id, its stamp, the names of its status and type, and its symbol.
 abbrev pub first_five_status_fields : TradeRow → List Text
 first_five_status_fields t = decimal t.id ∷ decimal t.stamp ∷ trade_status_name t.status ∷ trade_type_name t.kind ∷ t.symbol ∷ []
 
--- The last five of the ten fields of a trade: its quantity, executor and charge, and the name and
--- the exchange of its security.
+-- The last five of the ten fields of the record of a trade in the view of an account's status: its
+-- quantity, executor and charge, and the name and the exchange of its security.
 abbrev pub last_five_status_fields : TradeStatus → List Text
 last_five_status_fields s =
     decimal s.trade.qty ∷ string_bytes s.trade.executor ∷ nonnegative_cents_text s.trade.charge ∷ s.security.name ∷ s.security.exchange ∷ []

@@ -38,7 +38,7 @@ estimate_record e =
     ∷ cents_text (pos e.charge)
     ∷ cents_text e.assets ∷ []
 
--- The records of a typed view, each a list of texts, by its kind.
+-- The records of a typed view, each a list of texts, as the kind of the view determines them.
 abbrev pub records_of_view : View → model.View
 records_of_view (view.Position accounts) = map account_worth_record accounts.items
 records_of_view (view.Recent recent) = records_of_activity recent
@@ -53,6 +53,6 @@ records_of_view (view.Estimate estimate) = estimate_record estimate ∷ []
 abbrev pub texts_of_record : Vec (String Global) → List Text
 texts_of_record texts = map string_bytes texts.items
 
--- For each record of `records`, in sequence, the bytes of its strings.
+-- The list of the records `records`, in sequence, each as the list of the bytes of its strings.
 abbrev pub texts_of_records : Vec (Vec (String Global)) → model.View
 texts_of_records records = map texts_of_record records.items

@@ -11,8 +11,8 @@ use Rattle.brk_view.specs.declared.volumes.BrokerVolume.{BrokerVolume}
 abbrev pub precedes_by_name : BrokerVolume → BrokerVolume → Bool
 precedes_by_name a b = is_text_less a.name b.name || (bytes_eq a.name b.name && nat_lt a.broker b.broker)
 
--- True if the broker `a` is before `b` when they are sorted by volume, descending, then by name and
--- by id, ascending.
+-- True if the broker `a` is before `b` when they are sorted by volume, descending, then by name,
+-- then by id, both ascending.
 abbrev pub precedes_by_volume : BrokerVolume → BrokerVolume → Bool
 precedes_by_volume a b = int_lt b.volume a.volume || (not (int_lt a.volume b.volume) && precedes_by_name a b)
 
@@ -24,12 +24,12 @@ broker_volume_record v = v.name ∷ decimal v.broker ∷ cents_text v.volume ∷
 abbrev pub request_value_at_bid : RequestRow → ℕ
 request_value_at_bid r = r.qty * r.bid
 
--- The broker `b` with its volume in `sector`, in cents: the value at bid prices of its pending
--- requests in this sector in the tables `t`.
+-- The id and the name of the broker `b` with its volume in `sector`, in cents: the sum of quantity
+-- times bid price over its pending requests for securities of this sector in the tables `t`.
 abbrev pub volume_of_broker_in_sector : Tables → Text → BrokerRow → BrokerVolume
 volume_of_broker_in_sector t sector b = record { broker = b.id; name = b.name; volume = pos (sector_volume_of_broker t sector b.id) }
 
--- True if the broker `b` has one of `names`, and at least one pending request in `sector` in the
--- tables `t`.
+-- True if the name of the broker `b` is one of `names`, and `b` has at least one pending request
+-- for a security of `sector` in the tables `t`.
 abbrev pub has_name_and_pending_request : Tables → Text → List Text → BrokerRow → Bool
 has_name_and_pending_request t sector names b = list_any (bytes_eq b.name) names && nat_lt 0 (length (sector_requests_of_broker t sector b.id))

@@ -63,7 +63,7 @@ fn is_among_names(name: &Name, names: &[Name]) -> bool
     names.iter().any(|other| name.as_str() == other.as_str())
 }
 
-// Appends `name` to `names` if it is not one of them. Fails with `Memory` only.
+// Appends `name` to `names` if no element of `names` equals it. Fails with `Memory` only.
 #[tactic(auto, using(crate::proofs::Distinct::still_distinct))]
 fn push_name_if_absent(names: &mut Vec<Name>, name: Name) -> Result<(), Fault>
     ensures names { OnOk result (names.new.items ≡ names_with_new_name names.old.items name) }
@@ -75,7 +75,7 @@ fn push_name_if_absent(names: &mut Vec<Name>, name: Name) -> Result<(), Fault>
     Ok(())
 }
 
-// Parses a name from each field, in sequence, and returns each name at its first position only.
+// Parses a name from each field and returns the names in sequence, each only where it first occurs.
 // Refuses with `BadText` if a field is malformed. Fails with `Memory` only.
 fn parse_distinct_names(alloc: Global, fields: &[&[u8]]) -> Planned<Vec<Name>>
     ensures read { IfOk result (λ read. ParsesAs names_of_vector read (distinct_parsed_names (read_each_text read_name (texts_of_fields fields.now)))) }

@@ -37,7 +37,7 @@ impl Ranked for StampedStatus {
 impl Ranked for TradeRow {
     ghost before = { is_older_trade };
 
-    /// Returns true if the trade has a smaller stamp than `other`, or the same stamp and a smaller
+    /// Returns true if the trade has a smaller stamp than `other`, or an equal stamp and a smaller
     /// id.
     fn ranks_before(&self, other: &TradeRow) -> bool {
         if self.stamp.get() == other.stamp.get() {

@@ -31,7 +31,7 @@ pub struct Activity {
 impl Ranked for HistoryRow {
     ghost before = { is_newer_status };
 
-    /// Returns true if the status has a greater stamp than `other`, or the same stamp and a trade
+    /// Returns true if the status has a greater stamp than `other`, or an equal stamp and a trade
     /// with a greater id.
     fn ranks_before(&self, other: &HistoryRow) -> bool {
         if self.stamp.get() == other.stamp.get() {

@@ -32,7 +32,8 @@ pub struct AccountStatus {
     pub trades: Vec<TradeStatus>,
 }
 
-/// Returns a trade together with its security. Does not allocate.
+/// Returns the trade `trade` together with the security `security`, which the caller has read for
+/// its symbol. Does not allocate.
 #[tactic(auto, using(crate::proofs::Shown::trade_shown, crate::proofs::Shown::trade_carried))]
 pub fn trade_with_security(trade: TradeRow, security: Security) -> TradeStatus
     ensures shown { (t : Tables) → security_row_with_symbol t trade.symbol ≡ Some (abstract_security_row security)

@@ -13,9 +13,9 @@ ghost use Rattle.brk_model.specs.Tables.{Tables};
 ghost use Rattle.brk_view.specs.Views.{records_of_view, has_submitted_status, record_of_submitted_row};
 ghost use Rattle.brk_view.specs.declared.view.View.TheVariants as views;
 
-/// Proves that the records of the submitted TRADE rows equal the view of the submitted trades: of
-/// tables whose rows are sorted by id, ascending (`sorted`), and of any tables after they are
-/// sorted by key (`stored`).
+/// Proves that the records of the TRADE rows with the status `Submitted`, in the order of the
+/// table, equal the view of the submitted trades: for tables whose TRADE rows are sorted by id,
+/// ascending (`sorted`), and for any tables after their rows are sorted by key (`stored`).
 pub fn submitted_row_records_equal_view()
     // For tables whose TRADE rows are sorted by id, ascending.
     ensures sorted { (t : Tables) → is_sorted_by_unique_key trade_key t.trades ≡ true
@@ -24,7 +24,8 @@ pub fn submitted_row_records_equal_view()
     ensures stored { (t : Tables) → map record_of_submitted_row (filter has_submitted_status (tables_sorted_by_key t).trades) ≡ submitted_trades_view t }
 {}
 
-/// Proves that the view of an estimate of the model is one record, that of its seven fields.
+/// Proves that the view of an estimate of the model has exactly one record, which consists of the
+/// seven fields of the estimate.
 pub fn estimate_view_is_one_record()
     ensures { (e : Estimate) → records_of_view (views.Estimate (estimate_from_model e)) ≡ estimate_fields e ∷ [] }
 {}

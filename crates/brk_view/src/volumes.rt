@@ -47,8 +47,8 @@ fn broker_precedes_by_name(one: &BrokerVolume, other: &BrokerVolume) -> bool
 impl Ranked for BrokerVolume {
     ghost before = { precedes_by_volume };
 
-    /// Returns true if the broker has a greater volume than `other`, or the same volume and is
-    /// before it when they are sorted by name, then by id.
+    /// Returns true if the broker has a greater volume than `other`, or an equal volume and is
+    /// before `other` when they are sorted by name, then by id, ascending.
     fn ranks_before(&self, other: &BrokerVolume) -> bool {
         if self.volume.get() == other.volume.get() {
             return broker_precedes_by_name(self, other);
@@ -57,7 +57,7 @@ impl Ranked for BrokerVolume {
     }
 }
 
-// Returns the quantity of a request times its bid price, in cents.
+// Returns the quantity of a request times its bid price, in cents, at most 99,999,980,000,001.
 fn request_bid_value(request: &RequestRow) -> u128
     ensures worth { result ≡ request_value_at_bid (abstract_request_row request.now) }
     ensures limit { result ≤ 99999980000001 }
@@ -65,8 +65,8 @@ fn request_bid_value(request: &RequestRow) -> u128
     u128::from(request.qty.get()) * u128::from(request.bid.get())
 }
 
-/// Returns the sum, in cents, of the bid values of requests: the quantity of each times its bid
-/// price.
+/// Returns the sum, in cents, of the quantity times the bid price of each of the requests; 0 if
+/// there are none.
 pub fn total_bid_value_of_requests(requests: &[RequestRow]) -> Wide
     ensures { result ≡ pos (sum_by request_value_at_bid (map abstract_request_row requests.now)) }
 {
@@ -78,8 +78,9 @@ pub fn total_bid_value_of_requests(requests: &[RequestRow]) -> Wide
 }
 
 /// Returns the view of the brokers' volumes in a sector (Broker-Volume), sorted by volume,
-/// descending, then by name and id, ascending. The caller passes the brokers that have one of the
-/// names of the query and a pending request in the sector. Fails with `Memory` only.
+/// descending, then by name and id, ascending, without reading a table. The caller passes the
+/// volumes of the brokers that have one of the names of the query and a pending request in the
+/// sector. Fails with `Memory` only.
 pub fn broker_volume(alloc: Global, brokers: Vec<BrokerVolume>) -> Result<View, Fault>
     ensures records { IfOk result (λ view. records_of_view view ≡ map broker_volume_record (sort_by precedes_by_volume brokers.items)) }
     ensures value { IfOk result (λ view. (sorted : Vec BrokerVolume)

@@ -31,7 +31,7 @@ pub struct AccountWorth {
 impl Ranked for AccountWorth {
     ghost before = { precedes_by_market_value };
 
-    /// Returns true if the account has a smaller market value than `other`, or the same market
+    /// Returns true if the account has a smaller market value than `other`, or an equal market
     /// value and a smaller id.
     fn ranks_before(&self, other: &AccountWorth) -> bool {
         if self.assets.get() == other.assets.get() {
@@ -42,7 +42,8 @@ impl Ranked for AccountWorth {
 }
 
 /// Returns the view of a customer's accounts with their balances and market values
-/// (Customer-Position), sorted by market value, then by id, ascending. Fails with `Memory` only.
+/// (Customer-Position), sorted by market value, then by id, ascending, without reading a table. The
+/// caller passes the values of all accounts of the customer. Fails with `Memory` only.
 pub fn position(alloc: Global, accounts: Vec<AccountWorth>) -> Result<View, Fault>
     ensures records { IfOk result (λ view. records_of_view view ≡ map account_worth_record (sort_by precedes_by_market_value accounts.items)) }
     ensures value { IfOk result (λ view. (sorted : Vec AccountWorth)

@@ -27,8 +27,8 @@ fn account_worth_texts(alloc: Global, account: &AccountWorth) -> Result<Vec<Stri
     Ok(texts)
 }
 
-// Returns a record for each account: its id, its balance and the market value of its holdings.
-// Fails only if memory runs out.
+// Returns a record for each account, in sequence: its id, its balance and the market value of its
+// holdings. Fails only if memory runs out.
 pub(crate) fn account_worth_records(
     alloc: Global,
     accounts: &[AccountWorth],
@@ -69,8 +69,8 @@ fn recent_status_texts(alloc: Global, row: &HistoryRow) -> Result<Vec<String>, A
     Ok(texts)
 }
 
-// Returns a record for each of an account's last trades, in sequence. Fails only if memory runs
-// out.
+// Returns a record for each of an account's last trades, in sequence: the word `trade`, its id, its
+// symbol and its quantity. Fails only if memory runs out.
 fn recent_trade_records(alloc: Global, trades: &[TradeRow]) -> Result<Vec<Vec<String>>, AllocError>
     ensures { IfOk result (λ records. texts_of_records records ≡ map recents.recent_trade_record (map abstract_trade_row trades.now)) }
 {
@@ -82,8 +82,9 @@ fn recent_trade_records(alloc: Global, trades: &[TradeRow]) -> Result<Vec<Vec<St
     Ok(records)
 }
 
-// Appends to `records` a record for each status of an account's last trades, in sequence. Fails
-// only if memory runs out.
+// Appends to `records` a record for each status of an account's last trades, in sequence: the word
+// `history`, the id of the trade, the name of the status and its stamp. Fails only if memory runs
+// out.
 fn append_recent_status_records(
     alloc: Global,
     records: &mut Vec<Vec<String>>,
@@ -123,8 +124,9 @@ fn party_name_texts(alloc: Global, account: &AccountStatus) -> Result<Vec<String
     Ok(texts)
 }
 
-// Returns the first five of the ten fields of a trade in the view of an account's status: its id,
-// its stamp, the names of its status and type, and its symbol. Fails only if memory runs out.
+// Returns the first five of the ten fields of the record of a trade in the view of an account's
+// status: its id, its stamp, the names of its status and type, and its symbol. Fails only if memory
+// runs out.
 fn first_five_status_texts(alloc: Global, trade: &TradeRow) -> Result<Vec<String>, AllocError>
     ensures { IfOk result (λ texts. texts_of_record texts ≡ statuses.first_five_status_fields trade.now) }
 {
@@ -137,9 +139,9 @@ fn first_five_status_texts(alloc: Global, trade: &TradeRow) -> Result<Vec<String
     Ok(texts)
 }
 
-// Appends to `texts` the last five of the ten fields of a trade in the view of an account's status:
-// its quantity, executor and charge, and the name and the exchange of its security. Fails only if
-// memory runs out.
+// Appends to `texts` the last five of the ten fields of the record of a trade in the view of an
+// account's status: its quantity, executor and charge, and the name and the exchange of its
+// security. Fails only if memory runs out.
 fn append_last_five_status_texts(
     alloc: Global,
     texts: &mut Vec<String>,
@@ -159,7 +161,9 @@ fn append_last_five_status_texts(
 }
 
 // Returns the record of a trade with its security in the view of an account's status, in ten
-// fields. Fails only if memory runs out.
+// fields: the id, the stamp, the names of the status and type, the symbol, quantity, executor and
+// charge of the trade, and the name and the exchange of its security. Fails only if memory runs
+// out.
 fn trade_status_texts(alloc: Global, status: &TradeStatus) -> Result<Vec<String>, AllocError>
     ensures { IfOk result (λ texts. texts_of_record texts ≡ statuses.trade_status_record status.now) }
 {
@@ -168,8 +172,8 @@ fn trade_status_texts(alloc: Global, status: &TradeStatus) -> Result<Vec<String>
     Ok(texts)
 }
 
-// Appends to `records` a record for each trade with its security, in sequence. Fails only if memory
-// runs out.
+// Appends to `records` the record of each of `trades`, in sequence: the ten fields of a trade with
+// its security (`trade_status_texts`). Fails only if memory runs out.
 fn append_trade_status_records(
     alloc: Global,
     records: &mut Vec<Vec<String>>,

@@ -32,7 +32,8 @@ fn submitted_trade_texts(alloc: Global, trade: &SubmittedTrade) -> Result<Vec<St
     Ok(texts)
 }
 
-// Returns a record for each submitted trade, in sequence. Fails only if memory runs out.
+// Returns a record for each of the submitted trades `trades`, in sequence: its id, type, symbol,
+// quantity and bid price. Fails only if memory runs out.
 fn submitted_trade_records(
     alloc: Global,
     trades: &[SubmittedTrade],
@@ -74,12 +75,11 @@ fn estimate_records(alloc: Global, estimate: &Estimate) -> Result<Vec<Vec<String
     Ok(records)
 }
 
-/// Returns the records of a view, each a list of texts, in the sequence of the view. The fields of
-/// a submitted trade are T_ID, TYPE, SYMBOL, QTY and T_BID_PRICE; those of an estimate are PRICE,
-/// BUY, SELL, TAX, COMMISSION, CHARGE and ASSETS; those of an account its id, balance and market
-/// value; those of a broker's volume the name, the id and the volume. The other views have records
-/// of several kinds. Each amount is in its canonical form, such as `-12.05`. Fails with `Memory`
-/// only.
+/// Returns the records of a view, each a list of texts, in the sequence of the view. A submitted
+/// trade has the fields T_ID, TYPE, SYMBOL, QTY and T_BID_PRICE; an estimate PRICE, BUY, SELL, TAX,
+/// COMMISSION, CHARGE and ASSETS; an account its id, balance and market value; a broker's volume
+/// the name, the id and the volume. The other views have records of several kinds. Each amount is
+/// in its canonical form, such as `-12.05`. Fails with `Memory` only.
 pub fn view_fields(alloc: Global, view: &View) -> Result<Vec<Vec<String>>, Fault>
     ensures records { IfOk result (λ records. texts_of_records records ≡ records_of_view view.now) }
     // If the estimate is one of the model, its record equals that of the model.

@@ -16,8 +16,8 @@ use brk_money::Wide;
 use brk_view::lookups::{LookedUp, StampedStatus};
 use std::alloc::{AllocError, Global};
 
-// Returns the first five of the fifteen fields of a trade: the word `trade`, its id, its stamp, and
-// the codes of its status and type. Fails only if memory runs out.
+// Returns the first five of the fifteen fields of the record of a looked-up trade: the word
+// `trade`, its id, its stamp, and the codes of its status and type. Fails only if memory runs out.
 fn first_five_trade_texts(alloc: Global, trade: &TradeRow) -> Result<Vec<String>, AllocError>
     ensures { IfOk result (λ texts. texts_of_record texts ≡ first_five_trade_fields (abstract_trade_row trade.now)) }
 {
@@ -30,8 +30,8 @@ fn first_five_trade_texts(alloc: Global, trade: &TradeRow) -> Result<Vec<String>
     Ok(texts)
 }
 
-// Appends to `texts` the fields 6 to 9 of the fifteen fields of a trade: its symbol, quantity, bid
-// price and executor. Fails only if memory runs out.
+// Appends to `texts` the fields 6 to 9 of the fifteen fields of the record of a looked-up trade:
+// its symbol, quantity, bid price and executor. Fails only if memory runs out.
 fn append_order_texts(
     alloc: Global,
     texts: &mut Vec<String>,
@@ -45,8 +45,9 @@ fn append_order_texts(
     push_word(alloc, texts, trade.executor.as_str())
 }
 
-// Appends to `texts` the fields 10 to 13 of the fifteen fields of a trade: its price, which is
-// empty if the trade has none, its charge, commission and tax. Fails only if memory runs out.
+// Appends to `texts` the fields 10 to 13 of the fifteen fields of the record of a looked-up trade:
+// its price, which is empty if the trade has none, its charge, commission and tax. Fails only if
+// memory runs out.
 fn append_price_and_cost_texts(
     alloc: Global,
     texts: &mut Vec<String>,
@@ -60,8 +61,9 @@ fn append_price_and_cost_texts(
     push_amount(alloc, texts, Wide::from(trade.tax))
 }
 
-// Appends to `texts` the last two of the fifteen fields of a trade: `cash` or `margin`, and `lifo`
-// or `fifo`. Fails only if memory runs out.
+// Appends to `texts` the last two of the fifteen fields of the record of a looked-up trade: `cash`
+// or, if it is no cash trade, `margin`; and `lifo` if it closes the newest lots first, otherwise
+// `fifo`. Fails only if memory runs out.
 fn append_account_type_and_closing_order_texts(
     alloc: Global,
     texts: &mut Vec<String>,
@@ -158,8 +160,8 @@ fn append_cash_record(
     Ok(())
 }
 
-// Appends to `records` a record for each status of a trade, in sequence. Fails only if memory runs
-// out.
+// Appends to `records` a record for each status of a trade, in sequence: the word `history`, the
+// stamp of the status and its code. Fails only if memory runs out.
 fn append_history_records(
     alloc: Global,
     records: &mut Vec<Vec<String>>,

@@ -8,8 +8,9 @@ use crate::texts::{push_number, push_signed_shares};
 use brk_view::lots::{LotTouch, TouchedLots};
 use std::alloc::{AllocError, Global};
 
-// Returns the record of a lot change: the lot, the trade that made the change, and the quantity of
-// the lot before and after it. Fails only if memory runs out.
+// Returns the record of a lot change: the lot, the trade that made the change, and the number of
+// shares of the lot before and after it, below 0 if they were sold short. Fails only if memory runs
+// out.
 fn lot_change_texts(alloc: Global, touch: LotTouch) -> Result<Vec<String>, AllocError>
     ensures { IfOk result (λ texts. texts_of_record texts ≡ lot_change_record touch) }
 {
@@ -22,7 +23,9 @@ fn lot_change_texts(alloc: Global, touch: LotTouch) -> Result<Vec<String>, Alloc
     Ok(texts)
 }
 
-// Appends to `records` a record for each lot change, in sequence. Fails only if memory runs out.
+// Appends to `records` a record for each of the lot changes `touches`, in sequence: the lot, the
+// trade that made the change, and the number of shares of the lot before and after it. Fails only
+// if memory runs out.
 fn append_lot_change_records(
     alloc: Global,
     records: &mut Vec<Vec<String>>,

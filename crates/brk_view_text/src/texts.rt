@@ -12,7 +12,7 @@ use brk_commands::day_text;
 use brk_money::{Day, Price, Stamp, Wide};
 use std::alloc::{AllocError, Global};
 
-// Appends a copy of the text `word` to `texts`. Fails only if memory runs out.
+// Appends a copy of the text `word` to `texts`, as one field. Fails only if memory runs out.
 pub(crate) fn push_word(
     alloc: Global,
     texts: &mut Vec<String>,
