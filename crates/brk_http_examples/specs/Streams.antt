@@ -19,12 +19,13 @@ post_request target body = record { method = codes "POST"; target = target; clos
 abbrev pub get_request : Text → Request
 get_request target = record { method = codes "GET"; target = target; closes = false; body = [] }
 
--- The request `request`, changed so that it asks to close the stream (`Connection: close`).
+-- The request `request` with `closes` set to true: it asks to close the stream after its reply.
 abbrev pub closing_request : Request → Request
 closing_request request = record request { closes = true }
 
--- The bytes of a reply with a JSON body: the status `status`, the further fields of the head
--- `fields`, the length `len` of the body in decimal digits, and the body `body`.
+-- The bytes of a reply with the JSON body `body`: a status line with `status`, the type of the
+-- body, `len` as the length of the body, the further lines `fields` of the head, an empty line, and
+-- the body.
 abbrev pub expected_reply_bytes : Text → List Text → Text → Text → Text
 expected_reply_bytes status fields len body =
     codes "HTTP/1.1 " ++ status ++ codes "\r\nContent-Type: application/json\r\nContent-Length: " ++ len ++ codes "\r\n" ++ lines fields ++ codes "\r\n" ++ body

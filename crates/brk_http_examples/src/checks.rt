@@ -26,9 +26,10 @@ pub fn head_ends_at_first_empty_line()
     ensures no_empty_line { head_end_within 4 (codes "\0\0\0\0") ≡ TooLong }
 {}
 
-/// Shows the length of a body by the fields of a head, or the problem of its length. The case of
-/// letters in the names of fields is ignored, and a Transfer-Encoding is a problem whatever the
-/// length.
+/// Shows that Content-Length states the length of a body, which is 0 without this field, and that a
+/// value above 65536, of ten digits, with a sign or without bytes, and a second Content-Length are
+/// problems. The case of letters in the names of fields is ignored, and a Transfer-Encoding is a
+/// problem whatever the length.
 pub fn content_length_states_body_length()
     ensures no_field { body_length_of_fields ((codes "Host", codes "x") ∷ []) ≡ Ok 0 }
     ensures leading_zeros { body_length_of_fields ((codes "content-LENGTH", codes "000000012") ∷ []) ≡ Ok 12 }

@@ -4,8 +4,8 @@
 ghost use Rattle.std.specs.Prelude.{◌∷◌, [], codes};
 ghost use Rattle.brk_http_examples.specs.Streams.{HasRepliesInSetting, get_request, closing_request, post_request, expected_reply_bytes};
 
-/// Shows the replies to a row with a key, to its retry, and to the row without a key, which is
-/// refused.
+/// Shows the replies to a row with a key, to its retry under this key, which returns the stored
+/// reply, and to the row without a key, which is refused with 15.
 pub fn row_is_accepted_once_per_key()
     ensures { HasRepliesInSetting
         (post_request (codes "/rows/H/1") (codes "[\"broker\",\"2\",\"Cy\"]")
@@ -17,7 +17,7 @@ pub fn row_is_accepted_once_per_key()
 {}
 
 /// Shows that a stream continues after a view, a refusal, an unknown target, a wrong method and a
-/// malformed body: each of the five requests has its reply.
+/// malformed body: each of these five requests has its reply.
 pub fn stream_continues_after_refusals()
     ensures { HasRepliesInSetting
         (post_request (codes "/ask/submitted") (codes "[]")
@@ -41,8 +41,8 @@ pub fn stream_ends_after_close_request()
         (codes "{\"error\":\"method not allowed\"}") ∷ []) }
 {}
 
-/// Shows the replies to an order, to its retry, to the view `submitted`, and to a cancel of its
-/// trade, which is refused.
+/// Shows the replies to an order, to its retry under its key, to a query of the view `submitted`,
+/// and to a cancel of the submitted trade, which is refused with 13.
 pub fn replies_to_order_over_http()
     ensures { HasRepliesInSetting
         (post_request (codes "/rows/H/1") (codes "[\"order\",\"100\",\"TMB\",\"ABC\",\"100\",\"\",\"cash\",\"fifo\",\"Ann\",\"Lee\",\"T10\"]")

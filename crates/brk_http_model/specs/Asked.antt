@@ -32,7 +32,7 @@ pub data RequestDemand : Type 0 where
   DeskCall : Call → RequestDemand
 
 -- The demand of a request with the given route, from the texts of its body: the call of the command
--- or the query that the texts parse as, or the response with the refusal of their parser.
+-- or the query that the texts parse as by `forms`, or the response with the refusal of the parser.
 abbrev pub demand_of_texts : RequestParsers → Route → Fields → RequestDemand
 demand_of_texts forms (ToRow key) texts =
     elim (forms.row texts) [
@@ -45,9 +45,9 @@ demand_of_texts forms (ToView view) texts =
       | Ok query ↦ DeskCall (Ask query)
     ]
 
--- The demand of the request: the response of the first check that fails, or the demand of its
--- texts. The checks are, in sequence: the target has a route, the method is POST, and the body is a
--- JSON list of texts.
+-- The demand of the request: the response to the first check that fails, otherwise the demand of
+-- the texts of its body. The checks are, in sequence: the target has a route, the method is POST,
+-- and the body is a JSON list of texts. Rows and queries are parsed by `forms`.
 unfoldable pub demand_of_request : RequestParsers → Request → RequestDemand
 demand_of_request forms request =
     elim (route_of_target forms.views request.target) [

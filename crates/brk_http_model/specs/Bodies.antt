@@ -44,13 +44,13 @@ json_array_of_texts texts = array (items_of (map string texts))
 abbrev pub json_object_text : Text → Data → Text
 json_object_text word value = compact_text (object (member word value no_members))
 
--- The JSON text of an object with one member, named `word`, the array of the strings `texts`:
--- {"WORD":["TEXT",..]}.
+-- The JSON text of an object with one member, whose name is `word` and whose value is the array of
+-- the strings `texts`: {"WORD":["TEXT",..]}.
 unfoldable pub json_texts_object : Text → List Text → Text
 json_texts_object word texts = json_object_text word (json_array_of_texts texts)
 
--- The JSON text of an object with one member, named `word`, the array with an array of strings for
--- each of `records`: {"WORD":[["TEXT",..],..]}.
+-- The JSON text of an object with one member, whose name is `word` and whose value is an array with
+-- an array of strings for each of `records`: {"WORD":[["TEXT",..],..]}.
 unfoldable pub json_records_object : Text → List (List Text) → Text
 json_records_object word records = json_object_text word (array (items_of (map json_array_of_texts records)))
 

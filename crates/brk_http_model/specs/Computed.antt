@@ -30,8 +30,9 @@ abbrev pub outcome_of_query_result : Result View Refusal → Outcome
 outcome_of_query_result (Ok view) = Saw view
 outcome_of_query_result (Err refusal) = NoView refusal
 
--- The response to a demand on `base`, the clock readings that remain and the base after it, if no
--- call fails. A command for which no clock reading remains has the fault `Store`.
+-- The response to a demand on `base`, the clock readings that remain after it, and the base after
+-- it, computed by the model, in which no call fails. Only a command for which no clock reading
+-- remains has a fault, `Store`.
 abbrev pub response_to_demand : Base → List ℕ → RequestDemand → ResponseAndBase
 response_to_demand base moments (ResponseOnly said) = record { response = said; moments = moments; base = base }
 response_to_demand base moments (DeskCall (Ask query)) =

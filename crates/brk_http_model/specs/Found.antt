@@ -11,7 +11,7 @@ use Rattle.brk_http_model.specs.declared.head_end.HeadEnd.{HeadEnd}
 use Rattle.brk_http_model.specs.declared.head_end.HeadEnd.TheVariants.{Nothing, TooLong, Cut, At}
 
 -- A request: its method, its target and its body, and `closes`, which is true if the request asks
--- to close the stream.
+-- to close the stream after its reply.
 pub record Request : Type 0 where
   pub method : Text
   pub target : Text

@@ -53,7 +53,8 @@ http_status_of_outcome (Saw view) = codes "200 OK"
 http_status_of_outcome (NoView refusal) = codes "409 Conflict"
 http_status_of_outcome (Failed fault) = codes "503 Service Unavailable"
 
--- The HTTP status of a response: its number and phrase.
+-- The HTTP status of a response, number and phrase: the status of its problem, or of the outcome of
+-- its call.
 abbrev pub http_status_of_response : Response → Text
 http_status_of_response (FromProblem problem) = http_status_of_problem problem
 http_status_of_response (FromOutcome outcome) = http_status_of_outcome outcome
@@ -73,8 +74,8 @@ outcome_body (Saw view) = json_records_object (codes "view") view
 outcome_body (NoView refusal) = json_texts_object (codes "no") (refusal_fields refusal)
 outcome_body (Failed fault) = json_error_object (fault_word fault)
 
--- The body of the reply for a response: the JSON object of an error for a problem, and of the
--- outcome for a call.
+-- The body of the reply for a response: the JSON object of an error with the text of its problem,
+-- or the body for the outcome of its call.
 abbrev pub response_body : Response → Text
 response_body (FromProblem problem) = json_error_object (text_of_problem problem)
 response_body (FromOutcome outcome) = outcome_body outcome
@@ -105,8 +106,9 @@ head_line text = text ++ 13 ∷ 10 ∷ []
 abbrev pub head_line_if : Bool → Text → Text
 head_line_if is_there text = if is_there then head_line text else []
 
--- The bytes of a reply: the status line, the fields of the head, an empty line and the body. It has
--- the field `Allow: POST` if `asks_post` is true, and `Connection: close` if `closes` is true.
+-- The bytes of a reply: the status line with `status`, the fields of the head, an empty line and
+-- `body`. The head states the type and the length of the body, and has the field `Allow: POST` if
+-- `asks_post` is true, and `Connection: close` if `closes` is true.
 unfoldable pub reply_bytes : Text → Bool → Bool → Text → Text
 reply_bytes status asks_post closes body =
     head_line (codes "HTTP/1.1 " ++ status)

@@ -15,8 +15,8 @@ pub data Route : Type 0 where
   ToRow : Option Key → Route
   ToView : Text → Route
 
--- The key of a batch name and a row number; none if the number is malformed or the name is not a
--- batch name.
+-- The key of the text `batch` and a row number; none if `batch` is not the name of a batch, or if
+-- the number is a refusal because its text was malformed or out of range.
 abbrev pub key_of_batch_row : Text → ReadResult ℕ → Option Key
 key_of_batch_row batch (Err refusal) = None
 key_of_batch_row batch (Ok n) = if is_batch_name batch then Some (record { batch = batch; row = n }) else None
@@ -26,8 +26,8 @@ key_of_batch_row batch (Ok n) = if is_batch_name batch then Some (record { batch
 abbrev pub has_first_segment : Text → Text → Text → Bool
 has_first_segment first word name = bytes_eq first [] && bytes_eq word name
 
--- The route of a target with these parts between its slashes: /rows, /rows/BATCH/N, or /ask/VIEW
--- with one of `views`; none for any other.
+-- The route of a target with the given parts between its slashes: /rows, /rows/BATCH/N with a batch
+-- name and a row number, or /ask/VIEW with one of `views`; none for any other target.
 abbrev pub route_of_segments : List Text → List Text → Option Route
 route_of_segments views (first ∷ word ∷ []) = if has_first_segment first word (codes "rows") then Some (ToRow None) else None
 route_of_segments views (first ∷ word ∷ view ∷ []) =

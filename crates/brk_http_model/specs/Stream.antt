@@ -64,8 +64,8 @@ pub record IsEffectOfRequest {B : Type 0} (forms : RequestParsers) (does : CallR
   pub follows : effect.next ≡ stream_after_reply closes rest
 
 -- The result of reading a request has the effect `effect`, after `n` earlier requests. A problem is
--- answered, ends the stream, takes no clock reading and leaves the base unchanged. If no byte
--- remains, there is no reply and this is false.
+-- answered, ends the stream, takes no clock reading and leaves the base unchanged. False if no byte
+-- remains, because there is then no reply.
 abbrev pub IsEffectOfReading : {B : Type 0} → RequestParsers → CallRelation B → ℕ → RequestReading → RequestEffect B → Type 0
 IsEffectOfReading forms does n NoBytesLeft effect = ⊥
 IsEffectOfReading forms does n (Unreadable problem) effect =

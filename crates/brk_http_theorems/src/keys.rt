@@ -11,8 +11,9 @@ ghost use Rattle.brk_http_model.specs.Bodies.{json_texts_object};
 ghost use Rattle.brk_http_model.specs.Replies.{answer_body};
 ghost use Rattle.brk_http_model.specs.Routes.{split_at_byte};
 
-/// Proves that the line of a reply, split at its commas, results in the fields of the reply, so
-/// that a stored reply is returned over HTTP with exactly the fields of the first reply.
+/// Proves that the line of a reply, split at its commas, results in the fields of the reply. Proves
+/// also that the body of the reply to a retry has exactly the fields of the first reply, under the
+/// word `again`.
 pub fn reply_line_splits_into_its_fields()
     ensures fields { (reply : Reply) → split_at_byte 44 (line_text reply) ≡ reply_fields reply }
     ensures retry_body { (reply : Reply) → answer_body (Again (line_text reply)) ≡ json_texts_object (codes "again") (reply_fields reply) }
@@ -21,7 +22,7 @@ pub fn reply_line_splits_into_its_fields()
 /// Proves that batches and requests share keys. If a batch accepted a row, a request with the row
 /// under its key returns the stored reply, unless the call fails. If a request accepted a row, a
 /// batch answers the row under its key with the stored reply. Any calls may be executed between the
-/// two, and the retry leaves the base unchanged.
+/// acceptance and the retry, and the retry leaves the base unchanged.
 pub fn key_is_idempotent_across_interfaces()
     ensures accepted_in_batch { (base mid after : Base) (now later : ℕ) (command : Command) (key : Key) (reply : Reply) (calls : List (ℕ
         × Call)) (outcomes : List Outcome)

@@ -2,7 +2,7 @@
 use Rattle.std.specs.Prelude.{◌≡◌, ◌⊎◌, ℕ, List, [], ◌∷◌}
 
 -- The clock changed from `old` to `new` by exactly one reading for each timestamp of `moments`, in
--- this order, and each reading satisfies `gives`.
+-- sequence, and each reading satisfies `gives`. Without timestamps `new` equals `old`.
 abbrev pub ClockReturnsInOrder : {C : Type 0} → (C → ℕ → C → Type 0) → C → List ℕ → C → Type 0
 ClockReturnsInOrder gives old [] new = new ≡ old
 ClockReturnsInOrder {C} gives old (moment ∷ moments) new = (mid : C) × gives old moment mid × ClockReturnsInOrder gives mid moments new

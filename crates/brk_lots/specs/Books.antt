@@ -27,8 +27,8 @@ deal_quantity_sum ds = total_by (λ d. signed_by_side d.side d.qty) ds
 abbrev pub purchases_minus_sales : List Deal → ℤ
 purchases_minus_sales ds = total_by (λ d. signed_by_side d.side (d.qty * d.price)) ds
 
--- The sum of the realised gains of the deals, in cents, applied in sequence to the position with
--- the shares `us`.
+-- The sum, in cents, of the realised gains of the deals, which are applied in sequence to the
+-- position with the shares `us`.
 abbrev pub realised_gain_sum : List Deal → List Share → ℤ
 realised_gain_sum [] us = pos 0
 realised_gain_sum (d ∷ ds) us = realised_gain d us +ℤ realised_gain_sum ds (shares_after_deal us d)

@@ -7,13 +7,13 @@ use Rattle.brk_lots.specs.HistoryRows.{row_changes_quantity, holding_history_row
 use Rattle.brk_lots.specs.declared.replay.DealTouch.{DealTouch}
 use Rattle.brk_lots.specs.Lots.{list_reversed_if_lifo}
 
--- The changes of the lot of the trade `trade` by the deals `ds`, applied in sequence to the
--- position with the shares `us`. A deal that does not change the quantity of the lot has no element
--- in the list.
+-- The changes of the lot that the trade `trade` opens, by the deals `ds`, which are applied in
+-- sequence to the position with the shares `us`. A deal that does not change the quantity of the
+-- lot has no element in the list.
 abbrev pub changes_of_lot : ℕ → List Deal → List Share → List Touch
 changes_of_lot trade ds us = map touch_of_row (filter row_changes_quantity (holding_history_rows_of_deals trade us ds))
 
--- The quantity `after` is nearer to 0 than `before`, and is 0 or has the sign of `before`.
+-- The signed quantity `after` is nearer to 0 than `before`, and is 0 or has the sign of `before`.
 abbrev pub IsNearerToZero : ℤ → ℤ → Type 0
 IsNearerToZero after before = (side : Side) × (m : ℕ) × (n : ℕ) × (after ≡ signed_by_side side m) × (before ≡ signed_by_side side n) × (m < n)
 
@@ -35,8 +35,9 @@ IsLotHistory (row ∷ rows) to = (row.before ≡ pos 0) × ShrinksTowardZero row
 abbrev pub opening_touch : Lot → Touch
 opening_touch l = record { lot = l.trade; before = pos 0; after = l.qty }
 
--- The HOLDING_HISTORY rows of the deal `d` on the shares `us`: those of the lots that it closes or
--- reduces, in the sequence in which it closes them, and then that of the lot that it opens, if any.
+-- The HOLDING_HISTORY rows of the deal `d` on the shares `us`: a row for each lot that it closes or
+-- reduces, in the sequence in which it closes them, and then a row for the lot that it opens, if it
+-- opens any share.
 abbrev pub lot_changes_of_deal : Deal → List Share → List HoldingHistoryRow
 lot_changes_of_deal d us =
     map (holding_history_row d.trade) (list_reversed_if_lifo d.is_lifo (touches_of_existing_lots d us)

@@ -7,7 +7,8 @@ use Rattle.brk_model.specs.Shares.{Deal}
 abbrev pub IsLaterDeal : Deal → Deal → Type 0
 IsLaterDeal d e = (d.trade ≢ e.trade) × (d.stamp < e.stamp)
 
--- The deals belong to distinct trades, and their stamps are strictly ascending.
+-- The deals belong to distinct trades, and their stamps are strictly ascending. True of an empty
+-- list.
 abbrev pub AreAscendingDeals : List Deal → Type 0
 AreAscendingDeals [] = ⊤
 AreAscendingDeals (d ∷ ds) = AllByRecursion (IsLaterDeal d) ds × AreAscendingDeals ds

@@ -14,12 +14,12 @@ abbrev pub PrecedesOnSameSide : Lot → Lot → Type 0
 PrecedesOnSameSide l m = (side_of_qty m.qty ≡ side_of_qty l.qty) × (l.stamp < m.stamp)
 
 -- No lot of the list has 0 shares, and each lot after the first has the side of the lot before it
--- and a later stamp.
+-- and a later stamp than that lot. True of an empty list.
 abbrev pub IsOneSidedAndAscending : List Lot → Type 0
 IsOneSidedAndAscending [] = ⊤
 IsOneSidedAndAscending (l ∷ ls) = (l.qty ≢ pos 0) × FirstLotSatisfies (PrecedesOnSameSide l) ls × IsOneSidedAndAscending ls
 
--- No two neighbours of the list were opened by the same trade.
+-- No two neighbouring lots of the list were opened by the same trade.
 abbrev pub NeighboursDifferInTrade : List Lot → Type 0
 NeighboursDifferInTrade [] = ⊤
 NeighboursDifferInTrade (l ∷ ls) = FirstLotSatisfies (λ m. m.trade ≢ l.trade) ls × NeighboursDifferInTrade ls

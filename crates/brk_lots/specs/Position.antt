@@ -9,7 +9,7 @@ abbrev pub HasSameSideAndOtherTrade : Lot → Lot → Type 0
 HasSameSideAndOtherTrade l m = (side_of_qty m.qty ≡ side_of_qty l.qty) × (m.trade ≢ l.trade)
 
 -- The lots form a position, in any order: no lot has 0 shares, all have one side, and no two were
--- opened by the same trade.
+-- opened by the same trade. True of an empty list.
 abbrev pub IsPositionInAnyOrder : List Lot → Type 0
 IsPositionInAnyOrder [] = ⊤
 IsPositionInAnyOrder (l ∷ ls) = (l.qty ≢ pos 0) × AllByRecursion (HasSameSideAndOtherTrade l) ls × IsPositionInAnyOrder ls
@@ -19,15 +19,15 @@ abbrev pub IsLaterInPosition : Lot → Lot → Type 0
 IsLaterInPosition l m = HasSameSideAndOtherTrade l m × (l.stamp < m.stamp)
 
 -- The lots form a position, the oldest first: no lot has 0 shares, all have one side, no two were
--- opened by the same trade, and the stamps are strictly ascending.
+-- opened by the same trade, and the stamps are strictly ascending. True of an empty list.
 abbrev pub IsPosition : List Lot → Type 0
 IsPosition [] = ⊤
 IsPosition (l ∷ ls) = (l.qty ≢ pos 0) × AllByRecursion (IsLaterInPosition l) ls × IsPosition ls
 
--- No lot of the list was opened by the trade `trade`.
+-- All lots of the list were opened by other trades than `trade`. True of an empty list.
 abbrev pub AreOpenedByOtherTrades : ℕ → List Lot → Type 0
 AreOpenedByOtherTrades trade ls = AllByRecursion (λ l. l.trade ≢ trade) ls
 
--- All lots of the list were opened before the stamp `stamp`.
+-- All lots of the list were opened before the stamp `stamp`. True of an empty list.
 abbrev pub AreOpenedBeforeStamp : ℕ → List Lot → Type 0
 AreOpenedBeforeStamp stamp ls = AllByRecursion (λ l. l.stamp < stamp) ls

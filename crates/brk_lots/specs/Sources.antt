@@ -4,13 +4,13 @@ use Rattle.brk_lots.specs.declared.lot.Lot.{Lot}
 use Rattle.brk_lots.specs.Lots.{list_reversed_if_lifo}
 use Rattle.brk_lots.specs.Position.{IsPositionInAnyOrder}
 
--- The lots `ls` are those that a source still yields (`remaining`), and the disk assumption of that
--- source (`told`) holds.
+-- A source still yields exactly the lots `ls` (`remaining`), in this sequence, and the disk
+-- assumption of the source (`told`) holds.
 abbrev pub AreLotsOfFaithfulSource : Type 0 → (List Lot → Type 0) → List Lot → Type 0
 AreLotsOfFaithfulSource told remaining ls = told × remaining ls
 
--- The lots `ls` form a position, in any order, and the list `ls`, reversed if `lifo` is true,
--- satisfies `given`.
+-- The lots `ls` form a position, in any order, and a source that satisfies `given` yields them from
+-- one end: `given` holds of the list `ls`, reversed if `lifo` is true.
 abbrev pub YieldsPosition : (List Lot → Type 0) → Bool → List Lot → Type 0
 YieldsPosition given lifo ls = given (list_reversed_if_lifo lifo ls) × IsPositionInAnyOrder ls
 

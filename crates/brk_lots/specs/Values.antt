@@ -7,18 +7,20 @@ use Rattle.brk_lots.specs.declared.lot.Lot.{Lot}
 use Rattle.brk_lots.specs.declared.lot.Touch.{Touch}
 use Rattle.brk_lots.specs.declared.values.Values.{Values}
 
--- The buy value and the sell value, in cents, of those of `shares` that the deal `d` closes.
+-- The buy value and the sell value, in cents, of the shares that the deal `d` closes in the
+-- position with the shares `shares`.
 abbrev pub closing_values_of_deal : Deal → List Share → Values
 closing_values_of_deal d shares = record { buy_value = buy_value d shares; sell_value = sell_value d shares }
 
--- The buy value and the sell value, in cents, of shares that a trade of the side closes at the
--- value `closed` and that were opened at the value `opened`.
+-- The buy value and the sell value, in cents, of shares that a trade of the side `side` closes at
+-- the value `closed` and that were opened at the value `opened`.
 abbrev pub closing_values_by_side : Side → ℕ → ℕ → Values
 closing_values_by_side side closed opened = record { buy_value = buy_value_by_side side closed opened; sell_value = sell_value_by_side side closed opened }
 
--- A trade of `qty` shares at `price` on `side` meets the lots `ls`, which have one side: `over` is
--- the quantity that closes no share, `taken` are the changes of the lots that it closes or reduces,
--- and `worth` is the buy value and the sell value of the closed shares, in cents.
+-- The values `taken`, `over` and `worth` are the result of a trade of `qty` shares at `price` on
+-- `side` against the lots `ls`, which have one side: `taken` is the list of the changes of the lots
+-- that the trade closes or reduces, `over` the quantity that closes no share, and `worth` the buy
+-- value and the sell value of the closed shares, in cents.
 pub record IsResultOfTradeAgainstLots (side : Side) (qty price : ℕ) (ls : List Lot) (taken : List Touch) (over : ℕ) (worth : Values) : Type 0 where
   pub left : over + closed_share_count side qty ls ≡ qty
   pub rows : taken ≡ touches_of_first_shares (closed_share_count side qty ls) ls

@@ -12,7 +12,7 @@ use Rattle.brk_lots.specs.declared.lot.Touch.{Touch}
 use Rattle.brk_lots.specs.Lots.{side_of_qty, shares_of_lots}
 
 -- The number of shares of the lots, which have one side, that a trade of `q` shares on the side
--- closes. It is 0 if there is no lot or the first lot has the side of the trade, and otherwise the
+-- `side` closes: 0 if there is no lot or the first lot has the side of the trade, and otherwise the
 -- smaller of `q` and the number of all shares.
 abbrev pub closed_share_count : Side → ℕ → List Lot → ℕ
 closed_share_count side q [] = 0
@@ -33,9 +33,10 @@ abbrev pub cost_of_first_shares : ℕ → List Lot → ℕ
 cost_of_first_shares k [] = 0
 cost_of_first_shares k (l ∷ ls) = min k (unsigned_abs l.qty) * l.price + cost_of_first_shares (k - unsigned_abs l.qty) ls
 
--- A trade of `qty` shares on `side` meets the lots `ls`, which have one side: `over` is the
--- quantity that closes no share, `taken` are the changes of the lots that it closes or reduces, and
--- `cost` is the value, in cents, at which the closed shares were opened.
+-- The values `taken`, `over` and `cost` are the result of closing shares of the lots `ls`, which
+-- have one side, by a trade of `qty` shares on `side`: `taken` is the list of the changes of the
+-- lots that the trade closes or reduces, `over` the quantity that closes no share, and `cost` the
+-- value, in cents, at which the closed shares were opened.
 pub record IsResultOfClosingLots (side : Side) (qty : ℕ) (ls : List Lot) (taken : List Touch) (over cost : ℕ) : Type 0 where
   pub left : over + closed_share_count side qty ls ≡ qty
   pub rows : taken ≡ touches_of_first_shares (closed_share_count side qty ls) ls

@@ -52,7 +52,8 @@ pub fn open_lot_without_closing(
     }
 }
 
-/// Returns the buy value and the sell value of an order that would close no share: both are 0.
+/// Returns the buy value and the sell value of the closed shares of an order that closes no share:
+/// both are 0. The caller checks with `trade_closes_lots` that the order closes no lot.
 pub fn zero_closing_values() -> Values
     ensures values { (d : model.Deal) (ls : List Lot) → IsPositionInAnyOrder ls → trade_closes_lots d.side (lot_quantity_sum ls) ≡ false
         → result ≡ closing_values_of_deal d (shares_of_lots ls) }

@@ -18,8 +18,8 @@ pub struct PositionEnd<'a> {
 }
 
 impl<'a> PositionEnd<'a> {
-    // Creates the source of these lots, which returns them from the last to the first if `lifo`,
-    // and otherwise from the first to the last. None of the lots may have 0 shares.
+    // Creates a source of the lots `lots`, which returns them from the last to the first if `lifo`
+    // is true, otherwise from the first to the last. None of the lots may have 0 shares.
     pub(crate) fn new(lots: &'a [Lot], lifo: bool) -> PositionEnd<'a>
         requires { All (λ l. l.qty ≢ pos 0) lots.now }
         ensures remaining { ⟦<PositionEnd<'static> as LotSource>⟧.remaining result (list_reversed_if_lifo lifo lots.now) }
@@ -47,7 +47,7 @@ impl LotSource for PositionEnd<'_> {
 
     ghost fails = { λ _ _ _. ⊥ };
 
-    // Returns the next lot, or `None` after the last. Never fails.
+    // Returns the next lot from the end of the source, or `None` after the last. Never fails.
     fn next(&mut self) -> Result<Option<Lot>, Fault> {
         if self.lifo {
             let [rest @ .., last] = self.lots else {

@@ -7,7 +7,8 @@ ghost use Rattle.brk_lots.specs.Position.{IsPosition};
 use crate::lot::{Lot, are_same_side};
 use brk_money::{Id, Stamp};
 
-// Returns true if `rest` is empty, or if its first lot has the side of `lot` and a later stamp.
+// Returns true if `rest` is empty, or if its first lot has the side of `lot` and a later stamp than
+// `lot`.
 fn next_lot_is_later_on_same_side(lot: &Lot, rest: &[Lot]) -> bool
     ensures { IsTrue result ↔ FirstLotSatisfies (PrecedesOnSameSide lot.now) rest.now }
 {
@@ -40,7 +41,7 @@ fn next_lot_is_of_other_trade(trade: Id, rest: &[Lot]) -> bool
     }
 }
 
-// Returns true if no two neighbours of the list were opened by the same trade.
+// Returns true if no two neighbouring lots of the list were opened by the same trade.
 fn neighbours_differ_in_trade(lots: &[Lot]) -> bool
     ensures { IsTrue result ↔ NeighboursDifferInTrade lots.now }
 {
@@ -85,7 +86,8 @@ pub(crate) fn is_position(lots: &mut [Lot]) -> bool
     distinct
 }
 
-// Returns true if all lots were opened by other trades than `trade`, and before `stamp`.
+// Returns true if all lots were opened by other trades than `trade`, and before `stamp`; also true
+// if there is no lot.
 pub(crate) fn all_lots_precede_trade(lots: &[Lot], trade: Id, stamp: Stamp) -> bool
     ensures { IsTrue result ↔ All (λ l. (l.trade ≢ trade) × (l.stamp < stamp)) lots.now }
 {

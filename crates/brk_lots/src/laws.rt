@@ -12,10 +12,10 @@ ghost use Rattle.brk_lots.specs.Deals.{AreAscendingDeals};
 ghost use Rattle.brk_lots.specs.Lots.{shares_of_lots, abstract_lot};
 ghost use Rattle.brk_lots.specs.Position.{AreOpenedByOtherTrades, IsPosition};
 
-/// Proves three properties of the shares that are open after any deals, from the empty position on:
-/// they have one side; lots of exactly these shares total the signed quantities of the deals; and
-/// the cost basis of these lots equals the realised gains plus the purchases minus the sales, in
-/// cents.
+/// Proves three properties of the shares that are open after any deals, applied from the empty
+/// position on: they have one side; the signed quantities of lots of exactly these shares total the
+/// signed quantities of the deals; and the cost basis of these lots equals the sum of the realised
+/// gains plus the value of the purchases minus the value of the sales, in cents.
 pub fn replayed_lots_match_their_deals()
     ensures one_side { (deals : List Deal) → (side : Side) × AllByRecursion (λ u. u.side ≡ side) (replay deals) }
     ensures quantities { (deals : List Deal) (ls : List Lot) → shares_of_lots ls ≡ replay deals → lot_quantity_sum ls ≡ deal_quantity_sum deals }
@@ -26,8 +26,9 @@ pub fn replayed_lots_match_their_deals()
 /// Proves for deals of distinct trades with strictly ascending stamps that the changes of each lot
 /// form a chain. The first starts at 0 and opens the lot, each later one starts where the one
 /// before it ended and ends strictly nearer to 0, and the last ends at the current quantity. Proves
-/// also for a deal whose trade opened no lot of the position that the lot of this trade, after the
-/// deal, has the number of shares that the deal opens, below 0 for a sale.
+/// also for a deal whose trade opened no lot of the position that the signed quantity of the lot of
+/// this trade after the deal is the quantity of the deal minus the number of shares that the deal
+/// closes, below 0 for a sale.
 pub fn lot_histories_are_chains()
     ensures history { (deals : List Deal) (trade : ℕ) → AreAscendingDeals deals
         → IsLotHistory (changes_of_lot trade deals []) (lot_quantity (replay deals) trade) }
@@ -35,8 +36,9 @@ pub fn lot_histories_are_chains()
         lot_quantity (shares_after_deal (shares_of_lots ls) d) d.trade ≡ signed_by_side d.side (d.qty - closed_share_count_of_deal d (shares_of_lots ls)) }
 {}
 
-/// Proves for a deal whose trade opened no lot of the position that its lot changes are those of
-/// the lots that it closes or reduces, followed by that of the lot that it opens, if any.
+/// Proves for a deal whose trade opened no lot of the position that the changes of lots by the deal
+/// are the changes of the lots that it closes or reduces, followed by the change that opens its own
+/// lot, if it opens one.
 pub fn history_is_touched_and_opened_lots()
     ensures { (d : Deal) (ls : List Lot) → IsPosition ls → AreOpenedByOtherTrades d.trade ls →
         lot_touches_of_deal d (shares_of_lots ls)

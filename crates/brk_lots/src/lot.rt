@@ -60,8 +60,9 @@ impl Lot {
         }
     }
 
-    // Returns the lot change that closes `shares` shares of the lot: its trade, and its signed
-    // quantity before and after. `shares` must be at most the number of its shares.
+    // Returns the lot change that closes `shares` shares of the lot: the trade that opened the lot,
+    // and the signed quantity of the lot before and after. `shares` must be at most the number of
+    // shares of the lot.
     pub(crate) fn touch_closing_shares(&self, shares: u32) -> Touch
         requires { shares ≤ unsigned_abs self.now.qty }
         ensures { result

@@ -69,17 +69,17 @@ impl Position {
         &self.lots[self.first..]
     }
 
-    /// Returns true if a trade with this id and stamp can be applied to the position: it opened
-    /// none of the lots, and its stamp is later than all of theirs.
+    /// Returns true if a trade with the id `trade` and the stamp `stamp` can be applied to the
+    /// position: it opened none of the lots, and its stamp is later than the stamps of all lots.
     pub fn accepts_trade(&self, trade: Id, stamp: Stamp) -> bool
         ensures { IsTrue result ↔ (AreOpenedByOtherTrades trade self.now × AreOpenedBeforeStamp stamp self.now) }
     {
         all_lots_precede_trade(self.lots(), trade, stamp)
     }
 
-    /// Applies `closing`, the effect on this position of a trade that it accepts (`accepts_trade`).
-    /// The position then has the shares that the trade did not close, followed by those that it
-    /// opened.
+    /// Applies `closing`, the effect on this position of a trade that the position accepts
+    /// (`accepts_trade`). The position then has the shares that the trade did not close, followed
+    /// by the shares that the trade opened.
     ///
     /// Fails with `Memory` only. The position is then unchanged.
     pub fn apply(&mut self, closing: &Closing) -> Result<(), Fault>
@@ -98,8 +98,8 @@ impl Position {
         Ok(())
     }
 
-    /// Returns a source of the lots: the newest first if `lifo`, otherwise the oldest first. Takes
-    /// no allocator.
+    /// Returns a source of the lots of the position: the newest first if `lifo` is true, otherwise
+    /// the oldest first. Takes no allocator.
     pub fn from_end(&self, lifo: bool) -> PositionEnd<'_>
         ensures remaining { ⟦<PositionEnd<'static> as LotSource>⟧.remaining result (list_reversed_if_lifo lifo self.now) }
         ensures asked { ⟦<PositionEnd<'static> as LotSource>⟧.asked result ≡ 0 }

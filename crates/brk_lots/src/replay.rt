@@ -55,7 +55,7 @@ fn append_opened_lot(rows: &mut Vec<DealTouch>, trade: Id, opened: Option<Lot>) 
 }
 
 // Appends to `rows` the changes of the lots that `trade` closed or reduced, in sequence, and then
-// that of the lot that it opened, if any. Fails with `Memory` only.
+// the change by which it opened a lot, if it opened one. Fails with `Memory` only.
 fn append_lot_changes(rows: &mut Vec<DealTouch>, trade: Id, closing: &Closing) -> Result<(), Fault>
     ensures added { OnOk result (map abstract_deal_touch rows.new.items ≡ map abstract_deal_touch rows.old.items
         ++ map (holding_history_row trade) (map abstract_touch closing.now.touched.items
@@ -82,8 +82,8 @@ impl Position {
     /// must have distinct trades and strictly ascending stamps.
     ///
     /// Appends to `rows`, for each deal, the changes of the lots that it closed or reduced, in the
-    /// sequence in which it closed them, and then that of the lot that it opened, if any. Fails
-    /// with `Memory` only.
+    /// sequence in which it closed them, and then the change by which it opened a lot, if it opened
+    /// one. Fails with `Memory` only.
     pub fn replay_with_lot_changes(
         alloc: Global,
         deals: &[Deal],

@@ -15,7 +15,8 @@ pub(crate) trait TouchReceiver {
     // The faults with which a call may fail.
     ghost fails: { Fault → Type 0 };
 
-    // Appends a lot change to those of the receiver. Fails with a fault of the receiver only.
+    // Appends the lot change `row` to the lot changes that were added to the receiver before. Fails
+    // with a fault of the receiver (`fails`) only.
     fn add(&mut self, row: Touch) -> Result<(), Fault>
         ensures added { OnOk result ((rows : List Touch) → holds self.old rows → holds self.new (rows ++ row ∷ [])) }
         ensures fault { IfErr result fails };

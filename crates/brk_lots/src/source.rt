@@ -29,8 +29,8 @@ pub trait LotSource {
     /// The effect of a call that fails: the source before it, the fault, and the source after it.
     ghost fails: { Self → Fault → Self → Type 0 };
 
-    /// Returns the next lot, or `None` after the last. Fails with a fault of the source; this does
-    /// not change the remaining lots, so the call may be retried.
+    /// Returns the next lot, or `None` after the last. Fails with a fault of the source only. A
+    /// call that fails does not change the remaining lots, and may be retried.
     fn next(&mut self) -> Result<Option<Lot>, Fault>
         ensures leads { leads self.old self.new }
         ensures given { IfOk result (λ given. reads_faithfully self.new → (ls : List Lot) → remaining self.old ls →

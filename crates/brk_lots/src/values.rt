@@ -44,7 +44,7 @@ pub(crate) fn closing_values(side: Side, traded: u64, opened: u64) -> Values
 /// Returns the buy value and the sell value, in cents, of the shares that an order at `price` would
 /// close (Trade-Order).
 ///
-/// It requests at most one lot for each share and, over the lots of a position under the disk
+/// Requests at most one lot for each share and, over the lots of a position under the disk
 /// assumption, at most one lot more than a trade that opened none of them would close or reduce,
 /// also if it fails. Fails with a fault of the source only.
 pub fn estimate_closing_values<L: LotSource>(

@@ -12,7 +12,7 @@ use Rattle.brk_model.specs.Ask.{ask, parse_query}
 abbrev pub twenty_clock_readings : List ℕ
 twenty_clock_readings = replicate 20 1709251200000
 
--- The text of the lines, each ended by a line feed.
+-- The text of the lines, in sequence, each followed by a line feed.
 abbrev pub text_with_line_ends : List Text → Text
 text_with_line_ends lines = flat_map (λ line. line ++ 10 ∷ []) lines
 

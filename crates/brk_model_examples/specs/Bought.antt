@@ -85,7 +85,7 @@ unfoldable pub tables_without_submission : Tables
 tables_without_submission = record tables_after_first_purchase { history = record { trade = 1; status = Completed; stamp = 1709251200017 } ∷ [] }
 
 -- The tables after the first purchase, in which the TRADE row has the status `Submitted`, although
--- the last one of its history is `Completed`.
+-- the last status in the history of the trade is `Completed`.
 unfoldable pub tables_with_changed_trade_status : Tables
 tables_with_changed_trade_status =
     record tables_after_first_purchase { trades = map {B = TradeRow} (λ t. record t { status = Submitted }) tables_after_first_purchase.trades }
@@ -165,7 +165,7 @@ tables_with_second_cash_row_of_trade =
     }
 
 -- The tables after the first purchase, in which CASH_TRANSACTION, the cash table of the first
--- schema, has a cash row too.
+-- schema, has a cash row of the trade in addition to the one in CASH_MOVE.
 unfoldable pub tables_with_cash_row_of_older_schema : Tables
 tables_with_cash_row_of_older_schema = record tables_after_first_purchase { cash = first_schema_tables_after_purchase.cash }
 

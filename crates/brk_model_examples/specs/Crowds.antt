@@ -77,8 +77,8 @@ setting_with_misleading_security_name = record setting_base {
       } ∷ [];
 }
 
--- The second field of a record of a view, as a list of one, if the first field is the word `trade`;
--- otherwise, or without a second field, the empty list.
+-- The second field of a record of a view, as a list of one element, if the first field is the word
+-- `trade`; otherwise, or without a second field, the empty list.
 abbrev pub trade_ids_of_record : List Text → List Text
 trade_ids_of_record (word ∷ id ∷ fields) = if bytes_eq word (codes "trade") then id ∷ [] else []
 trade_ids_of_record _ = []

@@ -13,8 +13,8 @@ pub record PositionsAndTotals : Type 0 where
   pub balances : List ℤ
   pub brokers : List (ℤ × ℕ)
 
--- The lots, summaries, balances and broker totals of the tables, and the changes of lots by the
--- trade with the id `trade`.
+-- The lots, summary quantities, balances and broker totals of the tables, and the changes of lots
+-- by the trade with the id `trade`.
 abbrev pub positions_and_totals_of_tables : Tables → ℕ → PositionsAndTotals
 positions_and_totals_of_tables tables trade = record {
   lots = map {B = ℕ × ℤ} (λ row. (row.trade, row.qty)) tables.holdings;
@@ -24,7 +24,7 @@ positions_and_totals_of_tables tables trade = record {
   brokers = map {B = ℤ × ℕ} (λ row. (row.trades, row.commissions)) tables.brokers;
 }
 
--- The lots, summaries, balances and broker totals of the tables of `base`, and the changes of lots
--- by the trade with the id `trade`.
+-- The lots, summary quantities, balances and broker totals of the tables of `base`, and the changes
+-- of lots by the trade with the id `trade`.
 abbrev pub positions_and_totals_of_base : Base → ℕ → PositionsAndTotals
 positions_and_totals_of_base base trade = positions_and_totals_of_tables (tables_of_base base) trade

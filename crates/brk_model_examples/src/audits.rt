@@ -17,8 +17,8 @@ ghost use Rattle.brk_model_examples.specs.Bought.{tables_with_second_cash_row_of
 ghost use Rattle.brk_model_examples.specs.Bought.{tables_with_trade_above_older_limit, tables_with_band_above_older_limit};
 ghost use Rattle.brk_model_examples.specs.Bought.{tables_with_settlement_day_after_completion, tables_with_settlement_day_at_completion, tables_with_movement};
 
-/// Shows that the tables after a purchase pass the audit of each schema, also with a later
-/// settlement day, a deposit or a withdrawal.
+/// Shows that the tables after the first purchase pass the audit of each of the three schemas, and
+/// that they pass with a settlement day after the completion, with a deposit or with a withdrawal.
 pub fn tables_of_a_base_pass_audit()
     ensures third { IsAuditResult third_schema tables_after_first_purchase None }
     ensures second { IsAuditResult second_schema tables_after_first_purchase None }
@@ -28,8 +28,8 @@ pub fn tables_of_a_base_pass_audit()
     ensures withdrawal { IsAuditResult second_schema (tables_with_movement 1709251200018 (negsuc 9999) (codes "Withdrawal")) None }
 {}
 
-/// Shows the condition that an audit returns for each change of the tables after the first
-/// purchase. If two conditions fail, the audit returns the first.
+/// Shows the condition that an audit in the third schema returns for each of 21 changes of the
+/// tables after the first purchase. If two conditions fail, the audit returns the first.
 pub fn audit_returns_first_failed_condition()
     ensures no_quantity { IsAuditResult third_schema tables_with_zero_trade_quantity (Some condition.Form) }
     ensures no_last_trade { IsAuditResult third_schema tables_without_last_trade (Some condition.Form) }
@@ -55,8 +55,8 @@ pub fn audit_returns_first_failed_condition()
 {}
 
 /// Shows that tables fail an audit if the name of a movement is unknown or does not fit the sign of
-/// its amount, if its stamp is after the last stamp or equals that of a completion, or if a cash
-/// row with a smaller number has a later stamp.
+/// its amount, if its amount is 0, if its stamp is after the last stamp or equals the stamp of a
+/// completion, or if a cash row with a smaller number has a later stamp.
 pub fn audit_checks_movement_rows()
     ensures other_sign { IsAuditResult third_schema (tables_with_movement 1709251200018 (negsuc 9999) (codes "Deposit")) (Some condition.Form) }
     ensures nothing_moved { IsAuditResult third_schema (tables_with_movement 1709251200018 (pos 0) (codes "Deposit")) (Some condition.Form) }
@@ -67,7 +67,8 @@ pub fn audit_checks_movement_rows()
 {}
 
 /// Shows that an audit applies the limits of quantities of the given schema, and that tables fail
-/// if they have a settlement day, or cash rows in a table, that this schema does not have.
+/// it if they have a settlement day in a schema without one, or cash rows in a table that does not
+/// hold the cash rows of the schema.
 pub fn audit_applies_limits_of_schema()
     ensures quantity { IsAuditResult second_schema tables_with_trade_above_older_limit (Some condition.Form) }
     ensures band { IsAuditResult second_schema tables_with_band_above_older_limit (Some condition.Form) }

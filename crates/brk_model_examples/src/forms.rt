@@ -9,7 +9,7 @@ ghost use Rattle.brk_model.specs.Parse.{parse_row};
 ghost use Rattle.brk_model_examples.specs.Batches.{BatchOutputsLines};
 ghost use Rattle.brk_model_examples.specs.Setting.{setting_base};
 
-/// Shows that of several malformed fields of a row the refusal is returned that is first in the
+/// Shows that a row with several malformed fields is refused by the first failed check in the
 /// sequence text, quantity, price, type; that the price must fit the type; and that the number of
 /// ticks is checked last. A feed without ticks, a row of an unknown kind and a row without fields
 /// are refused with `BadText`.

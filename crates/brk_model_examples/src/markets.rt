@@ -9,9 +9,10 @@ ghost use Rattle.brk_model_examples.specs.Setting.{setting_base};
 ghost use Rattle.brk_model_examples.specs.Waiting.{base_with_pending_orders, pending_order_rows};
 ghost use Rattle.brk_model_examples.specs.Extremes.{setting_with_volume_near_limit};
 
-/// Shows the answers to three pending orders, and that a feed of two ticks of their symbol triggers
-/// two of them, both by its second tick, which also sets the last price. Shows the volume of their
-/// broker before and after the feed.
+/// Shows the answers to three pending orders and the base after them, and that a feed of two ticks
+/// of their symbol triggers two of the trades, both at its second tick. Shows after the feed the
+/// last price and the volume of the security, the remaining request and the new status changes, and
+/// before and after the feed the view `volume` of the trades' broker.
 pub fn feed_triggers_pending_trades()
     ensures orders { BatchOutputsLines setting_base pending_order_rows
         (codes "1,ok,1709251200016,1,PNDG,9.50,0.00,0.00,0.00,0.95,5.00,10000.00"
@@ -43,9 +44,9 @@ pub fn feed_triggers_pending_trades()
         (codes "feed,ABC,10.01,100,ABC,9.50,200" ∷ []))).history) ≡ 1 ∷ 2 ∷ [] }
 {}
 
-/// Shows that a cancel is refused unless its trade is pending, and a feed if a security does not
-/// exist or a tick is incomplete. Shows also the submitted trades and an estimate after a cancel
-/// and a feed.
+/// Shows that a cancel is refused unless its trade exists and is pending, and that a feed is
+/// refused if a security does not exist or a tick is incomplete. Shows also the submitted trades
+/// and an estimate after a cancel and a feed.
 pub fn cancel_needs_pending_trade()
     ensures lines { BatchOutputsLines base_with_pending_orders
         (codes "cancel,1"

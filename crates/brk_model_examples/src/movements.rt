@@ -12,7 +12,8 @@ ghost use Rattle.brk_model_examples.specs.Trading.{base_after_fifo_sale};
 
 /// Shows that a balance may fall below 0 and rise to its limit, but not above it. A withdrawal of
 /// 0.00 and a deposit to an account that does not exist are refused. The reply to a movement has
-/// the number of its cash row, which follows those of the trades.
+/// the number of its cash row, which follows the numbers of the earlier cash rows. Shows also the
+/// base after the first two movements.
 pub fn movements_respect_balance_limit()
     ensures lines { BatchOutputsLines base_after_fifo_sale
         (codes "deposit,100,100.00"
@@ -34,9 +35,10 @@ pub fn movements_respect_balance_limit()
         ≡ base_after_sale_and_movements }
 {}
 
-/// Shows that the cash rows of later movements follow those of trades, in CASH_MOVE and in the
-/// statement. The lookup of a trade returns only the cash row of the trade, and `uptext` changes no
-/// cash row of a movement.
+/// Shows that the cash rows of movements after trades follow the cash rows of the trades, in
+/// CASH_MOVE and in the statement, that the balance includes all of these cash rows, and that
+/// CASH_TRANSACTION has no row. The lookup of a trade returns only the cash row of the trade, and
+/// `uptext` changes no cash row of a movement.
 pub fn cash_rows_of_movements()
     ensures numbers { map {B = ℕ} (λ row. row.id) (tables_of_base base_after_sale_and_movements).moves ≡ 1 ∷ 2 ∷ 3 ∷ 4 ∷ 5 ∷ [] }
     ensures amounts { map {B = ℤ} (λ row. row.amount) (tables_of_base base_after_sale_and_movements).moves

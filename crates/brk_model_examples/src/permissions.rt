@@ -5,8 +5,8 @@ ghost use Rattle.std.specs.Prelude.{◌∷◌, [], codes};
 ghost use Rattle.brk_model_examples.specs.Batches.{BatchOutputsLines};
 ghost use Rattle.brk_model_examples.specs.Setting.{setting_base};
 
-/// Shows that an executor with another tax id than the customer's is refused, unless a permission
-/// has the executor's first name, last name and tax id.
+/// Shows that an order is refused with 6 if its executor has another tax id than the customer,
+/// unless a permission has the executor's first name, last name and tax id.
 pub fn order_needs_permission_of_executor()
     ensures refused { BatchOutputsLines setting_base
         (codes "order,100,TMB,ABC,100,,cash,fifo,Ann,Lee,T11" ∷ [])
@@ -43,8 +43,8 @@ pub fn order_needs_charge_and_commission_band()
         ∷ codes "end,3,0,2" ∷ []) }
 {}
 
-/// Shows that an order is refused if its account does not exist, and otherwise if its security does
-/// not exist.
+/// Shows that an order is refused with 1 if its account does not exist, and otherwise with 4 if its
+/// security does not exist, before the executor is checked.
 pub fn order_needs_account_and_security()
     ensures { BatchOutputsLines setting_base
         (codes "order,999,TMB,QQQ,100,,cash,fifo,Ann,Lee,T10"

@@ -8,8 +8,8 @@ ghost use Rattle.brk_model.specs.Computed.{batch_of_input};
 ghost use Rattle.brk_model_examples.specs.Batches.{twenty_clock_readings, bytes_of_batch, text_with_line_ends, base_after_batch, BatchOutputsLines};
 ghost use Rattle.brk_model_examples.specs.Setting.{setting_base, setting_rows};
 
-/// Shows that a retried batch is answered with its stored replies and leaves the base unchanged,
-/// and that a changed row under a recorded key is refused.
+/// Shows the replies to a batch, that its retry is answered with the stored replies and leaves the
+/// base unchanged, and that a changed row under a recorded key is refused with 19.
 pub fn retried_batch_changes_nothing()
     ensures once { BatchOutputsLines setting_base
         (codes "order,100,TMB,ABC,100,,cash,fifo,Ann,Lee,T10"
@@ -143,8 +143,8 @@ pub fn retried_setting_is_answered_again()
         ∷ codes "end,0,15,1" ∷ []) }
 {}
 
-/// Shows that a refused row records no key: a retry is accepted once the reason for the refusal is
-/// removed.
+/// Shows that a refused row records no key: its retry is accepted after the reason for the refusal,
+/// a customer that does not exist, is removed.
 pub fn refused_row_may_be_retried()
     ensures { (batch_of_input (batch_of_input (base_after_batch setting_base
         (codes "account,101,11,1,Side,0,0.00" ∷ [])) twenty_clock_readings (bytes_of_batch (codes "U")
@@ -154,7 +154,8 @@ pub fn refused_row_may_be_retried()
         ∷ codes "end,1,0,0" ∷ []) }
 {}
 
-/// Shows that of an input without an end record the last row is refused and not executed.
+/// Shows that an input without an end record ends with `NoEnd`, also if it is a header alone, and
+/// that its last row, which may be cut, is refused with 18 and not executed.
 pub fn last_row_of_cut_input_is_refused()
     ensures text { (batch_of_input setting_base twenty_clock_readings (codes "batch,C\nbroker,2,Cy\nbroker,3\nbroker,4,D")).text
         ≡ text_with_line_ends (codes "1,ok,1709251200016"

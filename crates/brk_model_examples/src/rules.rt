@@ -15,8 +15,8 @@ ghost use Rattle.brk_model_examples.specs.Rules.{executor_with_other_tax_id, fir
 ghost use Rattle.brk_model_examples.specs.Setting.{setting_base};
 ghost use Rattle.brk_model_examples.specs.Trading.{base_after_sale_of_all, first_purchase, sale_first_in_first_out};
 
-/// Shows that half a cent of a commission is rounded up and less is rounded down, that a gain is
-/// taxed, and that a loss is not.
+/// Shows that half a cent of a commission is rounded up and that less is rounded down. Shows also
+/// the tax on a gain, and that a loss is not taxed.
 pub fn half_cents_round_up()
     ensures half { commission 100 1 50 ≡ 1 }
     ensures less { commission 100 1 49 ≡ 0 }

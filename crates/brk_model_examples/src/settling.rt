@@ -9,7 +9,8 @@ ghost use Rattle.brk_model_examples.specs.Moving.{base_after_purchase_with_settl
 ghost use Rattle.brk_model_examples.specs.Setting.{setting_base};
 
 /// Shows that the settlement day must be after the day of its command, and can be set only once. A
-/// trade that is completed before the settlement day settles after two days.
+/// trade that is completed before the settlement day settles after two days. Shows also the base
+/// after the settlement day is set and a purchase is completed.
 pub fn settlement_day_is_set_once()
     ensures lines { BatchOutputsLines setting_base
         (codes "oneday,2024-03-01"
@@ -45,8 +46,8 @@ pub fn settlement_after_one_day()
         ∷ codes "result,2,12.00" ∷ []))).base).settlements ≡ 19785 ∷ 19786 ∷ [] }
 {}
 
-/// Shows that 9999-12-30 is the last day for a completion that settles after one day; a completion
-/// one millisecond later is refused with 21.
+/// Shows that 9999-12-30 is the last day for a completion that settles after one day: a completion
+/// in the last millisecond of this day is accepted, and one a millisecond later is refused with 21.
 pub fn last_day_for_one_day_settlement()
     ensures accepted { (batch_of_input base_after_purchase_with_settlement_day (253402214399998 ∷ 253402214399999 ∷ []) (bytes_of_batch (codes "Y")
         (codes "order,100,TMB,ABC,100,,cash,fifo,Ann,Lee,T10"

@@ -25,8 +25,8 @@ pub fn result_needs_submitted_trade()
         ∷ codes "end,0,0,1" ∷ []) }
 {}
 
-/// Shows that a result is refused if it would raise the balance above its limit: the trade remains
-/// submitted, and no lot is opened.
+/// Shows that a result is refused with 14 if it would raise the balance of the account above its
+/// limit: the trade remains submitted, and no lot is opened.
 pub fn balance_limit_is_checked()
     ensures lines { BatchOutputsLines setting_base
         (codes "account,102,10,1,Rich,0,1000000000000000.00"
@@ -74,7 +74,7 @@ pub fn stamps_continue_if_clock_goes_back()
 {}
 
 /// Shows that, if the last stamp is the greatest stamp, a command that passes all other checks is
-/// refused with 21.
+/// refused with 21, and a command that fails another check with the refusal of that check.
 pub fn commands_at_greatest_stamp_are_refused()
     ensures { BatchOutputsLines base_at_greatest_stamp
         (codes "broker,7,Cy"
@@ -84,7 +84,7 @@ pub fn commands_at_greatest_stamp_are_refused()
         ∷ codes "end,0,0,2" ∷ []) }
 {}
 
-/// Shows that a result is refused if its due day is after 9999-12-31.
+/// Shows that a result is refused with 21 if the due day of its trade is after 9999-12-31.
 pub fn due_day_beyond_calendar_is_refused()
     ensures { (batch_of_input setting_base (253402300799000 ∷ 0 ∷ []) (bytes_of_batch (codes "Y")
         (codes "order,100,TMB,ABC,100,,cash,fifo,Ann,Lee,T10"
@@ -94,7 +94,8 @@ pub fn due_day_beyond_calendar_is_refused()
         ∷ codes "end,1,0,1" ∷ []) }
 {}
 
-/// Shows that 9999-12-29 is the last day for a completion that settles after two days.
+/// Shows that 9999-12-29 is the last day for a completion that settles after two days: a completion
+/// in the last millisecond of this day is accepted, and one a millisecond later is refused with 21.
 pub fn last_day_for_two_day_settlement()
     ensures accepted { (batch_of_input setting_base (253402127999998 ∷ 253402127999999 ∷ []) (bytes_of_batch (codes "Y")
         (codes "order,100,TMB,ABC,100,,cash,fifo,Ann,Lee,T10"

@@ -12,8 +12,9 @@ ghost use Rattle.brk_model.specs.Audit.{expected_tables};
 ghost use Rattle.brk_model_examples.specs.Trading.{base_after_first_purchase};
 ghost use Rattle.brk_model_examples.specs.Bought.{tables_after_first_purchase, first_schema_tables_after_purchase};
 
-/// Shows the tables after the first purchase: they satisfy the conditions `Form` and `Status`, and
-/// equal the tables of the base that they describe.
+/// Shows the tables after the first purchase: they are the sheets of the base after the purchase,
+/// and they satisfy the audit conditions `Form` and `Status`. The base that they describe has the
+/// trades of the base after the purchase, and its sheets are these tables.
 pub fn tables_equal_those_of_their_base()
     ensures tables { sheets base_after_first_purchase ≡ tables_after_first_purchase }
     ensures form { satisfies_form_condition third_schema tables_after_first_purchase ≡ true }
@@ -22,8 +23,9 @@ pub fn tables_equal_those_of_their_base()
     ensures expected { expected_tables third_schema tables_after_first_purchase ≡ tables_after_first_purchase }
 {}
 
-/// Shows the tables after the first purchase in the two older schemas, and that their upgrade
-/// results in the tables of the third.
+/// Shows the tables after the first purchase in the two older schemas. The tables in the first
+/// schema satisfy the audit condition `Form` and describe the base that the tables in the third
+/// schema describe, and an upgrade from either older schema results in the tables in the third.
 pub fn older_schema_tables_are_upgraded()
     ensures first { sheets_in_schema first_schema base_after_first_purchase ≡ first_schema_tables_after_purchase }
     ensures first_form { satisfies_form_condition first_schema first_schema_tables_after_purchase ≡ true }

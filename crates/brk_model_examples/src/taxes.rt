@@ -5,7 +5,8 @@ ghost use Rattle.std.specs.Prelude.{◌∷◌, [], codes};
 ghost use Rattle.brk_model_examples.specs.Batches.{BatchOutputsLines};
 ghost use Rattle.brk_model_examples.specs.Setting.{setting_base};
 
-/// Shows that the tax on a gain is recorded at the tax statuses 1 and 2, and withheld at 1 only.
+/// Shows that the tax on a gain is recorded at the tax statuses 1 and 2 and not at 0, and withheld
+/// from the settlement amount at 1 only.
 pub fn tax_status_decides_recorded_tax()
     ensures untaxed { BatchOutputsLines setting_base
         (codes "account,102,10,1,Tax,0,10000.00"

@@ -11,7 +11,7 @@ ghost use Rattle.brk_model_examples.specs.Trading.{base_after_fifo_sale};
 
 /// Shows that `upname`, `upcash` and `uptext` reply with the number of trades that they select, and
 /// that `upname` is refused with 18 for a repeated id and with 5 for an unknown id. Shows also the
-/// updated texts.
+/// updated texts of the first trade, and the updated cash types of all three trades.
 pub fn text_updates_after_sale()
     ensures lines { BatchOutputsLines base_after_fifo_sale
         (codes "upname,1"
@@ -65,8 +65,8 @@ pub fn update_toggles_executor_name()
     ensures removed_at_start { updated_executor_name (codes "X X Lee") ≡ codes "X Lee" }
 {}
 
-/// Shows that `uptext` searches the whole text of a cash row, also the name of the security: if
-/// that name contains ` shares of `, every update writes ` Shares of `.
+/// Shows that `uptext` searches the whole text of a cash row, including the name of the security:
+/// if that name contains ` shares of `, each update leaves ` Shares of ` before the name.
 pub fn cash_name_update_searches_whole_text()
     ensures lines { BatchOutputsLines setting_with_misleading_security_name
         (codes "order,100,TMB,ABC,100,,cash,fifo,Ann,Lee,T10"

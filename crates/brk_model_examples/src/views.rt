@@ -97,8 +97,8 @@ pub fn lots_view_of_oldest_trade()
         ≡ Ok ([]) }
 {}
 
-/// Shows the figures of the estimate of a sale, and that an estimate is refused with `NotPermitted`
-/// if the executor has another tax id than the customer and no permission.
+/// Shows the figures that the view `estimate` returns for a sale, and that it is refused with
+/// `NotPermitted` if the executor has another tax id than the customer and no permission.
 pub fn estimate_returns_order_figures()
     ensures numbers { view_by_name_and_arguments base_after_two_purchases (codes "estimate")
         (codes "100" ∷ codes "TMS" ∷ codes "ABC" ∷ codes "150" ∷ [] ∷ codes "cash" ∷ codes "fifo" ∷ codes "Ann" ∷ codes "Lee" ∷ codes "T10" ∷ [])

@@ -17,7 +17,8 @@ use Rattle.brk_model.specs.Keys.{kept_key, broker_key, customer_key, account_key
 use Rattle.brk_model.specs.Keys.{tax_rate_key, customer_tax_key, trade_key, history_key, request_key, holding_key, summary_key, holding_history_key}
 use Rattle.brk_model.specs.Keys.{settlement_key, cash_key, move_key}
 
--- The tables `t` satisfy each part of the audit condition `Form` in the schema `schema`.
+-- The tables `t` satisfy each part of the audit condition `Form` in the schema `schema`: each field
+-- of the record is one part.
 pub record SatisfiesFormParts (schema : Schema) (t : Tables) : Type 0 where
   pub clock : is_last_stamp_in_calendar t.last ≡ true
   pub keys : tables_are_sorted_by_unique_key t ≡ true

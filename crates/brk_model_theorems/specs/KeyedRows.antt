@@ -39,8 +39,9 @@ IsUnusedKey base key = stored_row_with_key base key ≡ None
 abbrev pub RunWithoutKeyLeadsTo : Key → Base → Base → Type 0
 RunWithoutKeyLeadsTo key base later = (calls : List (ℕ × Call)) × (outcomes : List Outcome) × Run base calls outcomes later × AcceptsNothingUnderKey key calls outcomes
 
--- If `step` accepts the command over `base` at the clock reading `now`, the row is accepted under
--- the key, with the same reply, which is then stored. Vacuous if `step` refuses the command.
+-- If `step` accepts the command over `base` at the clock reading `now`, `keyed_step` accepts it
+-- under the key, with the reply of `step`, which is then stored under the key. Vacuous if `step`
+-- refuses the command.
 abbrev pub IsAcceptedIfStepAccepts : Base → Key → ℕ → Command → Type 0
 IsAcceptedIfStepAccepts base key now command =
     (reply : Reply) (booked : Base) → step base now command ≡ Ok (reply, booked)

@@ -42,12 +42,12 @@ accepted_stamps [] = []
 accepted_stamps (outcome ∷ outcomes) = stamps_of_outcome outcome ++ accepted_stamps outcomes
 
 -- The stamps are strictly ascending, and the first is greater than `last`. Without a stamp `last`
--- there is no lower bound.
+-- there is no lower bound. True of an empty list.
 abbrev pub StampsAscendFrom : Option ℕ → List ℕ → Type 0
 StampsAscendFrom last [] = ⊤
 StampsAscendFrom last (stamp ∷ stamps) = IfSome last (λ l. l < stamp) × StampsAscendFrom (Some stamp) stamps
 
--- The base after the call at the clock reading `now`: that of the keyed step if the call is a
+-- The base after the call at the clock reading `now`: the base after `keyed_step` if the call is a
 -- command and the answer is `Done`, otherwise `base`.
 abbrev pub base_after_answer : Base → ℕ → Call → Answer → Base
 base_after_answer base now (Do command key) (Done reply) = (keyed_step base now command key).1
@@ -55,7 +55,7 @@ base_after_answer base now (Do command key) (Again line) = base
 base_after_answer base now (Do command key) (Refused refusal) = base
 base_after_answer base now (Ask query) answer = base
 
--- The base after the call at the clock reading `now`: that of the keyed step if the call is a
+-- The base after the call at the clock reading `now`: the base after `keyed_step` if the call is a
 -- command that the outcome accepts, otherwise `base`.
 abbrev pub base_after_outcome : Base → ℕ → Call → Outcome → Base
 base_after_outcome base now call (Did answer) = base_after_answer base now call answer
@@ -105,7 +105,7 @@ pub record IsBatchWithoutRefusals (form : Fields → ReadResult Command) (base :
   pub none_refused : refused_answer_count answers ≡ 0
 
 -- The answer to a retry of a row that had the given answer: `Again` with the line of the reply if
--- the answer was `Done`, otherwise the same answer.
+-- the answer was `Done`, otherwise the given answer.
 abbrev pub answer_to_retry : Answer → Answer
 answer_to_retry (Done reply) = Again (line_text reply)
 answer_to_retry (Again line) = Again line
@@ -124,8 +124,8 @@ answers_for_new_keys base (call ∷ calls) (answer ∷ answers) =
     if is_none (stored_row_with_key base call.key) then answer ∷ answers_for_new_keys base calls answers else answers_for_new_keys base calls answers
 answers_for_new_keys base calls answers = []
 
--- The answer to the call is that to a repeated row: the line of the stored row `k` if the row texts
--- are equal, otherwise the refusal `KeyReused`. Vacuous if there is no stored row.
+-- The call has the answer to a repeated row: the line of the stored row `k` if the row texts are
+-- equal, otherwise the refusal `KeyReused`. Vacuous if there is no stored row.
 abbrev pub AnswerMatchesStoredReply : Base → Option Kept → RowCall Command → Answer → Type 0
 AnswerMatchesStoredReply base None call answer = ⊤
 AnswerMatchesStoredReply base (Some k) call answer = answer ≡ (answer_to_repeated_row base call.command k).0
@@ -139,7 +139,8 @@ AnswersMatchStoredReplies base calls answers = ⊤
 
 -- ---- rows that were accepted
 
--- The calls that were accepted, in sequence: those whose answer is `Done`.
+-- The accepted calls, in sequence: the calls whose answer is `Done`. Calls without an answer are
+-- left out.
 abbrev pub accepted_calls : List (RowCall Command) → List Answer → List (RowCall Command)
 accepted_calls (call ∷ calls) (Done reply ∷ answers) = call ∷ accepted_calls calls answers
 accepted_calls (call ∷ calls) (Again line ∷ answers) = accepted_calls calls answers
@@ -161,8 +162,8 @@ IsStoredIfAccepted base call (Done reply) =
 IsStoredIfAccepted base call (Again line) = ⊤
 IsStoredIfAccepted base call (Refused refusal) = ⊤
 
--- For each call whose answer is `Done`, the base stores its row text and its reply under its key.
--- Vacuous for other answers, and for calls without an answer.
+-- For each call whose answer is `Done`, the base stores the row text and the reply of the call
+-- under its key. Vacuous for other answers, and for calls without an answer.
 abbrev pub AcceptedCallsAreStored : Base → List (RowCall Command) → List Answer → Type 0
 AcceptedCallsAreStored base (call ∷ calls) (answer ∷ answers) = IsStoredIfAccepted base call answer × AcceptedCallsAreStored base calls answers
 AcceptedCallsAreStored base calls answers = ⊤
@@ -182,17 +183,18 @@ pub record NextRowLeadsTo (form : Fields → ReadResult Command) (name : Text) (
   -- The answer to the row, and the base after it.
   pub booked : step_of_row mid moment command (record { batch = name; row = length front + 1 }) ≡ (answer, stood)
 
--- The base `stood` is `mid`, the base after the rows `front` of the batch `name`, or the base after
--- the next row, the first of `more`, was executed from `mid` too.
+-- The base `stood` may follow an interruption after the rows `front` of the batch `name`: it is the
+-- base `mid` after these rows, or the base after an execution of the next row, the first of `more`,
+-- from `mid`, at any clock reading and with any answer.
 abbrev pub IsBaseAfterInterruption : (Fields → ReadResult Command) → Text → Base → List Fields → List Fields → Base → Type 0
 IsBaseAfterInterruption form name mid front more stood =
     (stood ≡ mid) ⊎ ((moment : ℕ) × (answer : Answer) × NextRowLeadsTo form name mid front more moment answer stood)
 
 -- The rows `rows` of the batch `name` are decided as by one uninterrupted run from `base` to
--- `last`. The rows of a first attempt have its answers `answers` at its clock readings `earlier`;
--- the retry, with the answers `told` and the clock readings `later`, answers them as
--- `answer_to_retry` returns. The other rows have the remaining answers and clock readings of the
--- retry.
+-- `last`. In that run the rows of a first attempt have the answers `answers` and the clock readings
+-- `earlier` of this attempt, and the other rows have the remaining answers of `told` and the
+-- remaining clock readings of `later`, both of a retry of all rows. The retry answers each row of
+-- the first attempt with `answer_to_retry` of its first answer.
 pub record IsCompletedByRetry (form : Fields → ReadResult Command) (name : Text) (base : Base) (earlier later : List ℕ) (rows : List Fields)
     (answers told : List Answer) (last : Base) : Type 0 where
   pub again : take (length answers) told ≡ map answer_to_retry answers

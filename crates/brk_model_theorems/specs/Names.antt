@@ -24,7 +24,7 @@ abbrev pub TradeReferencesResolve : Base → Trade → Type 0
 TradeReferencesResolve base t = AccountOfTradeExists base t × SecurityOfTradeExists base t
 
 -- Every record to which the records of the five lists refer exists in `base`, and the trades of
--- `trades` are numbered 1, 2, 3 and so on.
+-- `trades` are numbered from 1, in sequence.
 pub record ReferencesResolve (base : Base) (accounts : List Account) (permissions : List Permission) (taxes : List CustomerTax) (trades : List Trade)
     (movements : List Movement) : Type 0 where
   pub parties : AllByRecursion (AccountReferencesResolve base) accounts
@@ -34,7 +34,7 @@ pub record ReferencesResolve (base : Base) (accounts : List Account) (permission
   pub numbered : TradesAreNumberedFrom 1 trades
   pub held : AllByRecursion (AccountOfMovementExists base) movements
 
--- Every record to which the records of `base` refer exists in `base`, and its trades are numbered
--- 1, 2, 3 and so on.
+-- Every record to which the records of `base` refer exists in `base`, and the trades of `base` are
+-- numbered from 1, in sequence.
 abbrev pub BaseReferencesResolve : Base → Type 0
 BaseReferencesResolve base = ReferencesResolve base base.accounts base.permissions base.customer_taxes base.trades base.movements

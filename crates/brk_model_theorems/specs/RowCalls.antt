@@ -1,6 +1,6 @@
--- The well-formed rows of a batch as calls, each with its key and its clock reading, and the answers
--- to all rows as those of the calls with the refusals of the malformed rows between them. The
--- theorems on runs and retries of batches are over these calls.
+-- The well-formed rows of a batch as calls, each with its key and its clock reading, and the
+-- answers to all rows: the answers to the calls, with the refusals of the malformed rows between
+-- them. The theorems on runs and retries of batches are over these calls.
 use Rattle.std.specs.Prelude.{◌≡◌, ℕ, ◌+◌, List, [], ◌∷◌, length, Ok, Err}
 use Rattle.brk_money.specs.Spelling.{Text}
 use Rattle.brk_model.specs.Records.{Key}
@@ -18,8 +18,8 @@ pub record RowCall (C : Type 0) : Type 0 where
 abbrev pub answer_to_row_call : {B C : Type 0} → RowStep B C → B → RowCall C → Answer × B
 answer_to_row_call step base call = step base call.now call.command call.key
 
--- The calls, executed in sequence by `step` from `base` on, have exactly these answers, and `after`
--- is the base after the last. It is false if the lists have different lengths.
+-- The calls, executed in sequence by `step` from `base` on, have exactly the given answers, and
+-- `after` is the base after the last call. False if the two lists have different lengths.
 abbrev pub CallsHaveAnswers : {B C : Type 0} → RowStep B C → B → List (RowCall C) → List Answer → B → Type 0
 CallsHaveAnswers step base [] [] after = after ≡ base
 CallsHaveAnswers step base (call ∷ calls) (answer ∷ answers) after =
@@ -27,8 +27,8 @@ CallsHaveAnswers step base (call ∷ calls) (answer ∷ answers) after =
 CallsHaveAnswers step base [] (answer ∷ answers) after = ⊥
 CallsHaveAnswers step base (call ∷ calls) [] after = ⊥
 
--- The list `rest` with the row number `n` and the command in front; `rest` unchanged if the row was
--- refused.
+-- The list `rest` with the row number `n` and the command of a row in front if the row is
+-- well-formed (`Ok`), or `rest` unchanged if the row is malformed (`Err`).
 abbrev pub with_well_formed_row : {C : Type 0} → ReadResult C → ℕ → List (ℕ × C) → List (ℕ × C)
 with_well_formed_row (Ok command) n rest = (n, command) ∷ rest
 with_well_formed_row (Err refusal) n rest = rest
@@ -46,23 +46,23 @@ calls_of_rows batch (moment ∷ moments) (row ∷ rows) =
 calls_of_rows batch [] rows = []
 calls_of_rows batch (moment ∷ moments) [] = []
 
--- The answers to a row and to the rows after it: its refusal if the row is malformed, otherwise the
--- next of `answers` if there is one, followed by the answers that `more` returns for the remaining
--- ones.
+-- The answers to a row and to the rows after it: first the refusal of the row if it is malformed,
+-- otherwise the first of `answers`, if there is one; then the answers that `more` returns for the
+-- rest of `answers`.
 abbrev pub answers_to_row_and_rest : {C : Type 0} → ReadResult C → (List Answer → List Answer) → List Answer → List Answer
 answers_to_row_and_rest (Err refusal) more answers = Refused refusal ∷ more answers
 answers_to_row_and_rest (Ok command) more (answer ∷ answers) = answer ∷ more answers
 answers_to_row_and_rest (Ok command) more [] = more []
 
 -- The answers to the rows, in sequence: the refusal of each malformed row, and for each other row
--- the next of `answers`, if there is one.
+-- the next of `answers`, if there is one. Surplus answers are dropped.
 abbrev pub answers_interleaved_with_refusals : {C : Type 0} → (Fields → ReadResult C) → List Fields → List Answer → List Answer
 answers_interleaved_with_refusals form [] answers = []
 answers_interleaved_with_refusals form (row ∷ rows) answers = answers_to_row_and_rest (form row) (answers_interleaved_with_refusals form rows) answers
 
 -- The rows of the batch `batch` have exactly the answers `answers` and lead from `base` to `after`.
--- Malformed rows are refused; the others are executed in sequence by `step`, with one of the clock
--- readings `moments` each.
+-- Malformed rows are refused; the others are executed in sequence by `step`, each under its key and
+-- with the next of the clock readings `moments`, of which there is one for each of these rows.
 pub record RowsAreAnsweredByCalls {B C : Type 0} (form : Fields → ReadResult C) (step : RowStep B C) (batch : Text) (base : B) (moments : List ℕ)
     (rows : List Fields) (answers : List Answer) (after : B) : Type 0 where
   pub replies : List Answer

@@ -17,9 +17,9 @@ ghost use Rattle.brk_model_theorems.specs.Laws.{AnswersMatchStoredReplies, Accep
 ghost use Rattle.brk_model_theorems.specs.Laws.{IsBaseAfterInterruption, IsBatchWithoutRefusals, answer_to_retry, answers_for_new_keys, call_of_batch_row};
 ghost use Rattle.brk_model_theorems.specs.Laws.{calls_with_new_keys, accepted_answers, accepted_calls};
 
-/// Proves that the rows of a batch have given answers, one each, if and only if their calls have:
-/// each malformed row is answered with its refusal, and the well-formed rows are called in
-/// sequence, each with its key and one clock reading.
+/// Proves that the rows of a batch have given answers, one for each row, if and only if
+/// `RowsAreAnsweredByCalls` holds: each malformed row is answered with its refusal, and the
+/// well-formed rows are executed as calls in sequence, each with its key and one clock reading.
 pub fn rows_are_answered_by_their_calls()
     ensures called { (form : Fields → ReadResult Command) (name : List ℕ) (base after : Base) (moments : List ℕ) (rows : List Fields) (answers : List Answer)
         → RowsAreAnswered form step_of_row name base moments rows answers after → length answers ≡ length rows
@@ -36,9 +36,9 @@ pub fn batch_computes_the_specified_result()
         → (n : ℕ) × IsResultOfBatch parse_row step_of_row base (take n moments) input (batch_of_input base moments input) }
 {}
 
-/// Proves that, if calls of batch rows, executed in sequence, have given answers and lead from one
-/// base to another, these calls, each with its key, are a run with the same answers between the
-/// same bases.
+/// Proves that calls of batch rows are a run: if the calls, executed in sequence, have the answers
+/// `answers` and lead from `base` to `after`, a run of these calls, each under its key, has the
+/// outcomes `answers` and leads from `base` to `after`.
 pub fn batch_rows_form_a_run()
     ensures { (base after : Base) (calls : List (RowCall Command)) (answers : List Answer) → CallsHaveAnswers step_of_row base calls answers after
         → Run base (map call_of_batch_row calls) (map Did answers) after }
@@ -46,7 +46,8 @@ pub fn batch_rows_form_a_run()
 
 /// Proves that a retry of a complete batch that refused no row completes, changes nothing and is
 /// answered with the stored lines. The retry may start from the base after the batch, or from any
-/// base that a run reaches from it, at any clock readings. It holds for any format check of rows.
+/// base that a run reaches from that base, at any clock readings. The theorem holds for any format
+/// check of rows.
 pub fn a_retried_batch_changes_nothing()
     ensures { (form : Fields
         → ReadResult Command) (base later : Base) (moments others : List ℕ) (input : List ℕ) (answers : List Answer) (first second : BatchResult Base)
@@ -56,9 +57,9 @@ pub fn a_retried_batch_changes_nothing()
 {}
 
 /// Proves that the rows that a retry of a complete batch without refusals decides change nothing
-/// and are answered with the stored lines. It holds for any number of decided rows, so for a retry
-/// that fails, too. The retry may start from the base after the batch, or from any base that a run
-/// reaches from it.
+/// and are answered with the stored lines. The theorem holds for any number of decided rows, also
+/// if the retry then fails. The retry may start from the base after the batch, or from any base
+/// that a run reaches from that base.
 pub fn retried_rows_change_nothing()
     ensures { (form : Fields → ReadResult Command) (base later last : Base) (moments others : List ℕ) (input : List ℕ) (answers told : List Answer)
         (first : BatchResult Base) (name : List ℕ) (rows : List Fields) → IsBatchWithoutRefusals form base moments input answers first
@@ -67,9 +68,10 @@ pub fn retried_rows_change_nothing()
         → (told ≡ map answer_to_retry (take (length rows) answers)) × (last ≡ later) }
 {}
 
-/// Proves that rows whose keys a base stores change nothing: executed without them, in sequence,
-/// the other rows have the same answers and lead to the same base. A row that equals the stored row
-/// of its key is answered with the stored line, and any other row under this key is refused.
+/// Proves that rows whose keys a base stores change nothing: leaving them out changes neither the
+/// answers to the other rows, executed in sequence, nor the base after these. A row that equals the
+/// stored row of its key is answered with the stored line, and any other row under a stored key is
+/// refused.
 pub fn rows_with_stored_keys_change_nothing()
     ensures { (base after : Base) (calls : List (RowCall Command)) (answers : List Answer) → CallsHaveAnswers step_of_row base calls answers after
         → CallsHaveAnswers step_of_row base (calls_with_new_keys base calls) (answers_for_new_keys base calls answers) after
@@ -91,9 +93,9 @@ pub fn two_attempts_equal_one_run()
 {}
 
 /// Proves that a batch whose first rows were decided without a refusal, and whose rows are then all
-/// decided by a retry, equals one uninterrupted run. The first rows have the clock readings of the
-/// first attempt, the others those of the retry. The retry answers the first rows with the stored
-/// lines.
+/// decided by a retry, equals one uninterrupted run. In this run the first rows have the clock
+/// readings of the first attempt, and the other rows the clock readings of the retry. The retry
+/// answers the first rows with the stored lines.
 pub fn partial_batch_is_completed_by_retry()
     ensures { (form : Fields → ReadResult Command) (name : List ℕ) (base mid last : Base) (moments others : List ℕ) (front more : List Fields)
         (answers told : List Answer) → refused_answer_count answers ≡ 0 → BatchRowsAreDecided form step_of_row name base moments front answers mid

@@ -22,10 +22,10 @@ pub fn other_row_under_same_key_is_refused()
         → keyed_step row.after later other (Some row.key) ≡ (Refused KeyReused, row.after) }
 {}
 
-/// Proves that a row that is refused under an unused key changes nothing and stores no key. If the
-/// reason of a refusal is not `KeyReused`, the key was unused. A key stays unused in any run that
-/// accepts no row under it. Under a key that the base does not store, a row is accepted if `step`
-/// accepts its command.
+/// Proves that a row that is refused under an unused key changes nothing and stores no key. Proves
+/// also that the key of a row that is refused, and not with `KeyReused`, was unused; that a key
+/// stays unused in any run that accepts no row under it; and that a row under an unused key is
+/// accepted if `step` accepts its command.
 pub fn refused_row_stores_no_key()
     ensures stores_nothing { (row : RefusedRow) → IsUnusedKey row.base row.key → (row.after ≡ row.base) × IsUnusedKey row.after row.key }
     ensures key_was_unused { (row : RefusedRow) → row.refusal ≢ KeyReused → IsUnusedKey row.base row.key }

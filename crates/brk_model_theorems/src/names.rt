@@ -7,8 +7,8 @@ ghost use Rattle.brk_model_theorems.specs.Laws.{IsReachableFromEmptyBase};
 ghost use Rattle.brk_model_theorems.specs.Names.{BaseReferencesResolve};
 
 /// Proves that any run of calls preserves `BaseReferencesResolve`: every record that another one
-/// refers to exists, and trades are numbered 1, 2, 3 and so on. Every base that a run reaches from
-/// the empty base satisfies it.
+/// refers to exists, and trades are numbered from 1, in sequence. Proves also that every base that
+/// a run reaches from the empty base satisfies `BaseReferencesResolve`.
 pub fn runs_preserve_references()
     ensures run { (base after : Base) (calls : List (ℕ × Call)) (outcomes : List Outcome) → BaseReferencesResolve base → Run base calls outcomes after
         → BaseReferencesResolve after }

@@ -11,15 +11,15 @@ ghost use Rattle.brk_model.specs.Tables.{tables_of_base};
 ghost use Rattle.brk_model_theorems.specs.Names.{BaseReferencesResolve};
 ghost use Rattle.brk_model_theorems.specs.Positions.{AllSharesHaveSameSide, is_row_of_position};
 
-/// Proves that the shares of a position after any list of deals, from the empty position on, all
-/// have the same side.
+/// Proves that the shares of a position after any list of deals, applied from the empty position
+/// on, all have one side.
 pub fn all_shares_have_one_side()
     ensures { (deals : List Deal) → AllSharesHaveSameSide (replay deals) }
 {}
 
-/// Proves that the quantities of the lots (rows of HOLDING) of an account in a symbol total its
-/// holding summary, if trades are numbered 1, 2, 3 and so on, and so after any run of calls from a
-/// base that satisfies `BaseReferencesResolve`.
+/// Proves that the signed quantities of the lots (rows of HOLDING) of an account in a symbol total
+/// the quantity of their holding summary, if trades are numbered 1, 2, 3 and so on. Proves this
+/// also after any run of calls from a base that satisfies `BaseReferencesResolve`.
 pub fn lots_sum_to_the_summary()
     ensures numbered { (base : Base) (account : ℕ) (symbol : List ℕ) → TradesAreNumberedFrom 1 base.trades
         → total_by (λ row. row.qty) (filter (is_row_of_position account symbol) (tables_of_base base).holdings)

@@ -29,7 +29,8 @@ side_of_trade_type StopLoss = Sell
 side_of_trade_type LimitSell = Sell
 side_of_trade_type LimitBuy = Buy
 
--- True if a trade of this type is executed at the market price (TT_IS_MRKT).
+-- True if a trade of this type is executed at the market price (TT_IS_MRKT): `MarketBuy` or
+-- `MarketSell`.
 abbrev pub is_market_type : TradeType → Bool
 is_market_type MarketBuy = true
 is_market_type MarketSell = true
@@ -151,7 +152,7 @@ fault_number Memory = 90
 fault_number Store = 91
 fault_number (Damaged condition) = 92
 
--- The number of a tax status, 0 to 2 (CA_TAX_ST).
+-- The number of a tax status (CA_TAX_ST): 0 for `Untaxed`, 1 for `Withheld`, 2 for `Reported`.
 abbrev pub tax_status_number : TaxStatus → ℕ
 tax_status_number Untaxed = 0
 tax_status_number Withheld = 1

@@ -14,8 +14,8 @@ Text = List ℕ
 abbrev pub value_if_canonical : {A : Type 0} → (A → Text) → A → Text → Option A
 value_if_canonical spell value text = if bytes_eq (spell value) text then Some value else None
 
--- The number whose decimal digits are the ASCII digits of the text, or 0 if there are none; all
--- other bytes are left out.
+-- The number whose decimal digits are the ASCII digits of the text, in sequence, or 0 if there are
+-- none; all other bytes are left out.
 abbrev pub number_from_ascii_digits : Text → ℕ
 number_from_ascii_digits text = fold (λ n c. 10 * n + (c - 48)) 0 (filter is_ascii_digit text)
 
@@ -24,7 +24,7 @@ number_from_ascii_digits text = fold (λ n c. 10 * n + (c - 48)) 0 (filter is_as
 abbrev pub decimal_number_of_text : Text → Option ℕ
 decimal_number_of_text text = value_if_canonical decimal (number_from_ascii_digits text) text
 
--- The number if there is one and it is at most `limit`, otherwise none.
+-- The given number if there is one and it is at most `limit`, otherwise none.
 abbrev pub number_within_limit : ℕ → Option ℕ → Option ℕ
 number_within_limit limit None = None
 number_within_limit limit (Some n) = if nat_le n limit then Some n else None
@@ -33,8 +33,8 @@ number_within_limit limit (Some n) = if nat_le n limit then Some n else None
 abbrev pub is_within_amount_limit : ℤ → Bool
 is_within_amount_limit z = nat_le (nat_abs z) Cents.GREATEST
 
--- The proposition that the absolute value of an amount, in cents, is at most `Cents.GREATEST`. It
--- holds if and only if `is_within_amount_limit` is true for the amount.
+-- The absolute value of the amount, in cents, is at most `Cents.GREATEST`. This proposition holds
+-- if and only if `is_within_amount_limit` is true for the amount.
 abbrev pub IsWithinAmountLimit : ℤ → Type 0
 IsWithinAmountLimit (pos n) = n ≤ Cents.GREATEST
 IsWithinAmountLimit (negsuc n) = suc n ≤ Cents.GREATEST
@@ -50,7 +50,8 @@ abbrev pub cents_text : ℤ → Text
 cents_text (pos n) = unsigned_cents_text n
 cents_text (negsuc n) = 45 ∷ unsigned_cents_text (suc n)
 
--- The cents whose digits are the ASCII digits of the text, negated if the text begins with a minus.
+-- The number of cents whose decimal digits are the ASCII digits of the text, or 0 if it has none;
+-- the number is negated if the text begins with a minus. All other bytes are left out.
 abbrev pub cents_from_ascii_digits : Text → ℤ
 cents_from_ascii_digits text = if slice_index text 0 == 45 then neg_ℤ (pos (number_from_ascii_digits text)) else pos (number_from_ascii_digits text)
 
@@ -68,7 +69,7 @@ abbrev pub date_text : CivilDate → Text
 date_text d = padded_decimal 4 d.year ++ 45 ∷ padded_decimal 2 d.month ++ 45 ∷ padded_decimal 2 d.day
 
 -- The ten bytes of the text of a date, such as 2024-03-01, digit by digit, for a year `y` below
--- 10000 and a month `m` and a day `d` below 100. It serves the contracts of private functions.
+-- 10000, a month `m` below 100 and a day `d` below 100.
 abbrev pub date_text_by_digits : ℕ → ℕ → ℕ → Text
 date_text_by_digits y m d =
     (48 + y / 100 / 10) ∷ (48 + y / 100 % 10) ∷ (48 + y % 100 / 10) ∷ (48 + y % 100 % 10) ∷ 45 ∷ (48 + m / 10) ∷ (48 + m % 10) ∷ 45 ∷ (48 + d / 10)
@@ -79,7 +80,7 @@ abbrev pub day_text : ℕ → Text
 day_text day = date_text (civil_date_of_day day)
 
 -- The civil date whose year, month and day are the numbers of the ASCII digits in bytes 0 to 3, 5
--- to 6 and 8 to 9 of the text, counted from 0. It need not be a date of the calendar.
+-- to 6 and 8 to 9 of the text, counted from 0. This date need not be in the calendar.
 abbrev pub civil_date_from_ascii_digits : Text → CivilDate
 civil_date_from_ascii_digits text = record {
   year = number_from_ascii_digits (take 4 text);
@@ -97,8 +98,9 @@ abbrev pub amount_within_limit : Option ℤ → Option ℤ
 amount_within_limit None = None
 amount_within_limit (Some z) = if is_within_amount_limit z then Some z else None
 
--- The decimal number whose digits are those of `n` followed by the ASCII digits of the list. A byte
--- that is no digit is not left out: it counts as its value minus 48, or as 0 if it is below 48.
+-- The number whose decimal digits are the digits of `n` followed by the ASCII digits of the list. A
+-- byte that is no digit is not left out: its digit counts as its value minus 48, or as 0 if its
+-- value is below 48.
 abbrev pub number_with_more_digits : ℕ → List ℕ → ℕ
 number_with_more_digits n [] = n
 number_with_more_digits n (c ∷ cs) = number_with_more_digits (n * 10 + (c - 48)) cs

@@ -26,7 +26,7 @@ impl Amount {
     /// The greatest amount, in cents.
     pub const GREATEST: u64 = 100_000_000_000_000_000;
 
-    /// Returns the amount of `cents`, or `None` if it is above `GREATEST`.
+    /// Returns the amount of `cents` cents, or `None` if `cents` is above `GREATEST`.
     pub fn new(cents: u64) -> Option<Amount>
         ensures { SomeIff result (cents ≤ Amount.GREATEST) cents }
     {

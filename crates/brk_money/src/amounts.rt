@@ -19,7 +19,7 @@ pub fn half_up(n: u128, d: u128) -> u128
     (2 * n + d) / 2 / d
 }
 
-// Returns `cents` as an amount. Requires that it is at most `Cents::GREATEST`.
+// Returns the amount of `cents` cents. Requires that `cents` is at most `Cents::GREATEST`.
 fn cents_of_natural(cents: u128) -> Cents
     requires { cents ≤ Cents.GREATEST }
     ensures { result ≡ pos cents }

@@ -23,7 +23,8 @@ impl Cents {
     /// The greatest absolute value, in cents.
     pub const GREATEST: u64 = 100_000_000_000_000_000;
 
-    /// Returns the amount of `cents`, or `None` if its absolute value is above `GREATEST`.
+    /// Returns the amount of `cents` cents, or `None` if the absolute value of `cents` is above
+    /// `GREATEST`.
     pub fn new(cents: i64) -> Option<Cents>
         ensures { SomeIff result
             ((neg_ℤ (pos Cents.GREATEST) ≤ℤ cents) × (cents ≤ℤ pos Cents.GREATEST)) cents }

@@ -50,7 +50,7 @@ impl Day {
         self.0
     }
 
-    /// Returns the day `days` days after this one, or `None` if it is after 9999-12-31.
+    /// Returns the day `days` days after this day, or `None` if that day is after 9999-12-31.
     pub fn days_later(self, days: u16) -> Option<Day>
         ensures { SomeIff result (self + days ≤ spec.greatest_day) (self + days) }
     {

@@ -21,7 +21,8 @@ impl Price {
     /// The greatest price, in cents.
     pub const GREATEST: u32 = 9_999_999;
 
-    /// Returns the price of `cents`, or `None` if it is not within 1 to `GREATEST`.
+    /// Returns the price of `cents` cents per share, or `None` if `cents` is not within 1 to
+    /// `GREATEST`.
     pub fn new(cents: u32) -> Option<Price>
         ensures { SomeIff result ((1 ≤ cents) × (cents ≤ Price.GREATEST)) cents }
     {

@@ -21,7 +21,8 @@ impl Qty {
     /// The greatest quantity.
     pub const GREATEST: u32 = 9_999_999;
 
-    /// Returns the quantity of `shares`, or `None` if it is not within 1 to `GREATEST`.
+    /// Returns the quantity of `shares` shares, or `None` if `shares` is not within 1 to
+    /// `GREATEST`.
     pub fn new(shares: u32) -> Option<Qty>
         ensures { SomeIff result ((1 ≤ shares) × (shares ≤ Qty.GREATEST)) shares }
     {

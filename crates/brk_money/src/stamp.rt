@@ -60,9 +60,9 @@ impl Stamp {
     }
 }
 
-/// Returns the stamp of an accepted command: the clock reading `now`, or the millisecond after the
-/// last stamp `last` if there is one and that is later. Returns `None` if `last` is the greatest
-/// stamp.
+/// Returns the stamp of an accepted command: the later of the clock reading `now` and the
+/// millisecond after the last stamp `last`, or `now` if there is no last stamp. Returns `None` if
+/// `last` is the greatest stamp.
 pub fn stamp_after(last: Option<Stamp>, now: Stamp) -> Option<Stamp>
     ensures { result ≡ spec.stamp_after last now }
 {

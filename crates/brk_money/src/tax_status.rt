@@ -13,7 +13,8 @@ pub enum TaxStatus {
 }
 
 impl TaxStatus {
-    /// Returns the number of the status, as in tables and rows, 0 to 2.
+    /// Returns the number of the tax status, as in tables and rows: 0 for `Untaxed`, 1 for
+    /// `Withheld`, 2 for `Reported`.
     pub fn number(self) -> u8
         ensures { result ≡ tax_status_number self }
     {
@@ -24,7 +25,7 @@ impl TaxStatus {
         }
     }
 
-    /// Returns the status with this number, or `None` if it is above 2.
+    /// Returns the tax status with the number `number`, or `None` if `number` is above 2.
     pub fn from_number(number: u64) -> Option<TaxStatus>
         ensures { result ≡ tax_status_with_number number }
     {

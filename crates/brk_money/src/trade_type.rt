@@ -58,7 +58,8 @@ impl TradeType {
         self.side() == Side::Sell
     }
 
-    /// Returns true if a trade of this type is executed at the market price (TT_IS_MRKT).
+    /// Returns true if a trade of this type is executed at the market price (TT_IS_MRKT):
+    /// `MarketBuy` or `MarketSell`.
     pub fn is_market(self) -> bool
         ensures { result ≡ is_market_type self }
     {

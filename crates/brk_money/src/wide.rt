@@ -22,7 +22,7 @@ impl Model for Wide {
 }
 
 impl Wide {
-    /// Returns the amount of `cents`; there is no limit.
+    /// Returns the amount of `cents` cents, which may be any `i128`.
     pub fn new(cents: i128) -> Wide
         ensures { result ≡ cents }
     {
@@ -118,8 +118,8 @@ fn append_three_texts(
     Err(Fault::Memory)
 }
 
-/// Appends the canonical text of an amount, such as `-12.05`, to `out`: a minus if it is negative,
-/// the whole units in decimal digits, a point and two digits.
+/// Appends the canonical text of an amount, such as `-12.05`, to `out`: a minus if the amount is
+/// negative, the whole units in decimal digits, a point and two digits for the cents.
 ///
 /// Fails with `Memory` only; `out` is then unchanged.
 pub fn write_cents(out: &mut Vec<u8>, amount: Wide) -> Result<(), Fault>

@@ -39,11 +39,12 @@ abstract_tick t = record { symbol = t.symbol; price = t.price; qty = t.qty }
 abbrev pub abstract_tick_as_list : tick.Tick → List Tick
 abstract_tick_as_list t = abstract_tick t ∷ []
 
--- The model's ticks with the values of the typed `ticks`, in the same sequence.
+-- The model's ticks with the values of the typed `ticks`, in the sequence of `ticks`.
 abbrev pub abstract_ticks : List tick.Tick → List Tick
 abstract_ticks ticks = map abstract_tick ticks
 
--- The model's ticks with the values of the typed ticks in the vector `ticks`, in the same sequence.
+-- The model's ticks with the values of the typed ticks in the vector `ticks`, in the sequence of
+-- the vector.
 abbrev pub abstract_ticks_of_vector : Vec tick.Tick → List Tick
 abstract_ticks_of_vector ticks = abstract_ticks ticks.items
 
@@ -56,15 +57,15 @@ completion_command c = CompleteTrade c.trade c.price
 abbrev pub ids_of_vector : Vec ℕ → List ℕ
 ids_of_vector ids = ids.items
 
--- The model's command with the values of a typed text update: `ChangeExecutors`, `ChangeCashTypes`
--- or `ChangeCashNames`, by its kind.
+-- The model's command with the values of a typed text update: `ChangeExecutors` for `Executors`,
+-- `ChangeCashTypes` for `CashTypes` and `ChangeCashNames` for `CashNames`.
 abbrev pub text_update_command : told_update.Update → Command
 text_update_command (update.Executors trades) = ChangeExecutors trades
 text_update_command (update.CashTypes account span) = ChangeCashTypes account span.first span.last
 text_update_command (update.CashNames symbol span) = ChangeCashNames symbol span.first span.last
 
--- The model's command that deposits `amount` cents into `account`, or withdraws them from
--- `account`, by the direction.
+-- The model's command that deposits `amount` cents into `account` if the direction is `Deposit`, or
+-- withdraws them from `account` if it is `Withdrawal`.
 abbrev pub cash_movement_command : Direction → (account amount : ℕ) → Command
 cash_movement_command Deposit account amount = DepositCash account amount
 cash_movement_command Withdrawal account amount = WithdrawCash account amount

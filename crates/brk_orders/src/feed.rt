@@ -82,8 +82,8 @@ fn refusal_of_earlier_check(one: Refusal, other: Refusal) -> Refusal
 }
 
 // Appends the parsed tick `tick` to `ticks` and returns the list. If exactly one of the two is a
-// refusal, returns this refusal; if both are, returns that of the earlier format check. Fails with
-// `Memory` only.
+// refusal, returns this refusal. If both are, returns the refusal of the earlier format check, or
+// that of `ticks` if neither check is earlier. Fails with `Memory` only.
 fn append_parsed_tick(
     ticks: Result<Vec<Tick>, Refusal>,
     tick: Result<Tick, Refusal>,
@@ -103,9 +103,10 @@ fn append_parsed_tick(
     }
 }
 
-// Parses ticks from their fields, three for each: SYMBOL, PRICE and QTY. Refuses with `BadText` if
-// the number of fields is not a multiple of three, otherwise with the refusal of the earliest
-// format check that any tick fails: `BadText`, `BadQty` or `BadPrice`. Fails with `Memory` only.
+// Parses any number of ticks from their fields, three for each: SYMBOL, PRICE and QTY. Refuses with
+// `BadText` if the number of fields is not a multiple of three, otherwise with the refusal of the
+// earliest format check that any tick fails: `BadText`, `BadQty` or `BadPrice`. Fails with `Memory`
+// only.
 fn parse_ticks(alloc: Global, fields: &[&[u8]]) -> Planned<Vec<Tick>>
     ensures read { IfOk result (λ read. ParsesAs abstract_ticks_of_vector read (read_ticks (texts_of_fields fields.now))) }
     ensures fault { OnErr result (result ≡ Err Memory) }
@@ -123,7 +124,8 @@ fn parse_ticks(alloc: Global, fields: &[&[u8]]) -> Planned<Vec<Tick>>
     Ok(ticks)
 }
 
-/// Parses a feed from the fields SYMBOL, PRICE and QTY of each tick. Fails with `Memory` only.
+/// Parses a feed of 1 to 20 ticks from the fields SYMBOL, PRICE and QTY of each tick. Fails with
+/// `Memory` only.
 ///
 /// Refuses with `BadText` (18) if there is no tick, a tick is incomplete or a symbol is malformed;
 /// otherwise with `BadQty` (8) if a quantity is malformed or out of range; otherwise with

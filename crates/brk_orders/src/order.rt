@@ -87,8 +87,8 @@ fn parse_executor(
     }))
 }
 
-// Returns the market type `order_type` if the text of the price is empty. Otherwise refuses with
-// `BadPrice`.
+// Returns `order_type`, which is meant to be a market type, if the text of the price is empty.
+// Otherwise refuses with `BadPrice`.
 fn order_type_without_price(order_type: OrderType, price: &[u8]) -> Result<OrderType, Refusal>
     ensures { result ≡ forms.market_type_if_price_is_empty order_type price.now }
 {
@@ -99,8 +99,8 @@ fn order_type_without_price(order_type: OrderType, price: &[u8]) -> Result<Order
     }
 }
 
-// Parses the price that an order asks for, in cents. Refuses with `BadPrice` if the text is
-// malformed or out of range.
+// Parses the price that an order asks for, such as `10.00`. Refuses with `BadPrice` if the text is
+// malformed, which an empty text is too, or if the price is out of range.
 fn parse_order_price(price: &[u8]) -> Result<Price, Refusal>
     ensures { result ≡ read_price price.now }
 {
@@ -138,10 +138,10 @@ fn order_type_with_price(kind: Option<TradeType>, price: &[u8]) -> Result<OrderT
     }
 }
 
-// Parses an order from its ten fields. Refuses with `BadText` if the account, the symbol, CASH, END
-// or a field of the executor is malformed; otherwise with `BadQty` if the quantity is malformed or
-// out of range; otherwise with the refusal of `order_type_with_price`, if any. Fails with `Memory`
-// only.
+// Parses an order from its ten fields. Refuses with `BadText` if the account is malformed or out of
+// range, or if the symbol, CASH, END or a field of the executor is malformed; otherwise with
+// `BadQty` if the quantity is malformed or out of range; otherwise with the refusal of
+// `order_type_with_price`, if any. Fails with `Memory` only.
 fn parse_order_fields(alloc: Global, told: UnparsedOrder<'_>) -> Planned<Order>
     ensures read { IfOk result (λ read. ParsesAs abstract_order read (read_order (texts_of_order_fields told.entry))) }
     ensures fault { OnErr result (result ≡ Err Memory) }
@@ -180,13 +180,13 @@ fn parse_order_fields(alloc: Global, told: UnparsedOrder<'_>) -> Planned<Order>
 }
 
 /// Parses an order from the fields ACCOUNT, TYPE, SYMBOL, QTY, PRICE, CASH, END, FIRST, LAST and
-/// TAXID. PRICE must be empty for a market type, a price for the other types, and either of them
+/// TAXID. PRICE must be empty for a market type, a price for the other types, and empty or a price
 /// for an unknown type. Fails with `Memory` only.
 ///
 /// Refuses with `BadText` (18) if there are not exactly ten fields, or if one of them except TYPE,
-/// QTY and PRICE is malformed; otherwise with `BadQty` (8) if QTY is malformed or out of range;
-/// otherwise with `BadPrice` (9) if PRICE is malformed, out of range or does not fit TYPE;
-/// otherwise with `BadType` (7) if TYPE is unknown.
+/// QTY and PRICE is malformed or out of range; otherwise with `BadQty` (8) if QTY is malformed or
+/// out of range; otherwise with `BadPrice` (9) if PRICE is malformed, out of range or does not fit
+/// TYPE; otherwise with `BadType` (7) if TYPE is unknown.
 pub fn parse_trade_order(alloc: Global, fields: &[&[u8]]) -> Planned<Order>
     ensures read { IfOk result (λ read. ParsesAs abstract_order read (read_order (texts_of_fields fields.now))) }
     ensures fault { OnErr result (result ≡ Err Memory) }

@@ -12,8 +12,8 @@ pub struct Span {
     pub last: Stamp,
 }
 
-/// Parses a stamp, in milliseconds since 1970-01-01 UTC, in decimal digits. Returns `None` if the
-/// bytes are malformed or the stamp is later than 9999-12-31.
+/// Parses a stamp, the number of milliseconds since 1970-01-01 UTC in decimal digits. Returns
+/// `None` if the bytes are malformed or the stamp is later than 9999-12-31 UTC.
 pub fn parse_stamp(bytes: &[u8]) -> Option<Stamp>
     ensures { ok_or result BadText ≡ read_stamp bytes.now }
 {

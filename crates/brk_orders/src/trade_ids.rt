@@ -31,8 +31,8 @@ impl TradeIds {
     /// The greatest number of trades that one row names.
     pub const MOST: usize = 20;
 
-    /// Creates a list of the ids `ids`. Refuses with `BadText` (18) if `ids` is empty or an id
-    /// occurs twice, otherwise with `TooMany` (20) if there are more than 20. Never allocates.
+    /// Creates a list of trade ids from `ids`. Refuses with `BadText` (18) if `ids` is empty or an
+    /// id occurs twice, otherwise with `TooMany` (20) if there are more than 20. Never allocates.
     pub fn new(ids: Vec<Id>) -> Result<TradeIds, Refusal>
         ensures { ParsesAs (λ trades. trades) result (one_to_twenty_distinct_ids ids.items) }
     {
@@ -75,8 +75,8 @@ fn are_distinct(ids: &[Id]) -> bool
     true
 }
 
-// Parses the id of a trade from each field, in sequence. Refuses with `BadText` if a field is
-// malformed or out of range. Fails with `Memory` only.
+// Parses an id from each field, and returns the ids in the sequence of the fields. Refuses with
+// `BadText` if a field is malformed or out of range. Fails with `Memory` only.
 fn parse_ids(alloc: Global, fields: &[&[u8]]) -> Planned<Vec<Id>>
     ensures read { IfOk result (λ read. ParsesAs ids_of_vector read (read_each_text read_id (texts_of_fields fields.now))) }
     ensures fault { OnErr result (result ≡ Err Memory) }

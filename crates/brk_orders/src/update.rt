@@ -18,16 +18,16 @@ use std::alloc::Global;
 pub enum Update {
     /// Updates the executors' names of the trades with these ids.
     Executors(TradeIds),
-    /// Updates the settlement texts of the first 20 trades of an account that were completed
-    /// between two stamps, both included.
-    CashTypes { account: Id, span: Span },
-    /// Updates the texts of the cash rows of the first 20 cash trades of a security that were
+    /// Updates the cash types (SE_CASH_TYPE) of the first 20 trades of an account that were
     /// completed between two stamps, both included.
+    CashTypes { account: Id, span: Span },
+    /// Updates the cash names, the texts of the cash rows, of the first 20 cash trades of a
+    /// security that were completed between two stamps, both included.
     CashNames { symbol: Symbol, span: Span },
 }
 
-/// Parses an update of executors' names from the ids of its trades, 1 to 20 different ones, one
-/// from each field. Fails with `Memory` only.
+/// Parses an update of executors' names from the ids of its trades: 1 to 20 different ids, one in
+/// each field. Fails with `Memory` only.
 ///
 /// Refuses with `BadText` (18) if there is no field, if a field is not an id, or if an id occurs
 /// twice. Otherwise refuses with `TooMany` (20) if there are more than 20 fields.
@@ -41,8 +41,8 @@ pub fn parse_update_of_executor_names(alloc: Global, fields: &[&[u8]]) -> Planne
     }
 }
 
-/// Parses an update of cash types from the fields ACCOUNT, FROM and TO, the last two of them stamps
-/// in milliseconds since 1970-01-01 UTC.
+/// Parses an update of cash types (SE_CASH_TYPE) from the fields ACCOUNT, FROM and TO, the last two
+/// of them stamps in milliseconds since 1970-01-01 UTC.
 ///
 /// Refuses with `BadText` (18) if there are not exactly three fields, or if one is malformed or out
 /// of range. Never allocates.
@@ -65,8 +65,8 @@ pub fn parse_update_of_cash_types(fields: &[&[u8]]) -> Result<Update, Refusal>
     Ok(Update::CashTypes { account, span })
 }
 
-/// Parses an update of cash texts from the fields SYMBOL, FROM and TO, the last two of them stamps
-/// in milliseconds since 1970-01-01 UTC.
+/// Parses an update of cash names, the texts of cash rows, from the fields SYMBOL, FROM and TO, the
+/// last two of them stamps in milliseconds since 1970-01-01 UTC.
 ///
 /// Refuses with `BadText` (18) if there are not exactly three fields, or if one is malformed or out
 /// of range. Fails with `Memory` only.

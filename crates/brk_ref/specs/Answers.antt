@@ -6,8 +6,8 @@ use Rattle.brk_model.specs.Run.{Outcome, Did, Failed}
 use Rattle.brk_ref.specs.declared.answer.Answer as code
 use Rattle.brk_ref.specs.declared.answer.Answer.TheVariants as answer
 
--- The answer of the model that corresponds to a typed answer: `Done` with its reply, mapped by
--- `reply`, `Again` with the bytes of its stored reply, or `Refused` with its refusal.
+-- The answer of the model that corresponds to an answer of the program: `Done` with its reply,
+-- mapped by `reply`, `Again` with the bytes of its stored reply, or `Refused` with its refusal.
 abbrev pub abstract_answer : {R : Type 0} → (R → Reply) → code.Answer R → Answer
 abstract_answer reply (answer.Done given) = Done (reply given)
 abstract_answer reply (answer.Again line) = Again (string_bytes line)

@@ -5,12 +5,13 @@ use Rattle.brk_money.specs.Spelling.{Text}
 use Rattle.brk_money.specs.declared.refusal.Refusal.{Refusal}
 use Rattle.brk_model.specs.Forms.{ReadResult}
 
--- The bytes of each of the borrowed `fields`, in sequence.
+-- The list of the bytes of each of the borrowed `fields`, in the sequence of the fields.
 abbrev pub texts_of_fields : List (Bor (List ℕ)) → List Text
 texts_of_fields fields = map (λ (field : Bor (List ℕ)). field.now) fields
 
--- The result of a parser equals `wanted`, the result that the model specifies: for `Ok`, `wanted`
--- has the model's value (`view`) of the parsed record, and for `Err`, it has the same refusal.
+-- The result of a parser corresponds to `wanted`, the result that the model specifies. If the
+-- parser returned `Ok`, `wanted` is `Ok` of the model's value (`view`) of the parsed record; if it
+-- returned `Err`, `wanted` is `Err` of the refusal that it returned.
 abbrev pub ParsesAs : {A B : Type 0} → (A → B) → Result A Refusal → ReadResult B → Type 0
 ParsesAs view (Ok x) wanted = wanted ≡ Ok (view x)
 ParsesAs view (Err refusal) wanted = wanted ≡ Err refusal

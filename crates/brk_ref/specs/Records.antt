@@ -77,7 +77,8 @@ abstract_key k = record { batch = k.batch; row = k.row }
 abbrev pub abstract_kept_row : kept.Kept → Kept
 abstract_kept_row k = record { key = abstract_key k.key; row_text = string_bytes k.row_text; line = string_bytes k.line }
 
--- The model's KEPT row with the typed key `k` and two empty texts.
+-- The model's KEPT row with the values of the typed key `k` as its key, an empty stored request and
+-- an empty stored reply.
 abbrev pub kept_row_with_empty_texts : key.Key → Kept
 kept_row_with_empty_texts k = record { key = abstract_key k; row_text = []; line = [] }
 

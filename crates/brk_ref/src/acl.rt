@@ -22,7 +22,7 @@ pub struct AclForm;
 impl Form for AclForm {
     ghost form = { is_acl };
 
-    /// Returns true if the text has 4 characters, each 0 or 1.
+    /// Returns true if the text has exactly 4 bytes, each the ASCII digit 0 or 1.
     fn has_form(text: &str) -> bool {
         let text = text.as_bytes();
         if text.len() != 4 {

@@ -5,7 +5,7 @@ use brk_money::Refusal;
 pub enum Answer<R> {
     /// The command was accepted and committed, with this reply.
     Done(R),
-    /// The same command was accepted before under the same key, with this stored reply.
+    /// The command was accepted before under its key, with this stored reply.
     Again(String),
     /// The command was refused with this refusal, and nothing was changed.
     Refused(Refusal),

@@ -129,7 +129,7 @@ fn bounds_contain_quantity(band: &Band, qty: Qty) -> bool
     band.from_qty.get() <= qty.get() && qty.get() <= band.to_qty.get()
 }
 
-/// Returns true if two bands have the same tier, the same type and the same exchange, and the lower
+/// Returns true if two bands overlap: their tiers, types and exchanges are equal, and the lower
 /// bound of each is at most the upper bound of the other. If neither has reversed bounds, some
 /// quantity is then within the bounds of both.
 pub fn bands_share_quantity(one: &Band, other: &Band) -> bool
@@ -155,8 +155,8 @@ pub fn commission_rate_for_quantity(bands: &[Band], qty: Qty) -> Option<Rate>
     Some(band.rate)
 }
 
-/// Returns true if one of `bands` has the tier, the type and the exchange of `band`, and the lower
-/// bound of each is at most the upper bound of the other.
+/// Returns true if one of `bands` overlaps `band`: it has the tier, the type and the exchange of
+/// `band`, and the lower bound of each of the two is at most the upper bound of the other.
 pub fn overlaps_any_band(bands: &[Band], band: &Band) -> bool
     ensures { result ≡ list_any (bands_overlap (abstract_band band.now)) (map abstract_band bands.now) }
 {

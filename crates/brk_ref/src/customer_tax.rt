@@ -12,8 +12,8 @@ pub struct CustomerTax {
     pub tax: Id,
 }
 
-/// Parses a tax of a customer from the fields CUSTOMER and TAXRATE, the ids of the customer and of
-/// the tax.
+/// Parses the ids of a customer and of a tax that the customer pays, from the fields CUSTOMER and
+/// TAXRATE.
 ///
 /// Refuses with `BadText` (18) if there are not exactly two fields, or if one is not an id. Never
 /// allocates.

@@ -14,7 +14,7 @@ pub trait Form {
     /// True for the bytes of the texts that have the format.
     ghost form: { List ℕ → Bool };
 
-    /// Returns true if the text has the format.
+    /// Returns true if `text` has the format (`form`).
     fn has_form(text: &str) -> bool
         ensures { result ≡ form text.now };
 

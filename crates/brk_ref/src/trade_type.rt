@@ -6,7 +6,7 @@ ghost use Rattle.brk_money.specs.declared.refusal.Refusal.TheVariants.{BadType};
 
 use brk_money::TradeType;
 
-// Returns true if `bytes` are the code of the trade type `kind`, such as `TMB` of `MarketBuy`.
+// Returns true if `bytes` equal the code of the trade type `kind`, such as `TMB` for `MarketBuy`.
 fn is_code_of_trade_type(kind: TradeType, bytes: &[u8]) -> bool
     ensures { result ≡ bytes_eq (trade_type_code kind) bytes.now }
 {
