@@ -1171,7 +1171,7 @@ def read_group(word, field, tables):
     returned = {'DeskAndCustomer': 'Returns the last stamp in DESK, the keys of the rows of KEPT, and the decoded rows of BROKER and CUSTOMER, each list sorted by key.',
                 'LaterSchema': 'Returns the decoded rows of CASH_MOVE, sorted by key, and the settlement day in SETTLE_RULE, or none of a table that `schema` lacks.'}
     shown = returned.get(word, f'Returns the decoded rows of {named(tables)}, each list sorted by key.')
-    counted = {'DeskAndCustomer': ', or DESK not exactly one row,', 'LaterSchema': ', or SETTLE_RULE two rows or more,'}.get(word, ',')
+    counted = {'DeskAndCustomer': ', or DESK not exactly one row with the number of `schema`,', 'LaterSchema': ', or SETTLE_RULE two rows or more,'}.get(word, ',')
     what = 'value' if by_schema else 'rows'
     malformed = f'If a table has a malformed row{counted} sets `are_well_formed` of the decoder to false and returns no {what} of this table.'
     return f"""
@@ -1220,7 +1220,7 @@ use std::alloc::Global;
     out += ''.join(read_group(word, field, tables) for word, field, _, tables in groups())
     schema = lambda word: 'schema, ' if word in ('DeskAndCustomer', 'LaterSchema') else ''
     out += f"""
-{remark('Returns the decoded rows of the tables of `schema`, of KEPT the keys alone, each list sorted by key, ascending. The list of a table that `schema` lacks is empty. If a table has a malformed row, DESK not exactly one row, or SETTLE_RULE two rows or more, sets `are_well_formed` of the decoder to false and returns no rows of this table. Fails with `Memory` or `Store` only.', '///')}
+{remark('Returns the decoded rows of the tables of `schema`, of KEPT the keys alone, each list sorted by key, ascending. The list of a table that `schema` lacks is empty. If a table has a malformed row, DESK not exactly one row with the number of `schema`, or SETTLE_RULE two rows or more, sets `are_well_formed` of the decoder to false and returns no rows of this table. Fails with `Memory` or `Store` only.', '///')}
 pub(crate) fn read_all_tables<S: Alter>(
     tx: &mut Transaction<'_, S>,
     alloc: Global,
@@ -1378,9 +1378,9 @@ use Rattle.brk_tables_scan.specs.Raw.{{{', '.join(f'{word}Rows' for word, _, _ i
 abbrev pub are_raw_sheets_well_formed : Schema → RawSheets → Bool
 {folded('are_raw_sheets_well_formed desk raw =', [f'are_{words_of(word)}_rows_well_formed {desk(word)}raw.{field}' for word, field, _ in GROUPS], '&&')}
 
--- The raw rows of each table are, in order, the encodings of the typed rows `sheets`, but for the
--- texts of KEPT: `whole` are typed rows of KEPT that have the keys of `sheets`. The row of DESK has
--- the number of the schema `desk`.
+-- The raw rows of each table are, in order, the encodings of the typed rows `sheets`. Of KEPT,
+-- `sheets` has the keys alone: its raw rows are, in order, the encodings of `whole`, typed rows with
+-- these keys and any texts. The row of DESK has the number of the schema `desk`.
 pub record DecodesSheets (desk : Schema) (sheets : Sheets) (raw : RawSheets) : Type 0 where
   pub whole : List typed.Kept
   pub keys : keys_of_kept_rows whole ≡ map abstract_key sheets.kept.items

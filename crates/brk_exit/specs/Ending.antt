@@ -81,8 +81,9 @@ error_line_of_stream stream.Read = codes "brk: fault: read\n"
 error_line_of_stream stream.Write = codes "brk: fault: write\n"
 error_line_of_stream stream.Memory = codes "brk: fault: memory\n"
 
--- The bytes of the error line of a report that is refused or ended early, with its line feed: the
--- number of the refusal, or the error line of the fault of the desk or of the writer.
+-- The bytes of the error line of a report that is refused or ended early, with its line feed:
+-- `brk: refused: ` and the number of the refusal, the error line of the fault of the desk, or
+-- `brk: fault: write`.
 abbrev pub error_line_of_report : ReportFault → List ℕ
 error_line_of_report (report.Refused refusal) = codes "brk: refused: " ++ (decimal (refusal_number refusal) ++ (10 ∷ []))
 error_line_of_report (report.Desk fault) = error_line_of_fault fault

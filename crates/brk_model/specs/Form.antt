@@ -351,8 +351,8 @@ is_sorted_by_unique_key key [] = true
 is_sorted_by_unique_key key (a ∷ []) = true
 is_sorted_by_unique_key key (a ∷ b ∷ rows) = is_key_less (key a) (key b) && is_sorted_by_unique_key key (b ∷ rows)
 
--- True if the rows of every table with a key are sorted by it, strictly ascending, so that no key
--- occurs twice in a table.
+-- True if the rows of every table except DESK and SETTLE_RULE, which have at most one row, are
+-- sorted by their key, strictly ascending, so that no key occurs twice in a table.
 unfoldable pub tables_are_sorted_by_unique_key : Tables → Bool
 tables_are_sorted_by_unique_key t =
     is_sorted_by_unique_key kept_key t.kept
@@ -382,8 +382,8 @@ has_distinct_tax_ids [] = true
 has_distinct_tax_ids (c ∷ customers) = not (list_any (λ d. bytes_eq d.tax_id c.tax_id) customers) && has_distinct_tax_ids customers
 
 -- True if the tables `t` satisfy the condition `Form` in the schema `schema`. Each row passes the
--- check of its table: of formats, limits and references. The rows of every table that has a key are
--- sorted by it, and no key and no tax id of a customer occurs twice. Bands do not overlap, no
+-- check of its table: of formats, limits and references. The rows of every table are sorted by
+-- their key, and no key and no tax id of a customer occurs twice. Bands do not overlap, no
 -- customer is above the limits of accounts and of tax rates, and trades are numbered from 1 without
 -- a gap. No trade has two rows of CASH_MOVE, and at most `greatest_id` rows of CASH_MOVE have no
 -- trade. The last stamp and the settlement day, if they are set, are within the calendar. CASH_MOVE

@@ -155,8 +155,8 @@ read_settlement_day _ = Err BadText
 
 -- ---- the kinds
 
--- The type of a named parser: the word of a row kind or of a view, and the parser of the fields
--- after it.
+-- The type of a named parser: the word of a row kind, of a view or of an explanation, and the
+-- parser of the fields after it.
 abbrev pub NamedParser : Type 0 → Type 0
 NamedParser A = Text × (List Text → ReadResult A)
 

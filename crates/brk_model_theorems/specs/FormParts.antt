@@ -51,8 +51,8 @@ pub record SatisfiesFormParts (schema : Schema) (t : Tables) : Type 0 where
   pub rule : is_settlement_day_in_calendar t.rule ≡ true
   pub fits : lacks_rows_of_later_schemas schema t ≡ true
 
--- Each table of `t` that has a key is sorted by its key, strictly ascending. DESK and SETTLE_RULE
--- have no key.
+-- Each table of `t` except DESK and SETTLE_RULE, which have at most one row, is sorted by its key,
+-- strictly ascending.
 pub record HasSortedTables (t : Tables) : Type 0 where
   pub kept : is_sorted_by_unique_key kept_key t.kept ≡ true
   pub brokers : is_sorted_by_unique_key broker_key t.brokers ≡ true

@@ -38,9 +38,9 @@ pub struct DeskAndCustomerSheets {
 }
 
 // Returns the last stamp in DESK, the keys of the rows of KEPT, and the decoded rows of BROKER and
-// CUSTOMER, each list sorted by key. If a table has a malformed row, or DESK not exactly one row,
-// sets `are_well_formed` of the decoder to false and returns no value of this table. Fails with
-// `Memory` or `Store` only.
+// CUSTOMER, each list sorted by key. If a table has a malformed row, or DESK not exactly one row
+// with the number of `schema`, sets `are_well_formed` of the decoder to false and returns no value
+// of this table. Fails with `Memory` or `Store` only.
 fn read_desk_and_customer_tables<S: Alter>(
     tx: &mut Transaction<'_, S>,
     alloc: Global,
@@ -229,8 +229,9 @@ fn read_later_schema_tables<S: Alter>(
 
 /// Returns the decoded rows of the tables of `schema`, of KEPT the keys alone, each list sorted by
 /// key, ascending. The list of a table that `schema` lacks is empty. If a table has a malformed
-/// row, DESK not exactly one row, or SETTLE_RULE two rows or more, sets `are_well_formed` of the
-/// decoder to false and returns no rows of this table. Fails with `Memory` or `Store` only.
+/// row, DESK not exactly one row with the number of `schema`, or SETTLE_RULE two rows or more, sets
+/// `are_well_formed` of the decoder to false and returns no rows of this table. Fails with `Memory`
+/// or `Store` only.
 pub(crate) fn read_all_tables<S: Alter>(
     tx: &mut Transaction<'_, S>,
     alloc: Global,

@@ -89,10 +89,11 @@ fn execute_query_and_write_view<W: Write, S: Alter>(
 /// its view: as JSON if `form.json` is true, otherwise as CSV, and with the names of its fields
 /// first if `form.heads` is true and all its records have the same fields.
 ///
-/// Fails with `Refused` 18 if the texts are no query, otherwise with the refusal of the query;
-/// nothing is then written. Fails with `Desk` and `Memory` or `Store`, and nothing is written; with
-/// `Write` after a prefix of the text, perhaps all of it. If the database is still open, it is
-/// unchanged, whatever the result.
+/// Fails with `Refused` and the refusal of the parser if the texts are no query: 18, 20 for more
+/// than 20 ids or names, or 7, 8 or 9 for a field of an order. Otherwise fails with `Refused` and
+/// the refusal of the query; nothing is then written. Fails with `Desk` and `Memory` or `Store`, and
+/// nothing is written; with `Write` after a prefix of the text, perhaps all of it. If the database
+/// is still open, it is unchanged, whatever the result.
 ///
 /// A crash after the call exposes only states that a crash before the call could expose.
 pub fn parse_query_and_write_view<W: Write, S: Alter>(
