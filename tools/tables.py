@@ -1158,9 +1158,10 @@ use std::alloc::Global;
 
 def reading(d):
     """The code that reads and decodes a whole table"""
-    rows = f'{rows_name(d)}_in_schema(tx, alloc, schema)?' if d[0] in LATER else f'{rows_name(d)}(tx)?'
-    decode = 'decode_kept_keys' if d[0] == 'kept' else 'decode'
-    return f'decoder.{VALUES[d[0]][1]}{rows})?' if d[0] in VALUES else f'decoder.{decode}(alloc, {rows})?'
+    rows = f'{rows_name(d)}_in_schema(tx, alloc, schema)' if d[0] in LATER else f'{rows_name(d)}(tx)'
+    if d[0] in VALUES:
+        return f'decoder.{VALUES[d[0]][1]}{rows}?)?'
+    return f'decoder.decode_kept_keys(alloc, {rows}?)?' if d[0] == 'kept' else f'decoder.decode_read(alloc, {rows})?'
 
 def read_group(word, field, tables):
     """The typed rows of a group, and the function that reads and decodes them"""

@@ -24,6 +24,7 @@ pub mod AllTradeHistory
 pub mod AllTrades
 pub mod Continued
 pub mod Defined
+pub mod Failing
 pub mod Firsts
 pub mod FormedTables
 pub mod Formless
