@@ -1,6 +1,6 @@
 -- Reads, the last of which fails or is followed by a decoding that fails, are a step of the
 -- transaction that fails.
-use Rattle.std.proofs.Common.{◌≡◌, ◌⊎◌, Ok, Err, Result, IfOk, IfErr, IsErr, IsErrAnd, OnErr, IsTrue, inl, inr, sym, subst, ◌∙◌}
+use Rattle.std.proofs.Common.{◌≡◌, ◌⊎◌, Ok, Err, Result, IfErr, IsErr, IsErrAnd, OnErr, inl, inr, sym, subst}
 use Rattle.std.specs.Global.{Vec}
 use Rattle.sqlite_value.specs.Order.{Row}
 use Rattle.sqlite.specs.State.{State}

@@ -1,4 +1,4 @@
-use Rattle.std.proofs.Common.{◌≡◌, inl, inr, refl}
+use Rattle.std.proofs.Common.{inl, inr, refl}
 use Rattle.std.proofs.lemmas.Result.{IfOk-weaker}
 use Rattle.brk_tables_scan.proofs.Failing.{fault_handed_on, fault_of_decoding}
 use Rattle.brk_tables_scan.proofs.decoder.Decoder.decode_read.Goals as goal
