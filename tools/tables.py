@@ -322,6 +322,8 @@ use Rattle.brk_sql.proofs.Selecting.{level_one, named_is, query_is}
 use Rattle.brk_sql.proofs.Looks.{no_returning}
 use Rattle.sqlite_resolve.specs.declared.compiled.Compiled.{Compiled}
 use Rattle.sqlite.specs.Listing.{understood}
+use Rattle.sqlite_ast.specs.declared.Statement.TheVariants as written
+use Rattle.brk_tables_scan.proofs.ShownColumns.{columns_shown}
 '''
 
 def select(crate, name, t, tests, order, limit=None, shown=None, offset=None):
@@ -355,6 +357,17 @@ def select(crate, name, t, tests, order, limit=None, shown=None, offset=None):
     filt = f'Some ({test_expr(tests)})' if tests else 'None'
     matches = f'rw ({", ".join(test_lemmas(t, tests, "columns", True))})' if tests else 'rw found'
     cols_b = lst('None' if place(t, c) == 0 else 'Some Binary' for c in names)
+    # the read of a whole table shows all columns, by one lemma, and states once what its text is read as
+    is_read, reading_is, shown_by, opened = ['refl'] * 3, '', f'rw ({shows})', 'unfolding everything\n'
+    if crate == 'brk_tables_scan':
+        named = '(refl, refl, ' * n1 + 'tt' + ')' * n1
+        shown_by = f'columns_shown schema at ({t}_table tree) found ({q(sql)}) ({t}_table tree).columns {named} max_budget (max_budget - {n1 + 1}) refl core refl'
+        is_read, opened = ['is_read.0', 'is_read.1', 'is_read.2'], ''
+        reading_is = """is_read : (first statement ≡ Ok (read statement)) × ((read statement).formats ≡ []) × ((read statement).statement ≡ written.Select select)
+unfolding everything
+is_read = (refl, refl, refl)
+
+"""
     body = SELECT_HEAD + f'''
 abbrev pub statement : List ℕ
 statement = codes "{text}"
@@ -408,14 +421,14 @@ names = {lst(q(c) for c in names)}
 abbrev after : ℕ → Carried → State
 after spent last = record (fresh 2 max_budget) {{ budget = max_budget - spent; last = last }}
 
-module _ (schema : Schema) (at tree : ℕ) (h : IsTableAt schema ({t}_table tree) at) where
+{reading_is}module _ (schema : Schema) (at tree : ℕ) (h : IsTableAt schema ({t}_table tree) at) where
   abbrev found : slice_get schema.tables at ≡ Some ({t}_table tree)
   found = h.found
 
   shows : result lower (outermost schema) (level_one ({q(sql)}) at []) core (fresh 2 max_budget) ≡ Ok (columns, after {n1} {last1})
   unfolding sql_lowering_definitions
   shows =
-      rw ({shows})
+      {shown_by}
 
   matches : matching lower (outermost schema) (level_one ({q(sql)}) at columns) core (after {n1} {last1})
       ≡ Ok (record {{ steps = Inner tree ∷ []; filter = terms }}, after {n2} {last2})
@@ -435,11 +448,10 @@ module _ (schema : Schema) (at tree : ℕ) (h : IsTableAt schema ({t}_table tree
 
   pub understood_as : (compiled schema statement ≡ Ok (meant (read statement) [] (Select (record {{ lets = []; body = selection tree terms project order paging }}) names))) ⊎ (compiled schema statement ≡ Err Mismatch)
   unfolding everything
-  understood_as = reads_or schema statement (read statement) refl refl select (draft tree) names ({cols_b}) refl meaning_is
+  understood_as = reads_or schema statement (read statement) {is_read[0]} {is_read[1]} select (draft tree) names ({cols_b}) {is_read[2]} meaning_is
 
 pub plain : (schema : Schema) (c : Compiled) → understood schema statement ≡ Ok c → c.returning ≡ None
-unfolding everything
-plain = no_returning statement (read statement) select refl refl refl
+{opened}plain = no_returning statement (read statement) select {' '.join(is_read)}
 '''
     write(crate, name, 'a SELECT', t, body)
     return text
@@ -839,15 +851,15 @@ unfolding everything listing_schema
 
 def column_names():
     names = lambda d: ', '.join(f'"{c}"' for c, _, _, _ in d[7])
+    if [d[0] for d in DATA[-len(LATER):]] != list(LATER):
+        sys.exit('tools/tables.py: the tables of later schemas are not the last ones, in the order of the schemas')
     out = f"""//! Written by tools/tables.py: for each table a statement that selects all of its columns, and the
 //! names of these columns, in order.
+
+{remark('For each table, those of later schemas last: the statement that selects all of its columns, and their names, in order.', '///')}
+pub(crate) const COLUMNS_OF_ALL_TABLES: [(&str, &[&str]); {len(DATA)}] = [
 """
-    for name, what, tables in by_schema()[:3]:
-        out += f"""
-{remark(f'For each of {what}: the statement that selects all of its columns, and their names, in order.', '///')}
-pub(crate) const {name.upper()}: [(&str, &[&str]); {len(tables)}] = [
-"""
-        out += ''.join(f'("{star_text(d)}", &[{names(d)}]),\n' for d in tables) + '];\n'
+    out += ''.join(f'("{star_text(d)}", &[{names(d)}]),\n' for d in DATA) + '];\n'
     save('crates/brk_tables_scan/src/column_names.rt', out)
 
 def listed():
@@ -1157,9 +1169,10 @@ use std::alloc::Global;
 
 def reading(d):
     """The code that reads and decodes a whole table"""
-    rows = f'{rows_name(d)}_in_schema(tx, alloc, schema)?' if d[0] in LATER else f'{rows_name(d)}(tx)?'
-    decode = 'decode_kept_keys' if d[0] == 'kept' else 'decode'
-    return f'decoder.{VALUES[d[0]][1]}{rows})?' if d[0] in VALUES else f'decoder.{decode}(alloc, {rows})?'
+    rows = f'{rows_name(d)}_in_schema(tx, alloc, schema)' if d[0] in LATER else f'{rows_name(d)}(tx)'
+    if d[0] in VALUES:
+        return f'decoder.{VALUES[d[0]][1]}{rows}?)?'
+    return f'decoder.decode_kept_keys(alloc, {rows}?)?' if d[0] == 'kept' else f'decoder.decode_read(alloc, {rows})?'
 
 def read_group(word, field, tables):
     """The typed rows of a group, and the function that reads and decodes them"""

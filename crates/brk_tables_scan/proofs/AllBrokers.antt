@@ -7,16 +7,16 @@ use Rattle.sqlite.specs.Term.{Term, lit, col}
 use Rattle.sqlite.specs.Schema.{Schema}
 use Rattle.sqlite.specs.Command.TheVariants.{Select}
 use Rattle.sqlite_ast.specs.declared.Expr.TheVariants as e
-use Rattle.sqlite_resolve.specs.Compile.{compiled}
+use Rattle.sqlite_resolve.specs.Compile.{compiled, first}
 use Rattle.sqlite_resolve.specs.declared.error.CompileError.TheVariants.{Mismatch}
 use Rattle.sqlite_draft.specs.declared.join.Step.TheVariants.{Inner}
 use Rattle.sqlite_draft.specs.declared.query.Draft.{Draft}
 use Rattle.sqlite_tied.specs.Compute.{everything}
 use Rattle.brk_sql.specs.Partly.{sql_lowering_definitions}
-use Rattle.brk_sql.specs.Desk.{integer_column, text_column, IsTableAt}
+use Rattle.brk_sql.specs.Desk.{integer_column, IsTableAt}
 use Rattle.brk_sql.proofs.Meant.{meant, reads_or}
 use Rattle.brk_sql.proofs.Pick.{selection}
-use Rattle.brk_sql.proofs.Scoped.{column_is, heading_is}
+use Rattle.brk_sql.proofs.Scoped.{column_is}
 use Rattle.brk_sql.proofs.Texts.{read}
 use Rattle.brk_tables_schema.specs.Shapes.{broker_table}
 use Rattle.sqlite_ast.specs.declared.Shown.TheVariants.{One}
@@ -39,6 +39,8 @@ use Rattle.brk_sql.proofs.Selecting.{level_one, named_is, query_is}
 use Rattle.brk_sql.proofs.Looks.{no_returning}
 use Rattle.sqlite_resolve.specs.declared.compiled.Compiled.{Compiled}
 use Rattle.sqlite.specs.Listing.{understood}
+use Rattle.sqlite_ast.specs.declared.Statement.TheVariants as written
+use Rattle.brk_tables_scan.proofs.ShownColumns.{columns_shown}
 
 abbrev pub statement : List ℕ
 statement = codes "SELECT B_ID, B_NAME, B_NUM_TRADES, B_COMM_TOTAL FROM BROKER ORDER BY B_ID"
@@ -92,6 +94,10 @@ names = codes "B_ID" ∷ codes "B_NAME" ∷ codes "B_NUM_TRADES" ∷ codes "B_CO
 abbrev after : ℕ → Carried → State
 after spent last = record (fresh 2 max_budget) { budget = max_budget - spent; last = last }
 
+is_read : (first statement ≡ Ok (read statement)) × ((read statement).formats ≡ []) × ((read statement).statement ≡ written.Select select)
+unfolding everything
+is_read = (refl, refl, refl)
+
 module _ (schema : Schema) (at tree : ℕ) (h : IsTableAt schema (broker_table tree) at) where
   abbrev found : slice_get schema.tables at ≡ Some (broker_table tree)
   found = h.found
@@ -99,16 +105,7 @@ module _ (schema : Schema) (at tree : ℕ) (h : IsTableAt schema (broker_table t
   shows : result lower (outermost schema) (level_one (codes "BROKER") at []) core (fresh 2 max_budget) ≡ Ok (columns, after 4 binary)
   unfolding sql_lowering_definitions
   shows =
-      rw (
-        column_is schema at (broker_table tree) found (codes "BROKER") [] [] true true (codes "B_ID") 0 (integer_column (codes "B_ID")) refl refl,
-        heading_is schema at (broker_table tree) found (codes "BROKER") [] [] true true (e.Column None (codes "B_ID")) (codes "B_ID") (codes "B_ID") 0 (integer_column (codes "B_ID")) refl refl refl,
-        column_is schema at (broker_table tree) found (codes "BROKER") [] [] true true (codes "B_NAME") 1 (text_column (codes "B_NAME")) refl refl,
-        heading_is schema at (broker_table tree) found (codes "BROKER") [] [] true true (e.Column None (codes "B_NAME")) (codes "B_NAME") (codes "B_NAME") 1 (text_column (codes "B_NAME")) refl refl refl,
-        column_is schema at (broker_table tree) found (codes "BROKER") [] [] true true (codes "B_NUM_TRADES") 2 (integer_column (codes "B_NUM_TRADES")) refl refl,
-        heading_is schema at (broker_table tree) found (codes "BROKER") [] [] true true (e.Column None (codes "B_NUM_TRADES")) (codes "B_NUM_TRADES") (codes "B_NUM_TRADES") 2 (integer_column (codes "B_NUM_TRADES")) refl refl refl,
-        column_is schema at (broker_table tree) found (codes "BROKER") [] [] true true (codes "B_COMM_TOTAL") 3 (integer_column (codes "B_COMM_TOTAL")) refl refl,
-        heading_is schema at (broker_table tree) found (codes "BROKER") [] [] true true (e.Column None (codes "B_COMM_TOTAL")) (codes "B_COMM_TOTAL") (codes "B_COMM_TOTAL") 3 (integer_column (codes "B_COMM_TOTAL")) refl refl refl,
-      )
+      columns_shown schema at (broker_table tree) found (codes "BROKER") (broker_table tree).columns (refl, refl, (refl, refl, (refl, refl, (refl, refl, tt)))) max_budget (max_budget - 5) refl core refl
 
   matches : matching lower (outermost schema) (level_one (codes "BROKER") at columns) core (after 4 binary)
       ≡ Ok (record { steps = Inner tree ∷ []; filter = terms }, after 4 binary)
@@ -128,8 +125,7 @@ module _ (schema : Schema) (at tree : ℕ) (h : IsTableAt schema (broker_table t
 
   pub understood_as : (compiled schema statement ≡ Ok (meant (read statement) [] (Select (record { lets = []; body = selection tree terms project order paging }) names))) ⊎ (compiled schema statement ≡ Err Mismatch)
   unfolding everything
-  understood_as = reads_or schema statement (read statement) refl refl select (draft tree) names (None ∷ Some Binary ∷ Some Binary ∷ Some Binary ∷ []) refl meaning_is
+  understood_as = reads_or schema statement (read statement) is_read.0 is_read.1 select (draft tree) names (None ∷ Some Binary ∷ Some Binary ∷ Some Binary ∷ []) is_read.2 meaning_is
 
 pub plain : (schema : Schema) (c : Compiled) → understood schema statement ≡ Ok c → c.returning ≡ None
-unfolding everything
-plain = no_returning statement (read statement) select refl refl refl
+plain = no_returning statement (read statement) select is_read.0 is_read.1 is_read.2

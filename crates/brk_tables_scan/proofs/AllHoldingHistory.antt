@@ -7,7 +7,7 @@ use Rattle.sqlite.specs.Term.{Term, lit, col}
 use Rattle.sqlite.specs.Schema.{Schema}
 use Rattle.sqlite.specs.Command.TheVariants.{Select}
 use Rattle.sqlite_ast.specs.declared.Expr.TheVariants as e
-use Rattle.sqlite_resolve.specs.Compile.{compiled}
+use Rattle.sqlite_resolve.specs.Compile.{compiled, first}
 use Rattle.sqlite_resolve.specs.declared.error.CompileError.TheVariants.{Mismatch}
 use Rattle.sqlite_draft.specs.declared.join.Step.TheVariants.{Inner}
 use Rattle.sqlite_draft.specs.declared.query.Draft.{Draft}
@@ -16,7 +16,7 @@ use Rattle.brk_sql.specs.Partly.{sql_lowering_definitions}
 use Rattle.brk_sql.specs.Desk.{integer_column, IsTableAt}
 use Rattle.brk_sql.proofs.Meant.{meant, reads_or}
 use Rattle.brk_sql.proofs.Pick.{selection}
-use Rattle.brk_sql.proofs.Scoped.{column_is, heading_is}
+use Rattle.brk_sql.proofs.Scoped.{column_is}
 use Rattle.brk_sql.proofs.Texts.{read}
 use Rattle.brk_tables_schema.specs.Shapes.{holding_history_table}
 use Rattle.sqlite_ast.specs.declared.Shown.TheVariants.{One}
@@ -39,6 +39,8 @@ use Rattle.brk_sql.proofs.Selecting.{level_one, named_is, query_is}
 use Rattle.brk_sql.proofs.Looks.{no_returning}
 use Rattle.sqlite_resolve.specs.declared.compiled.Compiled.{Compiled}
 use Rattle.sqlite.specs.Listing.{understood}
+use Rattle.sqlite_ast.specs.declared.Statement.TheVariants as written
+use Rattle.brk_tables_scan.proofs.ShownColumns.{columns_shown}
 
 abbrev pub statement : List ℕ
 statement = codes "SELECT HH_H_T_ID, HH_T_ID, HH_BEFORE_QTY, HH_AFTER_QTY FROM HOLDING_HISTORY ORDER BY HH_H_T_ID, HH_T_ID"
@@ -92,6 +94,10 @@ names = codes "HH_H_T_ID" ∷ codes "HH_T_ID" ∷ codes "HH_BEFORE_QTY" ∷ code
 abbrev after : ℕ → Carried → State
 after spent last = record (fresh 2 max_budget) { budget = max_budget - spent; last = last }
 
+is_read : (first statement ≡ Ok (read statement)) × ((read statement).formats ≡ []) × ((read statement).statement ≡ written.Select select)
+unfolding everything
+is_read = (refl, refl, refl)
+
 module _ (schema : Schema) (at tree : ℕ) (h : IsTableAt schema (holding_history_table tree) at) where
   abbrev found : slice_get schema.tables at ≡ Some (holding_history_table tree)
   found = h.found
@@ -99,16 +105,7 @@ module _ (schema : Schema) (at tree : ℕ) (h : IsTableAt schema (holding_histor
   shows : result lower (outermost schema) (level_one (codes "HOLDING_HISTORY") at []) core (fresh 2 max_budget) ≡ Ok (columns, after 4 binary)
   unfolding sql_lowering_definitions
   shows =
-      rw (
-        column_is schema at (holding_history_table tree) found (codes "HOLDING_HISTORY") [] [] true true (codes "HH_H_T_ID") 0 (integer_column (codes "HH_H_T_ID")) refl refl,
-        heading_is schema at (holding_history_table tree) found (codes "HOLDING_HISTORY") [] [] true true (e.Column None (codes "HH_H_T_ID")) (codes "HH_H_T_ID") (codes "HH_H_T_ID") 0 (integer_column (codes "HH_H_T_ID")) refl refl refl,
-        column_is schema at (holding_history_table tree) found (codes "HOLDING_HISTORY") [] [] true true (codes "HH_T_ID") 1 (integer_column (codes "HH_T_ID")) refl refl,
-        heading_is schema at (holding_history_table tree) found (codes "HOLDING_HISTORY") [] [] true true (e.Column None (codes "HH_T_ID")) (codes "HH_T_ID") (codes "HH_T_ID") 1 (integer_column (codes "HH_T_ID")) refl refl refl,
-        column_is schema at (holding_history_table tree) found (codes "HOLDING_HISTORY") [] [] true true (codes "HH_BEFORE_QTY") 2 (integer_column (codes "HH_BEFORE_QTY")) refl refl,
-        heading_is schema at (holding_history_table tree) found (codes "HOLDING_HISTORY") [] [] true true (e.Column None (codes "HH_BEFORE_QTY")) (codes "HH_BEFORE_QTY") (codes "HH_BEFORE_QTY") 2 (integer_column (codes "HH_BEFORE_QTY")) refl refl refl,
-        column_is schema at (holding_history_table tree) found (codes "HOLDING_HISTORY") [] [] true true (codes "HH_AFTER_QTY") 3 (integer_column (codes "HH_AFTER_QTY")) refl refl,
-        heading_is schema at (holding_history_table tree) found (codes "HOLDING_HISTORY") [] [] true true (e.Column None (codes "HH_AFTER_QTY")) (codes "HH_AFTER_QTY") (codes "HH_AFTER_QTY") 3 (integer_column (codes "HH_AFTER_QTY")) refl refl refl,
-      )
+      columns_shown schema at (holding_history_table tree) found (codes "HOLDING_HISTORY") (holding_history_table tree).columns (refl, refl, (refl, refl, (refl, refl, (refl, refl, tt)))) max_budget (max_budget - 5) refl core refl
 
   matches : matching lower (outermost schema) (level_one (codes "HOLDING_HISTORY") at columns) core (after 4 binary)
       ≡ Ok (record { steps = Inner tree ∷ []; filter = terms }, after 4 binary)
@@ -131,8 +128,7 @@ module _ (schema : Schema) (at tree : ℕ) (h : IsTableAt schema (holding_histor
 
   pub understood_as : (compiled schema statement ≡ Ok (meant (read statement) [] (Select (record { lets = []; body = selection tree terms project order paging }) names))) ⊎ (compiled schema statement ≡ Err Mismatch)
   unfolding everything
-  understood_as = reads_or schema statement (read statement) refl refl select (draft tree) names (Some Binary ∷ Some Binary ∷ Some Binary ∷ Some Binary ∷ []) refl meaning_is
+  understood_as = reads_or schema statement (read statement) is_read.0 is_read.1 select (draft tree) names (Some Binary ∷ Some Binary ∷ Some Binary ∷ Some Binary ∷ []) is_read.2 meaning_is
 
 pub plain : (schema : Schema) (c : Compiled) → understood schema statement ≡ Ok c → c.returning ≡ None
-unfolding everything
-plain = no_returning statement (read statement) select refl refl refl
+plain = no_returning statement (read statement) select is_read.0 is_read.1 is_read.2

@@ -7,7 +7,7 @@ use Rattle.sqlite.specs.Term.{Term, lit, col}
 use Rattle.sqlite.specs.Schema.{Schema}
 use Rattle.sqlite.specs.Command.TheVariants.{Select}
 use Rattle.sqlite_ast.specs.declared.Expr.TheVariants as e
-use Rattle.sqlite_resolve.specs.Compile.{compiled}
+use Rattle.sqlite_resolve.specs.Compile.{compiled, first}
 use Rattle.sqlite_resolve.specs.declared.error.CompileError.TheVariants.{Mismatch}
 use Rattle.sqlite_draft.specs.declared.join.Step.TheVariants.{Inner}
 use Rattle.sqlite_draft.specs.declared.query.Draft.{Draft}
@@ -16,7 +16,7 @@ use Rattle.brk_sql.specs.Partly.{sql_lowering_definitions}
 use Rattle.brk_sql.specs.Desk.{integer_column, text_column, IsTableAt}
 use Rattle.brk_sql.proofs.Meant.{meant, reads_or}
 use Rattle.brk_sql.proofs.Pick.{selection}
-use Rattle.brk_sql.proofs.Scoped.{column_is, heading_is}
+use Rattle.brk_sql.proofs.Scoped.{column_is}
 use Rattle.brk_sql.proofs.Texts.{read}
 use Rattle.brk_tables_schema.specs.Shapes.{summary_table}
 use Rattle.sqlite_ast.specs.declared.Shown.TheVariants.{One}
@@ -39,6 +39,8 @@ use Rattle.brk_sql.proofs.Selecting.{level_one, named_is, query_is}
 use Rattle.brk_sql.proofs.Looks.{no_returning}
 use Rattle.sqlite_resolve.specs.declared.compiled.Compiled.{Compiled}
 use Rattle.sqlite.specs.Listing.{understood}
+use Rattle.sqlite_ast.specs.declared.Statement.TheVariants as written
+use Rattle.brk_tables_scan.proofs.ShownColumns.{columns_shown}
 
 abbrev pub statement : List ℕ
 statement = codes "SELECT HS_CA_ID, HS_S_SYMB, HS_QTY FROM HOLDING_SUMMARY ORDER BY HS_CA_ID, HS_S_SYMB"
@@ -92,6 +94,10 @@ names = codes "HS_CA_ID" ∷ codes "HS_S_SYMB" ∷ codes "HS_QTY" ∷ []
 abbrev after : ℕ → Carried → State
 after spent last = record (fresh 2 max_budget) { budget = max_budget - spent; last = last }
 
+is_read : (first statement ≡ Ok (read statement)) × ((read statement).formats ≡ []) × ((read statement).statement ≡ written.Select select)
+unfolding everything
+is_read = (refl, refl, refl)
+
 module _ (schema : Schema) (at tree : ℕ) (h : IsTableAt schema (summary_table tree) at) where
   abbrev found : slice_get schema.tables at ≡ Some (summary_table tree)
   found = h.found
@@ -99,14 +105,7 @@ module _ (schema : Schema) (at tree : ℕ) (h : IsTableAt schema (summary_table 
   shows : result lower (outermost schema) (level_one (codes "HOLDING_SUMMARY") at []) core (fresh 2 max_budget) ≡ Ok (columns, after 3 binary)
   unfolding sql_lowering_definitions
   shows =
-      rw (
-        column_is schema at (summary_table tree) found (codes "HOLDING_SUMMARY") [] [] true true (codes "HS_CA_ID") 0 (integer_column (codes "HS_CA_ID")) refl refl,
-        heading_is schema at (summary_table tree) found (codes "HOLDING_SUMMARY") [] [] true true (e.Column None (codes "HS_CA_ID")) (codes "HS_CA_ID") (codes "HS_CA_ID") 0 (integer_column (codes "HS_CA_ID")) refl refl refl,
-        column_is schema at (summary_table tree) found (codes "HOLDING_SUMMARY") [] [] true true (codes "HS_S_SYMB") 1 (text_column (codes "HS_S_SYMB")) refl refl,
-        heading_is schema at (summary_table tree) found (codes "HOLDING_SUMMARY") [] [] true true (e.Column None (codes "HS_S_SYMB")) (codes "HS_S_SYMB") (codes "HS_S_SYMB") 1 (text_column (codes "HS_S_SYMB")) refl refl refl,
-        column_is schema at (summary_table tree) found (codes "HOLDING_SUMMARY") [] [] true true (codes "HS_QTY") 2 (integer_column (codes "HS_QTY")) refl refl,
-        heading_is schema at (summary_table tree) found (codes "HOLDING_SUMMARY") [] [] true true (e.Column None (codes "HS_QTY")) (codes "HS_QTY") (codes "HS_QTY") 2 (integer_column (codes "HS_QTY")) refl refl refl,
-      )
+      columns_shown schema at (summary_table tree) found (codes "HOLDING_SUMMARY") (summary_table tree).columns (refl, refl, (refl, refl, (refl, refl, tt))) max_budget (max_budget - 4) refl core refl
 
   matches : matching lower (outermost schema) (level_one (codes "HOLDING_SUMMARY") at columns) core (after 3 binary)
       ≡ Ok (record { steps = Inner tree ∷ []; filter = terms }, after 3 binary)
@@ -129,8 +128,7 @@ module _ (schema : Schema) (at tree : ℕ) (h : IsTableAt schema (summary_table 
 
   pub understood_as : (compiled schema statement ≡ Ok (meant (read statement) [] (Select (record { lets = []; body = selection tree terms project order paging }) names))) ⊎ (compiled schema statement ≡ Err Mismatch)
   unfolding everything
-  understood_as = reads_or schema statement (read statement) refl refl select (draft tree) names (Some Binary ∷ Some Binary ∷ Some Binary ∷ []) refl meaning_is
+  understood_as = reads_or schema statement (read statement) is_read.0 is_read.1 select (draft tree) names (Some Binary ∷ Some Binary ∷ Some Binary ∷ []) is_read.2 meaning_is
 
 pub plain : (schema : Schema) (c : Compiled) → understood schema statement ≡ Ok c → c.returning ≡ None
-unfolding everything
-plain = no_returning statement (read statement) select refl refl refl
+plain = no_returning statement (read statement) select is_read.0 is_read.1 is_read.2

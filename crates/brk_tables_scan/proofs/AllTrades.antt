@@ -7,16 +7,16 @@ use Rattle.sqlite.specs.Term.{Term, lit, col}
 use Rattle.sqlite.specs.Schema.{Schema}
 use Rattle.sqlite.specs.Command.TheVariants.{Select}
 use Rattle.sqlite_ast.specs.declared.Expr.TheVariants as e
-use Rattle.sqlite_resolve.specs.Compile.{compiled}
+use Rattle.sqlite_resolve.specs.Compile.{compiled, first}
 use Rattle.sqlite_resolve.specs.declared.error.CompileError.TheVariants.{Mismatch}
 use Rattle.sqlite_draft.specs.declared.join.Step.TheVariants.{Inner}
 use Rattle.sqlite_draft.specs.declared.query.Draft.{Draft}
 use Rattle.sqlite_tied.specs.Compute.{everything}
 use Rattle.brk_sql.specs.Partly.{sql_lowering_definitions}
-use Rattle.brk_sql.specs.Desk.{integer_column, text_column, nullable_integer_column, IsTableAt}
+use Rattle.brk_sql.specs.Desk.{integer_column, IsTableAt}
 use Rattle.brk_sql.proofs.Meant.{meant, reads_or}
 use Rattle.brk_sql.proofs.Pick.{selection}
-use Rattle.brk_sql.proofs.Scoped.{column_is, heading_is}
+use Rattle.brk_sql.proofs.Scoped.{column_is}
 use Rattle.brk_sql.proofs.Texts.{read}
 use Rattle.brk_tables_schema.specs.Shapes.{trade_table}
 use Rattle.sqlite_ast.specs.declared.Shown.TheVariants.{One}
@@ -39,6 +39,8 @@ use Rattle.brk_sql.proofs.Selecting.{level_one, named_is, query_is}
 use Rattle.brk_sql.proofs.Looks.{no_returning}
 use Rattle.sqlite_resolve.specs.declared.compiled.Compiled.{Compiled}
 use Rattle.sqlite.specs.Listing.{understood}
+use Rattle.sqlite_ast.specs.declared.Statement.TheVariants as written
+use Rattle.brk_tables_scan.proofs.ShownColumns.{columns_shown}
 
 abbrev pub statement : List ℕ
 statement = codes "SELECT T_ID, T_DTS, T_ST_ID, T_TT_ID, T_IS_CASH, T_S_SYMB, T_QTY, T_BID_PRICE, T_CA_ID, T_EXEC_NAME, T_TRADE_PRICE, T_CHRG, T_COMM, T_TAX, T_LIFO FROM TRADE ORDER BY T_ID"
@@ -92,6 +94,10 @@ names = codes "T_ID" ∷ codes "T_DTS" ∷ codes "T_ST_ID" ∷ codes "T_TT_ID" �
 abbrev after : ℕ → Carried → State
 after spent last = record (fresh 2 max_budget) { budget = max_budget - spent; last = last }
 
+is_read : (first statement ≡ Ok (read statement)) × ((read statement).formats ≡ []) × ((read statement).statement ≡ written.Select select)
+unfolding everything
+is_read = (refl, refl, refl)
+
 module _ (schema : Schema) (at tree : ℕ) (h : IsTableAt schema (trade_table tree) at) where
   abbrev found : slice_get schema.tables at ≡ Some (trade_table tree)
   found = h.found
@@ -99,38 +105,7 @@ module _ (schema : Schema) (at tree : ℕ) (h : IsTableAt schema (trade_table tr
   shows : result lower (outermost schema) (level_one (codes "TRADE") at []) core (fresh 2 max_budget) ≡ Ok (columns, after 15 binary)
   unfolding sql_lowering_definitions
   shows =
-      rw (
-        column_is schema at (trade_table tree) found (codes "TRADE") [] [] true true (codes "T_ID") 0 (integer_column (codes "T_ID")) refl refl,
-        heading_is schema at (trade_table tree) found (codes "TRADE") [] [] true true (e.Column None (codes "T_ID")) (codes "T_ID") (codes "T_ID") 0 (integer_column (codes "T_ID")) refl refl refl,
-        column_is schema at (trade_table tree) found (codes "TRADE") [] [] true true (codes "T_DTS") 1 (integer_column (codes "T_DTS")) refl refl,
-        heading_is schema at (trade_table tree) found (codes "TRADE") [] [] true true (e.Column None (codes "T_DTS")) (codes "T_DTS") (codes "T_DTS") 1 (integer_column (codes "T_DTS")) refl refl refl,
-        column_is schema at (trade_table tree) found (codes "TRADE") [] [] true true (codes "T_ST_ID") 2 (text_column (codes "T_ST_ID")) refl refl,
-        heading_is schema at (trade_table tree) found (codes "TRADE") [] [] true true (e.Column None (codes "T_ST_ID")) (codes "T_ST_ID") (codes "T_ST_ID") 2 (text_column (codes "T_ST_ID")) refl refl refl,
-        column_is schema at (trade_table tree) found (codes "TRADE") [] [] true true (codes "T_TT_ID") 3 (text_column (codes "T_TT_ID")) refl refl,
-        heading_is schema at (trade_table tree) found (codes "TRADE") [] [] true true (e.Column None (codes "T_TT_ID")) (codes "T_TT_ID") (codes "T_TT_ID") 3 (text_column (codes "T_TT_ID")) refl refl refl,
-        column_is schema at (trade_table tree) found (codes "TRADE") [] [] true true (codes "T_IS_CASH") 4 (integer_column (codes "T_IS_CASH")) refl refl,
-        heading_is schema at (trade_table tree) found (codes "TRADE") [] [] true true (e.Column None (codes "T_IS_CASH")) (codes "T_IS_CASH") (codes "T_IS_CASH") 4 (integer_column (codes "T_IS_CASH")) refl refl refl,
-        column_is schema at (trade_table tree) found (codes "TRADE") [] [] true true (codes "T_S_SYMB") 5 (text_column (codes "T_S_SYMB")) refl refl,
-        heading_is schema at (trade_table tree) found (codes "TRADE") [] [] true true (e.Column None (codes "T_S_SYMB")) (codes "T_S_SYMB") (codes "T_S_SYMB") 5 (text_column (codes "T_S_SYMB")) refl refl refl,
-        column_is schema at (trade_table tree) found (codes "TRADE") [] [] true true (codes "T_QTY") 6 (integer_column (codes "T_QTY")) refl refl,
-        heading_is schema at (trade_table tree) found (codes "TRADE") [] [] true true (e.Column None (codes "T_QTY")) (codes "T_QTY") (codes "T_QTY") 6 (integer_column (codes "T_QTY")) refl refl refl,
-        column_is schema at (trade_table tree) found (codes "TRADE") [] [] true true (codes "T_BID_PRICE") 7 (integer_column (codes "T_BID_PRICE")) refl refl,
-        heading_is schema at (trade_table tree) found (codes "TRADE") [] [] true true (e.Column None (codes "T_BID_PRICE")) (codes "T_BID_PRICE") (codes "T_BID_PRICE") 7 (integer_column (codes "T_BID_PRICE")) refl refl refl,
-        column_is schema at (trade_table tree) found (codes "TRADE") [] [] true true (codes "T_CA_ID") 8 (integer_column (codes "T_CA_ID")) refl refl,
-        heading_is schema at (trade_table tree) found (codes "TRADE") [] [] true true (e.Column None (codes "T_CA_ID")) (codes "T_CA_ID") (codes "T_CA_ID") 8 (integer_column (codes "T_CA_ID")) refl refl refl,
-        column_is schema at (trade_table tree) found (codes "TRADE") [] [] true true (codes "T_EXEC_NAME") 9 (text_column (codes "T_EXEC_NAME")) refl refl,
-        heading_is schema at (trade_table tree) found (codes "TRADE") [] [] true true (e.Column None (codes "T_EXEC_NAME")) (codes "T_EXEC_NAME") (codes "T_EXEC_NAME") 9 (text_column (codes "T_EXEC_NAME")) refl refl refl,
-        column_is schema at (trade_table tree) found (codes "TRADE") [] [] true true (codes "T_TRADE_PRICE") 10 (nullable_integer_column (codes "T_TRADE_PRICE")) refl refl,
-        heading_is schema at (trade_table tree) found (codes "TRADE") [] [] true true (e.Column None (codes "T_TRADE_PRICE")) (codes "T_TRADE_PRICE") (codes "T_TRADE_PRICE") 10 (nullable_integer_column (codes "T_TRADE_PRICE")) refl refl refl,
-        column_is schema at (trade_table tree) found (codes "TRADE") [] [] true true (codes "T_CHRG") 11 (integer_column (codes "T_CHRG")) refl refl,
-        heading_is schema at (trade_table tree) found (codes "TRADE") [] [] true true (e.Column None (codes "T_CHRG")) (codes "T_CHRG") (codes "T_CHRG") 11 (integer_column (codes "T_CHRG")) refl refl refl,
-        column_is schema at (trade_table tree) found (codes "TRADE") [] [] true true (codes "T_COMM") 12 (integer_column (codes "T_COMM")) refl refl,
-        heading_is schema at (trade_table tree) found (codes "TRADE") [] [] true true (e.Column None (codes "T_COMM")) (codes "T_COMM") (codes "T_COMM") 12 (integer_column (codes "T_COMM")) refl refl refl,
-        column_is schema at (trade_table tree) found (codes "TRADE") [] [] true true (codes "T_TAX") 13 (integer_column (codes "T_TAX")) refl refl,
-        heading_is schema at (trade_table tree) found (codes "TRADE") [] [] true true (e.Column None (codes "T_TAX")) (codes "T_TAX") (codes "T_TAX") 13 (integer_column (codes "T_TAX")) refl refl refl,
-        column_is schema at (trade_table tree) found (codes "TRADE") [] [] true true (codes "T_LIFO") 14 (integer_column (codes "T_LIFO")) refl refl,
-        heading_is schema at (trade_table tree) found (codes "TRADE") [] [] true true (e.Column None (codes "T_LIFO")) (codes "T_LIFO") (codes "T_LIFO") 14 (integer_column (codes "T_LIFO")) refl refl refl,
-      )
+      columns_shown schema at (trade_table tree) found (codes "TRADE") (trade_table tree).columns (refl, refl, (refl, refl, (refl, refl, (refl, refl, (refl, refl, (refl, refl, (refl, refl, (refl, refl, (refl, refl, (refl, refl, (refl, refl, (refl, refl, (refl, refl, (refl, refl, (refl, refl, tt))))))))))))))) max_budget (max_budget - 16) refl core refl
 
   matches : matching lower (outermost schema) (level_one (codes "TRADE") at columns) core (after 15 binary)
       ≡ Ok (record { steps = Inner tree ∷ []; filter = terms }, after 15 binary)
@@ -150,8 +125,7 @@ module _ (schema : Schema) (at tree : ℕ) (h : IsTableAt schema (trade_table tr
 
   pub understood_as : (compiled schema statement ≡ Ok (meant (read statement) [] (Select (record { lets = []; body = selection tree terms project order paging }) names))) ⊎ (compiled schema statement ≡ Err Mismatch)
   unfolding everything
-  understood_as = reads_or schema statement (read statement) refl refl select (draft tree) names (None ∷ Some Binary ∷ Some Binary ∷ Some Binary ∷ Some Binary ∷ Some Binary ∷ Some Binary ∷ Some Binary ∷ Some Binary ∷ Some Binary ∷ Some Binary ∷ Some Binary ∷ Some Binary ∷ Some Binary ∷ Some Binary ∷ []) refl meaning_is
+  understood_as = reads_or schema statement (read statement) is_read.0 is_read.1 select (draft tree) names (None ∷ Some Binary ∷ Some Binary ∷ Some Binary ∷ Some Binary ∷ Some Binary ∷ Some Binary ∷ Some Binary ∷ Some Binary ∷ Some Binary ∷ Some Binary ∷ Some Binary ∷ Some Binary ∷ Some Binary ∷ Some Binary ∷ []) is_read.2 meaning_is
 
 pub plain : (schema : Schema) (c : Compiled) → understood schema statement ≡ Ok c → c.returning ≡ None
-unfolding everything
-plain = no_returning statement (read statement) select refl refl refl
+plain = no_returning statement (read statement) select is_read.0 is_read.1 is_read.2

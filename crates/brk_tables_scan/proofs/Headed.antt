@@ -1,17 +1,24 @@
 -- Tables that are there by their names have the columns that they show.
-use Rattle.std.proofs.Common.{◌≡◌, ◌∙◌, ◌↔◌, inl, inr, ℕ, zero, suc, ◌+◌, ◌<◌, List, [], ◌∷◌, map, take, length, get_or, Bool, true, false, not, ◌&&◌, ◌||◌, Option, Some, None, is_some, refl, sym, ap, arith, add-one, slice_get}
+use Rattle.std.proofs.Common.{◌≡◌, ◌∙◌, ◌↔◌, inl, inr, ℕ, zero, suc, ◌+◌, ◌<◌, List, [], ◌∷◌, map, take, length, get_or, Bool, true, false, not, ◌&&◌, ◌||◌, Option, Some, None, is_some, refl, sym, ap, subst, arith, add-one, slice_get, Result}
 use Rattle.std.specs.Prelude.{IsTrue}
 use Rattle.std.specs.Borrow.{Bor}
 use Rattle.std.specs.List.{AllByRecursion, list_all, list_any}
 use Rattle.std.proofs.lemmas.Bool.{and_parts}
+use Rattle.std.proofs.lemmas.List.{take-map}
 use Rattle.std.proofs.lemmas.Option.{slice_get_cases}
 use Rattle.sqlite_rules.proofs.RowLemmas.{position_within}
 use Rattle.sqlite_schema.specs.declared.schema.Schema.{Schema}
 use Rattle.sqlite_schema.specs.declared.schema.Table.{Table}
 use Rattle.sqlite_schema.specs.Names.{table_named}
+use Rattle.sqlite.specs.State.{State}
+use Rattle.brk_money.specs.declared.fault.Fault.{Fault}
 use Rattle.brk_sql.specs.Desk.{MatchesResultColumns}
+use Rattle.brk_sql.specs.Model.{IsTransactionStep}
 use Rattle.brk_model.specs.Schemas.{Schema as Desk}
-use Rattle.brk_tables_schema.specs.Desk.{DeskTable, table_name, table_definition_at, tables_in_schema}
+use Rattle.brk_changes.specs.declared.schema.Schema as known
+use Rattle.brk_changes.specs.declared.schema.Schema.TheVariants.{First, Second, Third}
+use Rattle.brk_changes.specs.Schemas.{abstract_schema}
+use Rattle.brk_tables_schema.specs.Desk.{DeskTable, all_tables, table_name, table_definition_at, tables_in_schema}
 use Rattle.brk_tables_create.specs.Made.{tables_of_later_schemas}
 use Rattle.brk_tables_create.specs.Present.{has_exact_table_names, has_table_named}
 use Rattle.brk_tables_scan.specs.Headings.{MatchesEachHeading, heading_of_borrowed_texts, heading_of_table, select_all_text}
@@ -40,6 +47,22 @@ module _ (schema : Schema) (d : Told) where
   -- all before it, and this one
   pub right_at : (all : List Told) (i : ℕ) → i < length all → MatchesEachHeading (map heading_of_borrowed_texts (take i all)) true schema → MatchesResultColumns (heading_of_borrowed_texts (get_or all i d)).0 (heading_of_borrowed_texts (get_or all i d)).1 true schema → MatchesEachHeading (map heading_of_borrowed_texts (take (i + 1) all)) true schema
   right_at all i lt before this = rw (add-one i) (next_at all i lt before this)
+
+-- ---- the tables of a schema are the first of all tables
+
+pub headings_in_schema : (schema : known.Schema) (all : List Told) → map heading_of_borrowed_texts all ≡ map heading_of_table all_tables
+    → map heading_of_borrowed_texts (take (length (tables_in_schema (abstract_schema schema))) all) ≡ map heading_of_table (tables_in_schema (abstract_schema schema))
+headings_in_schema First all is = sym (take-map heading_of_borrowed_texts 20 all) ∙ ap (take 20) is
+headings_in_schema Second all is = sym (take-map heading_of_borrowed_texts 21 all) ∙ ap (take 21) is
+headings_in_schema Third all is = sym (take-map heading_of_borrowed_texts 22 all) ∙ ap (take 22) is
+
+pub step_in_schema : (a b : State) (r : Result Bool Fault) (schema : known.Schema) (n : ℕ) (all : List Told)
+    → IsTransactionStep {V = Bool} {E = Fault} a b r (λ has a b. (b.now ≡ a.now) × MatchesEachHeading (map heading_of_borrowed_texts (take n all)) has a.now.schema)
+    → n ≡ length (tables_in_schema (abstract_schema schema)) → map heading_of_borrowed_texts all ≡ map heading_of_table all_tables
+    → IsTransactionStep {V = Bool} {E = Fault} a b r (λ has a b. (b.now ≡ a.now) × MatchesEachHeading (map heading_of_table (tables_in_schema (abstract_schema schema))) has a.now.schema)
+step_in_schema a b r schema n all step count is =
+    subst (λ hs. IsTransactionStep {V = Bool} {E = Fault} a b r (λ has a b. (b.now ≡ a.now) × MatchesEachHeading hs has a.now.schema))
+    (ap (λ n. map heading_of_borrowed_texts (take n all)) count ∙ headings_in_schema schema all is) step
 
 -- ---- of a desk
 

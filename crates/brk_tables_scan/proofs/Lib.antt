@@ -22,8 +22,10 @@ pub mod AllSummaries
 pub mod AllTaxRates
 pub mod AllTradeHistory
 pub mod AllTrades
+pub mod ShownColumns
 pub mod Continued
 pub mod Defined
+pub mod Failing
 pub mod Firsts
 pub mod FormedTables
 pub mod Formless

@@ -54,8 +54,8 @@ fn read_desk_and_customer_tables<S: Alter>(
 {
     let last = decoder.decode_last_stamp(schema, desk_rows(tx)?)?;
     let kept = decoder.decode_kept_keys(alloc, kept_rows(tx)?)?;
-    let brokers = decoder.decode(alloc, broker_rows(tx)?)?;
-    let customers = decoder.decode(alloc, customer_rows(tx)?)?;
+    let brokers = decoder.decode_read(alloc, broker_rows(tx))?;
+    let customers = decoder.decode_read(alloc, customer_rows(tx))?;
     Ok(DeskAndCustomerSheets {
         last,
         kept,
@@ -86,10 +86,10 @@ fn read_account_and_security_tables<S: Alter>(
         (λ sheets. ReadsAccountAndSecurityTables decoder.old.are_well_formed decoder.new.are_well_formed sheets) }
     ensures fault { IfErr result IsCallFault }
 {
-    let accounts = decoder.decode(alloc, account_rows(tx)?)?;
-    let permissions = decoder.decode(alloc, permission_rows(tx)?)?;
-    let securities = decoder.decode(alloc, security_rows(tx)?)?;
-    let last_trades = decoder.decode(alloc, last_trade_rows(tx)?)?;
+    let accounts = decoder.decode_read(alloc, account_rows(tx))?;
+    let permissions = decoder.decode_read(alloc, permission_rows(tx))?;
+    let securities = decoder.decode_read(alloc, security_rows(tx))?;
+    let last_trades = decoder.decode_read(alloc, last_trade_rows(tx))?;
     Ok(AccountAndSecuritySheets {
         accounts,
         permissions,
@@ -120,10 +120,10 @@ fn read_charge_and_rate_tables<S: Alter>(
         (λ sheets. ReadsChargeAndRateTables decoder.old.are_well_formed decoder.new.are_well_formed sheets) }
     ensures fault { IfErr result IsCallFault }
 {
-    let charges = decoder.decode(alloc, charge_rows(tx)?)?;
-    let bands = decoder.decode(alloc, band_rows(tx)?)?;
-    let tax_rates = decoder.decode(alloc, tax_rate_rows(tx)?)?;
-    let customer_taxes = decoder.decode(alloc, customer_tax_rows(tx)?)?;
+    let charges = decoder.decode_read(alloc, charge_rows(tx))?;
+    let bands = decoder.decode_read(alloc, band_rows(tx))?;
+    let tax_rates = decoder.decode_read(alloc, tax_rate_rows(tx))?;
+    let customer_taxes = decoder.decode_read(alloc, customer_tax_rows(tx))?;
     Ok(ChargeAndRateSheets {
         charges,
         bands,
@@ -154,10 +154,10 @@ fn read_trade_and_holding_tables<S: Alter>(
         (λ sheets. ReadsTradeAndHoldingTables decoder.old.are_well_formed decoder.new.are_well_formed sheets) }
     ensures fault { IfErr result IsCallFault }
 {
-    let trades = decoder.decode(alloc, trade_rows(tx)?)?;
-    let history = decoder.decode(alloc, history_rows(tx)?)?;
-    let requests = decoder.decode(alloc, request_rows(tx)?)?;
-    let holdings = decoder.decode(alloc, holding_rows(tx)?)?;
+    let trades = decoder.decode_read(alloc, trade_rows(tx))?;
+    let history = decoder.decode_read(alloc, history_rows(tx))?;
+    let requests = decoder.decode_read(alloc, request_rows(tx))?;
+    let holdings = decoder.decode_read(alloc, holding_rows(tx))?;
     Ok(TradeAndHoldingSheets {
         trades,
         history,
@@ -188,10 +188,10 @@ fn read_summary_and_settlement_tables<S: Alter>(
         (λ sheets. ReadsSummaryAndSettlementTables decoder.old.are_well_formed decoder.new.are_well_formed sheets) }
     ensures fault { IfErr result IsCallFault }
 {
-    let summaries = decoder.decode(alloc, summary_rows(tx)?)?;
-    let holding_history = decoder.decode(alloc, holding_history_rows(tx)?)?;
-    let settlements = decoder.decode(alloc, settlement_rows(tx)?)?;
-    let cash = decoder.decode(alloc, cash_transaction_rows(tx)?)?;
+    let summaries = decoder.decode_read(alloc, summary_rows(tx))?;
+    let holding_history = decoder.decode_read(alloc, holding_history_rows(tx))?;
+    let settlements = decoder.decode_read(alloc, settlement_rows(tx))?;
+    let cash = decoder.decode_read(alloc, cash_transaction_rows(tx))?;
     Ok(SummaryAndSettlementSheets {
         summaries,
         holding_history,
@@ -222,7 +222,7 @@ fn read_later_schema_tables<S: Alter>(
         (λ sheets. ReadsLaterSchemaTables (abstract_schema schema) decoder.old.are_well_formed decoder.new.are_well_formed sheets) }
     ensures fault { IfErr result IsCallFault }
 {
-    let moves = decoder.decode(alloc, cash_move_rows_in_schema(tx, alloc, schema)?)?;
+    let moves = decoder.decode_read(alloc, cash_move_rows_in_schema(tx, alloc, schema))?;
     let rule = decoder.decode_settlement_day(settle_rule_rows_in_schema(tx, alloc, schema)?)?;
     Ok(LaterSchemaSheets { moves, rule })
 }

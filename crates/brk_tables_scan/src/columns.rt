@@ -1,6 +1,6 @@
 //! The check of a desk's tables by their names and columns.
 
-ghost use Rattle.std.specs.Prelude.{◌≡◌, ◌↔◌, map, Err, OnErr, IsTrue};
+ghost use Rattle.std.specs.Prelude.{◌≡◌, ◌↔◌, ◌≤◌, length, map, Err, OnErr, IsTrue};
 ghost use Rattle.brk_money.specs.declared.fault.Fault.TheVariants.{Store};
 ghost use Rattle.brk_sql.specs.Model.{IsConnectionStep};
 ghost use Rattle.brk_tables_scan.specs.Headings.{MatchesEachHeading, heading_of_borrowed_texts, heading_of_table};
@@ -8,9 +8,7 @@ ghost use Rattle.brk_changes.specs.Schemas.{abstract_schema};
 ghost use Rattle.brk_tables_schema.specs.Desk.{tables_in_schema};
 ghost use Rattle.brk_tables_scan.specs.Schemas.{HasTablesOfSchema, LacksTablesOfLaterSchemas};
 
-use crate::column_names::{
-    TABLES_OF_FIRST_SCHEMA, TABLES_OF_SECOND_SCHEMA, TABLES_OF_THIRD_SCHEMA,
-};
+use crate::column_names::COLUMNS_OF_ALL_TABLES;
 use brk_changes::Schema;
 use brk_money::Fault;
 use brk_tables_create::has_exact_tables_by_name;
@@ -37,6 +35,19 @@ fn each_heading_matches<S: Alter>(
     Ok(true)
 }
 
+// Returns how many tables `schema` has. They are the first of all tables, because later schemas add
+// the last ones.
+fn table_count(schema: Schema) -> usize
+    ensures count { result ≡ length (tables_in_schema (abstract_schema schema)) }
+    ensures at_most_all { result ≤ 22 }
+{
+    match schema {
+        Schema::First => 20,
+        Schema::Second => 21,
+        Schema::Third => 22,
+    }
+}
+
 // Returns true if each table of `schema` has exactly its column names, in order. Checks the tables
 // in order until one differs. Changes nothing. Fails with `Store` only, also if a checked table
 // does not exist.
@@ -46,11 +57,7 @@ fn tables_have_columns<S: Alter>(tx: &mut Transaction<'_, S>, schema: Schema) ->
         × MatchesEachHeading (map heading_of_table (tables_in_schema (abstract_schema schema))) has a.now.schema) }
     ensures fault { OnErr result (result ≡ Err Store) }
 {
-    match schema {
-        Schema::First => each_heading_matches(tx, &TABLES_OF_FIRST_SCHEMA),
-        Schema::Second => each_heading_matches(tx, &TABLES_OF_SECOND_SCHEMA),
-        Schema::Third => each_heading_matches(tx, &TABLES_OF_THIRD_SCHEMA),
-    }
+    each_heading_matches(tx, &COLUMNS_OF_ALL_TABLES[..table_count(schema)])
 }
 
 /// Returns true if each table of `schema` exists by name, with exactly its column names, in order,

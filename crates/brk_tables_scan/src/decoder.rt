@@ -1,6 +1,8 @@
 //! The decoding of the rows of one table after the other, which continues after a malformed row.
 
-ghost use Rattle.std.specs.Prelude.{◌≡◌, Err, IfOk, OnErr, false, map, true};
+ghost use Rattle.std.specs.Prelude.{◌≡◌, ◌⊎◌, Err, IfErr, IfOk, Ok, OnErr, false, map, true};
+ghost use Rattle.std.specs.Global.{Vec};
+ghost use Rattle.sqlite_value.specs.Order.{Row as Cells};
 ghost use Rattle.std.specs.List.{list_all};
 ghost use Rattle.brk_money.specs.declared.fault.Fault.TheVariants.{Memory};
 ghost use Rattle.brk_changes.specs.Schemas.{abstract_schema};
@@ -95,6 +97,21 @@ impl Decoder {
             }
             Err(DecodeError::Memory) => Err(Fault::Memory),
         }
+    }
+
+    /// Decodes the rows that a read of a table returned (`decode`). Fails with the fault of the
+    /// read, or with `Memory`.
+    pub(crate) fn decode_read<R: Record>(
+        &mut self,
+        alloc: Global,
+        read: Result<Vec<Row>, Fault>,
+    ) -> Result<Vec<R>, Fault>
+        ensures decoding { IfOk result (λ all. (rows : Vec Cells) × (read ≡ Ok rows) × ContinuesDecoding self.old.are_well_formed self.new.are_well_formed
+            (list_all (passes_all_cell_checks R.forms) rows.items)
+            (map R.cells all.items ≡ rows.items)) }
+        ensures fault { IfErr result (λ fault. (fault ≡ Memory) ⊎ (read ≡ Err fault)) }
+    {
+        self.decode(alloc, read?)
     }
 
     /// Decodes the rows of KEPT, drops each once it is decoded, and returns their keys: no

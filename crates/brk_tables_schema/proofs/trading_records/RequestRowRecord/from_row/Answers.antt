@@ -1,7 +1,7 @@
 use Rattle.std.proofs.Common.{◌≡◌, ◌∷◌, [], length, refl, sym, arith}
 use Rattle.sqlite_value.specs.Order.{Row, column}
 use Rattle.brk_tables_schema.specs.Formed.{request_column_cell_checks}
-use Rattle.brk_tables_schema.proofs.Unformed.{handed_on, wrong_length}
+use Rattle.brk_tables_schema.proofs.Unformed.{handed_on, no_form_at, wrong_length}
 use Rattle.brk_tables_schema.proofs.trading_records.RequestRowRecord.from_row.Goals as goal
 
 six_columns : (row : Row) → length row ≡ 6 → column row 0 ∷ column row 1 ∷ column row 2 ∷ column row 3 ∷ column row 4 ∷ column row 5 ∷ [] ≡ row
@@ -17,3 +17,21 @@ returns-clause-value c =
 pub returns-in_err-check_column_count-clause-form : goal.returns-in_err-check_column_count-clause-form
 returns-in_err-check_column_count-clause-form c =
     λ h. wrong_length request_column_cell_checks c.args.row.now (c.check_column_count.ensures.form (handed_on c.check_column_count.result c.from_residual.result _ c.from_residual.ensures.1 c.in_err-check_column_count.was h))
+
+pub returns-in_err-id_in_column-clause-form : goal.returns-in_err-id_in_column-clause-form
+returns-in_err-id_in_column-clause-form c = λ h. no_form_at request_column_cell_checks c.args.row.now 0 _ refl (c.id_in_column.ensures.form (handed_on c.id_in_column.result c.from_residual-in_err-id_in_column.result _ c.from_residual-in_err-id_in_column.ensures.1 c.in_err-id_in_column.was h))
+
+pub returns-in_err-trade_type_in_column-clause-form : goal.returns-in_err-trade_type_in_column-clause-form
+returns-in_err-trade_type_in_column-clause-form c = λ h. no_form_at request_column_cell_checks c.args.row.now 1 _ refl (c.trade_type_in_column.ensures.form (handed_on c.trade_type_in_column.result c.from_residual-in_err-trade_type_in_column.result _ c.from_residual-in_err-trade_type_in_column.ensures.1 c.in_err-trade_type_in_column.was h))
+
+pub returns-in_err-formatted_text_in_column-clause-form : goal.returns-in_err-formatted_text_in_column-clause-form
+returns-in_err-formatted_text_in_column-clause-form c = λ h. no_form_at request_column_cell_checks c.args.row.now 2 _ refl (c.formatted_text_in_column.ensures.form (handed_on c.formatted_text_in_column.result c.from_residual-in_err-formatted_text_in_column.result _ c.from_residual-in_err-formatted_text_in_column.ensures.1 c.in_err-formatted_text_in_column.was h))
+
+pub returns-in_err-quantity_in_column-clause-form : goal.returns-in_err-quantity_in_column-clause-form
+returns-in_err-quantity_in_column-clause-form c = λ h. no_form_at request_column_cell_checks c.args.row.now 3 _ refl (c.quantity_in_column.ensures.form (handed_on c.quantity_in_column.result c.from_residual-in_err-quantity_in_column.result _ c.from_residual-in_err-quantity_in_column.ensures.1 c.in_err-quantity_in_column.was h))
+
+pub returns-in_err-price_in_column-clause-form : goal.returns-in_err-price_in_column-clause-form
+returns-in_err-price_in_column-clause-form c = λ h. no_form_at request_column_cell_checks c.args.row.now 4 _ refl (c.price_in_column.ensures.form (handed_on c.price_in_column.result c.from_residual-in_err-price_in_column.result _ c.from_residual-in_err-price_in_column.ensures.1 c.in_err-price_in_column.was h))
+
+pub returns-in_err-id_in_column-2-clause-form : goal.returns-in_err-id_in_column-2-clause-form
+returns-in_err-id_in_column-2-clause-form c = λ h. no_form_at request_column_cell_checks c.args.row.now 5 _ refl (c.id_in_column-2.ensures.form (handed_on c.id_in_column-2.result c.from_residual-in_err-id_in_column-2.result _ c.from_residual-in_err-id_in_column-2.ensures.1 c.in_err-id_in_column-2.was h))

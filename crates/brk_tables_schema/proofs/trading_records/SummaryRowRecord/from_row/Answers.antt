@@ -1,6 +1,8 @@
 use Rattle.std.proofs.Common.{◌≡◌, ◌∷◌, [], length, refl, sym, arith, rules, w64}
 use Rattle.std.proofs.lemmas.Int.{to_z-of_z}
 use Rattle.sqlite_value.specs.Order.{Row, column}
+use Rattle.brk_tables_schema.specs.Formed.{summary_column_cell_checks}
+use Rattle.brk_tables_schema.proofs.Unformed.{handed_on, no_form_at, wrong_length}
 use Rattle.brk_tables_schema.proofs.trading_records.SummaryRowRecord.from_row.Goals as goal
 
 three_columns : (row : Row) → length row ≡ 3 → column row 0 ∷ column row 1 ∷ column row 2 ∷ [] ≡ row
@@ -12,3 +14,15 @@ pub returns-clause-value : goal.returns-clause-value
 returns-clause-value c =
     rw (sym c.in_ok-id_in_column.ensures.value, sym c.in_ok-formatted_text_in_column.ensures.value, to_z-of_z w64 c.in_ok-integer_in_column.field-0 (search rules), sym c.in_ok-integer_in_column.ensures.value)
     (three_columns c.args.row.now c.in_ok-check_column_count.ensures.columns)
+
+pub returns-in_err-check_column_count-clause-form : goal.returns-in_err-check_column_count-clause-form
+returns-in_err-check_column_count-clause-form c = λ h. wrong_length summary_column_cell_checks c.args.row.now (c.check_column_count.ensures.form (handed_on c.check_column_count.result c.from_residual.result _ c.from_residual.ensures.1 c.in_err-check_column_count.was h))
+
+pub returns-in_err-id_in_column-clause-form : goal.returns-in_err-id_in_column-clause-form
+returns-in_err-id_in_column-clause-form c = λ h. no_form_at summary_column_cell_checks c.args.row.now 0 _ refl (c.id_in_column.ensures.form (handed_on c.id_in_column.result c.from_residual-in_err-id_in_column.result _ c.from_residual-in_err-id_in_column.ensures.1 c.in_err-id_in_column.was h))
+
+pub returns-in_err-formatted_text_in_column-clause-form : goal.returns-in_err-formatted_text_in_column-clause-form
+returns-in_err-formatted_text_in_column-clause-form c = λ h. no_form_at summary_column_cell_checks c.args.row.now 1 _ refl (c.formatted_text_in_column.ensures.form (handed_on c.formatted_text_in_column.result c.from_residual-in_err-formatted_text_in_column.result _ c.from_residual-in_err-formatted_text_in_column.ensures.1 c.in_err-formatted_text_in_column.was h))
+
+pub returns-in_err-integer_in_column-clause-form : goal.returns-in_err-integer_in_column-clause-form
+returns-in_err-integer_in_column-clause-form c = λ h. no_form_at summary_column_cell_checks c.args.row.now 2 _ refl (c.integer_in_column.ensures.form (handed_on c.integer_in_column.result c.from_residual-in_err-integer_in_column.result _ c.from_residual-in_err-integer_in_column.ensures.1 c.in_err-integer_in_column.was h))

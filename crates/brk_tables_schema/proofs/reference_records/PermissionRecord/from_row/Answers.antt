@@ -1,0 +1,33 @@
+use Rattle.std.proofs.Common.{◌≡◌, ◌∷◌, [], length, refl, sym, arith}
+use Rattle.sqlite_value.specs.Order.{Row, column}
+use Rattle.brk_tables_schema.specs.Formed.{permission_column_cell_checks}
+use Rattle.brk_tables_schema.proofs.Unformed.{handed_on, no_form_at, wrong_length}
+use Rattle.brk_tables_schema.proofs.reference_records.PermissionRecord.from_row.Goals as goal
+
+five_columns : (row : Row) → length row ≡ 5 → column row 0 ∷ column row 1 ∷ column row 2 ∷ column row 3 ∷ column row 4 ∷ [] ≡ row
+five_columns (c0 ∷ c1 ∷ c2 ∷ c3 ∷ c4 ∷ []) h = refl
+five_columns (c0 ∷ c1 ∷ c2 ∷ c3 ∷ c4 ∷ c5 ∷ more) h = absurd (omega (arith, h))
+five_columns _ h = absurd (omega (arith, h))
+
+pub returns-clause-value : goal.returns-clause-value
+returns-clause-value c =
+    rw (sym c.in_ok-id_in_column.ensures.value, sym c.in_ok-formatted_text_in_column.ensures.value, sym c.in_ok-formatted_text_in_column-2.ensures.value, sym c.in_ok-formatted_text_in_column-3.ensures.value, sym c.in_ok-formatted_text_in_column-4.ensures.value)
+    (five_columns c.args.row.now c.in_ok-check_column_count.ensures.columns)
+
+pub returns-in_err-check_column_count-clause-form : goal.returns-in_err-check_column_count-clause-form
+returns-in_err-check_column_count-clause-form c = λ h. wrong_length permission_column_cell_checks c.args.row.now (c.check_column_count.ensures.form (handed_on c.check_column_count.result c.from_residual.result _ c.from_residual.ensures.1 c.in_err-check_column_count.was h))
+
+pub returns-in_err-id_in_column-clause-form : goal.returns-in_err-id_in_column-clause-form
+returns-in_err-id_in_column-clause-form c = λ h. no_form_at permission_column_cell_checks c.args.row.now 0 _ refl (c.id_in_column.ensures.form (handed_on c.id_in_column.result c.from_residual-in_err-id_in_column.result _ c.from_residual-in_err-id_in_column.ensures.1 c.in_err-id_in_column.was h))
+
+pub returns-in_err-formatted_text_in_column-clause-form : goal.returns-in_err-formatted_text_in_column-clause-form
+returns-in_err-formatted_text_in_column-clause-form c = λ h. no_form_at permission_column_cell_checks c.args.row.now 1 _ refl (c.formatted_text_in_column.ensures.form (handed_on c.formatted_text_in_column.result c.from_residual-in_err-formatted_text_in_column.result _ c.from_residual-in_err-formatted_text_in_column.ensures.1 c.in_err-formatted_text_in_column.was h))
+
+pub returns-in_err-formatted_text_in_column-2-clause-form : goal.returns-in_err-formatted_text_in_column-2-clause-form
+returns-in_err-formatted_text_in_column-2-clause-form c = λ h. no_form_at permission_column_cell_checks c.args.row.now 2 _ refl (c.formatted_text_in_column-2.ensures.form (handed_on c.formatted_text_in_column-2.result c.from_residual-in_err-formatted_text_in_column-2.result _ c.from_residual-in_err-formatted_text_in_column-2.ensures.1 c.in_err-formatted_text_in_column-2.was h))
+
+pub returns-in_err-formatted_text_in_column-3-clause-form : goal.returns-in_err-formatted_text_in_column-3-clause-form
+returns-in_err-formatted_text_in_column-3-clause-form c = λ h. no_form_at permission_column_cell_checks c.args.row.now 3 _ refl (c.formatted_text_in_column-3.ensures.form (handed_on c.formatted_text_in_column-3.result c.from_residual-in_err-formatted_text_in_column-3.result _ c.from_residual-in_err-formatted_text_in_column-3.ensures.1 c.in_err-formatted_text_in_column-3.was h))
+
+pub returns-in_err-formatted_text_in_column-4-clause-form : goal.returns-in_err-formatted_text_in_column-4-clause-form
+returns-in_err-formatted_text_in_column-4-clause-form c = λ h. no_form_at permission_column_cell_checks c.args.row.now 4 _ refl (c.formatted_text_in_column-4.ensures.form (handed_on c.formatted_text_in_column-4.result c.from_residual-in_err-formatted_text_in_column-4.result _ c.from_residual-in_err-formatted_text_in_column-4.ensures.1 c.in_err-formatted_text_in_column-4.was h))
