@@ -1,7 +1,6 @@
 #!/usr/bin/env python3
-"""Joins the transcripts of cases/ into the input of brk_cases and into the output that is wanted of it, which are the same bytes, and those of
-cases/files/ in the same way for brk_tests_files. Run it at the top of the repository after a change of a transcript; .ci/run runs it, and asks
-that nothing changed.
+"""Joins the transcripts of cases/ and of cases/files/ into the input of brk_cases and into the output that is wanted of it, which are the same
+bytes. Run it at the top of the repository after a change of a transcript; .ci/run runs it, and asks that nothing changed.
 
     tools/cases.py
 """
@@ -9,8 +8,7 @@ import os
 import pathlib
 import sys
 
-# each program that replays transcripts, and their folder
-PROGRAMS = {'crates/brk_cases': 'cases', 'crates/brk_tests_files': 'cases/files'}
+PROGRAM, FOLDERS = 'crates/brk_cases', ('cases', 'cases/files')
 
 
 def joined(folder):
@@ -25,12 +23,11 @@ def joined(folder):
 
 
 def main():
-    for program, folder in PROGRAMS.items():
-        text = joined(folder)
-        for name in ('stdin', 'stdout'):
-            path = pathlib.Path(program) / name
-            if not path.exists() or path.read_bytes() != text:
-                path.write_bytes(text)
+    text = b''.join(map(joined, FOLDERS))
+    for name in ('stdin', 'stdout'):
+        path = pathlib.Path(PROGRAM) / name
+        if not path.exists() or path.read_bytes() != text:
+            path.write_bytes(text)
 
 
 if __name__ == '__main__':

@@ -2,6 +2,7 @@
 
 use crate::escape::{Piece, append_output_line, append_written_bytes};
 use crate::failed::Failed;
+use crate::files::execute_file_command;
 use crate::place::{Place, adopt_database};
 use crate::tables::append_rows_of_all_tables;
 use crate::views::{append_refusal_line, execute_ask_command, execute_print_command};
@@ -306,18 +307,19 @@ fn execute_desk_command(
     }
 }
 
-/// Executes the command `command` with its input lines `pieces` on the open desk or database,
-/// appends its output lines, and returns the desk or database that is open after it. If the
-/// command needs a desk or is unknown, and no desk is open, appends only `! no desk`; if it is
-/// unknown and a desk is open, appends only `! no such command`. Fails only if memory runs out.
-pub fn execute_command(
+// Executes a command on the open desk or database, given by its first word `verb`, the rest of its
+// line `words` and its input lines `pieces`. Appends its output lines, and returns the desk or
+// database that is open after it. If the command needs a desk or is unknown, and no desk is open,
+// appends only `! no desk`; if it is unknown and a desk is open, appends only `! no such command`.
+// Fails only if memory runs out.
+fn execute_memory_command(
     alloc: Global,
     out: &mut String,
     place: Place,
-    command: &str,
+    verb: &str,
+    words: &str,
     pieces: &[Piece],
 ) -> Result<Place, Failed> {
-    let (verb, words) = command.split_once(' ').unwrap_or((command, ""));
     match verb {
         "desk" => Ok(Place::with_new_desk(alloc)),
         "empty" => Ok(Place::with_empty_database(alloc)),
@@ -335,5 +337,41 @@ pub fn execute_command(
                 Ok(other)
             }
         },
+    }
+}
+
+// Executes a command over files, given by its first word `verb`, the rest of its line `words` and
+// its input lines `pieces`, and appends its output lines. Fails only if memory runs out.
+fn execute_command_on_files(
+    rt: &HostRuntime,
+    out: &mut String,
+    verb: &str,
+    words: &str,
+    pieces: &[Piece],
+) -> Result<(), Failed> {
+    let input = join_input_lines(rt.alloc(), pieces)?;
+    execute_file_command(rt, out, verb, words, &input)
+}
+
+/// Executes the command `command` with its input lines `pieces`, over files or on the open desk or
+/// database. Appends its output lines, and returns the desk or database that is open after it. If
+/// the command needs a desk or is unknown, and no desk is open, appends only `! no desk`; if it is
+/// unknown and a desk is open, appends only `! no such command`. Fails only if memory runs out.
+pub fn execute_command(
+    rt: &HostRuntime,
+    out: &mut String,
+    place: Place,
+    command: &str,
+    pieces: &[Piece],
+) -> Result<Place, Failed> {
+    let (verb, words) = command.split_once(' ').unwrap_or((command, ""));
+    match verb {
+        "$" | "write" | "copy" | "cut" | "change" => {
+            match execute_command_on_files(rt, out, verb, words, pieces) {
+                Ok(()) => Ok(place),
+                Err(failed) => Err(failed),
+            }
+        }
+        _ => execute_memory_command(rt.alloc(), out, place, verb, words, pieces),
     }
 }

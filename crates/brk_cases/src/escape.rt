@@ -102,12 +102,12 @@ pub fn append_escaped_bytes(out: &mut String, bytes: &[u8], in_record: bool) -> 
     Ok(())
 }
 
-/// Appends written bytes as output lines with escapes: one for the bytes before each line feed, and
-/// one that ends in a single backslash for the bytes after the last line feed, if there are any.
-/// Fails only if memory runs out.
-pub fn append_written_bytes(out: &mut String, bytes: &[u8]) -> Result<(), Failed> {
+/// Appends written bytes as output lines with escapes, each after the mark `mark`: one for the bytes
+/// before each line feed, and one that ends in a single backslash for the bytes after the last line
+/// feed, if there are any. Fails only if memory runs out.
+pub fn append_lines_after_mark(out: &mut String, mark: &str, bytes: &[u8]) -> Result<(), Failed> {
     for piece in bytes.split_inclusive(|byte| *byte == b'\n') {
-        out.push_str("> ")?;
+        out.push_str(mark)?;
         match piece.strip_suffix(b"\n") {
             Some(line) => append_escaped_bytes(out, line, false)?,
             None => {
@@ -118,6 +118,12 @@ pub fn append_written_bytes(out: &mut String, bytes: &[u8]) -> Result<(), Failed
         out.push_str("\n")?;
     }
     Ok(())
+}
+
+/// Appends written bytes as output lines with escapes, as `append_lines_after_mark` does after `>`
+/// and a space. Fails only if memory runs out.
+pub fn append_written_bytes(out: &mut String, bytes: &[u8]) -> Result<(), Failed> {
+    append_lines_after_mark(out, "> ", bytes)
 }
 
 /// Appends the text `line`, without escapes, as an output line: after `>` and a space, and before a

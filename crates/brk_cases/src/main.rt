@@ -6,6 +6,7 @@
 mod commands;
 mod escape;
 mod failed;
+mod files;
 mod place;
 mod replay;
 mod table_list;
@@ -23,7 +24,7 @@ fn replay_standard_input(rt: &HostRuntime) -> Result<(), Failed> {
     let Ok(text) = io::read_to_string(rt.alloc(), rt.reader()) else {
         return Err(Failed::Input);
     };
-    let replayed = replay::replay_transcript(rt.alloc(), text.as_str())?;
+    let replayed = replay::replay_transcript(rt, text.as_str())?;
     match rt.print(replayed.as_str()) {
         Ok(()) => Ok(()),
         Err(_) => Err(Failed::Output),

@@ -17,13 +17,13 @@ struct Due<'a> {
 // Executes the pending command, if there is one, appends its output lines, and returns the desk or
 // the database that is open after it. Fails only if memory runs out.
 fn execute_pending_command(
-    alloc: Global,
+    rt: &HostRuntime,
     out: &mut String,
     place: Place,
     due: Option<Due<'_>>,
 ) -> Result<Place, Failed> {
     match due {
-        Some(due) => execute_command(alloc, out, place, due.command, &due.pieces),
+        Some(due) => execute_command(rt, out, place, due.command, &due.pieces),
         None => Ok(place),
     }
 }
@@ -61,19 +61,19 @@ impl<'a> Replay<'a> {
     // after it. Fails only if memory runs out.
     fn execute_pending_and_start_next(
         self,
-        alloc: Global,
+        rt: &HostRuntime,
         out: &mut String,
         line: &'a str,
     ) -> Result<Replay<'a>, Failed> {
         let Replay { place, due } = self;
-        let place = execute_pending_command(alloc, out, place, due)?;
+        let place = execute_pending_command(rt, out, place, due)?;
         writeln!(out, "{line}")?;
         let due = if is_comment_or_empty(line) {
             None
         } else {
             Some(Due {
                 command: line,
-                pieces: Vec::new(alloc),
+                pieces: Vec::new(rt.alloc()),
             })
         };
         Ok(Replay { place, due })
@@ -85,7 +85,7 @@ impl<'a> Replay<'a> {
     // comment or empty. Fails only if memory runs out.
     fn process_line(
         self,
-        alloc: Global,
+        rt: &HostRuntime,
         out: &mut String,
         line: &'a str,
     ) -> Result<Replay<'a>, Failed> {
@@ -95,9 +95,9 @@ impl<'a> Replay<'a> {
         match line.strip_prefix("| ") {
             Some(text) => {
                 writeln!(out, "{line}")?;
-                self.with_input_line(alloc, text)
+                self.with_input_line(rt.alloc(), text)
             }
-            None => self.execute_pending_and_start_next(alloc, out, line),
+            None => self.execute_pending_and_start_next(rt, out, line),
         }
     }
 }
@@ -106,15 +106,15 @@ impl<'a> Replay<'a> {
 /// place of the old ones.
 ///
 /// Fails only if memory runs out.
-pub fn replay_transcript(alloc: Global, text: &str) -> Result<String, Failed> {
-    let mut out = String::new(alloc);
+pub fn replay_transcript(rt: &HostRuntime, text: &str) -> Result<String, Failed> {
+    let mut out = String::new(rt.alloc());
     let mut replay = Replay {
         place: Place::Nothing,
         due: None,
     };
     for line in text.strip_suffix('\n').unwrap_or(text).split('\n') {
-        replay = replay.process_line(alloc, &mut out, line)?;
+        replay = replay.process_line(rt, &mut out, line)?;
     }
-    execute_pending_command(alloc, &mut out, replay.place, replay.due)?;
+    execute_pending_command(rt, &mut out, replay.place, replay.due)?;
     Ok(out)
 }
