@@ -1,5 +1,5 @@
 -- How a transaction ends: rolled back, or committed.
-use Rattle.std.proofs.Common.{◌≡◌, inl, inr, true, false, Result, Ok, Err, IfOk, OnOk, IsTrue, [], refl, sym, ap, subst, ◌∙◌}
+use Rattle.std.proofs.Common.{◌≡◌, ◌⊎◌, inl, inr, true, false, Result, Ok, Err, IfOk, OnOk, IsTrue, [], refl, sym, ap, subst, ◌∙◌}
 use Rattle.sqlite_trees.specs.declared.store.Store.{Ghosts}
 use Rattle.sqlite_trees.specs.Tree.{Trees}
 use Rattle.sqlite.specs.Effect.{Database}
@@ -14,7 +14,8 @@ use Rattle.brk_sql.specs.Desk.{ChangesTablesBy}
 use Rattle.brk_sql.specs.Model.{IsTransactionStep, IsUnchangedAndSatisfies}
 use Rattle.brk_sql.proofs.Inside.{clean_before, commits_all, commits_crash, step_then}
 use Rattle.brk_money.specs.declared.fault.Fault.{Fault}
-use Rattle.brk_money.specs.declared.fault.Fault.TheVariants.{Store}
+use Rattle.brk_money.specs.declared.fault.Condition.TheVariants.{NotEmpty}
+use Rattle.brk_money.specs.declared.fault.Fault.TheVariants.{Damaged, Store}
 use Rattle.brk_tables_schema.specs.Desk.{desk_tables}
 use Rattle.brk_tables_schema.specs.Made.{HasDeskTables}
 use Rattle.brk_tables_create.specs.Made.{CreatesDeskTables}
@@ -67,13 +68,15 @@ module _ {S : Type 0} (g : Ghosts S) (old mid end : Held S) (settled : IsTrue (s
       opens (Ok v) h = h.1.0
       opens (Err e) h = tt
 
--- a read in a transaction that was begun over a store's connection
-pub is_read_of : {S V E : Type 0} (g : Ghosts S) (old conn first mid end : Held S) (out : Result V E) (P : V → Tables → Type 0) → conn ≡ old → first ≡ with_transaction_open conn
+-- A read in a transaction over the connection `conn` of a store satisfies `ReadPost`. The
+-- transaction is dropped at its end, which leaves the connection `end`.
+pub read_is_over : {S V E : Type 0} (g : Ghosts S) (old conn first mid end new : Held S) {out : Result V E} {P : V → Tables → Type 0} → conn ≡ old → end ≡ new → first ≡ with_transaction_open conn
     → (IsTrue (state g conn).is_open → (state g conn).now ≡ (state g conn).committed) → IsTransactionStep (state g first) (state g mid) out (λ v. IsUnchangedAndSatisfies desk_tables (P v))
-    → Survives (state g mid) (state g end) (λ _. ⊥) → (HasCleanDisk (state g end) → IsRolledBack (state g mid) (state g end)) → ReadPost g old end out P
-is_read_of g old conn first mid end out P same first_is settled step late back =
-    subst (λ h. ReadPost g h end out P) same
-    (is_read g conn mid end settled out P (subst (λ h. IsTransactionStep (state g h) (state g mid) out (λ v. IsUnchangedAndSatisfies desk_tables (P v))) first_is step) late back)
+    → Survives (state g mid) (state g end) (λ _. ⊥) → (HasCleanDisk (state g end) → IsRolledBack (state g mid) (state g end)) → ReadPost g old new out P
+read_is_over g old conn first mid end new {out} {P} same ended first_is settled step late back =
+    subst (λ h. ReadPost g h new out P) same
+    (subst (λ h. ReadPost g conn h out P) ended
+    (is_read g conn mid end settled out P (subst (λ h. IsTransactionStep (state g h) (state g mid) out (λ v. IsUnchangedAndSatisfies desk_tables (P v))) first_is step) late back))
 
 -- ---- a look before the changes, which shows that the store is open
 
@@ -86,6 +89,70 @@ module _ {S L E F : Type 0} (g : Ghosts S) (old first mid : Held S) (seen : L) (
 
   pub open_at_look : HasCleanDisk (state g mid) → IsTrue (state g old).is_open
   open_at_look clean = (look.relates_states (clean_before (state g first) (state g mid) (λ _. ⊥) changes.survives clean) refl).1.0
+
+-- ---- a call within a transaction that fails
+
+-- A step that fails is a step for any relation on returned values.
+pub failed : {U V E F : Type 0} (a b : State) (result : Result V F) (e : E) (fault : F) (P : U → State → State → Type 0) (R : V → State → State → Type 0) → result ≡ Err fault
+    → IsTransactionStep {V = U} {E = E} a b (Err e) P → IsTransactionStep {V = V} {E = F} a b result R
+failed {U} {V} {E} {F} a b result e fault P R is step = subst (λ o. IsTransactionStep {V = V} {E = F} a b o R) (sym is) (record { commits_nothing = step.commits_nothing; relates_states = λ clean on. tt; survives = step.survives })
+
+-- A step that fails after another step is a step for any relation on returned values.
+pub failed_then : {U V W E F G : Type 0} (a b c : State) (u : U) (result : Result V F) (e : G) (fault : F) (P : U → State → State → Type 0) (Q : W → State → State → Type 0) (R : V → State → State → Type 0) → result ≡ Err fault
+    → IsTransactionStep {V = U} {E = E} a b (Ok u) P → IsTransactionStep {V = W} {E = G} b c (Err e) Q → IsTransactionStep {V = V} {E = F} a c result R
+failed_then {U} {V} {W} {E} {F} {G} a b c u result e fault P Q R is first next =
+    failed a c result e fault (λ (w : W) (x y : State). Unit {0}) R is
+    (step_then a b c u (Err e) P Q (λ (w : W) (x y : State). Unit {0}) (λ w p q. tt) first next)
+
+-- ---- a transaction that is rolled back at a fault
+
+module _ {S V E : Type 0} (g : Ghosts S) (old mid end : Held S) (settled : IsTrue (state g old).is_open → (state g old).now ≡ (state g old).committed) (r : Result V E) (Q : V → State → State → Type 0)
+    (step : IsTransactionStep (state g (with_transaction_open old)) (state g mid) r Q) (late : Survives (state g mid) (state g end) (λ _. ⊥)) (back : HasCleanDisk (state g end) → IsRolledBack (state g mid) (state g end)) where
+  whole_call : Survives (state g old) (state g end) (λ _. ⊥)
+  whole_call = through g old mid end settled r Q step late
+
+  is_unchanged : HasCleanDisk (state g end) → IsTrue (state g end).is_open → WasOpenAndIsUnchanged (state g old) (state g end)
+  is_unchanged = rolled_back g old mid end settled r Q (λ _. ⊥) step back late
+
+  -- A transaction that is rolled back at a fault applies no change.
+  pub applies_nothing : (new : Held S) (result : Result (Unit {0}) Fault) (fault : Fault) (after : Tables → Tables) → end ≡ new → result ≡ Err fault → ApplyPost {V = Unit {0}} {E = Fault} g old new result after
+  applies_nothing new result fault after ended is =
+      subst (λ h. ApplyPost {V = Unit {0}} {E = Fault} g old h result after) ended
+      (subst (λ o. ApplyPost {V = Unit {0}} {E = Fault} g old end o after) (sym is)
+      (record {
+        applied = tt;
+        open_and_committed = λ clean. tt;
+        other_tables = λ clean. tt;
+        same_rows_at_error = still_holds g old mid end settled (λ _. ⊥) whole_call is_unchanged;
+        unchanged_if_open = is_unchanged;
+        survives = survives_weaker (state g old) (state g end) (λ _. ⊥) _ (λ clean db none. absurd none) whole_call;
+        durable = λ clean. tt;
+      }))
+
+  -- A transaction that is rolled back at a fault creates no table. The fault is `Damaged(NotEmpty)`,
+  -- and a table of a desk existed, or the fault is `Store`.
+  pub creates_nothing : (new : Held S) (result : Result (Unit {0}) Fault) (fault : Fault) → end ≡ new → result ≡ Err fault
+      → (HasCleanDisk (state g end) → ((fault ≡ Damaged NotEmpty) × (has_table_of_desk (state g old).now.schema ≡ true)) ⊎ (fault ≡ Store)) → CreatePost g old new result
+  creates_nothing new result fault ended is why =
+      subst (λ h. CreatePost g old h result) ended
+      (subst (λ o. CreatePost g old end o) (sym is)
+      (record {
+        created = tt;
+        open_and_committed = λ clean. tt;
+        no_table_existed = λ clean. tt;
+        other_tables = λ clean. tt;
+        not_empty_only_if_existed = λ clean e. elim (why clean) [
+          | inl there ↦ there.1
+          | inr store ↦ absurd (let f = e in cc)
+        ];
+        fails_if_existed = λ clean there. elim (why clean) [
+          | inl at ↦ inl (ap Err at.0)
+          | inr store ↦ inr (ap Err store)
+        ];
+        unchanged_if_open = is_unchanged;
+        survives = survives_weaker (state g old) (state g end) (λ _. ⊥) _ (λ clean db none. absurd none) whole_call;
+        durable = λ clean. tt;
+      }))
 
 -- ---- committed, or not
 

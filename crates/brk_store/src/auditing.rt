@@ -63,7 +63,6 @@ fn first_failing_condition<S: Alter>(
 
 // Audits the database by the conditions of schema 3 in a transaction, which ends without a commit.
 // Fails with `Damaged` and the first condition that fails, or with `Memory` or `Store`.
-#[tactic(auto, using(crate::proofs::Closing::audit_passes, crate::proofs::Closing::audit_fails, crate::proofs::Closing::audit_gives_up))]
 fn audit_database<S: Alter>(conn: &mut Connection<S>, alloc: Global) -> Result<(), Fault>
     requires { conn.old.in_transaction ≡ false }
     ensures mode { conn.new.in_transaction ≡ false }

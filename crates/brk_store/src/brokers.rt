@@ -17,7 +17,6 @@ use brk_ref::{BrokerRow, Name};
 use sqlite::Alter;
 use std::alloc::Global;
 
-#[tactic(auto, using(crate::proofs::Ending::is_read_of))]
 impl<S: Alter> Store<S> {
     /// Returns the brokers with the name `name`, sorted by id, ascending. If the database is still
     /// open, it is unchanged. Fails with `Memory` or `Store`.

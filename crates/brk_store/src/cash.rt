@@ -20,7 +20,6 @@ use sqlite::Alter;
 // The greatest number of deposits and withdrawals of a desk.
 const GREATEST_MOVEMENT_COUNT: u64 = 1_000_000_000_000;
 
-#[tactic(auto, using(crate::proofs::Ending::is_read_of))]
 impl<S: Alter> Store<S> {
     /// Returns the settlement day, the first day whose completions settle after one day, in days
     /// since 1970-01-01, or `None` if none is set. If the database is still open, it is unchanged.

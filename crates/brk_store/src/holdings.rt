@@ -15,7 +15,6 @@ use brk_ref::Symbol;
 use sqlite::Alter;
 use std::alloc::Global;
 
-#[tactic(auto, using(crate::proofs::Ending::is_read_of))]
 impl<S: Alter> Store<S> {
     /// Returns the ids of the completed trades of an account in a security, sorted by the stamp of
     /// completion and then by id, the oldest first. If the database is still open, it is unchanged.

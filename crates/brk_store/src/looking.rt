@@ -16,7 +16,6 @@ use brk_money::{Fault, Id};
 use sqlite::Alter;
 use std::alloc::Global;
 
-#[tactic(auto, using(crate::proofs::Ending::is_read_of))]
 impl<S: Alter> Store<S> {
     /// Returns the ten most recent trades of an account, or all if it has fewer, sorted by the
     /// stamp of their last status change and then by id, the most recent first. If the database is

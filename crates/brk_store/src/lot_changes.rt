@@ -15,7 +15,6 @@ use brk_money::{Fault, Id};
 use sqlite::Alter;
 use std::alloc::Global;
 
-#[tactic(auto, using(crate::proofs::Ending::is_read_of))]
 impl<S: Alter> Store<S> {
     /// Returns the changes that a trade made to lots, sorted by lot, ascending. If the database is
     /// still open, it is unchanged. Fails with `Memory` or `Store`.

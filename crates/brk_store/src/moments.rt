@@ -18,7 +18,6 @@ use brk_ref::Symbol;
 use sqlite::Alter;
 use std::alloc::Global;
 
-#[tactic(auto, using(crate::proofs::Ending::is_read_of))]
 impl<S: Alter> Store<S> {
     /// Of the trades of an account whose last status change has a stamp in a span, both ends
     /// included, returns the twenty oldest, or all if there are fewer, sorted by this stamp and

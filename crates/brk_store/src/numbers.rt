@@ -34,7 +34,6 @@ fn totals_in_broker_row(row: &BrokerRow) -> Option<BrokerTotals>
     })
 }
 
-#[tactic(auto, using(crate::proofs::Ending::is_read_of))]
 impl<S: Alter> Store<S> {
     /// Returns the totals in the row of a broker, B_NUM_TRADES and B_COMM_TOTAL (in cents), or
     /// `None` if the broker does not exist. If the database is still open, it is unchanged. Fails

@@ -16,7 +16,6 @@ use brk_ref::{AccountRow, BrokerRow, Customer, Kept, Key, TaxId};
 use sqlite::Alter;
 use std::alloc::Global;
 
-#[tactic(auto, using(crate::proofs::Ending::is_read_of))]
 impl<S: Alter> Store<S> {
     /// Returns the stamp of the last accepted command, in milliseconds since 1970-01-01 UTC, or
     /// `None` if no command was accepted. If the database is still open, it is unchanged. Fails

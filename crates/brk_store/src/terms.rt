@@ -19,7 +19,6 @@ use brk_ref::{
 use sqlite::Alter;
 use std::alloc::Global;
 
-#[tactic(auto, using(crate::proofs::Ending::is_read_of))]
 impl<S: Alter> Store<S> {
     /// Returns the permission for a person to order for an account, by the person's tax number
     /// (AP_TAX_ID), or `None` if there is none. If the database is still open, it is unchanged.

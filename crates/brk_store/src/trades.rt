@@ -21,7 +21,6 @@ use brk_ref::{LastTrade, Symbol};
 use sqlite::Alter;
 use std::alloc::Global;
 
-#[tactic(auto, using(crate::proofs::Ending::is_read_of))]
 impl<S: Alter> Store<S> {
     /// Returns the trade with the id `id`, or `None` if there is none. If the database is still
     /// open, it is unchanged. Fails with `Store` only.

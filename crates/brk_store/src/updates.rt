@@ -19,7 +19,6 @@ use brk_ref::Symbol;
 use sqlite::Alter;
 use std::alloc::Global;
 
-#[tactic(auto, using(crate::proofs::Ending::is_read_of))]
 impl<S: Alter> Store<S> {
     /// Of the trades of an account that were completed in a span, both ends included, returns the
     /// twenty oldest, or all if there are fewer, sorted by stamp and then by id, ascending. If the

@@ -1,5 +1,6 @@
-use Rattle.std.proofs.Common.{◌≡◌, ◌∙◌, List, Ok, ap, refl, sym, subst, take, ◌+◌}
+use Rattle.std.proofs.Common.{◌≡◌, ◌∙◌, List, Ok, Err, ap, refl, sym, subst, take, ◌+◌}
 use Rattle.std.proofs.lemmas.List.{take_all}
+use Rattle.std.proofs.lemmas.Result.{err_from_is_err_and}
 use Rattle.std.proofs.lemmas.List.Sums.{fold_more}
 use Rattle.sqlite.specs.Held.{state}
 use Rattle.brk_money.specs.declared.fault.Fault.{Fault}
@@ -11,6 +12,7 @@ use Rattle.brk_sql.specs.Model.{IsTransactionStep}
 use Rattle.brk_tables_schema.specs.Desk.{desk_tables}
 use Rattle.brk_changes.specs.Changes.{tables_after_change, tables_after_changes}
 use Rattle.brk_changes.specs.declared.change.Change.{Change}
+use Rattle.brk_store.proofs.Ending.{failed_then}
 use Rattle.brk_store.proofs.Making.{none_made}
 use Rattle.brk_store.proofs.changing.apply_each_change.Goals as goal
 
@@ -42,3 +44,13 @@ returns-clause-step g c =
     let b = state g.S.Store c.loop-change.tx.conn.now in
     let whole : take c.loop-change.change-index c.args.changes.now ≡ c.args.changes.now = take_all c.loop-change.change-index c.args.changes.now c.loop-change-test.false in
     subst (λ (l : List Change). IsTransactionStep {V = Unit {0}} {E = Fault} a b (Ok tt) (λ _ x y. ChangesTablesBy desk_tables (tables_after_changes l) x.now y.now)) whole c.loop-change.invariant.step
+
+pub returns-in_err-apply_change-clause-step : goal.returns-in_err-apply_change-clause-step
+returns-in_err-apply_change-clause-step g c =
+    let a = state g.S.Store c.args.tx.now.conn.now in
+    let b = state g.S.Store c.loop-change.tx.conn.now in
+    let d = state g.S.Store c.apply_change.new.tx.conn.now in
+    let fault = c.in_err-apply_change.field-0.0 in
+    let p = err_from_is_err_and c.from_residual.result c.from_residual.ensures.1 in
+    failed_then a b d tt c.from_residual.result fault fault (λ _ x y. ChangesTablesBy desk_tables (tables_after_changes (take c.loop-change.change-index c.args.changes.now)) x.now y.now) (λ _ x y. ChangesTablesBy desk_tables (tables_after_change c.change-item.result) x.now y.now)
+    (λ _ x y. ChangesTablesBy desk_tables (tables_after_changes c.args.changes.now) x.now y.now) (p.1 ∙ ap Err p.2) c.loop-change.invariant.step c.in_err-apply_change.ensures.step
