@@ -2,6 +2,7 @@
 
 use crate::at_desk::{create_store, run_batch_of_reader};
 use crate::databases::expect_connection;
+use crate::text_lines::expect_lines;
 use crate::worked::{SET, SET_LINES};
 use brk_import::brk_desk::Desk;
 use brk_import::{BatchFault, Counts};
@@ -57,20 +58,10 @@ pub fn run_batch_at_desk<S: Alter>(
 // and the number of the first line that differs, with `name` if lines are missing or there are
 // more, and if the bytes are not UTF-8.
 fn expect_batch_lines(name: &str, told: &[u8], wanted: &str) -> Result<(), Fail> {
-    let Ok(told) = str::from_utf8(told) else {
-        return Err("no text")?;
-    };
-    let mut row = 0u64;
-    for (line, want) in told.lines().zip(wanted.lines()) {
-        row = row.saturating_add(1);
-        if line != want {
-            return Err(Fail::new(format_args!("{name}: line {row}")));
-        }
+    match str::from_utf8(told) {
+        Ok(told) => expect_lines(name, "lines", told, wanted),
+        Err(_) => Err("no text")?,
     }
-    if told != wanted {
-        return Err(Fail::new(format_args!("{name}: lines that are missing, or more lines")));
-    }
-    Ok(())
 }
 
 // Checks that a batch completed, and that the lines `lines` end with the end line of its counts.

@@ -36,4 +36,6 @@ mod statements;
 #[cfg(test)]
 mod tables;
 #[cfg(test)]
+mod text_lines;
+#[cfg(test)]
 mod worked;

@@ -1,5 +1,6 @@
 //! The rows of the tables of a desk as text.
 
+use crate::text_lines::expect_lines;
 use brk_import::brk_desk::brk_store::Store;
 use sqlite::types::ValueRef;
 use sqlite::{Alter, Connection, Row};
@@ -57,78 +58,67 @@ const SET_TABLES: &str =
     SET,14,band\x1f1\x1fTLB\x1fNYSE\x1f1\x1f999999\x1f100,1709251200013\n\
     SET,15,taxrate\x1f1\x1fState\x1f20000,1709251200014\nSET,16,custtax\x1f10\x1f1,1709251200015\n";
 
-/// The error that tables could not be read or printed.
-#[derive(Clone, Copy)]
-pub struct Unread;
-
-// Appends the value of a cell as text; a null is an empty text. Fails for a value that is neither a
-// null, nor a whole number, nor UTF-8 text, and if memory runs out.
-fn append_cell(lines: &mut String, value: ValueRef<'_>) -> Result<(), Unread> {
+// Appends the value of a cell as text; a null is an empty text. Returns `None` for a value that is
+// neither a null, nor a whole number, nor UTF-8 text, and if memory runs out.
+fn append_cell(lines: &mut String, value: ValueRef<'_>) -> Option<()> {
     match value {
-        ValueRef::Null => Ok(()),
-        ValueRef::Int(number) => write!(lines, "{number}").map_err(|_| Unread),
-        ValueRef::Text(bytes) => {
-            let text = str::from_utf8(bytes).map_err(|_| Unread)?;
-            lines.push_str(text).map_err(|_| Unread)
-        }
-        ValueRef::Real(_) | ValueRef::Blob(_) => Err(Unread),
+        ValueRef::Null => Some(()),
+        ValueRef::Int(number) => write!(lines, "{number}").ok(),
+        ValueRef::Text(bytes) => lines.push_str(str::from_utf8(bytes).ok()?).ok(),
+        ValueRef::Real(_) | ValueRef::Blob(_) => None,
     }
 }
 
-// Appends the values of a row, separated by commas, as a line. Fails if a value cannot be read or
-// printed.
-fn append_row(lines: &mut String, row: &Row) -> Result<(), Unread> {
+// Appends the values of a row, separated by commas, as a line. Returns `None` if a value cannot be
+// read or printed.
+fn append_row(lines: &mut String, row: &Row) -> Option<()> {
     for at in 0..row.column_count() {
         if at > 0 {
-            lines.push_str(",").map_err(|_| Unread)?;
+            lines.push_str(",").ok()?;
         }
-        let value = row.get_ref(at).map_err(|_| Unread)?;
-        append_cell(lines, value)?;
+        append_cell(lines, row.get_ref(at).ok()?)?;
     }
-    lines.push_str("\n").map_err(|_| Unread)
+    lines.push_str("\n").ok()
 }
 
-// Appends the name of a table and its rows, sorted by their first two columns, as lines. Fails if
-// the rows cannot be read or printed.
+// Appends the name of a table and its rows, sorted by their first two columns, as lines. Returns
+// `None` if the rows cannot be read or printed.
 fn append_table<S: Alter>(
     alloc: Global,
     lines: &mut String,
     conn: &mut Connection<S>,
     table: &str,
-) -> Result<(), Unread> {
-    writeln!(lines, "{table}").map_err(|_| Unread)?;
-    let sql = format!(in alloc; "SELECT * FROM {table} ORDER BY 1, 2").map_err(|_| Unread)?;
-    let rows = conn.query_all(sql.as_str(), &[]).map_err(|_| Unread)?;
+) -> Option<()> {
+    writeln!(lines, "{table}").ok()?;
+    let sql = format!(in alloc; "SELECT * FROM {table} ORDER BY 1, 2").ok()?;
+    let rows = conn.query_all(sql.as_str(), &[]).ok()?;
     for row in &rows {
         append_row(lines, row)?;
     }
-    Ok(())
+    Some(())
 }
 
-// Appends the names and the rows of these tables, in order, as lines. Fails if the rows cannot be
-// read or printed.
+// Appends the names and the rows of these tables, in order, as lines. Returns `None` if the rows
+// cannot be read or printed.
 fn append_tables<S: Alter>(
     alloc: Global,
     lines: &mut String,
     conn: &mut Connection<S>,
     tables: &[&str],
-) -> Result<(), Unread> {
+) -> Option<()> {
     for table in tables {
         append_table(alloc, lines, conn, table)?;
     }
-    Ok(())
+    Some(())
 }
 
-/// Returns the names and the rows of all tables of a desk as lines. Fails if the rows cannot be
+/// Returns the names and the rows of all tables of a desk as lines, or `None` if the rows cannot be
 /// read or printed.
-pub fn read_all_tables<S: Alter>(
-    alloc: Global,
-    conn: &mut Connection<S>,
-) -> Result<String, Unread> {
+pub fn read_all_tables<S: Alter>(alloc: Global, conn: &mut Connection<S>) -> Option<String> {
     let mut lines = String::new(alloc);
     append_tables(alloc, &mut lines, conn, &REFERENCE)?;
     append_tables(alloc, &mut lines, conn, &TRADING)?;
-    Ok(lines)
+    Some(lines)
 }
 
 // Checks that the names and the rows of these tables are exactly the lines `wanted`. Fails with
@@ -142,18 +132,10 @@ fn expect_rows_of_tables<S: Alter>(
     wanted: &str,
 ) -> Result<(), Fail> {
     let mut told = String::new(alloc);
-    append_tables(alloc, &mut told, conn, tables).map_err(|_| "tables that cannot be read")?;
-    let mut at = 0u64;
-    for (row, want) in told.lines().zip(wanted.lines()) {
-        at = at.saturating_add(1);
-        if row != want {
-            return Err(Fail::new(format_args!("{name}: line {at} of the tables")));
-        }
+    match append_tables(alloc, &mut told, conn, tables) {
+        Some(()) => expect_lines(name, "tables", told.as_str(), wanted),
+        None => Err("tables that cannot be read")?,
     }
-    if told.as_str() != wanted {
-        return Err(Fail::new(format_args!("{name}: rows that are missing, or more rows")));
-    }
-    Ok(())
 }
 
 /// Checks all tables of a store: the reference tables equal those after the batch `SET`, and the

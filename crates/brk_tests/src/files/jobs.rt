@@ -183,8 +183,8 @@ fn perform_task_and_audit<S: Alter>(
 // Returns all tables in the database of a connection as text, empty if they cannot be read.
 fn tables_or_empty<S: Alter>(alloc: Global, conn: &mut Connection<S>) -> String {
     match read_all_tables(alloc, conn) {
-        Ok(tables) => tables,
-        Err(_) => String::new(alloc),
+        Some(tables) => tables,
+        None => String::new(alloc),
     }
 }
 

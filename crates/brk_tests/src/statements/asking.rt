@@ -14,8 +14,9 @@ pub struct Asked {
 /// Returns the account and the days of a statement from the number of the account and the texts of
 /// the days. Fails if one of them is malformed.
 pub fn account_and_days(account: u64, from: &str, to: &str) -> Result<Asked, Fail> {
-    let account = Id::new(account).ok_or("an account")?;
-    let from = parse_day(from.as_bytes()).ok_or("a first day")?;
-    let to = parse_day(to.as_bytes()).ok_or("a last day")?;
-    Ok(Asked { account, from, to })
+    let days = (parse_day(from.as_bytes()), parse_day(to.as_bytes()));
+    match (Id::new(account), days) {
+        (Some(account), (Some(from), Some(to))) => Ok(Asked { account, from, to }),
+        _ => Err("an account or a day")?,
+    }
 }
