@@ -164,8 +164,8 @@ const JOBS: [(&str, &str); 17] = [
     ),
 ];
 
-// Checks that the command lines of `JOBS`, correct ones of each subcommand, request the wanted jobs,
-// and that a malformed day is reported.
+// Checks that the command lines of `JOBS`, correct ones of each subcommand, request the wanted
+// jobs, and that a malformed day is reported.
 #[test]
 fn parses_the_arguments_of_each_job(rt: HostRuntime) {
     for (line, job) in &JOBS {
