@@ -17,9 +17,9 @@ fn ending_of_batch_fault(kind: FaultKind) -> Ending {
 
 // Checks that `end_with` returns the exit status `status` for an ending, and that it writes exactly
 // the text `text` to its error stream.
-fn expect_status_and_line(rt: &impl Abort, alloc: Global, ending: &Ending, status: u8, text: &str) {
+fn expect_status_and_line(rt: &impl Abort, alloc: Global, ending: Ending, status: u8, text: &str) {
     let mut errors = Vec::new(alloc);
-    let told = end_with(ending, &mut errors);
+    let told = end_with(&ending, &mut errors);
     expect_equal(rt, told, status);
     expect_equal(rt, errors.as_slice(), text.as_bytes());
 }
@@ -41,7 +41,7 @@ const BATCHES: [(FaultKind, u8, &str); 7] = [
 fn exit_status_and_line_of_batch_faults(rt: HostRuntime) {
     for (kind, status, text) in &BATCHES {
         let ending = ending_of_batch_fault(*kind);
-        expect_status_and_line(&rt, rt.alloc(), &ending, *status, text);
+        expect_status_and_line(&rt, rt.alloc(), ending, *status, text);
     }
 }
 
@@ -51,13 +51,13 @@ fn exit_status_and_line_of_batch_faults(rt: HostRuntime) {
 fn exit_status_and_line_of_report_faults(rt: HostRuntime) {
     let alloc = rt.alloc();
     let stranger = Ending::Report(ReportFault::Refused(Refusal::NoAccount));
-    expect_status_and_line(&rt, alloc, &stranger, 1, "brk: refused: 1\n");
+    expect_status_and_line(&rt, alloc, stranger, 1, "brk: refused: 1\n");
     let days = Ending::Report(ReportFault::Refused(Refusal::BadText));
-    expect_status_and_line(&rt, alloc, &days, 1, "brk: refused: 18\n");
+    expect_status_and_line(&rt, alloc, days, 1, "brk: refused: 18\n");
     let store = Ending::Report(ReportFault::Desk(Fault::Store));
-    expect_status_and_line(&rt, alloc, &store, 3, "brk: fault: store\n");
+    expect_status_and_line(&rt, alloc, store, 3, "brk: fault: store\n");
     let writer = Ending::Report(ReportFault::Write);
-    expect_status_and_line(&rt, alloc, &writer, 3, "brk: fault: write\n");
+    expect_status_and_line(&rt, alloc, writer, 3, "brk: fault: write\n");
 }
 
 // Faults of opening a desk, each with its exit status and its error line.
@@ -76,8 +76,14 @@ const OPENS: [(Fault, u8, &str); 3] = [
 #[test]
 fn exit_status_and_line_of_open_faults(rt: HostRuntime) {
     for (fault, status, text) in &OPENS {
-        expect_status_and_line(&rt, rt.alloc(), &Ending::Open(*fault), *status, text);
+        expect_status_and_line(&rt, rt.alloc(), Ending::Open(*fault), *status, text);
     }
+}
+
+// Checks that `end_with` returns the exit status `status` for a fault of the arguments, and that it
+// writes exactly the text `text` to its error stream.
+fn expect_usage_fault(rt: &impl Abort, alloc: Global, fault: UsageFault, status: u8, text: &str) {
+    expect_status_and_line(rt, alloc, Ending::Usage(fault), status, text);
 }
 
 // Checks that the exit status is 2 for wrong arguments and for a malformed day, 3 if memory ran
@@ -86,15 +92,11 @@ fn exit_status_and_line_of_open_faults(rt: HostRuntime) {
 fn exit_status_and_line_of_usage_faults(rt: HostRuntime) {
     let alloc = rt.alloc();
     let words = String::from_str(alloc, "error: no\n").expect(&rt, "memory");
+    expect_usage_fault(&rt, alloc, UsageFault::Words(words), 2, "error: no\n");
     let help = String::from_str(alloc, "help\n").expect(&rt, "memory");
-    let words = Ending::Usage(UsageFault::Words(words));
-    expect_status_and_line(&rt, alloc, &words, 2, "error: no\n");
-    let help = Ending::Usage(UsageFault::Help(help));
-    expect_status_and_line(&rt, alloc, &help, 0, "");
-    let day = Ending::Usage(UsageFault::Day);
-    expect_status_and_line(&rt, alloc, &day, 2, "brk: usage: day\n");
-    let memory = Ending::Usage(UsageFault::Memory);
-    expect_status_and_line(&rt, alloc, &memory, 3, "brk: fault: memory\n");
+    expect_usage_fault(&rt, alloc, UsageFault::Help(help), 0, "");
+    expect_usage_fault(&rt, alloc, UsageFault::Day, 2, "brk: usage: day\n");
+    expect_usage_fault(&rt, alloc, UsageFault::Memory, 3, "brk: fault: memory\n");
 }
 
 // Checks that the exit status is 0 without a line for a job that is done, and 3 with an error line
@@ -105,16 +107,12 @@ fn exit_status_and_line_of_other_endings(rt: HostRuntime) {
         done: 2,
         kind: StreamFault::Memory,
     };
-    expect_status_and_line(&rt, rt.alloc(), &Ending::Done, 0, "");
-    expect_status_and_line(&rt, rt.alloc(), &Ending::Output, 3, "brk: fault: write\n");
-    expect_status_and_line(&rt, rt.alloc(), &Ending::Net, 3, "brk: fault: net\n");
-    expect_status_and_line(
-        &rt,
-        rt.alloc(),
-        &Ending::Serve(unserved),
-        3,
-        "brk: fault: memory\n",
-    );
+    let alloc = rt.alloc();
+    expect_status_and_line(&rt, alloc, Ending::Done, 0, "");
+    expect_status_and_line(&rt, alloc, Ending::Output, 3, "brk: fault: write\n");
+    expect_status_and_line(&rt, alloc, Ending::Net, 3, "brk: fault: net\n");
+    let unserved = Ending::Serve(unserved);
+    expect_status_and_line(&rt, alloc, unserved, 3, "brk: fault: memory\n");
 }
 
 // A writer that accepts no byte.

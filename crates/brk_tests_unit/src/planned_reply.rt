@@ -1,4 +1,4 @@
-use crate::expect::expect_equal;
+use crate::expect::expect_text;
 use brk_commands::line_text;
 use brk_money::{Fault, Refusal};
 use brk_trade::Plan;
@@ -24,5 +24,5 @@ pub(crate) fn expect_planned_reply(
 ) {
     let planned = planned.expect(rt, "a plan");
     let told = format_planned_reply(alloc, &planned).expect(rt, "memory");
-    expect_equal(rt, told.as_str(), wanted);
+    expect_text(rt, told.as_str(), wanted);
 }

@@ -1,4 +1,3 @@
-use crate::expect::expect_equal;
 use brk_args::{Job, UsageFault, read_words};
 use brk_money::Stamp;
 use std::alloc::{AllocError, Global};
@@ -6,10 +5,7 @@ use std::process::Abort;
 
 // Returns the path of a file, or `-` if there is none.
 fn path_or_hyphen(db: &Option<String>) -> &str {
-    match db {
-        Some(path) => path.as_str(),
-        None => "-",
-    }
+    db.as_deref().unwrap_or("-")
 }
 
 // Returns the milliseconds of a timestamp, or -1 if there is none.
@@ -20,8 +16,8 @@ fn millis_or_minus_one(at: Option<Stamp>) -> i64 {
     }
 }
 
-// Appends each of `words`, after a space, to the text, in order, and returns the text. Fails only
-// if memory runs out.
+// Appends a space and a word to the text, for each word, and returns the text. Fails only if memory
+// runs out.
 fn append_words(mut text: String, words: &[String]) -> Result<String, AllocError> {
     for word in words {
         text.push_str(" ")?;
@@ -76,20 +72,20 @@ fn format_job(alloc: Global, job: &Job) -> Result<String, AllocError> {
     }
 }
 
-// Returns the name of the program, `brk`, and then the arguments `words`, in order.
-fn words_with_program_name(rt: &impl Abort, alloc: Global, words: &[&str]) -> Vec<String> {
-    let name = String::from_str(alloc, "brk").expect(rt, "memory");
-    let mut all = vec![in alloc; name].expect(rt, "memory");
-    for word in words {
+// Returns the words of a command line, which are separated by `|`: the name of the program and its
+// arguments.
+fn words_of_command_line(rt: &impl Abort, alloc: Global, line: &str) -> Vec<String> {
+    let mut all = Vec::new(alloc);
+    for word in line.split('|') {
         let word = String::from_str(alloc, word).expect(rt, "memory");
         all.push(word).expect(rt, "memory");
     }
     all
 }
 
-// Returns the text of a parsed job, or `wrong: ` with the error text, `help: ` with the help or
-// version text, `day` for a malformed day, or `memory` if memory ran out during the parsing. Fails
-// only if memory runs out.
+// Returns the text of a parsed job, or `wrong:` with the error text, `help:` with the help or
+// version text, `day` for a malformed day, or `memory` if memory ran out. Fails only if memory runs
+// out.
 fn format_parsed_job(alloc: Global, read: &Result<Job, UsageFault>) -> Result<String, AllocError> {
     match read {
         Ok(job) => format_job(alloc, job),
@@ -100,134 +96,80 @@ fn format_parsed_job(alloc: Global, read: &Result<Job, UsageFault>) -> Result<St
     }
 }
 
-// Checks that the arguments `words`, after the name of the program, are parsed to the job or the
-// usage fault with the text `wanted` (`format_parsed_job`).
-fn expect_parsed_arguments(rt: &impl Abort, alloc: Global, words: &[&str], wanted: &str) {
-    let read = read_words(words_with_program_name(rt, alloc, words));
-    let told = format_parsed_job(alloc, &read).expect(rt, "memory");
-    expect_equal(rt, told.as_str(), wanted);
+// Checks that a text consists of these parts, in order.
+fn expect_parts(rt: &impl Abort, told: &str, parts: &[&str]) {
+    let mut rest = told.as_bytes();
+    for part in parts {
+        rest = rest.strip_prefix(part.as_bytes()).expect(rt, part);
+    }
+    assert!(rt; rest.is_empty(), "{told}");
 }
 
-// Arguments, each with the text of the job that they request, or with `day`.
-const JOBS: [(&[&str], &str); 17] = [
-    (&["batch"], "batch - -1"),
-    (&["batch", "--db", "a b.db"], "batch a b.db -1"),
-    (&["batch", "--at", "0"], "batch - 0"),
+// Checks that a command line, its words separated by `|`, is parsed to the job whose text consists
+// of the parts `wanted`, or is reported with this text (`format_parsed_job`).
+fn expect_parsed_command_line(rt: &impl Abort, alloc: Global, line: &str, wanted: &[&str]) {
+    let read = read_words(words_of_command_line(rt, alloc, line));
+    let told = format_parsed_job(alloc, &read).expect(rt, "memory");
+    expect_parts(rt, told.as_str(), wanted);
+}
+
+// Command lines, each with the text of the job that it requests, or with `day`.
+const JOBS: [(&str, &str); 17] = [
+    ("brk|batch", "batch - -1"),
+    ("brk|batch|--db|a b.db", "batch a b.db -1"),
+    ("brk|batch|--at|0", "batch - 0"),
     (
-        &["batch", "--at=253402300799999", "--db=a.db"],
+        "brk|batch|--at=253402300799999|--db=a.db",
         "batch a.db 253402300799999",
     ),
     (
-        &[
-            "statement",
-            "--db",
-            "a.db",
-            "--account",
-            "100",
-            "--from",
-            "2024-03-01",
-            "--to",
-            "2024-03-31",
-        ],
+        "brk|statement|--db|a.db|--account|100|--from|2024-03-01|--to|2024-03-31",
         "statement a.db 100 19783 19813",
     ),
     (
-        &[
-            "statement",
-            "--to",
-            "1970-01-01",
-            "--from",
-            "9999-12-31",
-            "--account",
-            "1000000000000",
-            "--db",
-            "a",
-        ],
+        "brk|statement|--to|1970-01-01|--from|9999-12-31|--account|1000000000000|--db|a",
         "statement a 1000000000000 2932896 0",
     ),
     (
-        &["ask", "--db", "a.db", "--heads", "customer", "10"],
+        "brk|ask|--db|a.db|--heads|customer|10",
         "ask a.db false true customer 10",
     ),
     (
-        &[
-            "ask",
-            "--json",
-            "--db",
-            "a.db",
-            "--",
-            "symboltrades",
-            "-X",
-            "0",
-            "1",
-        ],
+        "brk|ask|--json|--db|a.db|--|symboltrades|-X|0|1",
         "ask a.db true false symboltrades -X 0 1",
     ),
     (
-        &["ask", "--db", "a.db", "submitted"],
+        "brk|ask|--db|a.db|submitted",
         "ask a.db false false submitted",
     ),
+    ("brk|explain|--db|a.db|trade|3", "explain a.db trade 3"),
+    ("brk|explain|--db|a.db|--|-x", "explain a.db -x"),
     (
-        &["explain", "--db", "a.db", "trade", "3"],
-        "explain a.db trade 3",
-    ),
-    (&["explain", "--db", "a.db", "--", "-x"], "explain a.db -x"),
-    (
-        &["explain", "--db", "a.db", "--", "holding", "1", "-X"],
+        "brk|explain|--db|a.db|--|holding|1|-X",
         "explain a.db holding 1 -X",
     ),
-    (&["audit", "--db", "a.db"], "audit a.db"),
-    (&["serve", "--port", "1"], "serve 1 - -1 1"),
+    ("brk|audit|--db|a.db", "audit a.db"),
+    ("brk|serve|--port|1", "serve 1 - -1 1"),
     (
-        &[
-            "serve",
-            "--port",
-            "65535",
-            "--db",
-            "a.db",
-            "--at",
-            "7",
-            "--streams",
-            "1000000",
-        ],
+        "brk|serve|--port|65535|--db|a.db|--at|7|--streams|1000000",
         "serve 65535 a.db 7 1000000",
     ),
     (
-        &[
-            "statement",
-            "--db",
-            "a",
-            "--account",
-            "1",
-            "--from",
-            "2024-02-30",
-            "--to",
-            "2024-03-01",
-        ],
+        "brk|statement|--db|a|--account|1|--from|2024-02-30|--to|2024-03-01",
         "day",
     ),
     (
-        &[
-            "statement",
-            "--db",
-            "a",
-            "--account",
-            "1",
-            "--from",
-            "2024-03-01",
-            "--to",
-            "1.3.2024",
-        ],
+        "brk|statement|--db|a|--account|1|--from|2024-03-01|--to|1.3.2024",
         "day",
     ),
 ];
 
-// Checks that the arguments of `JOBS`, correct ones of each subcommand, request the wanted jobs,
-// and that a malformed day is reported.
+// Checks that the command lines of `JOBS`, correct ones of each subcommand, request the wanted
+// jobs, and that a malformed day is reported.
 #[test]
 fn parses_the_arguments_of_each_job(rt: HostRuntime) {
-    for (words, job) in &JOBS {
-        expect_parsed_arguments(&rt, rt.alloc(), words, job);
+    for (line, job) in &JOBS {
+        expect_parsed_command_line(&rt, rt.alloc(), line, &[*job]);
     }
 }
 
@@ -245,54 +187,54 @@ const AUDIT: &str = "Usage: brk audit --db <FILE>\n\n";
 const SERVE: &str = "Usage: brk serve --port <P>\n\n";
 
 // Wrong arguments of a batch, with the cause that clap reports for them and the usage that it adds.
-const WRONG_BATCHES: [(&[&str], &str, &str); 10] = [
+const WRONG_BATCHES: [(&str, &str, &str); 10] = [
     (
-        &["batch", "first.csv"],
+        "brk|batch|first.csv",
         "unexpected argument 'first.csv' found",
         BATCH,
     ),
     (
-        &["batch", "--at"],
+        "brk|batch|--at",
         "a value is required for '--at <MS>' but none was supplied",
         "",
     ),
     (
-        &["batch", "--at", "now"],
+        "brk|batch|--at|now",
         "invalid value 'now' for '--at <MS>': invalid digit found in string",
         "",
     ),
     (
-        &["batch", "--at", "1.5"],
+        "brk|batch|--at|1.5",
         "invalid value '1.5' for '--at <MS>': invalid digit found in string",
         "",
     ),
     (
-        &["batch", "--at=-1"],
+        "brk|batch|--at=-1",
         "invalid value '-1' for '--at <MS>': -1 is not in 0..=253402300799999",
         "",
     ),
     (
-        &["batch", "--at", "253402300800000"],
+        "brk|batch|--at|253402300800000",
         "invalid value '253402300800000' for '--at <MS>': 253402300800000 is not in 0..=253402300799999",
         "",
     ),
     (
-        &["batch", "--at", "1", "--at", "2"],
+        "brk|batch|--at|1|--at|2",
         "the argument '--at <MS>' cannot be used multiple times",
         BATCH,
     ),
     (
-        &["batch", "--db"],
+        "brk|batch|--db",
         "a value is required for '--db <FILE>' but none was supplied",
         "",
     ),
     (
-        &["batch", "--db", "a.db", "--db", "b.db"],
+        "brk|batch|--db|a.db|--db|b.db",
         "the argument '--db <FILE>' cannot be used multiple times",
         BATCH,
     ),
     (
-        &["batch", "--port", "1"],
+        "brk|batch|--port|1",
         "unexpected argument '--port' found",
         BATCH,
     ),
@@ -300,76 +242,34 @@ const WRONG_BATCHES: [(&[&str], &str, &str); 10] = [
 
 // Wrong arguments of a statement, with the cause that clap reports for them and the usage that it
 // adds.
-const WRONG_STATEMENTS: [(&[&str], &str, &str); 6] = [
+const WRONG_STATEMENTS: [(&str, &str, &str); 6] = [
     (
-        &[
-            "statement",
-            "--db",
-            "a",
-            "--from",
-            "2024-03-01",
-            "--to",
-            "2024-03-01",
-        ],
+        "brk|statement|--db|a|--from|2024-03-01|--to|2024-03-01",
         "the following required arguments were not provided:\n\x20 --account <ID>",
         STATEMENT,
     ),
     (
-        &[
-            "statement",
-            "--db",
-            "a",
-            "--account",
-            "1",
-            "--to",
-            "2024-03-01",
-        ],
+        "brk|statement|--db|a|--account|1|--to|2024-03-01",
         "the following required arguments were not provided:\n\x20 --from <DAY>",
         STATEMENT,
     ),
     (
-        &[
-            "statement",
-            "--db",
-            "a",
-            "--account",
-            "1",
-            "--from",
-            "2024-03-01",
-        ],
+        "brk|statement|--db|a|--account|1|--from|2024-03-01",
         "the following required arguments were not provided:\n\x20 --to <DAY>",
         STATEMENT,
     ),
     (
-        &[
-            "statement",
-            "--account",
-            "1",
-            "--from",
-            "2024-03-01",
-            "--to",
-            "2024-03-01",
-        ],
+        "brk|statement|--account|1|--from|2024-03-01|--to|2024-03-01",
         "the following required arguments were not provided:\n\x20 --db <FILE>",
         STATEMENT,
     ),
     (
-        &[
-            "statement",
-            "--db",
-            "a",
-            "--account",
-            "0",
-            "--from",
-            "2024-03-01",
-            "--to",
-            "2024-03-01",
-        ],
+        "brk|statement|--db|a|--account|0|--from|2024-03-01|--to|2024-03-01",
         "invalid value '0' for '--account <ID>': 0 is not in 1..=1000000000000",
         "",
     ),
     (
-        &["statement", "--account", "1000000000001"],
+        "brk|statement|--account|1000000000001",
         "invalid value '1000000000001' for '--account <ID>': 1000000000001 is not in 1..=1000000000000",
         "",
     ),
@@ -377,67 +277,63 @@ const WRONG_STATEMENTS: [(&[&str], &str, &str); 6] = [
 
 // Wrong arguments of an audit, with the cause that clap reports for them and the usage that it
 // adds.
-const WRONG_AUDITS: [(&[&str], &str, &str); 3] = [
+const WRONG_AUDITS: [(&str, &str, &str); 3] = [
     (
-        &["audit"],
+        "brk|audit",
         "the following required arguments were not provided:\n\x20 --db <FILE>",
         AUDIT,
     ),
+    ("brk|audit|a.db", "unexpected argument 'a.db' found", AUDIT),
     (
-        &["audit", "a.db"],
-        "unexpected argument 'a.db' found",
-        AUDIT,
-    ),
-    (
-        &["audit", "--db", "a.db", "--at", "1"],
+        "brk|audit|--db|a.db|--at|1",
         "unexpected argument '--at' found",
         AUDIT,
     ),
 ];
 
 // Wrong arguments of serving, with the cause that clap reports for them and the usage that it adds.
-const WRONG_SERVES: [(&[&str], &str, &str); 6] = [
+const WRONG_SERVES: [(&str, &str, &str); 6] = [
     (
-        &["serve"],
+        "brk|serve",
         "the following required arguments were not provided:\n\x20 --port <P>",
         SERVE,
     ),
     (
-        &["serve", "--port", "0"],
+        "brk|serve|--port|0",
         "invalid value '0' for '--port <P>': 0 is not in 1..=65535",
         "",
     ),
     (
-        &["serve", "--port", "65536"],
+        "brk|serve|--port|65536",
         "invalid value '65536' for '--port <P>': 65536 is not in 1..=65535",
         "",
     ),
     (
-        &["serve", "--port", "1", "--streams", "0"],
+        "brk|serve|--port|1|--streams|0",
         "invalid value '0' for '--streams <N>': 0 is not in 1..=1000000",
         "",
     ),
     (
-        &["serve", "--port", "1", "--streams", "1000001"],
+        "brk|serve|--port|1|--streams|1000001",
         "invalid value '1000001' for '--streams <N>': 1000001 is not in 1..=1000000",
         "",
     ),
     (
-        &["serve", "--port", "1", "--at", ""],
+        "brk|serve|--port|1|--at|",
         "invalid value '' for '--at <MS>': cannot parse integer from empty string",
         "",
     ),
 ];
 
-// Checks that each list of arguments in `faults` is reported as wrong, with the whole error text:
-// the cause, the usage, and a line about help.
-fn expect_usage_faults(rt: &impl Abort, alloc: Global, faults: &[(&[&str], &str, &str)]) {
-    for (words, cause, usage) in faults {
-        let text = format!(in alloc;
-            "wrong: error: {cause}\n\n{usage}For more information, try '--help'.\n"
-        );
-        let text = text.expect(rt, "memory");
-        expect_parsed_arguments(rt, alloc, words, text.as_str());
+// The end of an error text.
+const MORE: &str = "For more information, try '--help'.\n";
+
+// Checks that each command line in `faults` is reported as wrong, with the whole error text: the
+// cause, the usage, and a line about help.
+fn expect_usage_faults(rt: &impl Abort, alloc: Global, faults: &[(&str, &str, &str)]) {
+    for (line, cause, usage) in faults {
+        let text = ["wrong: error: ", cause, "\n\n", usage, MORE];
+        expect_parsed_command_line(rt, alloc, line, &text);
     }
 }
 
@@ -469,16 +365,16 @@ const BATCH_HELP: &str = "Reads a batch from standard input and writes a line fo
     \x20     --at <MS>    The time of every command, in milliseconds since 1970-01-01 UTC; without it the clock is read\n\
     \x20 -h, --help       Print help\n\nExample:\n\x20 brk batch --db desk.db < examples/setting.csv\n";
 
-// Arguments, each with the text that is printed for them.
-const TEXTS: [(&[&str], &str); 3] = [
-    (&["--version"], "help: brk 0.1.0 (schema 3, kit 13f)\n"),
+// Command lines, each with the text that is printed for it.
+const TEXTS: [(&str, &str); 3] = [
+    ("brk|--version", "help: brk 0.1.0 (schema 3, kit 13f)\n"),
     (
-        &["bath"],
+        "brk|bath",
         "wrong: error: unrecognized subcommand 'bath'\n\n  tip: a similar subcommand exists: 'batch'\n\n\
         Usage: brk <COMMAND>\n\nFor more information, try '--help'.\n",
     ),
     (
-        &["help", "audit"],
+        "brk|help|audit",
         "help: Recomputes every derived table of a desk, and prints ok if all are right\n\n\
         Usage: brk audit --db <FILE>\n\nOptions:\n      --db <FILE>  The file of the desk\n\
         \x20 -h, --help       Print help\n\nExample:\n\x20 brk audit --db desk.db\n",
@@ -489,32 +385,25 @@ const TEXTS: [(&[&str], &str); 3] = [
 // the wanted ones.
 #[test]
 fn prints_version_help_and_errors(rt: HostRuntime) {
-    for (words, text) in &TEXTS {
-        expect_parsed_arguments(&rt, rt.alloc(), words, text);
+    for (line, text) in &TEXTS {
+        expect_parsed_command_line(&rt, rt.alloc(), line, &[*text]);
     }
 }
 
-// Arguments that request help, with the help that is printed.
-const HELPS: [(&[&str], &str); 4] = [
-    (&["help", "batch"], BATCH_HELP),
-    (&["batch", "--help"], BATCH_HELP),
-    (&["help"], HELP),
-    (&["--help"], HELP),
+// Command lines that request help, with the help that is printed.
+const HELPS: [(&str, &str); 4] = [
+    ("brk|help|batch", BATCH_HELP),
+    ("brk|batch|--help", BATCH_HELP),
+    ("brk|help", HELP),
+    ("brk|--help", HELP),
 ];
-
-// Checks that the arguments `words` are reported with the word `kind`, a colon, a space and the
-// text `help`.
-fn expect_help(rt: &impl Abort, alloc: Global, words: &[&str], kind: &str, help: &str) {
-    let text = format!(in alloc; "{kind}: {help}").expect(rt, "memory");
-    expect_parsed_arguments(rt, alloc, words, text.as_str());
-}
 
 // Checks that the help of the program and of `batch` are the wanted texts, and that an empty list
 // of arguments is reported as wrong with the help of the program as the error text.
 #[test]
 fn prints_help_of_commands(rt: HostRuntime) {
-    for (words, text) in &HELPS {
-        expect_help(&rt, rt.alloc(), words, "help", text);
+    for (line, text) in &HELPS {
+        expect_parsed_command_line(&rt, rt.alloc(), line, &["help: ", *text]);
     }
-    expect_help(&rt, rt.alloc(), &[], "wrong", HELP);
+    expect_parsed_command_line(&rt, rt.alloc(), "brk", &["wrong: ", HELP]);
 }
