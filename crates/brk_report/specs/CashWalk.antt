@@ -61,7 +61,7 @@ WritesLinesOfWalk rows first opening old new (Err e) = FailsWithinFirstLines (li
 
 -- The line of the opening amount, which is `opening` plus the amounts of the cash rows of `account`
 -- before the day `from`, in cents; and a line for each of its cash rows from the day `from` to the
--- day `to`, both included.
+-- day `to`, both included, sorted by stamp, ascending.
 abbrev pub opening_and_cash_lines : Tables → ℕ → ℕ → ℕ → ℤ → List Text
 opening_and_cash_lines t account from to opening =
     amount_line (codes "Opening") (opening +ℤ cash_row_total (cash_move_rows_before_day from (cash_move_rows_of_account t account)))

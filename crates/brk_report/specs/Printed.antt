@@ -42,8 +42,9 @@ json_line_text records = json_records_object (codes "view") records ++ 10 ∷ []
 abbrev pub records_to_print : Form → Query → View → View
 records_to_print form query records = if form.heads then field_name_records query ++ records else records
 
--- The bytes that are written for a query's view with the records `records`: one line of JSON if
--- `form.json` is true, otherwise rows of CSV.
+-- The bytes that are written for a query's view with the records `records`: these records, after
+-- one with the names of their fields if `form.heads` asks for it (`records_to_print`), as one line
+-- of JSON if `form.json` is true, otherwise as rows of CSV.
 abbrev pub printed_view_text : Form → Query → View → Text
 printed_view_text form query records =
     if form.json then json_line_text (records_to_print form query records) else csv_text (records_to_print form query records)

@@ -1,12 +1,12 @@
 //! Assertions on what the tested functions return.
 
 use std::alloc::Global;
-use std::fmt::Display;
+use std::fmt::{Debug, Display};
 use std::process::Abort;
 
 /// Checks that the value `told` is `wanted`.
-pub(crate) fn expect_equal<T: PartialEq + Copy>(rt: &impl Abort, told: T, wanted: T) {
-    assert!(rt; told == wanted);
+pub(crate) fn expect_equal<T: PartialEq + Debug + Copy>(rt: &impl Abort, told: T, wanted: T) {
+    assert!(rt; told == wanted, "{told:?} instead of {wanted:?}");
 }
 
 /// Checks that the text `told` is `wanted`.

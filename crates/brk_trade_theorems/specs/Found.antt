@@ -29,8 +29,8 @@ pub record CustomerTaxFactsMatchTables (t : Tables) (customer tax : ℕ) (found 
   pub sum : SomeIff found.rates (customer_tax_rate_sum t customer ≤ greatest_tax_rate) (customer_tax_rate_sum t customer)
 
 -- The facts `found` about a record of reference data are true of the tables: whether a record with
--- its key exists, whether the records that it refers to exist, and the counts, rates and overlaps
--- that its checks need. Facts that a record of its kind does not need may have any value.
+-- its key exists, for a customer also whether one with its tax id exists, whether the records that
+-- it refers to exist, and the counts, rates and overlaps that its checks need. Facts that a record of its kind does not need may have any value.
 abbrev pub ReferenceFactsMatchTables : Tables → Reference → ReferenceFacts → Type 0
 ReferenceFactsMatchTables t (reference.Broker broker) found = found.same_id ≡ has_broker t broker.id
 ReferenceFactsMatchTables t (reference.Customer customer) found =
