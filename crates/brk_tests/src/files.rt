@@ -1,7 +1,6 @@
 //! Tests of desks in files: reopening and audit, crashes, and a disk that fails within a statement.
 
 pub mod jobs;
-mod kept;
 pub mod machine;
 mod statements;
 mod stops;

@@ -2,7 +2,5 @@
 //! machine.
 
 mod cuts;
-mod faults;
 mod listening;
-mod pieces;
 mod streams;

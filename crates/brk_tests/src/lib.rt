@@ -4,19 +4,11 @@
 #![tactic(auto)]
 
 #[cfg(test)]
-mod at_desk;
-#[cfg(test)]
-mod calls;
-#[cfg(test)]
 mod cuts;
-#[cfg(test)]
-mod databases;
 #[cfg(test)]
 mod desks;
 #[cfg(test)]
 mod faulty;
-#[cfg(test)]
-mod fields;
 #[cfg(test)]
 mod files;
 #[cfg(test)]
@@ -24,18 +16,14 @@ mod http;
 #[cfg(test)]
 mod made;
 #[cfg(test)]
-mod many_results;
-#[cfg(test)]
 mod row_calls;
 #[cfg(test)]
-mod rows_at_desk;
-#[cfg(test)]
 mod rows_read;
+#[cfg(test)]
+mod runs;
 #[cfg(test)]
 mod statements;
 #[cfg(test)]
 mod tables;
-#[cfg(test)]
-mod text_lines;
 #[cfg(test)]
 mod worked;

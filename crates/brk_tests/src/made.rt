@@ -1,5 +1,4 @@
-use crate::at_desk::create_store;
-use crate::databases::{expect_connection, open_in_memory};
+use crate::desks::{create_store, expect_connection, open_in_memory};
 use brk_money::{Condition, Fault};
 use sqlite::{Alter, Connection};
 use std::test::Fail;

@@ -1,12 +1,21 @@
 //! Parsing of rows and queries into calls.
 
-use crate::fields::split_fields;
 use crate::worked::FIRST_MOMENT;
 use brk_import::brk_desk::{Call, parse_query, parse_row};
 use brk_money::Stamp;
 use brk_ref::{BatchName, Key, RowNumber};
-use std::alloc::Global;
+use std::alloc::{AllocError, Global};
 use std::test::Fail;
+
+/// Returns the fields of a row without quotes, split at its commas, in order. Fails only if memory
+/// runs out.
+pub fn split_fields<'a>(alloc: Global, row: &'a str) -> Result<Vec<&'a [u8]>, AllocError> {
+    let mut fields = Vec::new(alloc);
+    for field in row.split(',') {
+        fields.push(field.as_bytes())?;
+    }
+    Ok(fields)
+}
 
 // Returns the key of the row with the number `row` of the batch with the name `batch`. Fails if one
 // of them is malformed.

@@ -1,7 +1,434 @@
-//! Tests of statements whose writer fails, of the walks that they use, and of amounts wider than
-//! their column.
+//! Tests of statements: their amounts, writers that fail, and the walks over cash rows and lots.
 
-pub mod asking;
-mod lines;
-mod walks;
-mod writers;
+use crate::desks::{
+    Step, desk_with_reference_data, expect_batch_result, open_in_memory, write_statement,
+};
+use crate::faulty::Narrow;
+use brk_changes::MoveRow;
+use brk_import::brk_desk::Desk;
+use brk_lots::Lot;
+use brk_money::{Day, Fault, Id, Stamp, Wide, parse_day};
+use brk_report::ReportFault;
+use brk_report_lines::amount_line;
+use sqlite::{Alter, Connection};
+use std::alloc::Global;
+use std::io::ErrorKind;
+use std::process::Abort;
+use std::test::Fail;
+
+/// An account and the first and the last day of its statement, both included.
+#[derive(Clone, Copy)]
+pub struct Asked {
+    pub account: Id,
+    pub from: Day,
+    pub to: Day,
+}
+
+/// Returns the account and the days of a statement from the number of the account and the texts of
+/// the days. Fails if one of them is malformed.
+pub fn account_and_days(account: u64, from: &str, to: &str) -> Result<Asked, Fail> {
+    let days = (parse_day(from.as_bytes()), parse_day(to.as_bytes()));
+    match (Id::new(account), days) {
+        (Some(account), (Some(from), Some(to))) => Ok(Asked { account, from, to }),
+        _ => Err("an account or a day")?,
+    }
+}
+
+// Words and amounts in cents, each with the line of both.
+const AMOUNTS: [(&str, i128, &str); 6] = [
+    ("Opening", 0, "Opening                      0.00\n"),
+    ("Closing", -1, "Closing                     -0.01\n"),
+    (
+        "Holdings",
+        123_456_789_012_345_678_901,
+        "Holdings   1234567890123456789.01\n",
+    ),
+    (
+        "Holdings",
+        -12_345_678_901_234_567_890,
+        "Holdings   -123456789012345678.90\n",
+    ),
+    (
+        "Holdings",
+        1_234_567_890_123_456_789_012,
+        "Holdings   12345678901234567890.12\n",
+    ),
+    (
+        "Holdings",
+        -1_234_567_890_123_456_789_012_345,
+        "Holdings   -12345678901234567890123.45\n",
+    ),
+];
+
+// Checks that `amount_line` returns the wanted line of each word and amount of `AMOUNTS`, in which
+// an amount wider than its column is printed whole.
+#[test]
+fn wide_amounts_are_printed_whole(rt: HostRuntime) -> Result<(), Fail> {
+    for (word, cents, wanted) in AMOUNTS {
+        let line = amount_line(rt.alloc(), word, Wide::new(cents))?;
+        assert!(rt; line.as_slice() == wanted.as_bytes(), "{cents}");
+    }
+    Ok(())
+}
+
+// Two purchases and a sale of a part.
+const BOUGHT: Step = Step {
+    batch: b"batch,T\n\
+        order,100,TMB,ABC,100,,cash,fifo,Ann,Lee,T10\n\
+        result,1,10.10\n\
+        order,100,TMB,ABC,200,,cash,fifo,Ann,Lee,T10\n\
+        result,2,12.00\n\
+        order,100,TMS,ABC,150,,cash,fifo,Ann,Lee,T10\n\
+        result,3,13.00\n\
+        end,6\n",
+    lines: "1,ok,1709251200016,1,SBMT,10.00,0.00,0.00,0.00,10.00,5.00,10000.00\n\
+        2,ok,1709251200017,10.10,0.00,-1025.10,2024-03-03,0.00,0.00,8974.90\n\
+        3,ok,1709251200018,2,SBMT,10.00,0.00,0.00,0.00,20.00,5.00,9974.90\n\
+        4,ok,1709251200019,24.00,0.00,-2429.00,2024-03-03,0.00,0.00,6545.90\n\
+        5,ok,1709251200020,3,SBMT,10.00,1610.00,1500.00,0.00,15.00,5.00,9545.90\n\
+        6,ok,1709251200021,19.50,68.00,1857.50,2024-03-03,1610.00,1950.00,8403.40\n\
+        end,6,0,0\n",
+};
+
+// The statement of account 100 for March 2024 after these trades.
+const WANTED: &str = "Statement of account 100\n\
+    Main\n\
+    From 2024-03-01 to 2024-03-31\n\
+    Opening                  10000.00\n\
+    2024-03-01               -1025.10 Market-Buy 100 shares of Acme\n\
+    2024-03-01               -2429.00 Market-Buy 200 shares of Acme\n\
+    2024-03-01                1857.50 Market-Sell 150 shares of Acme\n\
+    Closing                   8403.40\n\
+    ABC                         2         150      12.00\n\
+    Holdings                  1500.00\n\
+    Cash rows 3, lots 1\n";
+
+// Returns the error with which a writer with room for `room` bytes fails, by the remainder of
+// `room` divided by 3: `None` for 0, which means that it accepts no byte, `Other` for 1, and
+// `Interrupted` for 2.
+fn write_error_for_room(room: usize) -> Option<ErrorKind> {
+    match room % 3 {
+        0 => None,
+        1 => Some(ErrorKind::Other),
+        _ => Some(ErrorKind::Interrupted),
+    }
+}
+
+// Writes the statement of account 100 for March 2024 with a writer that has room for `room` bytes.
+// Checks that the statement fails with `Write`, or completes if there is room for all its bytes,
+// and that exactly its first `room` bytes are written.
+fn expect_statement_write_fault<S: Alter>(
+    rt: &impl Abort,
+    alloc: Global,
+    desk: &mut Desk<S>,
+    room: usize,
+) -> Result<(), Fail> {
+    let asked = account_and_days(100, "2024-03-01", "2024-03-31")?;
+    let mut writer = Narrow::new(alloc, room, write_error_for_room(room));
+    let ended = write_statement(alloc, asked, &mut writer, desk);
+    let is_cut = matches!(&ended, Err(ReportFault::Write));
+    assert!(rt;
+        is_cut == (room < WANTED.len()),
+        "room for {room}: the fault"
+    );
+    assert!(rt;
+        ended.is_ok() == (room == WANTED.len()),
+        "room for {room}: the end"
+    );
+    let taken = writer.taken.as_slice();
+    assert!(rt;
+        taken.len() == room && WANTED.as_bytes().starts_with(taken),
+        "room for {room}"
+    );
+    Ok(())
+}
+
+// Checks, for each number of bytes of the statement from 0 to all, that the statement on a desk in
+// the database of a connection, with a writer that has room for this number, writes exactly its
+// first bytes and fails with `Write`, or completes if all are written
+// (`expect_statement_write_fault`). Fails without a connection.
+fn expect_statement_write_faults_in<S: Alter + Drop>(
+    rt: &impl Abort,
+    alloc: Global,
+    conn: Option<Connection<S>>,
+) -> Result<(), Fail> {
+    let mut desk = desk_with_reference_data(alloc, conn)?;
+    expect_batch_result(alloc, &mut desk, "trades", BOUGHT)?;
+    for room in 0..=WANTED.len() {
+        expect_statement_write_fault(rt, alloc, &mut desk, room)?;
+    }
+    Ok(())
+}
+
+// Checks, for each byte of a statement at which the writer fails, is interrupted or accepts no
+// byte, that the statement fails with `Write` and that exactly the bytes before are written, and
+// that the statement completes with room for all bytes.
+#[test]
+fn statement_writers_failing_at_each_byte(rt: HostRuntime) -> Result<(), Fail> {
+    expect_statement_write_faults_in(&rt, rt.alloc(), open_in_memory(rt.alloc()))
+}
+
+// Two purchases, a sale that closes the last lot first, a short sale on margin of another symbol,
+// and a deposit.
+const TRADES: Step = Step {
+    batch: b"batch,W\n\
+        order,100,TMB,ABC,100,,cash,fifo,Ann,Lee,T10\n\
+        result,1,10.10\n\
+        order,100,TMB,ABC,200,,cash,fifo,Ann,Lee,T10\n\
+        result,2,12.00\n\
+        order,100,TMS,ABC,150,,cash,lifo,Ann,Lee,T10\n\
+        result,3,13.00\n\
+        security,AB,Abe,NYSE,Tech,2.50\n\
+        order,100,TMS,AB,10,,margin,fifo,Ann,Lee,T10\n\
+        result,4,2.60\n\
+        deposit,100,1.00\n\
+        end,10\n",
+    lines: "1,ok,1709251200016,1,SBMT,10.00,0.00,0.00,0.00,10.00,5.00,10000.00\n\
+        2,ok,1709251200017,10.10,0.00,-1025.10,2024-03-03,0.00,0.00,8974.90\n\
+        3,ok,1709251200018,2,SBMT,10.00,0.00,0.00,0.00,20.00,5.00,9974.90\n\
+        4,ok,1709251200019,24.00,0.00,-2429.00,2024-03-03,0.00,0.00,6545.90\n\
+        5,ok,1709251200020,3,SBMT,10.00,1800.00,1500.00,0.00,15.00,5.00,9545.90\n\
+        6,ok,1709251200021,19.50,30.00,1895.50,2024-03-03,1800.00,1950.00,8441.40\n\
+        7,ok,1709251200022\n\
+        8,ok,1709251200023,4,SBMT,2.50,0.00,0.00,0.00,0.25,5.00,9941.40\n\
+        9,ok,1709251200024,0.26,0.00,20.74,2024-03-03,0.00,0.00,8441.40\n\
+        10,ok,1709251200025,4,8442.40\nend,10,0,0\n",
+};
+
+// The error that ended a walk.
+#[derive(PartialEq, Eq, Clone, Copy)]
+enum Ended {
+    // The desk failed.
+    Fault(Fault),
+    // The closure stopped at the row of this trade; 0 for the row of a movement.
+    At(u64),
+}
+
+impl From<Fault> for Ended {
+    // Returns the error `Ended::Fault` with this fault of the desk.
+    fn from(fault: Fault) -> Ended {
+        Ended::Fault(fault)
+    }
+}
+
+// The rows that a walk passed, as text, and the number of rows that it may still pass.
+#[derive(Drop)]
+struct Seen {
+    rows: String,
+    left: u64,
+}
+
+// Subtracts 1 from the number of rows that the walk may still pass. If this number is 0, fails with
+// `At` and the trade `trade` (0 for a movement), which stops the walk.
+fn count_row(seen: &mut Seen, trade: u64) -> Result<(), Ended> {
+    if seen.left == 0 {
+        return Err(Ended::At(trade));
+    }
+    seen.left = seen.left.saturating_sub(1);
+    Ok(())
+}
+
+// Counts a cash row (`count_row`) and appends its number, trade (0 for a movement), stamp, amount
+// in cents and text to the rows as a line. Fails with `At` if no more rows may be passed, and with
+// `Memory` if memory runs out.
+fn record_cash_row(seen: &mut Seen, row: &MoveRow) -> Result<(), Ended> {
+    let trade = row.trade.map_or(0, Id::get);
+    count_row(seen, trade)?;
+    let (place, stamp, amount) = (row.id.get(), row.stamp.get(), row.amount.get());
+    match writeln!(seen.rows, "{place} {trade} {stamp} {amount} {}", row.name) {
+        Ok(()) => Ok(()),
+        Err(_) => Err(Ended::Fault(Fault::Memory)),
+    }
+}
+
+// Counts a lot and appends its trade, stamp, quantity, symbol and price in cents to the rows as a
+// line. Fails with `At` if no more rows may be passed, and with `Memory` if memory runs out.
+fn record_lot(seen: &mut Seen, symbol: &str, lot: &Lot) -> Result<(), Ended> {
+    count_row(seen, lot.trade.get())?;
+    let (trade, stamp, price) = (lot.trade.get(), lot.stamp.get(), lot.price.get());
+    match writeln!(seen.rows, "{trade} {stamp} {} {symbol} {price}", lot.qty) {
+        Ok(()) => Ok(()),
+        Err(_) => Err(Ended::Fault(Fault::Memory)),
+    }
+}
+
+// Walks over cash rows: the first and the last stamp, the number of rows that the walk may pass,
+// the rows that it passes, and its result.
+const CASH: [(i64, i64, u64, &str, Result<(), Ended>); 10] = [
+    (
+        0,
+        253_402_300_799_999,
+        9,
+        "1 1 1709251200017 -102510 Market-Buy 100 shares of Acme\n\
+            2 2 1709251200019 -242900 Market-Buy 200 shares of Acme\n\
+            3 3 1709251200021 189550 Market-Sell 150 shares of Acme\n\
+            4 0 1709251200025 100 Deposit\n",
+        Ok(()),
+    ),
+    (
+        1_709_251_200_017,
+        1_709_251_200_021,
+        3,
+        "1 1 1709251200017 -102510 Market-Buy 100 shares of Acme\n\
+            2 2 1709251200019 -242900 Market-Buy 200 shares of Acme\n\
+            3 3 1709251200021 189550 Market-Sell 150 shares of Acme\n",
+        Ok(()),
+    ),
+    (
+        1_709_251_200_018,
+        1_709_251_200_020,
+        9,
+        "2 2 1709251200019 -242900 Market-Buy 200 shares of Acme\n",
+        Ok(()),
+    ),
+    (
+        1_709_251_200_019,
+        1_709_251_200_019,
+        9,
+        "2 2 1709251200019 -242900 Market-Buy 200 shares of Acme\n",
+        Ok(()),
+    ),
+    (1_709_251_200_020, 1_709_251_200_020, 9, "", Ok(())),
+    (1_709_251_200_021, 1_709_251_200_017, 9, "", Ok(())),
+    (0, 1_709_251_200_021, 0, "", Err(Ended::At(1))),
+    (
+        0,
+        1_709_251_200_021,
+        1,
+        "1 1 1709251200017 -102510 Market-Buy 100 shares of Acme\n",
+        Err(Ended::At(2)),
+    ),
+    (
+        1_709_251_200_022,
+        1_709_251_200_025,
+        0,
+        "",
+        Err(Ended::At(0)),
+    ),
+    (
+        0,
+        1_709_251_200_021,
+        2,
+        "1 1 1709251200017 -102510 Market-Buy 100 shares of Acme\n\
+            2 2 1709251200019 -242900 Market-Buy 200 shares of Acme\n",
+        Err(Ended::At(3)),
+    ),
+];
+
+// Returns a desk in the database of a connection after the batch `SET` and `TRADES`. Fails without
+// a connection, and if one of the batches fails.
+fn desk_with_trades<S: Alter + Drop>(
+    alloc: Global,
+    conn: Option<Connection<S>>,
+) -> Result<Desk<S>, Fail> {
+    let mut desk = desk_with_reference_data(alloc, conn)?;
+    expect_batch_result(alloc, &mut desk, "trades", TRADES)?;
+    Ok(desk)
+}
+
+// Walks over the cash rows of an account between two stamps, both included, and records the rows in
+// `seen`. Returns the result of the walk.
+fn record_cash_rows<S: Alter>(
+    desk: &mut Desk<S>,
+    account: Id,
+    from: i64,
+    to: i64,
+    seen: &mut Seen,
+) -> Result<(), Ended> {
+    desk.walk_cash(
+        account,
+        Stamp::nearest(from),
+        Stamp::nearest(to),
+        |row: &MoveRow| record_cash_row(seen, row),
+    )
+}
+
+// Checks, for each walk of `CASH` over the cash rows of account 100 on a desk in the database of a
+// connection, that its rows and its result are the wanted ones. Fails without a connection.
+fn expect_cash_rows_in<S: Alter + Drop>(
+    rt: &impl Abort,
+    alloc: Global,
+    conn: Option<Connection<S>>,
+) -> Result<(), Fail> {
+    let account = Id::new(100).ok_or("an account")?;
+    let mut desk = desk_with_trades(alloc, conn)?;
+    for (from, to, left, rows, wanted) in CASH {
+        let mut seen = Seen {
+            rows: String::new(alloc),
+            left,
+        };
+        let ended = record_cash_rows(&mut desk, account, from, to, &mut seen);
+        assert!(rt; ended == wanted, "{from} to {to}, {left}");
+        assert!(rt; seen.rows.as_str() == rows, "{from} to {to}, {left}");
+    }
+    Ok(())
+}
+
+// Checks, for each walk of `CASH` over the cash rows of account 100, that it passes exactly the
+// wanted rows, sorted by stamp, ascending, and that it has the wanted result.
+#[test]
+fn walks_cash_rows_in_order_of_stamps(rt: HostRuntime) -> Result<(), Fail> {
+    expect_cash_rows_in(&rt, rt.alloc(), open_in_memory(rt.alloc()))
+}
+
+// Walks over lots: the account, the number of lots that the walk may pass, the lots that it passes,
+// and its result.
+const LOTS: [(u64, u64, &str, Result<(), Ended>); 5] = [
+    (
+        100,
+        9,
+        "4 1709251200024 -10 AB 260\n1 1709251200017 100 ABC 1010\n\
+            2 1709251200019 50 ABC 1200\n",
+        Ok(()),
+    ),
+    (100, 0, "", Err(Ended::At(4))),
+    (100, 1, "4 1709251200024 -10 AB 260\n", Err(Ended::At(1))),
+    (
+        100,
+        2,
+        "4 1709251200024 -10 AB 260\n1 1709251200017 100 ABC 1010\n",
+        Err(Ended::At(2)),
+    ),
+    (101, 9, "", Ok(())),
+];
+
+// Walks over the lots of the account with the id `account`, and records the lots in `seen`. Returns
+// the result of the walk. Fails if `account` is not within the limits of an id.
+fn record_lots<S: Alter>(
+    desk: &mut Desk<S>,
+    account: u64,
+    seen: &mut Seen,
+) -> Result<Result<(), Ended>, Fail> {
+    let account = Id::new(account).ok_or("an account")?;
+    Ok(desk.walk_lots(
+        account,
+        |symbol: &str, lot: &Lot| record_lot(seen, symbol, lot),
+    ))
+}
+
+// Checks, for each walk of `LOTS` over the lots of an account on a desk in the database of a
+// connection, that its lots and its result are the wanted ones. Fails without a connection.
+fn expect_lots_in<S: Alter + Drop>(
+    rt: &impl Abort,
+    alloc: Global,
+    conn: Option<Connection<S>>,
+) -> Result<(), Fail> {
+    let mut desk = desk_with_trades(alloc, conn)?;
+    for (account, left, rows, wanted) in LOTS {
+        let mut seen = Seen {
+            rows: String::new(alloc),
+            left,
+        };
+        let ended = record_lots(&mut desk, account, &mut seen)?;
+        assert!(rt; ended == wanted, "{left} lots");
+        assert!(rt; seen.rows.as_str() == rows, "{left} lots");
+    }
+    Ok(())
+}
+
+// Checks, for each walk of `LOTS` over the lots of an account, that it passes exactly the wanted
+// lots, sorted by symbol, ascending, and that it has the wanted result.
+#[test]
+fn walks_lots_in_order_of_symbols(rt: HostRuntime) -> Result<(), Fail> {
+    expect_lots_in(&rt, rt.alloc(), open_in_memory(rt.alloc()))
+}

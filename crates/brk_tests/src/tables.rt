@@ -1,6 +1,6 @@
 //! The rows of the tables of a desk as text.
 
-use crate::text_lines::expect_lines;
+use crate::desks::expect_lines;
 use brk_import::brk_desk::brk_store::Store;
 use sqlite::types::ValueRef;
 use sqlite::{Alter, Connection, Row};

@@ -1,9 +1,9 @@
 //! Jobs on the database of a connection to any disk, and what is observed of them.
 
-use crate::at_desk::{
+use crate::desks::{
     connection_of_desk, create_store, run_batch_of_reader, serve_stream_of_reader, write_statement,
 };
-use crate::statements::asking::Asked;
+use crate::statements::Asked;
 use crate::tables::read_all_tables;
 use brk_http::ServeFault;
 use brk_import::brk_desk::Desk;

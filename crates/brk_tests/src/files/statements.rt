@@ -6,7 +6,7 @@ use crate::files::machine::{
     Held, MachineCrash, Sent, options_with_one_cached_page, perform_job_until_crash,
     run_batch_until_crash,
 };
-use crate::statements::asking::account_and_days;
+use crate::statements::account_and_days;
 use std::alloc::Global;
 use std::test::Fail;
 

@@ -1,9 +1,7 @@
 //! Tests of a stream that is cut at each of its bytes, and of a stream whose reader or writer fails
 //! at each byte. After a fault the whole stream is retried and completes.
 
-use crate::at_desk::serve_stream_of_reader;
-use crate::databases::open_in_memory;
-use crate::desks::desk_with_reference_data;
+use crate::desks::{desk_with_reference_data, open_in_memory, serve_stream_of_reader};
 use crate::faulty::{Failing, Narrow};
 use crate::http::streams::{
     WantedReply, format_post_request, format_wanted_reply, serve_stream_in_pieces,

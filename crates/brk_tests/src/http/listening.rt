@@ -1,8 +1,6 @@
 //! Tests of streams over sockets of this machine, in one process.
 
-use crate::at_desk::Still;
-use crate::databases::open_in_memory;
-use crate::desks::new_desk;
+use crate::desks::{Still, new_desk, open_in_memory};
 use brk_http::{ListenFault, serve_on};
 use brk_import::brk_desk::Desk;
 use sqlite::{Alter, Connection};

@@ -1,12 +1,12 @@
-//! Streams that tests serve on a desk, and their wanted replies.
+//! Tests of streams of requests: in pieces, with heads of each length, and over a store that fails.
 
-use crate::at_desk::serve_stream_of_reader;
-use crate::databases::open_in_memory;
-use crate::desks::desk_with_reference_data;
+use crate::desks::{desk_with_reference_data, open_in_memory, serve_stream_of_reader};
 use crate::faulty::Failing;
+use crate::files::jobs::{Ended, Job, Observation, Task};
+use crate::files::machine::{Held, MachineCrash, Sent, perform_job_until_crash};
 use brk_http::ServeFault;
 use brk_import::brk_desk::Desk;
-use sqlite::{Alter, Connection};
+use sqlite::{Alter, Connection, Options};
 use std::alloc::{AllocError, Global};
 use std::test::Fail;
 
@@ -100,4 +100,164 @@ pub fn has_wanted_replies_in_all_pieces(
         }
     }
     Ok(true)
+}
+
+// The reply to a request that is too large.
+const LARGE: WantedReply = WantedReply::Last("413 Payload Too Large", "{\"error\":\"too large\"}");
+
+// The reply to a malformed request, which ends its stream.
+const CLOSED: WantedReply = WantedReply::Last("400 Bad Request", "{\"error\":\"bad request\"}");
+
+// The reply to a query for submitted trades on a desk without trades.
+const EMPTY: WantedReply = WantedReply::Open("200 OK", "{\"view\":[]}");
+
+// The reply to a query for submitted trades in a request of version 1.0, which ends its stream.
+const SAID: WantedReply = WantedReply::Last("200 OK", "{\"view\":[]}");
+
+// Streams, each with its replies. Bytes after a reply that ends its stream are not read.
+const STREAMS: [(&str, &[WantedReply]); 7] = [
+    (
+        "POST /rows/H/1 HTTP/1.1\r\nContent-Length: 19\r\n\r\n[\"broker\",\"2\",\"Cy\"]\
+        POST /rows/H/1 HTTP/1.1\r\nContent-Length: 19\r\n\r\n[\"broker\",\"2\",\"Cy\"]\
+        POST /rows HTTP/1.1\r\nContent-Length: 19\r\n\r\n[\"broker\",\"2\",\"Cy\"]",
+        &[
+            WantedReply::Open("200 OK", "{\"ok\":[\"1709251200016\"]}"),
+            WantedReply::Open("200 OK", "{\"again\":[\"1709251200016\"]}"),
+            WantedReply::Open("409 Conflict", "{\"no\":[\"15\"]}"),
+        ],
+    ),
+    ("\r\n", &[CLOSED]),
+    (
+        "\r\nPOST /ask/submitted HTTP/1.1\r\nContent-Length: 2\r\n\r\n[]",
+        &[EMPTY],
+    ),
+    (
+        "\nPOST /ask/submitted HTTP/1.1\nContent-Length: 2\n\n[]",
+        &[EMPTY],
+    ),
+    (
+        "\r\n\r\nPOST /ask/submitted HTTP/1.1\r\nContent-Length: 2\r\n\r\n[]",
+        &[CLOSED],
+    ),
+    (
+        "POST /ask/submitted HTTP/1.1\r\nContent-Length: 2\r\n\r\n[]\r\n",
+        &[EMPTY, CLOSED],
+    ),
+    (
+        "POST /ask/submitted HTTP/1.0\r\nContent-Length: 2\r\n\r\n[]GET /",
+        &[SAID],
+    ),
+];
+
+// Checks that each stream of `STREAMS` has its replies, whether its bytes arrive in pieces of
+// 4,096, of seven or of one.
+#[test]
+fn streams_in_pieces_get_the_same_replies(rt: HostRuntime) -> Result<(), Fail> {
+    for (input, wanted) in STREAMS {
+        assert!(rt;
+            has_wanted_replies_in_all_pieces(rt.alloc(), input.as_bytes(), wanted)?,
+            "{input:?}"
+        );
+    }
+    Ok(())
+}
+
+// Returns an HTTP request for the submitted trades with a head of `len` bytes: its last header
+// field is as long as needed. `len` must be at least the length of the head without the value of
+// this field. Fails only if memory runs out.
+fn request_with_head_of_length(alloc: Global, len: usize) -> Result<String, AllocError> {
+    let front = "POST /ask/submitted HTTP/1.1\r\nContent-Length: 2\r\nX: ";
+    let mut head = String::from_str(alloc, front)?;
+    for _ in 0..len.saturating_sub(front.len()).saturating_sub(4) {
+        head.push('x')?;
+    }
+    head.push_str("\r\n\r\n[]")?;
+    Ok(head)
+}
+
+// Checks that a request with a head of 16,384 bytes has its reply, and that one with a longer head
+// is refused with 413, which ends its stream, for each size of pieces.
+#[test]
+fn a_head_has_at_most_16_384_bytes(rt: HostRuntime) -> Result<(), Fail> {
+    for (len, wanted) in [(16_384, EMPTY), (16_385, LARGE)] {
+        let input = request_with_head_of_length(rt.alloc(), len)?;
+        assert!(rt; input.len() == len + 2);
+        assert!(rt;
+            has_wanted_replies_in_all_pieces(rt.alloc(), input.as_bytes(), &[wanted])?,
+            "{len}"
+        );
+    }
+    Ok(())
+}
+
+// Serves a stream on a new desk in files whose log accepts `calls` calls and fails at each later
+// call. Returns the observation. Fails if memory runs out.
+fn serve_with_failing_log(alloc: Global, calls: u64, input: &[u8]) -> Result<Observation, Fail> {
+    let Sent { seen, .. } = perform_job_until_crash(
+        alloc,
+        &Held::empty_files(alloc),
+        MachineCrash::of_log_after(calls),
+        Options::new(1),
+        Job::Desk(Task::Stream),
+        input,
+    )?;
+    Ok(seen)
+}
+
+// Returns the text of two requests, a row that adds broker 1 and a query for the submitted trades.
+// Fails only if memory runs out.
+fn two_requests(alloc: Global) -> Result<String, AllocError> {
+    let mut input = format_post_request(alloc, "/rows/F/1", "[\"broker\",\"1\",\"Bo\"]")?;
+    input.push_str(format_post_request(alloc, "/ask/submitted", "[]")?.as_str())?;
+    Ok(input)
+}
+
+// Returns the replies to the two requests on a new desk whose disk does not fail: the row is
+// accepted, and the view has no trades. Fails only if memory runs out.
+fn replies_to_two_requests(alloc: Global) -> Result<String, AllocError> {
+    let mut replies = format_wanted_reply(
+        alloc,
+        WantedReply::Open("200 OK", "{\"ok\":[\"1709251200000\"]}"),
+    )?;
+    replies.push_str(format_wanted_reply(
+        alloc,
+        WantedReply::Open("200 OK", "{\"view\":[]}"),
+    )?.as_str())?;
+    Ok(replies)
+}
+
+// Checks, for a log that fails after 0, 1, 2 and more calls, that the reply to a row is 503 and the
+// last of its stream, until the row and the query after it both have their replies. Numbers of
+// calls with which the desk cannot be created are skipped.
+#[test]
+fn a_store_fault_is_the_last_reply(rt: HostRuntime) -> Result<(), Fail> {
+    let alloc = rt.alloc();
+    let input = two_requests(alloc)?;
+    let wanted = format_wanted_reply(
+        alloc,
+        WantedReply::Last("503 Service Unavailable", "{\"error\":\"store\"}"),
+    )?;
+    let whole = replies_to_two_requests(alloc)?;
+    let mut faults = 0u64;
+    let mut booked = false;
+    for calls in 0..1_000 {
+        let seen = serve_with_failing_log(alloc, calls, input.as_bytes())?;
+        match seen.ended {
+            Ended::NotBegun => (),
+            Ended::Served(2) => {
+                booked = seen.lines.as_slice() == whole.as_bytes();
+                break;
+            }
+            Ended::Served(1) => {
+                assert!(rt;
+                    seen.lines.as_slice() == wanted.as_bytes(),
+                    "after {calls} calls"
+                );
+                faults = faults.saturating_add(1);
+            }
+            _ => assert!(rt; false, "after {calls} calls"),
+        }
+    }
+    assert!(rt; faults > 0 && booked);
+    Ok(())
 }
