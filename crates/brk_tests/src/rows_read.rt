@@ -1,5 +1,5 @@
-//! Tests of what a sale reads: rows, on a position of forty lots of one share each, and calls of the
-//! database file, of which a position of many lots needs no more than one of a single lot.
+//! Tests of what a sale reads: rows, on a position of forty lots of one share each, and calls of
+//! the database file, of which a position of many lots needs no more than one of a single lot.
 
 use crate::desks::{desk_with_reference_data, open_in_memory, run_batch_at_desk};
 use crate::files::jobs::{Job, Task};
@@ -134,8 +134,8 @@ fn batch_of_two_share_purchases(alloc: Global) -> Result<String, Fail> {
     Ok(batch)
 }
 
-// Returns the files of a desk on which account 100 has `LOTS_AT_DESK` lots of two shares and account 101
-// has one. Fails if a row of the purchases is not accepted or memory runs out.
+// Returns the files of a desk on which account 100 has `LOTS_AT_DESK` lots of two shares and
+// account 101 has one. Fails if a row of the purchases is not accepted or memory runs out.
 fn files_with_hundred_lots(alloc: Global) -> Result<Held, Fail> {
     let set = files_with_reference_data(alloc)?;
     let batch = batch_of_two_share_purchases(alloc)?;

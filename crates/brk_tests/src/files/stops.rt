@@ -1,6 +1,6 @@
 //! Tests of desks in files: they can be reopened, and recover from crashes at each call of the log
-//! and of the database file, while a store is created, while it executes a batch, and while a desk of
-//! schema 1 or 2 is upgraded.
+//! and of the database file, while a store is created, while it executes a batch, and while a desk
+//! of schema 1 or 2 is upgraded.
 
 use crate::cuts::{ROWS, all_lines_of_retry};
 use crate::desks::{connection_of_desk, desk_with_reference_data, open_in_memory};
