@@ -1,13 +1,15 @@
-//! The commands of transcripts, each of which appends its output lines to the replay.
+//! The commands of transcripts, each of which appends its output lines to the replay, and the
+//! database or desk on which they work.
 
-use crate::escape::{Piece, append_output_line, append_written_bytes};
 use crate::failed::Failed;
 use crate::files::execute_file_command;
-use crate::place::{Place, adopt_database};
-use crate::tables::append_rows_of_all_tables;
-use crate::views::{append_refusal_line, execute_ask_command, execute_print_command};
+use crate::records::{
+    append_refusal_line, append_rows_of_all_tables, execute_ask_command, execute_print_command,
+};
+use crate::replay::{Piece, append_output_line, append_written_bytes};
 use brk_http::serve_stream;
 use brk_import::brk_desk::Desk;
+use brk_import::brk_desk::brk_store::Store;
 use brk_import::{Clock, FaultKind, run_batch};
 use brk_money::{Fault, Refusal, Stamp, parse_day};
 use brk_orders::parse_stamp;
@@ -15,6 +17,59 @@ use brk_ref::parse_id;
 use brk_report::{ReportFault, parse_explain_request, statement, write_explanation};
 use sqlite::{Connection, MemStore};
 use std::alloc::{AllocError, Global};
+
+/// The database or the desk that a transcript has open.
+#[derive(Drop)]
+pub enum Place {
+    /// Neither is open.
+    Nothing,
+    /// A database without a desk.
+    Database(Connection<MemStore>),
+    /// A desk.
+    Open(Desk<MemStore>),
+}
+
+impl Place {
+    /// Returns a new database in memory, open and without tables, or `Nothing` if it cannot be
+    /// opened.
+    pub fn with_empty_database(alloc: Global) -> Place {
+        match Connection::open_in_memory(alloc) {
+            Ok(conn) => Place::Database(conn),
+            Err(_) => Place::Nothing,
+        }
+    }
+
+    /// Returns a new desk in memory, or `Nothing` if it cannot be created. Its tables have no rows,
+    /// except for one row of the table DESK.
+    pub fn with_new_desk(alloc: Global) -> Place {
+        let Ok(conn) = Connection::open_in_memory(alloc) else {
+            return Place::Nothing;
+        };
+        match Store::create(conn) {
+            Ok(store) => Place::Open(Desk::new(store)),
+            Err(_) => Place::Nothing,
+        }
+    }
+
+    /// Returns the connection to the open database, without its desk, or `None` if nothing is open.
+    pub fn into_conn(self) -> Option<Connection<MemStore>> {
+        match self {
+            Place::Nothing => None,
+            Place::Database(conn) => Some(conn),
+            Place::Open(desk) => Some(desk.into_store().into_conn()),
+        }
+    }
+}
+
+/// Adopts the database of a connection. Returns its desk and `Ok` if the database passes the audit,
+/// and otherwise the database without a desk and the fault: `Damaged` with the first condition that
+/// fails, `Memory` or `Store`.
+pub fn adopt_database(alloc: Global, conn: Connection<MemStore>) -> (Place, Result<(), Fault>) {
+    match Store::adopt(alloc, conn) {
+        Ok(store) => (Place::Open(Desk::new(store)), Ok(())),
+        Err((conn, fault)) => (Place::Database(conn), Err(fault)),
+    }
+}
 
 // A clock that always returns one timestamp.
 #[derive(Drop)]

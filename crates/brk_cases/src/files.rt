@@ -1,8 +1,8 @@
 //! The commands of transcripts over files: the program `brk` with its arguments, and changes that
 //! another program makes in a file.
 
-use crate::escape::append_lines_after_mark;
 use crate::failed::Failed;
+use crate::replay::append_lines_after_mark;
 use brk_exit::end_with;
 use brk_jobs::execute_arguments;
 use sqlite::Connection;
@@ -40,8 +40,8 @@ fn run_program(
     Ok(())
 }
 
-// Writes the bytes `bytes` as the whole file at a path, in place of an earlier file. Returns true if
-// that succeeds.
+// Writes the bytes `bytes` as the whole file at a path, in place of an earlier file. Returns true
+// if that succeeds.
 fn write_file(rt: &HostRuntime, path: &str, bytes: &[u8]) -> bool {
     fs::write(rt, path, bytes).is_ok()
 }
@@ -81,8 +81,8 @@ fn execute_sql_in_file(rt: &HostRuntime, path: &str, sql: &[u8]) -> bool {
 
 // Changes a file, as another program would, by the word `verb`: writes the input to the file
 // (`write`), copies it (`copy`), removes its second half (`cut`) or executes the input as an SQL
-// statement in it (`change`). `words` is the path of the file, for `copy` two paths. Returns true if
-// the change succeeds, and false also for another word.
+// statement in it (`change`). `words` is the path of the file, for `copy` two paths. Returns true
+// if the change succeeds, and false also for another word.
 fn change_file(rt: &HostRuntime, verb: &str, words: &str, input: &[u8]) -> bool {
     match verb {
         "write" => write_file(rt, words, input),

@@ -4,14 +4,11 @@
 #![tactic(auto)]
 
 mod commands;
-mod escape;
 mod failed;
 mod files;
-mod place;
+mod records;
 mod replay;
 mod table_list;
-mod tables;
-mod views;
 
 use failed::Failed;
 use std::io;

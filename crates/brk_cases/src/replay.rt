@@ -1,10 +1,138 @@
-//! The replay of a transcript, line by line.
+//! The lines of transcripts: their escapes, and the replay line by line.
 
-use crate::commands::execute_command;
-use crate::escape::{Piece, unescape_input_line};
+use crate::commands::{Place, execute_command};
 use crate::failed::Failed;
-use crate::place::Place;
-use std::alloc::Global;
+use std::alloc::{AllocError, Global};
+
+/// An input line of a transcript, without its escapes.
+#[derive(Drop)]
+pub struct Piece {
+    /// The bytes of the line.
+    pub bytes: Vec<u8>,
+    /// True if a line feed follows the bytes.
+    pub has_feed: bool,
+}
+
+// The part of an escape that was read so far.
+#[derive(Clone, Copy)]
+enum Escape {
+    // No escape was begun.
+    Nothing,
+    // A backslash.
+    Backslash,
+    // A backslash and `x`.
+    Hex,
+    // A backslash, `x`, and a hexadecimal digit with this value.
+    Digit(u8),
+}
+
+// Returns the value of a hexadecimal digit, or 0 for any other byte.
+fn value_of_hex_digit(byte: u8) -> u8 {
+    let value = char::from(byte).to_digit(16).unwrap_or(0);
+    u8::try_from(value).unwrap_or(0)
+}
+
+// Unescapes the byte `byte` of an input line; `read` is the part of an escape that was read before
+// it. Appends the unescaped byte that `byte` completes, if any, and returns the part of an escape
+// that is read after it. After `\x`, a byte that is no hexadecimal digit has the value 0. Fails
+// only if memory runs out.
+fn unescape_byte(bytes: &mut Vec<u8>, read: Escape, byte: u8) -> Result<Escape, AllocError> {
+    match (read, byte) {
+        (Escape::Nothing, b'\\') => return Ok(Escape::Backslash),
+        (Escape::Backslash, b'x') => return Ok(Escape::Hex),
+        (Escape::Backslash, b'r') => bytes.push(b'\r')?,
+        (Escape::Hex, _) => return Ok(Escape::Digit(value_of_hex_digit(byte))),
+        (Escape::Digit(high), _) => bytes.push((high << 4) | value_of_hex_digit(byte))?,
+        (Escape::Nothing | Escape::Backslash, _) => bytes.push(byte)?,
+    }
+    Ok(Escape::Nothing)
+}
+
+/// Returns the bytes of an input line without its escapes: `\r` is a carriage return, `\x` with two
+/// hexadecimal digits the byte with this value, and a backslash before any other byte only this
+/// byte. Returns also whether a line feed follows: a single backslash at the end of the line means
+/// that none does. An escape `\x` without both digits at the end of the line is dropped. Fails only
+/// if memory runs out.
+pub fn unescape_input_line(alloc: Global, text: &str) -> Result<Piece, AllocError> {
+    let mut bytes = Vec::new(alloc);
+    let mut read = Escape::Nothing;
+    for byte in text.as_bytes() {
+        read = unescape_byte(&mut bytes, read, *byte)?;
+    }
+    Ok(Piece {
+        bytes,
+        has_feed: !matches!(read, Escape::Backslash),
+    })
+}
+
+// Appends a text with the escapes of an output line: a backslash as `\\`, a carriage return as
+// `\r`, and each other character below 20 (hexadecimal), the character 7f, and a bar if `in_record`
+// is true, as `\x` with two hexadecimal digits. Fails only if memory runs out.
+fn append_escaped_text(out: &mut String, text: &str, in_record: bool) -> Result<(), Failed> {
+    for c in text.chars() {
+        match c {
+            '\\' => out.push_str("\\\\")?,
+            '\r' => out.push_str("\\r")?,
+            '|' if in_record => out.push_str("\\x7c")?,
+            '\0'..='\x1f' | '\x7f' => write!(out, "\\x{:02x}", u32::from(c))?,
+            _ => out.push(c)?,
+        }
+    }
+    Ok(())
+}
+
+/// Appends bytes with the escapes of an output line: a backslash as `\\`, a carriage return as
+/// `\r`, and each other byte below 20 (hexadecimal), the byte 7f, each byte that is no part of a
+/// UTF-8 character, and a bar if `in_record` is true, as `\x` with two hexadecimal digits. Fails
+/// only if memory runs out.
+pub fn append_escaped_bytes(out: &mut String, bytes: &[u8], in_record: bool) -> Result<(), Failed> {
+    let mut rest = bytes;
+    for _ in 0..bytes.len() {
+        let known = match str::from_utf8(rest) {
+            Ok(_) => rest.len(),
+            Err(error) => error.valid_up_to().min(rest.len()),
+        };
+        let (front, back) = rest.split_at(known);
+        append_escaped_text(out, str::from_utf8(front).unwrap_or(""), in_record)?;
+        let Some((bad, after)) = back.split_first() else {
+            return Ok(());
+        };
+        write!(out, "\\x{:02x}", *bad)?;
+        rest = after;
+    }
+    Ok(())
+}
+
+/// Appends written bytes as output lines with escapes, each after the mark `mark`: one for the
+/// bytes before each line feed, and one that ends in a single backslash for the bytes after the
+/// last line feed, if there are any. Fails only if memory runs out.
+pub fn append_lines_after_mark(out: &mut String, mark: &str, bytes: &[u8]) -> Result<(), Failed> {
+    for piece in bytes.split_inclusive(|byte| *byte == b'\n') {
+        out.push_str(mark)?;
+        match piece.strip_suffix(b"\n") {
+            Some(line) => append_escaped_bytes(out, line, false)?,
+            None => {
+                append_escaped_bytes(out, piece, false)?;
+                out.push_str("\\")?;
+            }
+        }
+        out.push_str("\n")?;
+    }
+    Ok(())
+}
+
+/// Appends written bytes as output lines with escapes, as `append_lines_after_mark` does after `>`
+/// and a space. Fails only if memory runs out.
+pub fn append_written_bytes(out: &mut String, bytes: &[u8]) -> Result<(), Failed> {
+    append_lines_after_mark(out, "> ", bytes)
+}
+
+/// Appends the text `line`, without escapes, as an output line: after `>` and a space, and before a
+/// line feed. Fails only if memory runs out.
+pub fn append_output_line(out: &mut String, line: &str) -> Result<(), Failed> {
+    writeln!(out, "> {line}")?;
+    Ok(())
+}
 
 // The pending command of a replay with its input lines so far. It is executed when the replay
 // reaches the next line that is neither input nor output.
