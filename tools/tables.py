@@ -38,8 +38,8 @@ DATA = [
     ('summary', 'HOLDING_SUMMARY', 'Summaries', 'SummaryRow', 'summary_key', 't.summaries', False, [('HS_CA_ID', 'integer_column', 'natural_as_value r.account', 'CUSTOMER_ACCOUNT.CA_ID'), ('HS_S_SYMB', 'text_column', 'Words r.symbol', 'SECURITY.S_SYMB'), ('HS_QTY', 'integer_column', 'Int r.qty', None)]),
     ('holding_history', 'HOLDING_HISTORY', 'HoldingHistory', 'HoldingHistoryRow', 'holding_history_key', 't.holding_history', False, [('HH_H_T_ID', 'integer_column', 'natural_as_value r.lot', 'TRADE.T_ID'), ('HH_T_ID', 'integer_column', 'natural_as_value r.trade', 'TRADE.T_ID'), ('HH_BEFORE_QTY', 'integer_column', 'Int r.before', None), ('HH_AFTER_QTY', 'integer_column', 'Int r.after', None)]),
     ('settlement', 'SETTLEMENT', 'Settlements', 'SettlementRow', 'settlement_key', 't.settlements', True, [('SE_T_ID', 'integer_column', 'natural_as_value r.trade', 'TRADE.T_ID'), ('SE_CASH_TYPE', 'text_column', 'Words r.cash_type', None), ('SE_CASH_DUE_DATE', 'integer_column', 'natural_as_value r.due_day', None), ('SE_AMT', 'integer_column', 'Int r.amount', None)]),
-    ('cash', 'CASH_TRANSACTION', 'CashRows', 'CashRow', 'cash_key', 't.cash', True, [('CT_T_ID', 'integer_column', 'natural_as_value r.trade', 'TRADE.T_ID'), ('CT_DTS', 'integer_column', 'natural_as_value r.stamp', None), ('CT_AMT', 'integer_column', 'Int r.amount', None), ('CT_NAME', 'text_column', 'Words r.name', None)]),
-    ('move', 'CASH_MOVE', 'CashMoves', 'MoveRow', 'move_key', 't.moves', True, [('CM_ID', 'integer_column', 'natural_as_value r.id', None), ('CM_CA_ID', 'integer_column', 'natural_as_value r.account', 'CUSTOMER_ACCOUNT.CA_ID'), ('CM_T_ID', 'nullable_integer_column', 'optional_natural_as_value r.trade', 'TRADE.T_ID'), ('CM_DTS', 'integer_column', 'natural_as_value r.stamp', None), ('CM_AMT', 'integer_column', 'Int r.amount', None), ('CM_NAME', 'text_column', 'Words r.name', None)]),
+    ('cash', 'CASH_TRANSACTION', 'CashRows', 'CashRow', 'cash_transaction_key', 't.cash', True, [('CT_T_ID', 'integer_column', 'natural_as_value r.trade', 'TRADE.T_ID'), ('CT_DTS', 'integer_column', 'natural_as_value r.stamp', None), ('CT_AMT', 'integer_column', 'Int r.amount', None), ('CT_NAME', 'text_column', 'Words r.name', None)]),
+    ('move', 'CASH_MOVE', 'CashMoves', 'MoveRow', 'cash_move_key', 't.moves', True, [('CM_ID', 'integer_column', 'natural_as_value r.id', None), ('CM_CA_ID', 'integer_column', 'natural_as_value r.account', 'CUSTOMER_ACCOUNT.CA_ID'), ('CM_T_ID', 'nullable_integer_column', 'optional_natural_as_value r.trade', 'TRADE.T_ID'), ('CM_DTS', 'integer_column', 'natural_as_value r.stamp', None), ('CM_AMT', 'integer_column', 'Int r.amount', None), ('CM_NAME', 'text_column', 'Words r.name', None)]),
     ('rule', 'SETTLE_RULE', 'SettleRules', 'RuleRow', 'rule_key', 'rule_rows t.rule', True, [('SR_ID', 'integer_column', 'natural_as_value r.id', None), ('SR_DAY', 'integer_column', 'natural_as_value r.day', None)]),
 ]
 
@@ -573,11 +573,11 @@ schema_has_table schema w = true
 
 -- The definition of the table `w` of a desk, with its rows at the given tree: its SQL name,
 -- columns, keys and foreign keys.
-abbrev pub table_definition_at : DeskTable → ℕ → Table
-{both(lambda d: f'table_definition_at {d[2]} = {d[0]}_table')}
+abbrev pub table_definition_at_tree : DeskTable → ℕ → Table
+{both(lambda d: f'table_definition_at_tree {d[2]} = {d[0]}_table')}
 
 -- The definition of the table `w` with its rows at the tree `tree` has this tree.
-abbrev pub table_definition_has_tree : (w : DeskTable) (tree : ℕ) → (table_definition_at w tree).tree ≡ tree
+abbrev pub table_definition_has_tree : (w : DeskTable) (tree : ℕ) → (table_definition_at_tree w tree).tree ≡ tree
 {both(lambda d: f'table_definition_has_tree {d[2]} tree = refl')}
 
 -- The type of the records of the table `w` of a desk.
@@ -598,23 +598,23 @@ ordering_by_primary_key w = ordering_by_key (primary_key_of_record w)
 
 -- The records of the table `w` of a desk with the tables `t`. Only the record of DESK depends on
 -- the schema.
-abbrev pub rows_in_schema : Schema → (w : DeskTable) → Tables → List (RecordOfTable w)
-{both(lambda d: f'rows_in_schema schema {d[2]} t = {d[5]}')}
+abbrev pub rows_of_table_in_schema : Schema → (w : DeskTable) → Tables → List (RecordOfTable w)
+{both(lambda d: f'rows_of_table_in_schema schema {d[2]} t = {d[5]}')}
 
 -- The records of the table `w` of a desk in schema 3 with the tables `t`.
 abbrev pub rows_of_table : (w : DeskTable) → Tables → List (RecordOfTable w)
-rows_of_table = rows_in_schema third_schema
+rows_of_table = rows_of_table_in_schema third_schema
 
 -- All tables of a desk, also those that `schema` lacks, as the tables of a program: their
 -- definitions, records, encodings and orders. The row of DESK has the number of `schema`.
 abbrev pub desk_tables_of_schema : Schema → ProgramTables DeskTable Tables
 desk_tables_of_schema schema = record {{
-  shape = table_definition_at;
+  shape = table_definition_at_tree;
   placed = table_definition_has_tree;
   Item = RecordOfTable;
   encode = encoded_row;
   order = ordering_by_primary_key;
-  list = rows_in_schema schema;
+  list = rows_of_table_in_schema schema;
 }}
 
 -- All tables of a desk in schema 3 as the tables of a program: their definitions, records,
@@ -632,7 +632,7 @@ tables_in_schema schema = filter (schema_has_table schema) all_tables
 
 -- The SQL name of the table `w`, in ASCII.
 abbrev pub table_name : DeskTable → List ℕ
-table_name w = (table_definition_at w 0).name
+table_name w = (table_definition_at_tree w 0).name
 
 -- The SQL names of all tables of a desk.
 abbrev pub all_table_names : List (List ℕ)
@@ -694,7 +694,7 @@ use Rattle.brk_sql.proofs.Created.{{makes}}
 use Rattle.brk_sql.proofs.Founded.{{Among}}
 use Rattle.brk_model.specs.Tables.{{tables_without_rows}}
 use Rattle.brk_tables_schema.specs.Shapes.{{{', '.join(d[0] + '_table' for d in DATA)}}}
-use Rattle.brk_tables_schema.specs.Desk.{{DeskTable, {', '.join(d[2] for d in DATA)}, table_definition_at, all_tables}}
+use Rattle.brk_tables_schema.specs.Desk.{{DeskTable, {', '.join(d[2] for d in DATA)}, table_definition_at_tree, all_tables}}
 use Rattle.brk_tables_schema.proofs.Wide.{{Wide, wide, wide_list}}
 use Rattle.brk_tables_create.specs.Texts.{{create_table_text}}
 
@@ -712,7 +712,7 @@ unfolding everything
 makes_{d[0]} = makes {d[0]}_text {d[0]}_table refl (λ tree. refl) (λ tree. refl) refl (read {d[0]}_text) _ refl refl refl refl refl refl refl refl
 """
     out += f"""
-pub makes_of : (w : DeskTable) (old new : State) (count : ℕ) → Executes (create_table_text w) [] old new (Ok count) → CreatesTableOfShape old.now new.now (table_definition_at w)
+pub makes_of : (w : DeskTable) (old new : State) (count : ℕ) → Executes (create_table_text w) [] old new (Ok count) → CreatesTableOfShape old.now new.now (table_definition_at_tree w)
 {chr(10).join(f'makes_of {d[2]} = makes_{d[0]}' for d in DATA)}
 """
     out += f"""
@@ -839,10 +839,10 @@ use Rattle.sqlite.specs.Steps.{{column_names}}
 use Rattle.sqlite_tied.specs.Compute.{{everything}}
 use Rattle.brk_sql.proofs.Stars.{{shown_columns}}
 use Rattle.brk_sql.proofs.Texts.{{read}}
-use Rattle.brk_tables_schema.specs.Desk.{{DeskTable, {', '.join(d[2] for d in DATA)}, table_definition_at}}
+use Rattle.brk_tables_schema.specs.Desk.{{DeskTable, {', '.join(d[2] for d in DATA)}, table_definition_at_tree}}
 use Rattle.brk_tables_scan.specs.Headings.{{select_all_text}}
 
-pub columns_told : (w : DeskTable) (schema : Schema) (at : ℕ) (table : Table) → table_named schema (table_definition_at w 0).name ≡ Some at → slice_get schema.tables at ≡ Some table
+pub columns_told : (w : DeskTable) (schema : Schema) (at : ℕ) (table : Table) → table_named schema (table_definition_at_tree w 0).name ≡ Some at → slice_get schema.tables at ≡ Some table
     → (c : Compiled) → understood schema (select_all_text w) ≡ Ok c → column_names c ≡ map (λ c. c.name) table.columns
 unfolding everything listing_schema
 """
@@ -865,13 +865,13 @@ pub(crate) const COLUMNS_OF_ALL_TABLES: [(&str, &[&str]); {len(DATA)}] = [
 def listed():
     out = f"""-- Written by tools/tables.py: the names of a table and of its columns do not depend on its tree.
 use Rattle.std.proofs.Common.{{◌≡◌, ℕ, refl}}
-use Rattle.brk_tables_schema.specs.Desk.{{DeskTable, {', '.join(d[2] for d in DATA)}, table_definition_at}}
+use Rattle.brk_tables_schema.specs.Desk.{{DeskTable, {', '.join(d[2] for d in DATA)}, table_definition_at_tree}}
 use Rattle.brk_tables_scan.specs.Schemas.{{table_and_column_names}}
 
-pub same_name_at : (w : DeskTable) (i j : ℕ) → (table_definition_at w i).name ≡ (table_definition_at w j).name
+pub same_name_at : (w : DeskTable) (i j : ℕ) → (table_definition_at_tree w i).name ≡ (table_definition_at_tree w j).name
 {chr(10).join(f'same_name_at {d[2]} i j = refl' for d in DATA)}
 
-pub names_alike : (w : DeskTable) (m n : ℕ) → table_and_column_names (table_definition_at w m) ≡ table_and_column_names (table_definition_at w n)
+pub names_alike : (w : DeskTable) (m n : ℕ) → table_and_column_names (table_definition_at_tree w m) ≡ table_and_column_names (table_definition_at_tree w n)
 {chr(10).join(f'names_alike {d[2]} m n = refl' for d in DATA)}
 """
     save('crates/brk_tables_scan/proofs/Listed.antt', out)
@@ -1376,7 +1376,7 @@ use Rattle.brk_ref.specs.Records.{{abstract_key}}
 use Rattle.brk_ref.specs.declared.key.Kept as typed
 use Rattle.brk_changes.specs.declared.sheets.Sheets.{{Sheets}}
 use Rattle.brk_tables_schema.specs.Cells.{{{', '.join(d[0] + '_cells' for d in DATA if d[0] != 'kept')}}}
-use Rattle.brk_tables_schema.specs.Desk.{{DeskTable, desk_rows, rule_rows, encoded_row, rows_in_schema}}
+use Rattle.brk_tables_schema.specs.Desk.{{DeskTable, desk_rows, rule_rows, encoded_row, rows_of_table_in_schema}}
 use Rattle.brk_tables_schema.specs.Formed.{{passes_all_cell_checks, {forms}}}
 use Rattle.brk_tables_scan.specs.KeptKeys.{{AreKeysOfRawRows, keys_of_kept_rows, tables_with_whole_kept_rows}}
 use Rattle.brk_tables_scan.specs.Whole.{{ShowsRowsIfPresent}}
@@ -1397,7 +1397,7 @@ abbrev pub are_raw_sheets_well_formed : Schema → RawSheets → Bool
 pub record DecodesSheets (desk : Schema) (sheets : Sheets) (raw : RawSheets) : Type 0 where
   pub whole : List typed.Kept
   pub keys : keys_of_kept_rows whole ≡ map abstract_key sheets.kept.items
-  pub encoded : (w : DeskTable) → map (encoded_row w) (rows_in_schema desk w (tables_with_whole_kept_rows whole sheets)) ≡ raw_rows_of_table raw w
+  pub encoded : (w : DeskTable) → map (encoded_row w) (rows_of_table_in_schema desk w (tables_with_whole_kept_rows whole sheets)) ≡ raw_rows_of_table raw w
 
 -- A step of a decoding of raw rows. A flag, `old` before the step and `new` after it, is true only
 -- if all raw rows so far are well-formed. `are_well_formed` is true if the raw rows of this step
@@ -1439,7 +1439,7 @@ use Rattle.brk_model.specs.Schemas.{{Schema}}
 {meanings()}
 use Rattle.brk_changes.specs.declared.sheets.Sheets.{{Sheets}}
 use Rattle.brk_tables_schema.specs.Cells.{{{cells}}}
-use Rattle.brk_tables_schema.specs.Desk.{{DeskTable, encoded_row, rows_in_schema, {WHICHES}}}
+use Rattle.brk_tables_schema.specs.Desk.{{DeskTable, encoded_row, rows_of_table_in_schema, {WHICHES}}}
 use Rattle.brk_tables_scan.specs.KeptKeys.{{tables_with_whole_kept_rows}}
 use Rattle.brk_tables_scan.specs.Decoded.{{DecodesSheets, {', '.join(f'Decodes{group[0]}Tables' for group in GROUPS)}}}
 use Rattle.brk_tables_scan.specs.Raw.{{RawSheets, raw_rows_of_table}}
@@ -1450,7 +1450,7 @@ module _ {sheets} where
   sheets = record {{ {'; '.join(f'{sheet_field(d)} = {v}.{sheet_field(d)}' for _, _, v, tables in groups() for d in tables)} }}
 
 module _ {sheets} (desk : Schema) (raw : RawSheets) {are} where
-  each : (w : DeskTable) → map (encoded_row w) (rows_in_schema desk w (tables_with_whole_kept_rows is_f.kept.0 (sheets {' '.join(v for _, _, v in GROUPS)}))) ≡ raw_rows_of_table raw w
+  each : (w : DeskTable) → map (encoded_row w) (rows_of_table_in_schema desk w (tables_with_whole_kept_rows is_f.kept.0 (sheets {' '.join(v for _, _, v in GROUPS)}))) ≡ raw_rows_of_table raw w
 {chr(10).join(f'  each {d[2]} = {encodes(d, v)}' for _, _, v, tables in groups() for d in tables)}
 
   pub are_sheets : DecodesSheets desk (sheets {' '.join(v for _, _, v in GROUPS)}) raw
@@ -1509,7 +1509,7 @@ def decode_proof():
     out = f"""-- Written by tools/tables.py: the record that a row of each table encodes.
 use Rattle.std.proofs.Common.{{◌≡◌, ℕ, refl}}
 use Rattle.sqlite_value.specs.Order.{{Row}}
-use Rattle.brk_tables_schema.specs.Desk.{{RecordOfTable, DeskTable, encoded_row, table_definition_at, {WHICHES}}}
+use Rattle.brk_tables_schema.specs.Desk.{{RecordOfTable, DeskTable, encoded_row, table_definition_at_tree, {WHICHES}}}
 {backs('Back')}
 {backs('TradingBack')}
 
@@ -1523,7 +1523,7 @@ unfolding decode
 {chr(10).join(f'decodes {d[2]} x = {back(d)}_is_back x' for d in DATA)}
 
 -- The name of a table does not depend on its tree.
-pub named_alike : (w : DeskTable) (m n : ℕ) → (table_definition_at w m).name ≡ (table_definition_at w n).name
+pub named_alike : (w : DeskTable) (m n : ℕ) → (table_definition_at_tree w m).name ≡ (table_definition_at_tree w n).name
 {chr(10).join(f'named_alike {d[2]} m n = refl' for d in DATA)}
 """
     save('crates/brk_tables_unique/proofs/Decode.antt', out)
@@ -1535,10 +1535,10 @@ def same_tables():
 use Rattle.std.proofs.Common.{{◌≡◌}}
 use Rattle.brk_model.specs.Schemas.{{Schema}}
 use Rattle.brk_model.specs.Tables.{{Tables}}
-use Rattle.brk_tables_schema.specs.Desk.{{DeskTable, rows_in_schema, {WHICHES}}}
+use Rattle.brk_tables_schema.specs.Desk.{{DeskTable, rows_of_table_in_schema, {WHICHES}}}
 use Rattle.brk_tables_unique.proofs.Values.{{{', '.join(f'{sheet_field(d)}_alike' for d in DATA if d[0] in VALUES)}}}
 
-pub same_tables : (s : Schema) (t u : Tables) → ((w : DeskTable) → rows_in_schema s w t ≡ rows_in_schema s w u) → t ≡ u
+pub same_tables : (s : Schema) (t u : Tables) → ((w : DeskTable) → rows_of_table_in_schema s w t ≡ rows_of_table_in_schema s w u) → t ≡ u
 same_tables s t u each = λ i. record {{
 {chr(10).join(f'  {sheet_field(d)} = {values.get(d[0], f"each {d[2]} i")};' for d in DATA)}
 }}

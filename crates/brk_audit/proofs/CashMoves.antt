@@ -18,8 +18,8 @@ use Rattle.brk_model.specs.Derived.{Posting, cash_trades, postings_sorted_by_sta
 use Rattle.brk_model.specs.Schemas.{Schema}
 use Rattle.brk_model.specs.Tables.{MoveRow, Tables, TradeRow, cash_transaction_row, numbered_move_rows, tables_of_base_in_schema}
 use Rattle.brk_model.specs.Sheets.{tables_sorted_by_key}
-use Rattle.brk_model.specs.Keys.{number, rows_sorted_by_key, cash_key, is_key_less, move_key, is_row_key_less, trade_key}
-use Rattle.brk_model.specs.Adopted.{base_of_tables, is_posting_of_trade, movement_of_row, posting_of_cash_row, posting_of_move_row, postings_of_tables, trade_of_row}
+use Rattle.brk_model.specs.Keys.{number, rows_sorted_by_key, cash_transaction_key, is_key_less, cash_move_key, is_row_key_less, trade_key}
+use Rattle.brk_model.specs.Adopted.{base_of_tables, is_posting_of_trade, movement_of_row, posting_of_cash_transaction_row, posting_of_cash_move_row, postings_of_tables, trade_of_row}
 use Rattle.brk_model.specs.Form.{satisfies_form_condition, trade_ids_of_cash_rows}
 use Rattle.brk_model.specs.Ways.{satisfies_status_condition, has_valid_status_history}
 use Rattle.brk_model.specs.Audit.{ConditionHolds, expected_tables}
@@ -42,7 +42,7 @@ use Rattle.brk_audit_sums.proofs.Settling.{accounts_in, cash_rows, no_rows, same
 
 -- ---- rows in turn are numbered, and rise
 
-back_in_turn : (n stamp : ℕ) (rs : List MoveRow) → is_numbered_by_stamp n stamp rs ≡ true → rs ≡ numbered_move_rows n (map posting_of_move_row rs)
+back_in_turn : (n stamp : ℕ) (rs : List MoveRow) → is_numbered_by_stamp n stamp rs ≡ true → rs ≡ numbered_move_rows n (map posting_of_cash_move_row rs)
 back_in_turn n stamp [] e = refl
 back_in_turn n stamp (r ∷ rs) e =
     let p = and_parts (r.id == n) (nat_le stamp r.stamp && is_numbered_by_stamp (n + 1) r.stamp rs) e in
@@ -50,15 +50,15 @@ back_in_turn n stamp (r ∷ rs) e =
     let k : r.id ≡ n = eqb-true r.id n p.0 in
     λ i. record r { id = k i } ∷ back_in_turn (n + 1) r.stamp rs q.1 i
 
-no_less : (n stamp : ℕ) (rs : List MoveRow) → is_numbered_by_stamp n stamp rs ≡ true → AllByRecursion (λ p. stamp ≤ p.stamp) (map posting_of_move_row rs)
+no_less : (n stamp : ℕ) (rs : List MoveRow) → is_numbered_by_stamp n stamp rs ≡ true → AllByRecursion (λ p. stamp ≤ p.stamp) (map posting_of_cash_move_row rs)
 no_less n stamp [] e = tt
 no_less n stamp (r ∷ rs) e =
     let p = and_parts (r.id == n) (nat_le stamp r.stamp && is_numbered_by_stamp (n + 1) r.stamp rs) e in
     let q = and_parts (nat_le stamp r.stamp) (is_numbered_by_stamp (n + 1) r.stamp rs) p.1 in
     let l : stamp ≤ r.stamp = leb-true stamp r.stamp q.0 in
-    (l, All-map (map posting_of_move_row rs) (λ p m. let h : r.stamp ≤ p.stamp = m in omega (arith, l, h)) (no_less (n + 1) r.stamp rs q.1))
+    (l, All-map (map posting_of_cash_move_row rs) (λ p m. let h : r.stamp ≤ p.stamp = m in omega (arith, l, h)) (no_less (n + 1) r.stamp rs q.1))
 
-turn_ascends : (n stamp : ℕ) (rs : List MoveRow) → is_numbered_by_stamp n stamp rs ≡ true → Ascends (λ p. p.stamp) (map posting_of_move_row rs)
+turn_ascends : (n stamp : ℕ) (rs : List MoveRow) → is_numbered_by_stamp n stamp rs ≡ true → Ascends (λ p. p.stamp) (map posting_of_cash_move_row rs)
 turn_ascends n stamp [] e = tt
 turn_ascends n stamp (r ∷ rs) e =
     let p = and_parts (r.id == n) (nat_le stamp r.stamp && is_numbered_by_stamp (n + 1) r.stamp rs) e in
@@ -213,7 +213,7 @@ behind m (q ∷ qs) c = by_trade q.trade refl c (behind m qs)
         ((λ id f. let k : Some n ≡ Some id = sym e ∙ f in let j : n ≡ id = cc in other_stamp id m (ap (λ x. x == m) (sym j) ∙ p.0)), ih p.1)
 
 abbrev IsOwn : List MoveRow → MoveRow → Type 0
-IsOwn rs r = (id : ℕ) → r.trade ≡ Some id → find (is_posting_of_trade id) (map posting_of_move_row rs) ≡ Some (posting_of_move_row r)
+IsOwn rs r = (id : ℕ) → r.trade ≡ Some id → find (is_posting_of_trade id) (map posting_of_cash_move_row rs) ≡ Some (posting_of_cash_move_row r)
 
 found_own : (rs : List MoveRow) → all_distinct (trade_ids_of_cash_rows rs) ≡ true → AllByRecursion (IsOwn rs) rs
 found_own [] d = tt
@@ -221,11 +221,11 @@ found_own (r ∷ rs) d = (here, later r.trade refl d (found_own rs))
   where
     here : IsOwn (r ∷ rs) r
     here id e =
-        ap (λ b. cond b (Some (posting_of_move_row r)) (find (is_posting_of_trade id) (map posting_of_move_row rs))) (ap (λ o. option_map_or (λ n. n == id) o false) e ∙ eq-eqb id id refl)
+        ap (λ b. cond b (Some (posting_of_cash_move_row r)) (find (is_posting_of_trade id) (map posting_of_cash_move_row rs))) (ap (λ o. option_map_or (λ n. n == id) o false) e ∙ eq-eqb id id refl)
 
-    passed : (qs : List MoveRow) → AllByRecursion (λ q. (id : ℕ) → q.trade ≡ Some id → is_posting_of_trade id (posting_of_move_row r) ≡ false) qs → AllByRecursion (IsOwn rs) qs → AllByRecursion (IsOwn (r ∷ rs)) qs
+    passed : (qs : List MoveRow) → AllByRecursion (λ q. (id : ℕ) → q.trade ≡ Some id → is_posting_of_trade id (posting_of_cash_move_row r) ≡ false) qs → AllByRecursion (IsOwn rs) qs → AllByRecursion (IsOwn (r ∷ rs)) qs
     passed [] n h = tt
-    passed (q ∷ qs) n h = ((λ id e. ap (λ b. cond b (Some (posting_of_move_row r)) (find (is_posting_of_trade id) (map posting_of_move_row rs))) (n.0 id e) ∙ h.0 id e), passed qs n.1 h.1)
+    passed (q ∷ qs) n h = ((λ id e. ap (λ b. cond b (Some (posting_of_cash_move_row r)) (find (is_posting_of_trade id) (map posting_of_cash_move_row rs))) (n.0 id e) ∙ h.0 id e), passed qs n.1 h.1)
 
     later : (o : Option ℕ) → r.trade ≡ o → all_distinct (option_to_list o ++ trade_ids_of_cash_rows rs) ≡ true → (all_distinct (trade_ids_of_cash_rows rs) ≡ true → AllByRecursion (IsOwn rs) rs) → AllByRecursion (IsOwn (r ∷ rs)) rs
     later None e d ih = passed rs (All-of rs (λ q id f. ap (λ o. option_map_or (λ n. n == id) o false) e)) (ih d)
@@ -239,7 +239,7 @@ HasName t r = (id : ℕ) → r.trade ≡ Some id → r.name ≡ name_at t id
 names : (t : Tables) → t.cash ≡ [] → all_distinct (trade_ids_of_cash_rows t.moves) ≡ true → AllByRecursion (HasName t) t.moves
 names t e d =
     All-map t.moves (λ r k id f. sym (ap (λ o. option_map_or (λ p. p.name) o []) (k id f))
-    ∙ ap (λ cs. option_map_or (λ p. p.name) (find (is_posting_of_trade id) (map (posting_of_cash_row t) cs ++ map posting_of_move_row t.moves)) []) (sym e)) (found_own t.moves d)
+    ∙ ap (λ cs. option_map_or (λ p. p.name) (find (is_posting_of_trade id) (map (posting_of_cash_transaction_row t) cs ++ map posting_of_cash_move_row t.moves)) []) (sym e)) (found_own t.moves d)
 
 -- ---- rows of trades and rows of movements
 
@@ -251,27 +251,27 @@ abbrev moved_rows : List MoveRow → List Posting
 moved_rows rs = map posting_of_movement (map movement_of_row (filter (λ r. is_none r.trade) rs))
 
 parts : (t : Tables) (rs : List MoveRow) (g : Posting → ℕ) → AllByRecursion (HasName t) rs
-    → sum_by g (map posting_of_move_row rs) ≡ sum_by g (map (back t) (filter_map posted_figures_of_row rs)) + sum_by g (moved_rows rs)
+    → sum_by g (map posting_of_cash_move_row rs) ≡ sum_by g (map (back t) (filter_map posted_figures_of_row rs)) + sum_by g (moved_rows rs)
 parts t [] g h = refl
 parts t (r ∷ rs) g h = by_trade r.trade refl (parts t rs g h.1)
   where
     F : List MoveRow
     F = filter (λ r. is_none r.trade) rs
 
-    by_trade : (o : Option ℕ) → r.trade ≡ o → sum_by g (map posting_of_move_row rs) ≡ sum_by g (map (back t) (filter_map posted_figures_of_row rs)) + sum_by g (moved_rows rs)
-        → sum_by g (posting_of_move_row r ∷ map posting_of_move_row rs)
+    by_trade : (o : Option ℕ) → r.trade ≡ o → sum_by g (map posting_of_cash_move_row rs) ≡ sum_by g (map (back t) (filter_map posted_figures_of_row rs)) + sum_by g (moved_rows rs)
+        → sum_by g (posting_of_cash_move_row r ∷ map posting_of_cash_move_row rs)
         ≡ sum_by g (map (back t) (cons_option (option_map (λ id. record { account = r.account; trade = id; stamp = r.stamp; amount = r.amount }) o) (filter_map posted_figures_of_row rs)))
         + sum_by g (map posting_of_movement (map movement_of_row (cond (is_none o) (r ∷ F) F)))
     by_trade None e ih =
         let p : Posting = posting_of_movement (movement_of_row r) in
-        let k : posting_of_move_row r ≡ p = λ i. record (posting_of_move_row r) { trade = e i } in
-        let v : g (posting_of_move_row r) ≡ g p = ap g k in
-        omega (arith, v, ih, sum_by-cons g (posting_of_move_row r) (map posting_of_move_row rs), sum_by-cons g p (moved_rows rs))
+        let k : posting_of_cash_move_row r ≡ p = λ i. record (posting_of_cash_move_row r) { trade = e i } in
+        let v : g (posting_of_cash_move_row r) ≡ g p = ap g k in
+        omega (arith, v, ih, sum_by-cons g (posting_of_cash_move_row r) (map posting_of_cash_move_row rs), sum_by-cons g p (moved_rows rs))
     by_trade (Some id) e ih =
         let p : Posting = back t (record { account = r.account; trade = id; stamp = r.stamp; amount = r.amount }) in
-        let k : posting_of_move_row r ≡ p = λ i. record (posting_of_move_row r) { trade = e i; name = h.0 id e i } in
-        let v : g (posting_of_move_row r) ≡ g p = ap g k in
-        omega (arith, v, ih, sum_by-cons g (posting_of_move_row r) (map posting_of_move_row rs), sum_by-cons g p (map (back t) (filter_map posted_figures_of_row rs)))
+        let k : posting_of_cash_move_row r ≡ p = λ i. record (posting_of_cash_move_row r) { trade = e i; name = h.0 id e i } in
+        let v : g (posting_of_cash_move_row r) ≡ g p = ap g k in
+        omega (arith, v, ih, sum_by-cons g (posting_of_cash_move_row r) (map posting_of_cash_move_row rs), sum_by-cons g p (map (back t) (filter_map posted_figures_of_row rs)))
 
 -- ---- the postings of the base
 
@@ -348,12 +348,12 @@ trades_rise f (r ∷ rs) e c = (All-mapped (λ p. (f r).trade < p.trade) f rs (A
 wanted_no_cash : (schema : Schema) (t : Tables) → schema.has_cash_move_table ≡ true → (expected_tables schema t).cash ≡ []
 unfolding tables_sorted_by_key tables_of_base_in_schema
 wanted_no_cash schema t n =
-    ap (λ b. rows_sorted_by_key cash_key (cond b [] (map (cash_transaction_row (base_of_tables t).accounts) (cash_trades (completed_trades (base_of_tables t)))))) n ∙ no_rows (is_row_key_less cash_key)
+    ap (λ b. rows_sorted_by_key cash_transaction_key (cond b [] (map (cash_transaction_row (base_of_tables t).accounts) (cash_trades (completed_trades (base_of_tables t)))))) n ∙ no_rows (is_row_key_less cash_transaction_key)
 
 wanted_moves : (schema : Schema) (t : Tables) → schema.has_cash_move_table ≡ true → (expected_tables schema t).moves ≡ numbered_move_rows 1 (postings_sorted_by_stamp (postings_of_base (base_of_tables t)))
 unfolding tables_sorted_by_key tables_of_base_in_schema
 wanted_moves schema t n =
-    ap (λ b. rows_sorted_by_key move_key (cond b (numbered_move_rows 1 (postings_sorted_by_stamp (postings_of_base (base_of_tables t)))) [])) n ∙ numbered_stay 1 (postings_sorted_by_stamp (postings_of_base (base_of_tables t)))
+    ap (λ b. rows_sorted_by_key cash_move_key (cond b (numbered_move_rows 1 (postings_sorted_by_stamp (postings_of_base (base_of_tables t)))) [])) n ∙ numbered_stay 1 (postings_sorted_by_stamp (postings_of_base (base_of_tables t)))
 
 -- what the rows of cash are to be, where they are numbered
 pub record AreMoves (t : Tables) (own : List MoveRowFigures) : Type 0 where
@@ -366,7 +366,7 @@ pub cash_by_moves : (schema : Schema) (t : Tables) (own : List MoveRowFigures) �
 unfolding ConditionHolds
 cash_by_moves schema t own n f s p a =
     let W : List Posting = postings_sorted_by_stamp (postings_of_base (base_of_tables t)) in
-    let M : List Posting = map posting_of_move_row t.moves in
+    let M : List Posting = map posting_of_cash_move_row t.moves in
     let T : List Posting = by_trades t in
     let V : List Posting = moved_rows t.moves in
     let E : List MoveRowFigures = map (posted_figures_of_trade (account_tax_status_or_untaxed t)) (cash_done t) in

@@ -28,7 +28,7 @@ use Rattle.brk_model.specs.Joins.{history_rows_with_trade_id}
 use Rattle.brk_model.specs.Adopted.{base_of_tables, trade_of_row}
 use Rattle.brk_model.specs.Audit.{expected_tables}
 use Rattle.brk_model.specs.Ways.{satisfies_status_condition, has_valid_status_history}
-use Rattle.brk_model.specs.Form.{has_account, has_security, is_id, is_price, is_quantity_in_schema, is_at_most_last_stamp, price_matches_completion, is_well_formed_trade_row}
+use Rattle.brk_model.specs.Form.{has_account, has_security, is_id, is_price, is_quantity_in_schema, is_at_most_last_stamp, has_price_matching_completion, is_well_formed_trade_row}
 use Rattle.brk_changes.specs.Rows.{abstract_trade_row}
 use Rattle.brk_changes.specs.declared.trade_row.TradeRow as trade
 use Rattle.brk_lots.proofs.Left.{same_is}
@@ -75,7 +75,7 @@ priced_row schema t r f e d =
     let done : list_any (λ h. is_same_trade_status h.status Completed) (history_rows_with_trade_id t r.id) ≡ true =
     any_in (λ h. is_same_trade_status h.status Completed) (history_rows_with_trade_id t r.id) k.row (in_filter (λ h. h.trade == r.id) t.history k.row k.there (eq-eqb k.row.trade r.id k.trade)) status in
     let p = parts10 (is_id r.id) (is_quantity_in_schema schema r.qty) (is_price r.bid) (nat_le r.charge greatest_charge) (nat_le r.commission greatest_amount) (nat_le r.tax greatest_amount)
-    (is_at_most_last_stamp t r.stamp) (has_security t r.symbol) (has_account t r.account) (price_matches_completion t r) f in
+    (is_at_most_last_stamp t r.stamp) (has_security t r.symbol) (has_account t r.account) (has_price_matching_completion t r) f in
     let q : option_map_or is_price r.price false ≡ true = rw done at p.9 in
     has_price r.price q
 

@@ -15,13 +15,13 @@ use Rattle.brk_model.specs.Keys.{KeyPart, rows_sorted_by_key, is_row_key_less, h
 use Rattle.brk_model.specs.Shares.{Deal}
 use Rattle.brk_model.specs.Tables.{HoldingHistoryRow, Tables, TradeRow, tables_of_base_in_schema}
 use Rattle.brk_lots.proofs.HistoryRows.{rows_of_lots_are}
-use Rattle.brk_lots.specs.HistoryRows.{row_changes_quantity, changing_rows_of_lot, holding_history_rows_of_deals}
+use Rattle.brk_lots.specs.HistoryRows.{has_quantity_change, changing_rows_of_lot, lot_history_rows_per_deal}
 use Rattle.brk_model.specs.Sheets.{sheets, tables_sorted_by_key}
 use Rattle.brk_model.specs.Adopted.{base_of_tables, trade_of_row}
 use Rattle.brk_model.specs.Audit.{expected_tables}
 use Rattle.brk_model.specs.Ways.{satisfies_status_condition}
 use Rattle.brk_lots.specs.Chains.{lot_changes_of_deals}
-use Rattle.brk_lots.specs.Deals.{AreAscendingDeals, IsLaterDeal}
+use Rattle.brk_lots.specs.Deals.{AreDistinctAscendingDeals, IsLaterDealOfOtherTrade}
 use Rattle.brk_book_theorems.specs.Books.{BooksInvariant}
 use Rattle.brk_book_theorems.proofs.LotOrder.{Follows, InOrder, held_in_order, trades_held}
 use Rattle.brk_book_theorems.proofs.Order.{Sorted, key_one_way, key_splits, sorted_sort}
@@ -104,13 +104,13 @@ key_order_one {X = X} key same d (x ∷ xs) (y ∷ ys) c a h =
 
 -- what the rows of a trade's lot give to a sum
 abbrev pub own : Base → (HoldingHistoryRow → ℕ) → TradeRow → ℕ
-own base f r = sum_by f (filter row_changes_quantity (holding_history_rows_of_deals r.id [] (deals_of_position (completed_trades base) r.account r.symbol)))
+own base f r = sum_by f (filter has_quantity_change (lot_history_rows_per_deal r.id [] (deals_of_position (completed_trades base) r.account r.symbol)))
 
-deals_of_order : (ts : List Trade) → InOrder ts → AreAscendingDeals (map deal_of_trade ts)
+deals_of_order : (ts : List Trade) → InOrder ts → AreDistinctAscendingDeals (map deal_of_trade ts)
 deals_of_order [] o = tt
 deals_of_order (t ∷ ts) o = (behind ts o.0, deals_of_order ts o.1)
   where
-    behind : (us : List Trade) → AllByRecursion (Follows t) us → AllByRecursion (IsLaterDeal (deal_of_trade t)) (map deal_of_trade us)
+    behind : (us : List Trade) → AllByRecursion (Follows t) us → AllByRecursion (IsLaterDealOfOtherTrade (deal_of_trade t)) (map deal_of_trade us)
     behind [] h = tt
     behind (u ∷ us) h = (((λ e. eqb-false u.id t.id h.0.0 (sym e)), h.0.1), behind us h.1)
 
@@ -120,16 +120,16 @@ trace_sums base books untouched d f = refl
 trace_sums base books (moves r run later rows same apart l) d f =
     let ds : List Deal = map deal_of_completed_row (r ∷ run) in
     let e : ds ≡ deals_of_position (completed_trades base) r.account r.symbol = ap (map deal_of_completed_row) (sym (own_run r run later same apart)) ∙ d.0 in
-    let a : AreAscendingDeals ds = subst AreAscendingDeals (sym e) (deals_of_order (trades_held base r.account r.symbol) (held_in_order base r.account r.symbol books)) in
+    let a : AreDistinctAscendingDeals ds = subst AreDistinctAscendingDeals (sym e) (deals_of_order (trades_held base r.account r.symbol) (held_in_order base r.account r.symbol books)) in
     let here : sum_by f (lot_changes_of_deals ds []) ≡ sum_by (own base f) (r ∷ run) =
-    run_sums ds a f ∙ sum_map (λ d. sum_by f (filter row_changes_quantity (holding_history_rows_of_deals d.trade [] ds))) deal_of_completed_row (r ∷ run)
-    ∙ sum_same (λ s. sum_by f (filter row_changes_quantity (holding_history_rows_of_deals s.id [] ds))) (own base f) (r ∷ run) (All-map (r ∷ run) (λ s p. one s p ds e) (same_self r, same)) in
+    run_sums ds a f ∙ sum_map (λ d. sum_by f (filter has_quantity_change (lot_history_rows_per_deal d.trade [] ds))) deal_of_completed_row (r ∷ run)
+    ∙ sum_same (λ s. sum_by f (filter has_quantity_change (lot_history_rows_per_deal s.id [] ds))) (own base f) (r ∷ run) (All-map (r ∷ run) (λ s p. one s p ds e) (same_self r, same)) in
     let rest : AreDealt base later =
     both later apart (all_back (λ s. map deal_of_completed_row (filter (is_same_position s) (r ∷ run ++ later)) ≡ deals_of_position (completed_trades base) s.account s.symbol) run later d.1) in
     sum_append f (lot_changes_of_deals ds []) rows ∙ (λ i. here i + trace_sums base books l rest f i) ∙ sym (sum_append (own base f) (r ∷ run) later)
   where
-    one : (s : TradeRow) → is_same_position r s ≡ true → (ds : List Deal) → ds ≡ deals_of_position (completed_trades base) r.account r.symbol → sum_by f (filter row_changes_quantity (holding_history_rows_of_deals s.id [] ds)) ≡ own base f s
-    one s p ds e = let k = at_one r s p in ap (λ (es : List Deal). sum_by f (filter row_changes_quantity (holding_history_rows_of_deals s.id [] es))) (e ∙ (λ i. deals_of_position (completed_trades base) (k.account i) (k.symbol i)))
+    one : (s : TradeRow) → is_same_position r s ≡ true → (ds : List Deal) → ds ≡ deals_of_position (completed_trades base) r.account r.symbol → sum_by f (filter has_quantity_change (lot_history_rows_per_deal s.id [] ds)) ≡ own base f s
+    one s p ds e = let k = at_one r s p in ap (λ (es : List Deal). sum_by f (filter has_quantity_change (lot_history_rows_per_deal s.id [] es))) (e ∙ (λ i. deals_of_position (completed_trades base) (k.account i) (k.symbol i)))
 
     both : (ss : List TradeRow) → AllByRecursion (λ s. is_same_position r s ≡ false) ss → AllByRecursion (λ s. map deal_of_completed_row (filter (is_same_position s) (r ∷ run ++ later)) ≡ deals_of_position (completed_trades base) s.account s.symbol) ss
         → AllByRecursion (λ s. map deal_of_completed_row (filter (is_same_position s) later) ≡ deals_of_position (completed_trades base) s.account s.symbol) ss

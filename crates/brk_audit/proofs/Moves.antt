@@ -8,9 +8,9 @@ use Rattle.std.proofs.lemmas.List.Sorted.{IsPermutation-reverse}
 use Rattle.brk_model.specs.Lists.{is_zero}
 use Rattle.brk_model.specs.Shares.{Share, Deal, Touch, first_shares_of_lots, lot_touches_of_deal, changes_lot_quantity, lot_quantity, lots_of_shares, opened_shares, shares_after_deal, touch_of_lot_with_share, touches_of_existing_lots, touch_of_lot}
 use Rattle.brk_model.specs.Tables.{HoldingHistoryRow, holding_history_row}
-use Rattle.brk_lots.specs.HistoryRows.{row_changes_quantity, holding_history_rows_of_deals}
+use Rattle.brk_lots.specs.HistoryRows.{has_quantity_change, lot_history_rows_per_deal}
 use Rattle.brk_lots.specs.Chains.{lot_changes_of_deal, opening_touch, lot_changes_of_deals}
-use Rattle.brk_lots.specs.Deals.{AreAscendingDeals, IsLaterDeal}
+use Rattle.brk_lots.specs.Deals.{AreDistinctAscendingDeals, IsLaterDealOfOtherTrade}
 use Rattle.brk_lots.specs.Lots.{list_reversed_if_lifo}
 use Rattle.brk_lots.proofs.Changes.{all_firsts}
 use Rattle.brk_lots.proofs.Deals.{IsOlder, all_after, older_after}
@@ -189,33 +189,33 @@ deal_sum ks u d us fresh m f =
 
 -- ---- deals one after another
 
-replay_sums : (ks : List ℕ) → Unique ks → (ds : List Deal) (us : List Share) → AreAscendingDeals ds → AllByRecursion (λ d. AllByRecursion (IsOlder d) us) ds
+replay_sums : (ks : List ℕ) → Unique ks → (ds : List Deal) (us : List Share) → AreDistinctAscendingDeals ds → AllByRecursion (λ d. AllByRecursion (IsOlder d) us) ds
     → AllByRecursion (λ v. In v.trade ks) us → AllByRecursion (λ d. In d.trade ks) ds
-    → (f : HoldingHistoryRow → ℕ) → sum_by f (lot_changes_of_deals ds us) ≡ sum_by (λ t. sum_by f (filter row_changes_quantity (holding_history_rows_of_deals t us ds))) ks
+    → (f : HoldingHistoryRow → ℕ) → sum_by f (lot_changes_of_deals ds us) ≡ sum_by (λ t. sum_by f (filter has_quantity_change (lot_history_rows_per_deal t us ds))) ks
 replay_sums ks u [] us a o m n f = sym (sum_none (λ t. 0) ks (All-of ks (λ t. refl)))
 replay_sums ks u (d ∷ ds) us a o m n f =
     let after : List Share = shares_after_deal us d in
     let there : AllByRecursion (λ v. In v.trade ks) after = all_after (λ v. In v.trade ks) d us n.0 m in
     let here : sum_by f (lot_changes_of_deal d us) ≡ sum_by (by_lot f d us) ks = deal_sum ks u d us (All-map us (λ v k. k.0) o.0) (All-append (λ v. In v.trade ks) us after m there) f in
-    let ih : sum_by f (lot_changes_of_deals ds after) ≡ sum_by (λ t. sum_by f (filter row_changes_quantity (holding_history_rows_of_deals t after ds))) ks = replay_sums ks u ds after a.1 (older_after d ds us a.0 o.1) there n.1 f in
+    let ih : sum_by f (lot_changes_of_deals ds after) ≡ sum_by (λ t. sum_by f (filter has_quantity_change (lot_history_rows_per_deal t after ds))) ks = replay_sums ks u ds after a.1 (older_after d ds us a.0 o.1) there n.1 f in
     sum_append f (lot_changes_of_deal d us) (lot_changes_of_deals ds after) ∙ (λ i. here i + ih i)
-    ∙ sym (sum_both (by_lot f d us) (λ t. sum_by f (filter row_changes_quantity (holding_history_rows_of_deals t after ds))) ks)
-    ∙ sym (sum_same (λ t. sum_by f (filter row_changes_quantity (holding_history_rows_of_deals t us (d ∷ ds)))) (λ t. by_lot f d us t + sum_by f (filter row_changes_quantity (holding_history_rows_of_deals t after ds))) ks (All-of ks (λ t. first t (changes_lot_quantity (touch_of_lot t d us)))))
+    ∙ sym (sum_both (by_lot f d us) (λ t. sum_by f (filter has_quantity_change (lot_history_rows_per_deal t after ds))) ks)
+    ∙ sym (sum_same (λ t. sum_by f (filter has_quantity_change (lot_history_rows_per_deal t us (d ∷ ds)))) (λ t. by_lot f d us t + sum_by f (filter has_quantity_change (lot_history_rows_per_deal t after ds))) ks (All-of ks (λ t. first t (changes_lot_quantity (touch_of_lot t d us)))))
   where
-    first : (t : ℕ) (b : Bool) → sum_by f (cond b (holding_history_row d.trade (touch_of_lot t d us) ∷ filter row_changes_quantity (holding_history_rows_of_deals t (shares_after_deal us d) ds)) (filter row_changes_quantity (holding_history_rows_of_deals t (shares_after_deal us d) ds)))
-        ≡ cond b (f (holding_history_row d.trade (touch_of_lot t d us))) 0 + sum_by f (filter row_changes_quantity (holding_history_rows_of_deals t (shares_after_deal us d) ds))
-    first t true = sum_by-cons f (holding_history_row d.trade (touch_of_lot t d us)) (filter row_changes_quantity (holding_history_rows_of_deals t (shares_after_deal us d) ds))
+    first : (t : ℕ) (b : Bool) → sum_by f (cond b (holding_history_row d.trade (touch_of_lot t d us) ∷ filter has_quantity_change (lot_history_rows_per_deal t (shares_after_deal us d) ds)) (filter has_quantity_change (lot_history_rows_per_deal t (shares_after_deal us d) ds)))
+        ≡ cond b (f (holding_history_row d.trade (touch_of_lot t d us))) 0 + sum_by f (filter has_quantity_change (lot_history_rows_per_deal t (shares_after_deal us d) ds))
+    first t true = sum_by-cons f (holding_history_row d.trade (touch_of_lot t d us)) (filter has_quantity_change (lot_history_rows_per_deal t (shares_after_deal us d) ds))
     first t false = omega arith
 
-trades_unique : (ds : List Deal) → AreAscendingDeals ds → Unique (map (λ d. d.trade) ds)
+trades_unique : (ds : List Deal) → AreDistinctAscendingDeals ds → Unique (map (λ d. d.trade) ds)
 trades_unique [] a = tt
 trades_unique (d ∷ ds) a = (ahead ds a.0, trades_unique ds a.1)
   where
-    ahead : (es : List Deal) → AllByRecursion (IsLaterDeal d) es → AllByRecursion (λ t. d.trade ≢ t) (map (λ d. d.trade) es)
+    ahead : (es : List Deal) → AllByRecursion (IsLaterDealOfOtherTrade d) es → AllByRecursion (λ t. d.trade ≢ t) (map (λ d. d.trade) es)
     ahead [] h = tt
     ahead (e ∷ es) h = (h.0.0, ahead es h.1)
 
-pub run_sums : (ds : List Deal) → AreAscendingDeals ds → (f : HoldingHistoryRow → ℕ) → sum_by f (lot_changes_of_deals ds []) ≡ sum_by (λ d. sum_by f (filter row_changes_quantity (holding_history_rows_of_deals d.trade [] ds))) ds
+pub run_sums : (ds : List Deal) → AreDistinctAscendingDeals ds → (f : HoldingHistoryRow → ℕ) → sum_by f (lot_changes_of_deals ds []) ≡ sum_by (λ d. sum_by f (filter has_quantity_change (lot_history_rows_per_deal d.trade [] ds))) ds
 run_sums ds a f =
     replay_sums (map (λ d. d.trade) ds) (trades_unique ds a) ds [] a (All-of ds (λ d. tt)) tt (All-map ds (λ d m. in_map (λ (e : Deal). e.trade) ds d m) (each_in ds)) f
-    ∙ sum_map (λ t. sum_by f (filter row_changes_quantity (holding_history_rows_of_deals t [] ds))) (λ d. d.trade) ds
+    ∙ sum_map (λ t. sum_by f (filter has_quantity_change (lot_history_rows_per_deal t [] ds))) (λ d. d.trade) ds

@@ -5,7 +5,7 @@ use Rattle.std.specs.List.Sorted.{IsSortedBy}
 use Rattle.std.proofs.lemmas.List.{drop-drop, drop_more, map-append, take-append-drop, take_rest}
 use Rattle.brk_changes.specs.Rows.{abstract_trade_row}
 use Rattle.brk_changes.specs.declared.trade_row.TradeRow as code
-use Rattle.brk_lots.specs.Deals.{AreAscendingDeals}
+use Rattle.brk_lots.specs.Deals.{AreDistinctAscendingDeals}
 use Rattle.brk_model.specs.Tables.{TradeRow}
 use Rattle.brk_book_theorems.proofs.Order.{Sorted}
 use Rattle.brk_audit_theorems.proofs.Members.{map-map}
@@ -35,7 +35,7 @@ pub record Stretch (done : List (Bor code.TradeRow)) (b n : ℕ) (x : Bor code.T
   pub is : map seen (drop b done) ≡ seen x ∷ map seen (take n (drop (b + 1) done)) ++ map seen (drop (b + 1 + n) done)
   pub run : map seen (take (b + 1 + n - b) (drop b done)) ≡ seen x ∷ map seen (take n (drop (b + 1) done))
   pub same : AllByRecursion (λ s. is_same_position (seen x) s ≡ true) (map seen (take n (drop (b + 1) done)))
-  pub deals : AreAscendingDeals (map deal_of_completed_row (seen x ∷ map seen (take n (drop (b + 1) done))))
+  pub deals : AreDistinctAscendingDeals (map deal_of_completed_row (seen x ∷ map seen (take n (drop (b + 1) done))))
   pub behind : AllByRecursion (λ s. is_same_position (seen x) s ≡ false) (map seen (drop (b + 1 + n) done))
 
 pub stretch : (done : List (Bor code.TradeRow)) (b n : ℕ) (x : Bor code.TradeRow) → b < length done → x ≡ get_or done b x

@@ -17,7 +17,7 @@ use crate::status::stamp_in_millis;
 use brk_audit_sums::account_terms::{AccountTerms, account_tax_status, account_terms_by_id};
 use brk_audit_sums::amounts::settlement_amount_of_row;
 use brk_audit_sums::completion::is_completed;
-use brk_audit_sums::summaries::all_three_true;
+use brk_audit_sums::summaries::are_all_three_true;
 use brk_changes::{CashRow, MoveRow, Schema, Sheets, TradeRow};
 use brk_money::{Cents, Fault, Id, Stamp, TaxStatus};
 use std::alloc::Global;
@@ -25,7 +25,7 @@ use std::collections::BTreeMap;
 
 // Returns true if the row of CASH_TRANSACTION has the id and the stamp of the completed trade, and
 // its settlement amount at the tax status `tax_status`. The name of the row is not compared.
-fn cash_row_matches_trade(cash: &CashRow, trade: &TradeRow, tax_status: TaxStatus) -> bool
+fn is_cash_transaction_of_trade(cash: &CashRow, trade: &TradeRow, tax_status: TaxStatus) -> bool
     ensures { IsTrue result
         ↔ ((cash.now.trade ≡ trade.now.id) × (cash.now.stamp ≡ trade.now.stamp)
         × (cash.now.amount ≡ settlement_amount_at_tax_status tax_status (abstract_trade_row trade.now))) }
@@ -45,7 +45,7 @@ fn is_completed_cash_trade_row(trade: &TradeRow) -> bool
 // Returns the rows of CASH_TRANSACTION after the row of `trade`, or all rows if `trade` is not a
 // completed cash trade. Returns `None` if `trade` is a completed cash trade and `cash` does not
 // begin with its row. Names of rows are not compared.
-fn cash_rows_after_trade<'a>(
+fn cash_transactions_after_trade<'a>(
     cash: &'a [CashRow],
     trade: &TradeRow,
     terms: &BTreeMap<u64, AccountTerms>,
@@ -62,7 +62,7 @@ fn cash_rows_after_trade<'a>(
     let [first, others @ ..] = cash else {
         return None;
     };
-    if cash_row_matches_trade(first, trade, account_tax_status(terms, trade.account)) {
+    if is_cash_transaction_of_trade(first, trade, account_tax_status(terms, trade.account)) {
         Some(others)
     } else {
         None
@@ -71,7 +71,7 @@ fn cash_rows_after_trade<'a>(
 
 // Returns true if the rows of CASH_TRANSACTION are exactly the rows of the completed cash trades,
 // in the order of the trades. Names of rows are not compared.
-fn cash_rows_match_trades(
+fn are_cash_transactions_of_trades(
     cash: &[CashRow],
     trades: &[TradeRow],
     terms: &BTreeMap<u64, AccountTerms>,
@@ -82,7 +82,7 @@ fn cash_rows_match_trades(
 {
     let mut rest = cash;
     for trade in trades {
-        let Some(others) = cash_rows_after_trade(rest, trade, terms) else {
+        let Some(others) = cash_transactions_after_trade(rest, trade, terms) else {
             return false;
         };
         rest = others;
@@ -147,7 +147,7 @@ fn has_figures_of_trade(row: CashMoveFigures, trade: &TradeRow, tax_status: TaxS
 // Returns the figures in `rows` after the figures of `trade`, or all of `rows` if `trade` is not a
 // completed cash trade. Returns `None` if `trade` is a completed cash trade and `rows` does not
 // begin with its figures.
-fn posted_rows_after_trade<'a>(
+fn posted_figures_after_trade<'a>(
     rows: &'a [CashMoveFigures],
     trade: &TradeRow,
     terms: &BTreeMap<u64, AccountTerms>,
@@ -184,7 +184,7 @@ fn cash_move_figures_match_trades(
 {
     let mut rest = rows;
     for trade in trades {
-        let Some(others) = posted_rows_after_trade(rest, trade, terms) else {
+        let Some(others) = posted_figures_after_trade(rest, trade, terms) else {
             return false;
         };
         rest = others;
@@ -232,12 +232,12 @@ pub(crate) fn cash_condition_holds(
 {
     let terms = account_terms_by_id(alloc, &sheets.accounts)?;
     if !schema.has_cash_move_table() {
-        return Ok(cash_rows_match_trades(&sheets.cash, &sheets.trades, &terms));
+        return Ok(are_cash_transactions_of_trades(&sheets.cash, &sheets.trades, &terms));
     }
     let mut rows = posted_figures_of_move_rows(alloc, &sheets.moves)?;
     rows.sort_unstable_by_key(|row| row.trade.get());
     let no_others = sheets.cash.is_empty();
     let in_turn = move_rows_are_numbered_by_stamp(&sheets.moves);
     let posted = cash_move_figures_match_trades(&rows, &sheets.trades, &terms);
-    Ok(all_three_true(no_others, in_turn, posted))
+    Ok(are_all_three_true(no_others, in_turn, posted))
 }

@@ -7,7 +7,7 @@ ghost use Rattle.brk_audit.specs.Positions.{AreLotChangesOfTrades, has_same_id_o
 ghost use Rattle.brk_changes.specs.Rows.{abstract_lot_change_row, abstract_trade_row};
 ghost use Rattle.brk_changes.specs.Sheets.{abstract_sheets};
 ghost use Rattle.brk_lots.specs.Chains.{abstract_deal_touch, lot_changes_of_deals};
-ghost use Rattle.brk_lots.specs.Deals.{AreAscendingDeals};
+ghost use Rattle.brk_lots.specs.Deals.{AreDistinctAscendingDeals};
 ghost use Rattle.brk_model.specs.Audit.{ConditionHolds};
 ghost use Rattle.brk_model.specs.Schemas.{Schema};
 ghost use Rattle.brk_model.specs.Keys.{holding_history_key, is_row_key_less};
@@ -32,7 +32,7 @@ fn append_lot_changes_of_trades(
     run: &[&TradeRow],
 ) -> Result<(), Fault>
     requires priced { AllByRecursion (λ row. IsSome row.now.price) run.now }
-    requires deals { AreAscendingDeals (map (λ row. deal_of_completed_row (abstract_trade_row row.now)) run.now) }
+    requires deals { AreDistinctAscendingDeals (map (λ row. deal_of_completed_row (abstract_trade_row row.now)) run.now) }
     ensures added { OnOk result (map abstract_deal_touch rows.new.items
         ≡ map abstract_deal_touch rows.old.items ++ lot_changes_of_deals (map (λ row. deal_of_completed_row (abstract_trade_row row.now)) run.now) []) }
     ensures fault { IfErr result (λ fault. fault ≡ Memory) }

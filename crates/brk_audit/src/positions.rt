@@ -5,7 +5,7 @@ ghost use Rattle.std.specs.Ordering.{is_lt};
 ghost use Rattle.brk_audit_sums.specs.Completed.{is_completed_row};
 ghost use Rattle.brk_audit.specs.Positions.{FirstElementSatisfies, is_before_by_position, deal_of_completed_row, is_same_position};
 ghost use Rattle.brk_changes.specs.Rows.{abstract_trade_row};
-ghost use Rattle.brk_lots.specs.Deals.{AreAscendingDeals};
+ghost use Rattle.brk_lots.specs.Deals.{AreDistinctAscendingDeals};
 ghost use Rattle.brk_lots.specs.Lots.{abstract_deal, shares_of_lots};
 ghost use Rattle.brk_model.specs.Shares.{replay};
 ghost use Rattle.brk_money.specs.declared.fault.Fault.TheVariants.{Memory};
@@ -130,7 +130,7 @@ pub(crate) fn deals_of_completed_trades(
 /// trades must have prices, distinct ids and strictly ascending stamps. Fails with `Memory` only.
 pub(crate) fn position_after_trades(alloc: Global, run: &[&TradeRow]) -> Result<Position, Fault>
     requires priced { AllByRecursion (λ row. IsSome row.now.price) run.now }
-    requires deals { AreAscendingDeals (map (λ row. deal_of_completed_row (abstract_trade_row row.now)) run.now) }
+    requires deals { AreDistinctAscendingDeals (map (λ row. deal_of_completed_row (abstract_trade_row row.now)) run.now) }
     ensures shares { IfOk result (λ position. shares_of_lots position ≡ replay (map (λ row. deal_of_completed_row (abstract_trade_row row.now)) run.now)) }
     ensures fault { IfErr result (λ fault. fault ≡ Memory) }
 {

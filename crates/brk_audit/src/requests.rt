@@ -26,7 +26,7 @@ fn are_same_trade_type(kind: TradeType, other: TradeType) -> bool
 }
 
 // Returns true if the request has the symbol, the quantity and the bid price of the trade.
-fn has_order_terms_of_trade(request: &RequestRow, trade: &TradeRow) -> bool
+fn has_symbol_qty_and_bid_of_trade(request: &RequestRow, trade: &TradeRow) -> bool
     ensures { IsTrue result ↔ ((request.now.symbol ≡ trade.now.symbol) × (request.now.qty ≡ trade.now.qty) × (request.now.bid ≡ trade.now.bid)) }
 {
     request.symbol.as_str() == trade.symbol.as_str()
@@ -41,7 +41,7 @@ fn request_matches_trade(request: &RequestRow, trade: &TradeRow, broker: u64) ->
 {
     request.trade == trade.id
         && are_same_trade_type(request.kind, trade.kind)
-        && has_order_terms_of_trade(request, trade)
+        && has_symbol_qty_and_bid_of_trade(request, trade)
         && request.broker.get() == broker
 }
 

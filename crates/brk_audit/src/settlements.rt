@@ -22,7 +22,7 @@ use std::collections::BTreeMap;
 
 // Returns true if `day` is the due day of a trade that is completed at `stamp`, by the settlement
 // day `rule` if one is set.
-fn settles_on_day(day: Day, rule: Option<Day>, stamp: Stamp) -> bool
+fn is_due_day_of_completion(day: Day, rule: Option<Day>, stamp: Stamp) -> bool
     ensures { IsTrue result ↔ (day ≡ due_day_of_completion_stamp rule stamp) }
 {
     let completed = day_of(stamp);
@@ -42,7 +42,7 @@ fn settlement_matches_trade(
         × (settlement.now.amount ≡ settlement_amount_at_tax_status tax_status (abstract_trade_row trade.now))) }
 {
     settlement.trade == trade.id
-        && settles_on_day(settlement.due_day, rule, trade.stamp)
+        && is_due_day_of_completion(settlement.due_day, rule, trade.stamp)
         && settlement.amount.get() == settlement_amount_of_row(trade, tax_status)
 }
 

@@ -16,7 +16,7 @@ use Rattle.brk_model.specs.Records.{Band}
 use Rattle.brk_model.specs.Schemas.{Schema}
 use Rattle.brk_model.specs.Keys.{is_key_less, band_key}
 use Rattle.brk_model.specs.Tests.{bands_overlap}
-use Rattle.brk_model.specs.Form.{is_well_formed_band_row, bands_are_disjoint, is_tier, is_quantity_in_schema}
+use Rattle.brk_model.specs.Form.{is_well_formed_band_row, has_disjoint_bands, is_tier, is_quantity_in_schema}
 use Rattle.brk_model.specs.Forms.{is_exchange}
 use Rattle.brk_model.specs.Limits.{greatest_commission_rate}
 use Rattle.brk_audit_form.specs.Keys.{key_cmp}
@@ -116,7 +116,7 @@ later_apart a b (c ∷ cs) h n e all = (λ i. this i || later_apart a b cs h n e
     this = by_test (bands_overlap a c) refl
 
 pub all_apart : {X : Type 0} (of : X → Band) (xs : List X) → Climbs band_key (map of xs) → AllByRecursion Bounded (map of xs)
-    → ((k : ℕ) (d : X) → suc k < length xs → bands_overlap (of (get_or xs k d)) (of (get_or xs (suc k) d)) ≡ false) → bands_are_disjoint (map of xs) ≡ true
+    → ((k : ℕ) (d : X) → suc k < length xs → bands_overlap (of (get_or xs k d)) (of (get_or xs (suc k) d)) ≡ false) → has_disjoint_bands (map of xs) ≡ true
 all_apart of [] c h f = refl
 all_apart of (x ∷ []) c h f = refl
 all_apart of (x ∷ y ∷ ys) c h f =
@@ -128,10 +128,10 @@ and_false true = refl
 and_false false = refl
 
 pub some_meet : {X : Type 0} (of : X → Band) (xs : List X) (k : ℕ) → suc k < length xs
-    → ((d : X) → bands_overlap (of (get_or xs k d)) (of (get_or xs (suc k) d)) ≡ true) → bands_are_disjoint (map of xs) ≡ false
+    → ((d : X) → bands_overlap (of (get_or xs k d)) (of (get_or xs (suc k) d)) ≡ true) → has_disjoint_bands (map of xs) ≡ false
 some_meet of [] k h f = absurd (omega arith)
 some_meet of (x ∷ []) k h f = absurd (omega arith)
-some_meet of (x ∷ y ∷ ys) zero h f = ap (λ b. not (b || list_any (bands_overlap (of x)) (map of ys)) && bands_are_disjoint (map of (y ∷ ys))) (f x)
+some_meet of (x ∷ y ∷ ys) zero h f = ap (λ b. not (b || list_any (bands_overlap (of x)) (map of ys)) && has_disjoint_bands (map of (y ∷ ys))) (f x)
 some_meet of (x ∷ y ∷ ys) (suc k) h f =
     ap (λ b. not (list_any (bands_overlap (of x)) (map of (y ∷ ys))) && b) (some_meet of (y ∷ ys) k (omega arith) f) ∙ and_false (not (list_any (bands_overlap (of x)) (map of (y ∷ ys))))
 
@@ -154,7 +154,7 @@ true_of false e = absurd (cc)
 
 -- what the neighbours say
 pub apart_told : {X : Type 0} (schema : Schema) (of : X → Band) (xs : List X) (r : Bool) → Climbs band_key (map of xs) → list_all (is_well_formed_band_row schema) (map of xs) ≡ true
-    → IsAllAdjacentAnswer (λ x y b. b ≡ not (bands_overlap (of x) (of y))) xs r → r ≡ bands_are_disjoint (map of xs)
+    → IsAllAdjacentAnswer (λ x y b. b ≡ not (bands_overlap (of x) (of y))) xs r → r ≡ has_disjoint_bands (map of xs)
 apart_told schema of xs true c h a =
     sym (all_apart of xs c (all_bounded schema (map of xs) (list_all_true (is_well_formed_band_row schema) (map of xs) h))
     (λ k d g. subst (λ j. bands_overlap (of (get_or xs k d)) (of (get_or xs j d)) ≡ false) (add-one k) (false_of _ (a k d (omega arith)))))

@@ -3,8 +3,8 @@ use Rattle.std.proofs.Common.{◌≡◌, Bool, true, false, List, [], ◌∷◌,
 use Rattle.std.specs.Prelude.{◌&&◌}
 use Rattle.std.specs.List.{list_all}
 use Rattle.std.proofs.lemmas.List.Folds.{list_all-map}
-use Rattle.brk_model.specs.Keys.{KeyPart, is_key_less, kept_key, broker_key, customer_key, account_key, permission_key, security_key, last_trade_key, charge_key, band_key, tax_rate_key, customer_tax_key, trade_key, history_key, request_key, holding_key, summary_key, holding_history_key, settlement_key, cash_key, move_key}
-use Rattle.brk_model.specs.Form.{is_sorted_by_unique_key, tables_are_sorted_by_unique_key, is_well_formed_kept_row, is_well_formed_broker_row, is_well_formed_customer_row, is_well_formed_account_row, is_well_formed_permission_row, is_well_formed_security_row, is_well_formed_last_trade_row, is_well_formed_charge_row, is_well_formed_band_row, is_well_formed_tax_rate_row, is_well_formed_customer_tax_row, is_well_formed_trade_row, is_well_formed_history_row, is_well_formed_request_row, is_well_formed_holding_row, is_well_formed_summary_row, is_well_formed_holding_history_row, is_well_formed_settlement_row}
+use Rattle.brk_model.specs.Keys.{KeyPart, is_key_less, kept_key, broker_key, customer_key, account_key, permission_key, security_key, last_trade_key, charge_key, band_key, tax_rate_key, customer_tax_key, trade_key, history_key, request_key, holding_key, summary_key, holding_history_key, settlement_key, cash_transaction_key, cash_move_key}
+use Rattle.brk_model.specs.Form.{is_sorted_by_unique_key, has_tables_sorted_by_unique_key, is_well_formed_kept_row, is_well_formed_broker_row, is_well_formed_customer_row, is_well_formed_account_row, is_well_formed_permission_row, is_well_formed_security_row, is_well_formed_last_trade_row, is_well_formed_charge_row, is_well_formed_band_row, is_well_formed_tax_rate_row, is_well_formed_customer_tax_row, is_well_formed_trade_row, is_well_formed_history_row, is_well_formed_request_row, is_well_formed_holding_row, is_well_formed_summary_row, is_well_formed_holding_history_row, is_well_formed_settlement_row}
 use Rattle.brk_ref.specs.Records.{kept_row_with_empty_texts, abstract_broker_row, abstract_customer, abstract_account_row, abstract_permission, abstract_security_row, abstract_last_trade_row, abstract_charge, abstract_band, abstract_tax_rate, abstract_customer_tax}
 use Rattle.brk_changes.specs.Rows.{abstract_trade_row, abstract_history_row, abstract_request_row, abstract_holding_row, abstract_summary_row, abstract_lot_change_row, abstract_settlement_row, abstract_cash_row, abstract_move_row}
 use Rattle.brk_changes.specs.Sheets.{abstract_sheets}
@@ -24,8 +24,8 @@ regroup : (a r0 r1 r2 r3 r4 r5 r6 r7 r8 : Bool) → (a && (r0 && r1 && r2 && r3 
 regroup true r0 r1 r2 r3 r4 r5 r6 r7 r8 = refl
 regroup false r0 r1 r2 r3 r4 r5 r6 r7 r8 = refl
 
-pub keys_whole : (s : Sheets) → (reference_tables_are_sorted s && trading_tables_are_sorted s) ≡ tables_are_sorted_by_unique_key (abstract_sheets s)
-unfolding tables_are_sorted_by_unique_key
+pub keys_whole : (s : Sheets) → (reference_tables_are_sorted s && trading_tables_are_sorted s) ≡ has_tables_sorted_by_unique_key (abstract_sheets s)
+unfolding has_tables_sorted_by_unique_key
 keys_whole s =
     regroup (reference_tables_are_sorted s)
     (is_sorted_by_unique_key (λ r. trade_key (abstract_trade_row r)) s.trades.items)
@@ -35,8 +35,8 @@ keys_whole s =
     (is_sorted_by_unique_key (λ r. summary_key (abstract_summary_row r)) s.summaries.items)
     (is_sorted_by_unique_key (λ r. holding_history_key (abstract_lot_change_row r)) s.holding_history.items)
     (is_sorted_by_unique_key (λ r. settlement_key (abstract_settlement_row r)) s.settlements.items)
-    (is_sorted_by_unique_key (λ r. cash_key (abstract_cash_row r)) s.cash.items)
-    (is_sorted_by_unique_key (λ r. move_key (abstract_move_row r)) s.moves.items)
+    (is_sorted_by_unique_key (λ r. cash_transaction_key (abstract_cash_row r)) s.cash.items)
+    (is_sorted_by_unique_key (λ r. cash_move_key (abstract_move_row r)) s.moves.items)
     ∙ (λ i.
     rises-map kept_key kept_row_with_empty_texts s.kept.items i
     && rises-map broker_key abstract_broker_row s.brokers.items i
@@ -56,8 +56,8 @@ keys_whole s =
     && rises-map summary_key abstract_summary_row s.summaries.items i
     && rises-map holding_history_key abstract_lot_change_row s.holding_history.items i
     && rises-map settlement_key abstract_settlement_row s.settlements.items i
-    && rises-map cash_key abstract_cash_row s.cash.items i
-    && rises-map move_key abstract_move_row s.moves.items i)
+    && rises-map cash_transaction_key abstract_cash_row s.cash.items i
+    && rises-map cash_move_key abstract_move_row s.moves.items i)
 
 -- the parts of the forms of records
 pub record ReferenceForms (schema : Schema) (s : Sheets) : Type 0 where
@@ -172,5 +172,5 @@ trading_forms_whole schema s p =
     ∙ whole (list_all (is_well_formed_trade_row schema (abstract_sheets s)) (map abstract_trade_row s.trades.items)) (trading_rests schema s) p.trades (p.history, (p.requests, (p.holdings, (p.summaries, (p.holding_history, (p.settlements, tt))))))
 
 -- the keys of the bands
-pub bands_rise : (t : Tables) → tables_are_sorted_by_unique_key t ≡ true → is_sorted_by_unique_key band_key t.bands ≡ true
+pub bands_rise : (t : Tables) → has_tables_sorted_by_unique_key t ≡ true → is_sorted_by_unique_key band_key t.bands ≡ true
 bands_rise t h = (keys_rise t h).bands

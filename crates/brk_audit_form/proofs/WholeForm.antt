@@ -9,7 +9,7 @@ use Rattle.brk_money.specs.Moments.{greatest_day, greatest_stamp}
 use Rattle.brk_model.specs.Limits.{greatest_id}
 use Rattle.brk_model.specs.Lists.{all_distinct}
 use Rattle.brk_model.specs.Schemas.{Schema}
-use Rattle.brk_model.specs.Form.{satisfies_form_condition, tables_are_sorted_by_unique_key, bands_are_disjoint, are_equal_number_lists, has_distinct_tax_ids, is_within_customer_limits, is_well_formed_cash_row, is_well_formed_move_row, trade_ids_of_cash_rows, lacks_rows_of_later_schemas}
+use Rattle.brk_model.specs.Form.{satisfies_form_condition, has_tables_sorted_by_unique_key, has_disjoint_bands, are_equal_number_lists, has_distinct_tax_ids, is_within_customer_limits, is_well_formed_cash_transaction_row, is_well_formed_cash_move_row, trade_ids_of_cash_rows, lacks_rows_of_later_schemas}
 use Rattle.brk_ref.specs.Records.{abstract_customer, abstract_band}
 use Rattle.brk_changes.specs.Rows.{abstract_trade_row, abstract_cash_row, abstract_move_row}
 use Rattle.brk_changes.specs.Sheets.{abstract_sheets}
@@ -43,8 +43,8 @@ abbrev pub rests : Sheets → List Bool
 rests s =
     has_distinct_tax_ids (map abstract_customer s.customers.items) ∷
     list_all (is_within_customer_limits (abstract_sheets s)) (map abstract_customer s.customers.items) ∷
-    list_all (is_well_formed_cash_row (abstract_sheets s)) (map abstract_cash_row s.cash.items) ∷
-    list_all (is_well_formed_move_row (abstract_sheets s)) (map abstract_move_row s.moves.items) ∷
+    list_all (is_well_formed_cash_transaction_row (abstract_sheets s)) (map abstract_cash_row s.cash.items) ∷
+    list_all (is_well_formed_cash_move_row (abstract_sheets s)) (map abstract_move_row s.moves.items) ∷
     all_distinct (trade_ids_of_cash_rows (map abstract_move_row s.moves.items)) ∷ []
 
 -- the plain tests, after the keys
@@ -53,7 +53,7 @@ plain_rests schema s =
     reference_rows_are_well_formed schema s ∷
     option_map_or (λ last. nat_le last greatest_stamp) s.last true ∷
     trading_rows_are_well_formed schema s ∷
-    bands_are_disjoint (map abstract_band s.bands.items) ∷
+    has_disjoint_bands (map abstract_band s.bands.items) ∷
     are_equal_number_lists (map (λ row. row.id) s.trades.items) (range_with_len 1 (length s.trades.items)) ∷
     nat_le (length (filter (λ r. is_none r.trade) s.moves.items)) greatest_id ∷
     option_map_or (λ day. nat_le day greatest_day) s.rule true ∷
@@ -62,7 +62,7 @@ plain_rests schema s =
 forth : (schema : Schema) (s : Sheets) → passes_nonallocating_form_checks schema s ≡ true → Hold (rests s) → satisfies_form_condition schema (abstract_sheets s) ≡ true
 forth schema s plain h =
     let t = abstract_sheets s in
-    let p = parts (tables_are_sorted_by_unique_key t) (plain_rests schema s) plain in
+    let p = parts (has_tables_sorted_by_unique_key t) (plain_rests schema s) plain in
     let r : ReferenceForms schema s = reference_forms_parts schema s p.1.0 in
     let q : TradingForms schema s = trading_forms_parts schema s p.1.1.1.0 in
     form_whole schema t (record {
@@ -122,7 +122,7 @@ back schema s p =
       holding_history = p.holding_history;
       settlements = p.settlements;
     } in
-    whole (tables_are_sorted_by_unique_key (abstract_sheets s)) (plain_rests schema s) p.keys
+    whole (has_tables_sorted_by_unique_key (abstract_sheets s)) (plain_rests schema s) p.keys
     (reference_forms_whole schema s r, (p.clock, (trading_forms_whole schema s q, (p.apart, (numbers-mapped s ∙ p.numbers, (moves-counted s ∙ p.counted, (p.rule, (p.fits, tt))))))))
 
 -- each of the six tests is of the whole, and together they are it

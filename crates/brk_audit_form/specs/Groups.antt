@@ -5,8 +5,8 @@ use Rattle.brk_model.specs.Limits.{greatest_id}
 use Rattle.brk_model.specs.Schemas.{Schema}
 use Rattle.brk_model.specs.Keys.{kept_key, broker_key, customer_key, account_key, permission_key, security_key, last_trade_key}
 use Rattle.brk_model.specs.Keys.{charge_key, band_key, tax_rate_key, customer_tax_key, trade_key, history_key, request_key}
-use Rattle.brk_model.specs.Keys.{holding_key, summary_key, holding_history_key, settlement_key, cash_key, move_key}
-use Rattle.brk_model.specs.Form.{tables_are_sorted_by_unique_key, bands_are_disjoint, are_equal_number_lists, is_sorted_by_unique_key}
+use Rattle.brk_model.specs.Keys.{holding_key, summary_key, holding_history_key, settlement_key, cash_transaction_key, cash_move_key}
+use Rattle.brk_model.specs.Form.{has_tables_sorted_by_unique_key, has_disjoint_bands, are_equal_number_lists, is_sorted_by_unique_key}
 use Rattle.brk_model.specs.Form.{is_well_formed_kept_row, is_well_formed_broker_row, is_well_formed_customer_row, is_well_formed_account_row}
 use Rattle.brk_model.specs.Form.{is_well_formed_permission_row, is_well_formed_security_row, is_well_formed_last_trade_row, is_well_formed_charge_row}
 use Rattle.brk_model.specs.Form.{is_well_formed_band_row, is_well_formed_tax_rate_row, is_well_formed_customer_tax_row, is_well_formed_trade_row}
@@ -47,8 +47,8 @@ trading_tables_are_sorted s =
     && is_sorted_by_unique_key (λ r. summary_key (abstract_summary_row r)) s.summaries.items
     && is_sorted_by_unique_key (λ r. holding_history_key (abstract_lot_change_row r)) s.holding_history.items
     && is_sorted_by_unique_key (λ r. settlement_key (abstract_settlement_row r)) s.settlements.items
-    && is_sorted_by_unique_key (λ r. cash_key (abstract_cash_row r)) s.cash.items
-    && is_sorted_by_unique_key (λ r. move_key (abstract_move_row r)) s.moves.items
+    && is_sorted_by_unique_key (λ r. cash_transaction_key (abstract_cash_row r)) s.cash.items
+    && is_sorted_by_unique_key (λ r. cash_move_key (abstract_move_row r)) s.moves.items
 
 -- True if each of the typed rows `s` of KEPT, of LAST_TRADE and of reference data is well-formed
 -- and within the limits of the schema, and each record that it refers to exists.
@@ -85,9 +85,9 @@ trading_rows_are_well_formed schema s =
 -- same trade.
 abbrev pub passes_nonallocating_form_checks : Schema → Sheets → Bool
 passes_nonallocating_form_checks schema s =
-    tables_are_sorted_by_unique_key (abstract_sheets s) && reference_rows_are_well_formed schema s && is_last_stamp_in_calendar s.last
+    has_tables_sorted_by_unique_key (abstract_sheets s) && reference_rows_are_well_formed schema s && is_last_stamp_in_calendar s.last
     && trading_rows_are_well_formed schema s
-    && bands_are_disjoint (map abstract_band s.bands.items)
+    && has_disjoint_bands (map abstract_band s.bands.items)
     && are_equal_number_lists (map (λ row. row.id) s.trades.items) (range_with_len 1 (length s.trades.items))
     && nat_le (length (filter (λ r. is_none r.trade) s.moves.items)) greatest_id && is_settlement_day_in_calendar s.rule
     && lacks_rows_of_later_schemas schema (abstract_sheets s)

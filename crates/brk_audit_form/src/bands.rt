@@ -6,7 +6,7 @@ ghost use Rattle.brk_changes.specs.Schemas.{abstract_schema};
 ghost use Rattle.brk_ref.specs.Records.{abstract_band};
 
 use brk_changes::Schema;
-use brk_ref::{Band, bands_share_quantity};
+use brk_ref::{Band, is_overlapping_band};
 
 /// Returns true if no two bands with the same tier, trade type and exchange share a quantity.
 /// Compares only neighbours. The bands must be sorted by key without a repeated key, and each must
@@ -14,7 +14,7 @@ use brk_ref::{Band, bands_share_quantity};
 pub(crate) fn are_bands_disjoint(schema: Schema, bands: &[Band]) -> bool
     requires keys { IsTrue (form.is_sorted_by_unique_key band_key (map abstract_band bands.now)) }
     requires bounds { IsTrue (list_all (form.is_well_formed_band_row (abstract_schema schema)) (map abstract_band bands.now)) }
-    ensures { result ≡ form.bands_are_disjoint (map abstract_band bands.now) }
+    ensures { result ≡ form.has_disjoint_bands (map abstract_band bands.now) }
 {
-    bands.is_sorted_by(|band, next| !bands_share_quantity(band, next))
+    bands.is_sorted_by(|band, next| !is_overlapping_band(band, next))
 }

@@ -100,9 +100,13 @@ fn is_cash_text_of_trade_id(
 // Returns true if the row of CASH_TRANSACTION is well-formed: its trade exists, its text is one of
 // the two cash texts of the trade, its stamp is at most the last stamp, and its amount is within
 // the limit. The tables must be sorted by key. Fails with `Memory` only.
-fn cash_row_is_well_formed(alloc: Global, sheets: &Sheets, row: &CashRow) -> Result<bool, Fault>
+fn is_cash_transaction_well_formed(
+    alloc: Global,
+    sheets: &Sheets,
+    row: &CashRow,
+) -> Result<bool, Fault>
     requires { HasSortedKeys sheets.now }
-    ensures value { IfOk result (λ holds. holds ≡ form.is_well_formed_cash_row (abstract_sheets sheets.now) (abstract_cash_row row.now)) }
+    ensures value { IfOk result (λ holds. holds ≡ form.is_well_formed_cash_transaction_row (abstract_sheets sheets.now) (abstract_cash_row row.now)) }
     ensures fault { IfErr result (λ fault. fault ≡ Memory) }
 {
     let is_named = is_cash_text_of_trade_id(alloc, sheets, row.trade, row.name.as_str())?;
@@ -115,7 +119,7 @@ fn cash_row_is_well_formed(alloc: Global, sheets: &Sheets, row: &CashRow) -> Res
 
 // Returns true if the text is `Deposit` and the amount is above 0, or the text is `Withdrawal` and
 // the amount is below 0.
-fn movement_name_matches_sign(name: &str, amount: Cents) -> bool
+fn is_movement_name_of_sign(name: &str, amount: Cents) -> bool
     ensures { result ≡ form.is_movement_name_and_amount name.now amount }
 {
     (name == "Deposit" && 0 < amount.get()) || (name == "Withdrawal" && amount.get() < 0)
@@ -134,16 +138,16 @@ fn has_valid_cash_text(alloc: Global, sheets: &Sheets, row: &MoveRow) -> Result<
 {
     match row.trade {
         Some(trade) => is_cash_text_of_trade_id(alloc, sheets, trade, row.name.as_str()),
-        None => Ok(movement_name_matches_sign(row.name.as_str(), row.amount)),
+        None => Ok(is_movement_name_of_sign(row.name.as_str(), row.amount)),
     }
 }
 
 // Returns true if the row of CASH_MOVE is well-formed: its number and its amount are within their
 // limits, its account exists, its text fits its trade or its amount (`has_valid_cash_text`), and
 // its stamp is at most the last stamp. The tables must be sorted by key. Fails with `Memory` only.
-fn move_row_is_well_formed(alloc: Global, sheets: &Sheets, row: &MoveRow) -> Result<bool, Fault>
+fn is_move_row_well_formed(alloc: Global, sheets: &Sheets, row: &MoveRow) -> Result<bool, Fault>
     requires { HasSortedKeys sheets.now }
-    ensures value { IfOk result (λ holds. holds ≡ form.is_well_formed_move_row (abstract_sheets sheets.now) (abstract_move_row row.now)) }
+    ensures value { IfOk result (λ holds. holds ≡ form.is_well_formed_cash_move_row (abstract_sheets sheets.now) (abstract_move_row row.now)) }
     ensures fault { IfErr result (λ fault. fault ≡ Memory) }
 {
     let is_called = has_valid_cash_text(alloc, sheets, row)?;
@@ -156,19 +160,19 @@ fn move_row_is_well_formed(alloc: Global, sheets: &Sheets, row: &MoveRow) -> Res
     )
 }
 
-/// Returns true if each row of CASH_TRANSACTION is well-formed (`cash_row_is_well_formed`). The
+/// Returns true if each row of CASH_TRANSACTION is well-formed (`is_cash_transaction_well_formed`). The
 /// tables must be sorted by key. Fails with `Memory` only.
-pub(crate) fn all_cash_transaction_rows_well_formed(
+pub(crate) fn are_cash_transactions_well_formed(
     alloc: Global,
     sheets: &Sheets,
 ) -> Result<bool, Fault>
     requires { HasSortedKeys sheets.now }
     ensures value { IfOk result (λ holds. holds
-        ≡ list_all (form.is_well_formed_cash_row (abstract_sheets sheets.now)) (map abstract_cash_row sheets.now.cash.items)) }
+        ≡ list_all (form.is_well_formed_cash_transaction_row (abstract_sheets sheets.now)) (map abstract_cash_row sheets.now.cash.items)) }
     ensures fault { IfErr result (λ fault. fault ≡ Memory) }
 {
     for row in &sheets.cash {
-        let is_formed = cash_row_is_well_formed(alloc, sheets, row)?;
+        let is_formed = is_cash_transaction_well_formed(alloc, sheets, row)?;
         if !is_formed {
             return Ok(false);
         }
@@ -176,16 +180,16 @@ pub(crate) fn all_cash_transaction_rows_well_formed(
     Ok(true)
 }
 
-/// Returns true if each row of CASH_MOVE is well-formed (`move_row_is_well_formed`). The tables
+/// Returns true if each row of CASH_MOVE is well-formed (`is_move_row_well_formed`). The tables
 /// must be sorted by key. Fails with `Memory` only.
-pub(crate) fn all_move_rows_well_formed(alloc: Global, sheets: &Sheets) -> Result<bool, Fault>
+pub(crate) fn are_move_rows_well_formed(alloc: Global, sheets: &Sheets) -> Result<bool, Fault>
     requires { HasSortedKeys sheets.now }
     ensures value { IfOk result (λ holds. holds
-        ≡ list_all (form.is_well_formed_move_row (abstract_sheets sheets.now)) (map abstract_move_row sheets.now.moves.items)) }
+        ≡ list_all (form.is_well_formed_cash_move_row (abstract_sheets sheets.now)) (map abstract_move_row sheets.now.moves.items)) }
     ensures fault { IfErr result (λ fault. fault ≡ Memory) }
 {
     for row in &sheets.moves {
-        let is_formed = move_row_is_well_formed(alloc, sheets, row)?;
+        let is_formed = is_move_row_well_formed(alloc, sheets, row)?;
         if !is_formed {
             return Ok(false);
         }

@@ -96,7 +96,7 @@ fn customer_is_within_limits(
 // Returns true if each customer has at most 10 accounts by the map `counts`, and tax rates that sum
 // to at most the greatest tax rate by the map `sums`. A customer that a map does not contain has 0
 // in that map.
-fn all_customers_within_limits(
+fn are_customer_sums_within_limits(
     counts: &BTreeMap<u64, u128>,
     sums: &BTreeMap<u64, u128>,
     customers: &[Customer],
@@ -118,5 +118,5 @@ pub(crate) fn customers_are_within_limits(alloc: Global, sheets: &Sheets) -> Res
 {
     let counts = count_accounts_by_customer(alloc, &sheets.accounts)?;
     let sums = sum_tax_rates_by_customer(alloc, sheets)?;
-    Ok(all_customers_within_limits(&counts, &sums, &sheets.customers))
+    Ok(are_customer_sums_within_limits(&counts, &sums, &sheets.customers))
 }

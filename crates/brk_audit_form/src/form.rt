@@ -8,7 +8,7 @@ ghost use Rattle.brk_changes.specs.Sheets.{abstract_sheets};
 ghost use Rattle.brk_audit_form.specs.Groups.{passes_nonallocating_form_checks};
 
 use crate::bands::are_bands_disjoint;
-use crate::cash_names::{all_cash_transaction_rows_well_formed, all_move_rows_well_formed};
+use crate::cash_names::{are_cash_transactions_well_formed, are_move_rows_well_formed};
 use crate::customer_limits::customers_are_within_limits;
 use crate::numbers::{are_trades_numbered_from_one, is_movement_count_within_limit};
 use crate::own_rows::cash_rows_have_distinct_trades;
@@ -95,11 +95,11 @@ pub fn form_condition_holds(alloc: Global, schema: Schema, sheets: &Sheets) -> R
     if !has_limits {
         return Ok(false);
     }
-    let has_cash = all_cash_transaction_rows_well_formed(alloc, sheets)?;
+    let has_cash = are_cash_transactions_well_formed(alloc, sheets)?;
     if !has_cash {
         return Ok(false);
     }
-    let has_moves = all_move_rows_well_formed(alloc, sheets)?;
+    let has_moves = are_move_rows_well_formed(alloc, sheets)?;
     if !has_moves {
         return Ok(false);
     }

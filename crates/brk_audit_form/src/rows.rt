@@ -22,7 +22,7 @@ pub(crate) trait Formed {
 
 /// Returns true if each of `rows` is well-formed and within the limits of the schema, and each
 /// record that it refers to exists in `sheets`, whose tables must be sorted by key.
-pub(crate) fn all_rows_well_formed<R: Formed>(schema: Schema, sheets: &Sheets, rows: &[R]) -> bool
+pub(crate) fn are_rows_well_formed<R: Formed>(schema: Schema, sheets: &Sheets, rows: &[R]) -> bool
     requires { HasSortedKeys sheets.now }
     ensures { result ≡ list_all (R.form (abstract_schema schema) (abstract_sheets sheets.now)) rows.now }
 {

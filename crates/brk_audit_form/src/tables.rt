@@ -7,7 +7,7 @@ ghost use Rattle.brk_audit_form.specs.Groups.{reference_rows_are_well_formed, re
 ghost use Rattle.brk_audit_form.specs.Groups.{trading_rows_are_well_formed, trading_tables_are_sorted};
 
 use crate::keys::has_sorted_unique_keys;
-use crate::rows::all_rows_well_formed;
+use crate::rows::are_rows_well_formed;
 use brk_changes::{Schema, Sheets};
 
 // Returns true if KEPT, LAST_TRADE and each table of reference data are sorted by key, ascending,
@@ -46,7 +46,7 @@ fn has_sorted_trading_tables(sheets: &Sheets) -> bool
 
 /// Returns true if each table is sorted by key, ascending, and no key occurs twice in a table.
 pub(crate) fn all_tables_have_sorted_keys(sheets: &Sheets) -> bool
-    ensures { result ≡ form.tables_are_sorted_by_unique_key (abstract_sheets sheets.now) }
+    ensures { result ≡ form.has_tables_sorted_by_unique_key (abstract_sheets sheets.now) }
 {
     has_sorted_reference_tables(sheets) && has_sorted_trading_tables(sheets)
 }
@@ -58,17 +58,17 @@ pub(crate) fn has_well_formed_reference_rows(schema: Schema, sheets: &Sheets) ->
     requires { HasSortedKeys sheets.now }
     ensures { result ≡ reference_rows_are_well_formed (abstract_schema schema) sheets.now }
 {
-    all_rows_well_formed(schema, sheets, &sheets.kept)
-        && all_rows_well_formed(schema, sheets, &sheets.brokers)
-        && all_rows_well_formed(schema, sheets, &sheets.customers)
-        && all_rows_well_formed(schema, sheets, &sheets.accounts)
-        && all_rows_well_formed(schema, sheets, &sheets.permissions)
-        && all_rows_well_formed(schema, sheets, &sheets.securities)
-        && all_rows_well_formed(schema, sheets, &sheets.last_trades)
-        && all_rows_well_formed(schema, sheets, &sheets.charges)
-        && all_rows_well_formed(schema, sheets, &sheets.bands)
-        && all_rows_well_formed(schema, sheets, &sheets.tax_rates)
-        && all_rows_well_formed(schema, sheets, &sheets.customer_taxes)
+    are_rows_well_formed(schema, sheets, &sheets.kept)
+        && are_rows_well_formed(schema, sheets, &sheets.brokers)
+        && are_rows_well_formed(schema, sheets, &sheets.customers)
+        && are_rows_well_formed(schema, sheets, &sheets.accounts)
+        && are_rows_well_formed(schema, sheets, &sheets.permissions)
+        && are_rows_well_formed(schema, sheets, &sheets.securities)
+        && are_rows_well_formed(schema, sheets, &sheets.last_trades)
+        && are_rows_well_formed(schema, sheets, &sheets.charges)
+        && are_rows_well_formed(schema, sheets, &sheets.bands)
+        && are_rows_well_formed(schema, sheets, &sheets.tax_rates)
+        && are_rows_well_formed(schema, sheets, &sheets.customer_taxes)
 }
 
 /// Returns true if each row of TRADE, TRADE_HISTORY, TRADE_REQUEST, HOLDING, HOLDING_SUMMARY,
@@ -78,11 +78,11 @@ pub(crate) fn has_well_formed_trading_rows(schema: Schema, sheets: &Sheets) -> b
     requires { HasSortedKeys sheets.now }
     ensures { result ≡ trading_rows_are_well_formed (abstract_schema schema) sheets.now }
 {
-    all_rows_well_formed(schema, sheets, &sheets.trades)
-        && all_rows_well_formed(schema, sheets, &sheets.history)
-        && all_rows_well_formed(schema, sheets, &sheets.requests)
-        && all_rows_well_formed(schema, sheets, &sheets.holdings)
-        && all_rows_well_formed(schema, sheets, &sheets.summaries)
-        && all_rows_well_formed(schema, sheets, &sheets.holding_history)
-        && all_rows_well_formed(schema, sheets, &sheets.settlements)
+    are_rows_well_formed(schema, sheets, &sheets.trades)
+        && are_rows_well_formed(schema, sheets, &sheets.history)
+        && are_rows_well_formed(schema, sheets, &sheets.requests)
+        && are_rows_well_formed(schema, sheets, &sheets.holdings)
+        && are_rows_well_formed(schema, sheets, &sheets.summaries)
+        && are_rows_well_formed(schema, sheets, &sheets.holding_history)
+        && are_rows_well_formed(schema, sheets, &sheets.settlements)
 }

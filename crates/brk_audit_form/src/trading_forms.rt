@@ -22,7 +22,7 @@ use brk_money::{Day, Stamp, Status};
 // the greatest price, or neither a completion nor a price. The tables must be sorted by key.
 fn row_has_price_exactly_if_completed(sheets: &Sheets, row: &TradeRow) -> bool
     requires { HasSortedKeys sheets.now }
-    ensures { result ≡ form.price_matches_completion (abstract_sheets sheets.now) (of.abstract_trade_row row.now) }
+    ensures { result ≡ form.has_price_matching_completion (abstract_sheets sheets.now) (of.abstract_trade_row row.now) }
 {
     match row.price {
         Some(price) => has_completion(sheets, row.id) && is_price_within_limits(price),
@@ -40,7 +40,7 @@ fn is_due_day_within_calendar(rule: Option<Day>, status: Status, stamp: Stamp) -
 
 // Returns true if the settlement text is one of the two texts of a cash trade (if `is_cash` is
 // true) or of a margin trade (if `is_cash` is false).
-fn is_settlement_text_of_trade_kind(is_cash: bool, word: CashType) -> bool
+fn is_cash_type_for_trade(is_cash: bool, word: CashType) -> bool
     ensures { result ≡ form.is_cash_type_of_trade is_cash (of.cash_type_text word) }
 {
     match word {
@@ -139,7 +139,7 @@ impl Formed for SettlementRow {
         let Some(trade) = find_trade(sheets, self.trade) else {
             return false;
         };
-        is_settlement_text_of_trade_kind(trade.is_cash, self.cash_type)
+        is_cash_type_for_trade(trade.is_cash, self.cash_type)
             && self.due_day.get() <= Day::GREATEST
             && is_balance_within_limit(self.amount)
     }

@@ -72,7 +72,7 @@ impl Keyed for SettlementRow {
 }
 
 impl Keyed for CashRow {
-    ghost key = { λ row. keys.cash_key (of.abstract_cash_row row) };
+    ghost key = { λ row. keys.cash_transaction_key (of.abstract_cash_row row) };
 
     // Returns the order of two rows by trade.
     fn compare_keys(&self, other: &CashRow) -> Ordering {
@@ -81,7 +81,7 @@ impl Keyed for CashRow {
 }
 
 impl Keyed for MoveRow {
-    ghost key = { λ row. keys.move_key (of.abstract_move_row row) };
+    ghost key = { λ row. keys.cash_move_key (of.abstract_move_row row) };
 
     // Returns the order of two rows by number (CM_ID).
     fn compare_keys(&self, other: &MoveRow) -> Ordering {

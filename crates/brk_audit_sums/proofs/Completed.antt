@@ -8,7 +8,7 @@ use Rattle.brk_money.specs.Kinds.{is_same_trade_status}
 use Rattle.brk_money.specs.declared.status.Status.{Status}
 use Rattle.brk_money.specs.declared.status.Status.TheVariants.{Completed, Pending}
 use Rattle.brk_model.specs.Lists.{all_distinct}
-use Rattle.brk_model.specs.Base.{completed_trades, has_status, is_completed, last_status_stamp_of_trade}
+use Rattle.brk_model.specs.Base.{completed_trades, has_last_status, is_completed, last_status_stamp_of_trade}
 use Rattle.brk_model.specs.Derived.{pending_trades}
 use Rattle.brk_model.specs.Tables.{Tables, TradeRow}
 use Rattle.brk_model.specs.Adopted.{base_of_tables, trade_of_row}
@@ -30,7 +30,7 @@ unfolding satisfies_status_condition
 stamps_apart t s = (and_parts (list_all (has_valid_status_history t) t.trades) (all_distinct (completion_stamps t ++ movement_stamps t)) s).1
 
 -- a trade's last status is that of its row
-pub row_status : (t : Tables) (r : TradeRow) (status : Status) → has_valid_status_history t r ≡ true → has_status status (trade_of_row t r) ≡ is_same_trade_status r.status status
+pub row_status : (t : Tables) (r : TradeRow) (status : Status) → has_valid_status_history t r ≡ true → has_last_status status (trade_of_row t r) ≡ is_same_trade_status r.status status
 row_status t r status e =
     let l : Lasts t r = lasts t r e in
     ap (λ o. option_map_or (λ m. is_same_trade_status m.status status) o false) l.is ∙ ap (λ s. is_same_trade_status s status) (sym (same_statuses r.status l.mark.status l.status))
@@ -50,8 +50,8 @@ completed_rows t s =
 pub pending_rows : (t : Tables) → satisfies_status_condition t ≡ true → pending_trades (base_of_tables t).trades ≡ map (trade_of_row t) (pending_trade_rows t)
 unfolding base_of_tables
 pending_rows t s =
-    filter-map (has_status Pending) (trade_of_row t) t.trades
-    ∙ ap (map (trade_of_row t)) (filter-same (λ r. has_status Pending (trade_of_row t r)) is_pending_row t.trades (All-map t.trades (λ r e. row_status t r Pending e) (right_rows t s)))
+    filter-map (has_last_status Pending) (trade_of_row t) t.trades
+    ∙ ap (map (trade_of_row t)) (filter-same (λ r. has_last_status Pending (trade_of_row t r)) is_pending_row t.trades (All-map t.trades (λ r e. row_status t r Pending e) (right_rows t s)))
 
 -- each completed trade came to that at the stamp of its row
 pub done_moments : (t : Tables) → satisfies_status_condition t ≡ true → AllByRecursion (λ r. last_status_stamp_of_trade (trade_of_row t r) ≡ r.stamp) (completed_trade_rows t)

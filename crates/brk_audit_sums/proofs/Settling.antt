@@ -14,8 +14,8 @@ use Rattle.brk_model.specs.Derived.{settlement_amount, cash_trades, due_day_of_c
 use Rattle.brk_model.specs.Joins.{account_row_with_id}
 use Rattle.brk_model.specs.Tables.{Tables, numbered_move_rows, AccountRow, CashRow, RequestRow, SettlementRow, TradeRow, cash_transaction_row, request_row, settlement_row, tables_of_base_in_schema}
 use Rattle.brk_model.specs.Sheets.{tables_sorted_by_key}
-use Rattle.brk_model.specs.Keys.{number, rows_sorted_by_key, is_row_key_less, cash_key, move_key, request_key, settlement_key, trade_key}
-use Rattle.brk_model.specs.Adopted.{account_of_row, base_of_tables, is_posting_of_trade, posting_of_cash_row, posting_of_move_row, postings_of_tables, trade_of_row}
+use Rattle.brk_model.specs.Keys.{number, rows_sorted_by_key, is_row_key_less, cash_transaction_key, cash_move_key, request_key, settlement_key, trade_key}
+use Rattle.brk_model.specs.Adopted.{account_of_row, base_of_tables, is_posting_of_trade, posting_of_cash_transaction_row, posting_of_cash_move_row, postings_of_tables, trade_of_row}
 use Rattle.brk_model.specs.Ways.{satisfies_status_condition, has_valid_status_history}
 use Rattle.brk_model.specs.Audit.{ConditionHolds, expected_tables}
 use Rattle.brk_book_theorems.proofs.Same.{All-filter, All-map, find-each, map-same}
@@ -96,10 +96,10 @@ unfolding base_of_tables tables_sorted_by_key tables_of_base_in_schema
 wanted_cash schema t n c s =
     let f : TradeRow → CashRow = λ r. cash_transaction_row (accounts_in t) (trade_of_row t r) in
     let rows : List TradeRow = filter is_completed_cash_trade t.trades in
-    ap (λ b. rows_sorted_by_key cash_key (cond b [] (map (cash_transaction_row (accounts_in t)) (cash_trades (completed_trades (base_of_tables t)))))) n
-    ∙ ap (λ ts. rows_sorted_by_key cash_key (map (cash_transaction_row (accounts_in t)) ts)) (cash_rows t s)
-    ∙ ap (rows_sorted_by_key cash_key) (map-map (cash_transaction_row (accounts_in t)) (trade_of_row t) rows)
-    ∙ stays cash_key (map f rows) (climbs_map trade_key cash_key f rows (λ r. refl) (climbs_filter trade_key is_completed_cash_trade t.trades c))
+    ap (λ b. rows_sorted_by_key cash_transaction_key (cond b [] (map (cash_transaction_row (accounts_in t)) (cash_trades (completed_trades (base_of_tables t)))))) n
+    ∙ ap (λ ts. rows_sorted_by_key cash_transaction_key (map (cash_transaction_row (accounts_in t)) ts)) (cash_rows t s)
+    ∙ ap (rows_sorted_by_key cash_transaction_key) (map-map (cash_transaction_row (accounts_in t)) (trade_of_row t) rows)
+    ∙ stays cash_transaction_key (map f rows) (climbs_map trade_key cash_transaction_key f rows (λ r. refl) (climbs_filter trade_key is_completed_cash_trade t.trades c))
 
 pub no_rows : {Row : Type 0} (before : Row → Row → Bool) → sort_by before [] ≡ []
 unfolding sort_by
@@ -107,7 +107,7 @@ no_rows before = refl
 
 wanted_no_moves : (schema : Schema) (t : Tables) → schema.has_cash_move_table ≡ false → (expected_tables schema t).moves ≡ []
 unfolding tables_sorted_by_key tables_of_base_in_schema
-wanted_no_moves schema t n = ap (λ b. rows_sorted_by_key move_key (cond b (numbered_move_rows 1 (postings_sorted_by_stamp (postings_of_base (base_of_tables t)))) [])) n ∙ no_rows (is_row_key_less move_key)
+wanted_no_moves schema t n = ap (λ b. rows_sorted_by_key cash_move_key (cond b (numbered_move_rows 1 (postings_sorted_by_stamp (postings_of_base (base_of_tables t)))) [])) n ∙ no_rows (is_row_key_less cash_move_key)
 
 -- ---- requests
 
@@ -194,14 +194,14 @@ HasCash t = map cash_figures_of_row t.cash ≡ map (cash_figures_of_trade (accou
 moved_right : (t : Tables) (r : TradeRow) → IsRight t r → cash_figures_of_row (cash_transaction_row (accounts_in t) (trade_of_row t r)) ≡ cash_figures_of_trade (account_tax_status_or_untaxed t) r
 moved_right t r e = λ i. record { trade = r.id; stamp = row_moment t r e i; amount = same_amount t r i }
 
-cash_found : (cs : List CashRow) → Climbs cash_key cs → AllByRecursion (λ c. find (λ x. x.trade == c.trade) cs ≡ Some c) cs
+cash_found : (cs : List CashRow) → Climbs cash_transaction_key cs → AllByRecursion (λ c. find (λ x. x.trade == c.trade) cs ≡ Some c) cs
 cash_found cs c = both cs (each_in cs) (find-each (λ c x. x.trade == c.trade) cs (λ c. eq-eqb c.trade c.trade refl))
   where
     one : (r : CashRow) → In r cs → is_some (find (λ x. x.trade == r.trade) cs) ≡ true → find (λ x. x.trade == r.trade) cs ≡ Some r
     one r m e =
         let f : FoundIn CashRow (λ x. x.trade == r.trade) cs = found_in (λ x. x.trade == r.trade) cs e in
         let k : f.item.trade ≡ r.trade = eqb-true f.item.trade r.trade f.passes in
-        f.is ∙ ap Some (one_of_key cash_key cs f.item r c f.there m (λ i. number (k i) ∷ []))
+        f.is ∙ ap Some (one_of_key cash_transaction_key cs f.item r c f.there m (λ i. number (k i) ∷ []))
 
     both : (xs : List CashRow) → AllByRecursion (λ r. In r cs) xs → AllByRecursion (λ r. is_some (find (λ x. x.trade == r.trade) cs) ≡ true) xs
         → AllByRecursion (λ r. find (λ x. x.trade == r.trade) cs ≡ Some r) xs
@@ -209,10 +209,10 @@ cash_found cs c = both cs (each_in cs) (find-each (λ c x. x.trade == c.trade) c
     both (r ∷ xs) m e = (one r m.0 e.0, both xs m.1 e.1)
 
 -- what is posted by a trade, where no rows are numbered
-posted_cash : (t : Tables) → t.moves ≡ [] → (id : ℕ) → find (is_posting_of_trade id) (postings_of_tables t) ≡ option_map (posting_of_cash_row t) (find (λ x. x.trade == id) t.cash)
+posted_cash : (t : Tables) → t.moves ≡ [] → (id : ℕ) → find (is_posting_of_trade id) (postings_of_tables t) ≡ option_map (posting_of_cash_transaction_row t) (find (λ x. x.trade == id) t.cash)
 posted_cash t e id =
-    ap (λ ms. find (is_posting_of_trade id) (map (posting_of_cash_row t) t.cash ++ map posting_of_move_row ms)) e ∙ ap (find (is_posting_of_trade id)) (append_nil (map (posting_of_cash_row t) t.cash))
-    ∙ find-map (is_posting_of_trade id) (posting_of_cash_row t) t.cash
+    ap (λ ms. find (is_posting_of_trade id) (map (posting_of_cash_transaction_row t) t.cash ++ map posting_of_cash_move_row ms)) e ∙ ap (find (is_posting_of_trade id)) (append_nil (map (posting_of_cash_transaction_row t) t.cash))
+    ∙ find-map (is_posting_of_trade id) (posting_of_cash_transaction_row t) t.cash
 
 same_cash_row : (t : Tables) (c : CashRow) (r : TradeRow) → t.moves ≡ [] → find (λ x. x.trade == c.trade) t.cash ≡ Some c → IsRight t r
     → cash_figures_of_row c ≡ cash_figures_of_trade (account_tax_status_or_untaxed t) r → c ≡ cash_transaction_row (accounts_in t) (trade_of_row t r)
@@ -220,7 +220,7 @@ same_cash_row t c r n f e d =
     let g : cash_figures_of_row c ≡ cash_figures_of_row (cash_transaction_row (accounts_in t) (trade_of_row t r)) = d ∙ sym (moved_right t r e) in
     let id : c.trade ≡ r.id = ap (λ x. x.trade) g in
     let w : c.name ≡ option_map_or (λ p. p.name) (find (is_posting_of_trade r.id) (postings_of_tables t)) [] =
-    sym (ap (λ o. option_map_or (λ p. p.name) (option_map (posting_of_cash_row t) o) []) f) ∙ ap (λ k. option_map_or (λ p. p.name) (option_map (posting_of_cash_row t) (find (λ x. x.trade == k) t.cash)) []) id
+    sym (ap (λ o. option_map_or (λ p. p.name) (option_map (posting_of_cash_transaction_row t) o) []) f) ∙ ap (λ k. option_map_or (λ p. p.name) (option_map (posting_of_cash_transaction_row t) (find (λ x. x.trade == k) t.cash)) []) id
     ∙ ap (λ o. option_map_or (λ p. p.name) o []) (sym (posted_cash t n r.id)) in
     λ i. record { trade = (g i).trade; stamp = (g i).stamp; amount = (g i).amount; name = w i }
 
@@ -236,7 +236,7 @@ same_cash t (c ∷ cs) (r ∷ rs) n f e d =
     let more = same_cash t cs rs n f.1 e.1 k in
     λ i. g i ∷ more i
 
-pub cash_by_rows : (schema : Schema) (t : Tables) → schema.has_cash_move_table ≡ false → t.moves ≡ [] → Climbs trade_key t.trades → Climbs cash_key t.cash → satisfies_status_condition t ≡ true
+pub cash_by_rows : (schema : Schema) (t : Tables) → schema.has_cash_move_table ≡ false → t.moves ≡ [] → Climbs trade_key t.trades → Climbs cash_transaction_key t.cash → satisfies_status_condition t ≡ true
     → (ConditionHolds schema condition.Cash t → HasCash t) × (HasCash t → ConditionHolds schema condition.Cash t)
 unfolding ConditionHolds
 cash_by_rows schema t n m c d s =

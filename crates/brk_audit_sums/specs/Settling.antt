@@ -50,18 +50,18 @@ settlement_figures_of_trade rule statuses r =
     record { trade = r.id; due_day = due_day_of_completion_stamp rule r.stamp; amount = settlement_amount_at_tax_status (statuses r.account) r }
 
 -- The trade, the stamp and the amount, in cents, of a row of CASH_TRANSACTION.
-pub record CashRowFigures : Type 0 where
+pub record CashTransactionFigures : Type 0 where
   pub trade : ℕ
   pub stamp : ℕ
   pub amount : ℤ
 
 -- The trade, the stamp and the amount in the row of CASH_TRANSACTION.
-abbrev pub cash_figures_of_row : CashRow → CashRowFigures
+abbrev pub cash_figures_of_row : CashRow → CashTransactionFigures
 cash_figures_of_row c = record { trade = c.trade; stamp = c.stamp; amount = c.amount }
 
 -- The trade, the stamp and the amount of the row of CASH_TRANSACTION of the completed cash trade
 -- `r`, where `statuses` returns the tax status of an account.
-abbrev pub cash_figures_of_trade : (ℕ → TaxStatus) → TradeRow → CashRowFigures
+abbrev pub cash_figures_of_trade : (ℕ → TaxStatus) → TradeRow → CashTransactionFigures
 cash_figures_of_trade statuses r = record { trade = r.id; stamp = r.stamp; amount = settlement_amount_at_tax_status (statuses r.account) r }
 
 -- The account, the trade, the stamp and the amount, in cents, of a row of CASH_MOVE that belongs to

@@ -110,7 +110,7 @@ fn is_nonzero(qty: i64) -> bool
 }
 
 // Returns true if no holding summary has the quantity 0.
-fn all_summaries_nonzero(rows: &[SummaryRow]) -> bool
+fn has_no_zero_summary(rows: &[SummaryRow]) -> bool
     ensures { IsTrue result ↔ AllByRecursion (λ r. is_zero r.qty ≡ false) rows.now }
 {
     for row in rows {
@@ -122,7 +122,7 @@ fn all_summaries_nonzero(rows: &[SummaryRow]) -> bool
 }
 
 /// Returns true if all three arguments are true.
-pub fn all_three_true(one: bool, other: bool, last: bool) -> bool
+pub fn are_all_three_true(one: bool, other: bool, last: bool) -> bool
     ensures { IsTrue result ↔ (IsTrue one × IsTrue other × IsTrue last) }
 {
     one && other && last
@@ -144,6 +144,6 @@ pub fn summary_condition_holds(alloc: Global, sheets: &Sheets) -> Result<bool, F
     let told = sum_amounts_by_key(alloc, &claims)?;
     let each_trade = sums_agree_at_postings(&sums, &told, &postings);
     let each_row = sums_agree_at_postings(&sums, &told, &claims);
-    let shares = all_summaries_nonzero(&sheets.summaries);
-    Ok(all_three_true(each_trade, each_row, shares))
+    let shares = has_no_zero_summary(&sheets.summaries);
+    Ok(are_all_three_true(each_trade, each_row, shares))
 }

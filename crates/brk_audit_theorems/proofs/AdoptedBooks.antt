@@ -21,7 +21,7 @@ use Rattle.brk_model.specs.Keys.{number, word, is_key_less, account_key, permiss
 use Rattle.brk_model.specs.Tests.{bands_overlap}
 use Rattle.brk_model.specs.Forms.{is_name, is_exchange}
 use Rattle.brk_model.specs.Adopted.{account_of_row, base_of_tables, movement_of_row, zero_last_trade_row, security_of_row, security_of_rows, trade_of_row}
-use Rattle.brk_model.specs.Form.{is_well_formed_account_row, is_well_formed_band_row, has_account, has_broker, has_customer, satisfies_form_condition, has_security, has_trade, is_well_formed_history_row, has_cash_row_name_of_trade, is_id, is_cash_row_number, is_movement_name_and_amount, is_price, is_quantity_in_schema, is_at_most_last_stamp, is_tier, is_well_formed_last_trade_row, is_well_formed_move_row, bands_are_disjoint, price_matches_completion, are_equal_number_lists, is_well_formed_trade_row}
+use Rattle.brk_model.specs.Form.{is_well_formed_account_row, is_well_formed_band_row, has_account, has_broker, has_customer, satisfies_form_condition, has_security, has_trade, is_well_formed_history_row, has_cash_row_name_of_trade, is_id, is_cash_row_number, is_movement_name_and_amount, is_price, is_quantity_in_schema, is_at_most_last_stamp, is_tier, is_well_formed_last_trade_row, is_well_formed_cash_move_row, has_disjoint_bands, has_price_matching_completion, are_equal_number_lists, is_well_formed_trade_row}
 use Rattle.brk_model.specs.Ways.{completion_stamps, satisfies_status_condition, movement_stamps, has_valid_status_history}
 use Rattle.brk_model.specs.Names.{AccountOfTradeExists, BrokerOfAccountExists, CustomerOfAccountExists, SecurityOfTradeExists, TradesAreNumberedFrom}
 use Rattle.brk_book_theorems.specs.Books.{MovementBooksInvariant, HasDisjointBands, HasNoCompletionIfSubmitted, HasDistinctAccountIds, HasDistinctSymbols, HasOrderedBounds, MovementAccountExists, HasVolumeWithinLimit, BooksInvariant, TradeStampIsAtMostLastStamp, MovementStampIsAtMostLastStamp, HasLastStatusAtOtherStamp, HasDistinctLastStatusStamps, HasDistinctMovementStamps, HasDistinctPermissions, HasOneStatusChangeIfPending}
@@ -59,7 +59,7 @@ knows_customer t a e = (account_names t a e).0
 trade_names : (schema : Schema) (t : Tables) (row : TradeRow) → is_well_formed_trade_row schema t row ≡ true → (has_security t row.symbol ≡ true) × (has_account t row.account ≡ true)
 trade_names schema t row e =
     let k = parts10 (is_id row.id) (is_quantity_in_schema schema row.qty) (is_price row.bid) (nat_le row.charge greatest_charge) (nat_le row.commission greatest_amount) (nat_le row.tax greatest_amount)
-    (is_at_most_last_stamp t row.stamp) (has_security t row.symbol) (has_account t row.account) (price_matches_completion t row) e in (k.7, k.8)
+    (is_at_most_last_stamp t row.stamp) (has_security t row.symbol) (has_account t row.account) (has_price_matching_completion t row) e in (k.7, k.8)
 
 knows_account : (schema : Schema) (t : Tables) (row : TradeRow) → is_well_formed_trade_row schema t row ≡ true → AccountOfTradeExists (base_of_tables t) (trade_of_row t row)
 unfolding base_of_tables
@@ -147,10 +147,10 @@ bounds_of : (schema : Schema) (b : Band) → is_well_formed_band_row schema b �
 bounds_of schema b e =
     (parts6 (is_tier b.tier) (is_exchange b.exchange) (is_quantity_in_schema schema b.from_qty) (is_quantity_in_schema schema b.to_qty) (nat_le b.from_qty b.to_qty) (nat_le b.rate greatest_commission_rate) e).4
 
-bands_apart : (bs : List Band) → bands_are_disjoint bs ≡ true → HasDisjointBands bs
+bands_apart : (bs : List Band) → has_disjoint_bands bs ≡ true → HasDisjointBands bs
 bands_apart [] e = tt
 bands_apart (b ∷ bs) e =
-    let k = and_parts (not (list_any (bands_overlap b) bs)) (bands_are_disjoint bs) e in
+    let k = and_parts (not (list_any (bands_overlap b) bs)) (has_disjoint_bands bs) e in
     (any-none (bands_overlap b) bs (not-true (list_any (bands_overlap b) bs) k.0), bands_apart bs k.1)
 
 clock_of : (o : Option ℕ) → option_map_or (λ last. nat_le last greatest_stamp) o true ≡ true → IfSome o (λ last. last ≤ greatest_stamp)
@@ -318,16 +318,16 @@ made_at : (o : Option ℕ) (n : ℕ) (m : Movement) → n ≡ m.stamp → option
 made_at None n m e h = false_true h
 made_at (Some last) n m e h = let k : n ≤ last = leb-true n last h in omega arith
 
-pub move_parts : (t : Tables) (r : MoveRow) → is_well_formed_move_row t r ≡ true → (has_account t r.account ≡ true) × (is_at_most_last_stamp t r.stamp ≡ true)
+pub move_parts : (t : Tables) (r : MoveRow) → is_well_formed_cash_move_row t r ≡ true → (has_account t r.account ≡ true) × (is_at_most_last_stamp t r.stamp ≡ true)
 move_parts t r e =
     let k = parts5 (is_cash_row_number r.id) (has_account t r.account) (option_map_or (has_cash_row_name_of_trade t r) r.trade (is_movement_name_and_amount r.name r.amount)) (is_at_most_last_stamp t r.stamp) (is_within_amount_limit r.amount) e in (k.1, k.3)
 
-adopted_movements : (t : Tables) (ds : List TradeRow) → AllByRecursion (λ r. is_well_formed_move_row t r ≡ true) t.moves
+adopted_movements : (t : Tables) (ds : List TradeRow) → AllByRecursion (λ r. is_well_formed_cash_move_row t r ≡ true) t.moves
     → AllByRecursion (λ d. contains_number (last_status_stamp_of_trade (trade_of_row t d)) (movement_stamps t) ≡ false) ds → all_distinct (movement_stamps t) ≡ true
     → MovementBooksInvariant (map account_of_row t.accounts) t.last (map (trade_of_row t) ds) (map movement_of_row (filter (λ r. is_none r.trade) t.moves))
 adopted_movements t ds f h d =
     let rows : List MoveRow = filter (λ r. is_none r.trade) t.moves in
-    let formed : AllByRecursion (λ r. is_well_formed_move_row t r ≡ true) rows = filtered_form f in
+    let formed : AllByRecursion (λ r. is_well_formed_cash_move_row t r ≡ true) rows = filtered_form f in
     record {
       holders = All-mapped (MovementAccountExists (map account_of_row t.accounts)) movement_of_row rows
           (All-map rows (λ r e. found_mapped (λ a. a.id == r.account) account_of_row t.accounts ∙ (move_parts t r e).0) formed);
@@ -335,8 +335,8 @@ adopted_movements t ds f h d =
       apart = movements_apart t ds rows h d;
     }
   where
-    filtered_form : AllByRecursion (λ r. is_well_formed_move_row t r ≡ true) t.moves → AllByRecursion (λ r. is_well_formed_move_row t r ≡ true) (filter (λ r. is_none r.trade) t.moves)
-    filtered_form g = All-map (filter (λ r. is_none r.trade) t.moves) (λ r k. k.0) (filtered (λ r. is_well_formed_move_row t r ≡ true) (λ r. is_none r.trade) t.moves g)
+    filtered_form : AllByRecursion (λ r. is_well_formed_cash_move_row t r ≡ true) t.moves → AllByRecursion (λ r. is_well_formed_cash_move_row t r ≡ true) (filter (λ r. is_none r.trade) t.moves)
+    filtered_form g = All-map (filter (λ r. is_none r.trade) t.moves) (λ r k. k.0) (filtered (λ r. is_well_formed_cash_move_row t r ≡ true) (λ r. is_none r.trade) t.moves g)
 
 -- ---- together
 
@@ -382,5 +382,5 @@ adopted_books schema t f s =
       };
       movements = subst (λ ts. MovementBooksInvariant (map account_of_row t.accounts) t.last ts (map movement_of_row (filter (λ r. is_none r.trade) t.moves)))
           (sym (filter-map is_completed (trade_of_row t) t.trades))
-          (adopted_movements t (done_rows t) (list_all_true (is_well_formed_move_row t) t.moves p.moves) (none_at_completion t (done_rows t) apart_stamps.across done) apart_stamps.second);
+          (adopted_movements t (done_rows t) (list_all_true (is_well_formed_cash_move_row t) t.moves p.moves) (none_at_completion t (done_rows t) apart_stamps.across done) apart_stamps.second);
     }

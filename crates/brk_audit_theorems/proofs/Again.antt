@@ -14,7 +14,7 @@ use Rattle.brk_model.specs.Derived.{Posting, cash_trades, postings_sorted_by_sta
 use Rattle.brk_model.specs.Tables.{HistoryRow, account_row, broker_row, history_rows, last_trade_row, security_row, settlement_row, tables_of_base_in_schema, trade_row}
 use Rattle.brk_model.specs.Sheets.{sheets, tables_sorted_by_key}
 use Rattle.brk_model.specs.Keys.{number, word, rows_sorted_by_key, is_row_key_less, account_key, broker_key, history_key, security_key}
-use Rattle.brk_model.specs.Adopted.{account_of_row, base_of_tables, is_posting_of_trade, status_changes_of_trade, movement_of_row, zero_last_trade_row, posting_of_cash_row, posting_of_move_row, postings_of_tables, security_of_row, security_of_rows, trade_of_row}
+use Rattle.brk_model.specs.Adopted.{account_of_row, base_of_tables, is_posting_of_trade, status_changes_of_trade, movement_of_row, zero_last_trade_row, posting_of_cash_transaction_row, posting_of_cash_move_row, postings_of_tables, security_of_row, security_of_rows, trade_of_row}
 use Rattle.brk_model.specs.Ways.{is_strictly_ascending}
 use Rattle.brk_model.specs.Names.{TradesAreNumberedFrom}
 use Rattle.brk_book_theorems.specs.Books.{HasDistinctSymbols, BooksInvariant}
@@ -231,10 +231,10 @@ word_if w row t text false e f = sym (f refl)
 
 -- the postings of the tables of a base are its postings in turn
 pub posted_in : (base : Base) → postings_of_tables (sheets base) ≡ postings_sorted_by_stamp (postings_of_base base)
-posted_in base = ap (λ rows. rows ++ map posting_of_move_row (sheets base).moves) (none_left base) ∙ rows_posted base
+posted_in base = ap (λ rows. rows ++ map posting_of_cash_move_row (sheets base).moves) (none_left base) ∙ rows_posted base
   where
-    none_left : (base : Base) → map (posting_of_cash_row (sheets base)) (sheets base).cash ≡ []
-    none_left base = ap (map (posting_of_cash_row (sheets base))) (no_cash base)
+    none_left : (base : Base) → map (posting_of_cash_transaction_row (sheets base)) (sheets base).cash ≡ []
+    none_left base = ap (map (posting_of_cash_transaction_row (sheets base))) (no_cash base)
 
 cash_type_again : (base : Base) (t : Trade) → IsRead base t → HasTextsOnlyIfCompleted t → option_map_or (λ s. s.cash_type) (find (λ s. s.trade == t.id) (sheets base).settlements) [] ≡ t.cash_type
 unfolding tables_sorted_by_key tables_of_base_in_schema

@@ -1,8 +1,8 @@
 -- Tables that have keys climb by them.
 use Rattle.std.proofs.Common.{◌≡◌, true}
 use Rattle.brk_model.specs.Tables.{Tables}
-use Rattle.brk_model.specs.Form.{tables_are_sorted_by_unique_key}
-use Rattle.brk_model.specs.Keys.{kept_key, broker_key, customer_key, account_key, permission_key, security_key, last_trade_key, charge_key, band_key, tax_rate_key, customer_tax_key, trade_key, history_key, request_key, holding_key, summary_key, holding_history_key, settlement_key, cash_key, move_key}
+use Rattle.brk_model.specs.Form.{has_tables_sorted_by_unique_key}
+use Rattle.brk_model.specs.Keys.{kept_key, broker_key, customer_key, account_key, permission_key, security_key, last_trade_key, charge_key, band_key, tax_rate_key, customer_tax_key, trade_key, history_key, request_key, holding_key, summary_key, holding_history_key, settlement_key, cash_transaction_key, cash_move_key}
 use Rattle.brk_model_theorems.specs.FormParts.{HasSortedTables}
 use Rattle.brk_model_theorems.proofs.FormParts.{keys_rise}
 use Rattle.brk_audit_theorems.proofs.Climbs.{Climbs, climbs}
@@ -27,10 +27,10 @@ pub record KeyParts (t : Tables) : Type 0 where
   pub summaries : Climbs summary_key t.summaries
   pub holding_history : Climbs holding_history_key t.holding_history
   pub settlements : Climbs settlement_key t.settlements
-  pub cash : Climbs cash_key t.cash
-  pub moves : Climbs move_key t.moves
+  pub cash : Climbs cash_transaction_key t.cash
+  pub moves : Climbs cash_move_key t.moves
 
-pub key_parts : (t : Tables) → tables_are_sorted_by_unique_key t ≡ true → KeyParts t
+pub key_parts : (t : Tables) → has_tables_sorted_by_unique_key t ≡ true → KeyParts t
 key_parts t h =
     let r : HasSortedTables t = keys_rise t h in
     record {
@@ -52,6 +52,6 @@ key_parts t h =
       summaries = climbs summary_key t.summaries r.summaries;
       holding_history = climbs holding_history_key t.holding_history r.holding_history;
       settlements = climbs settlement_key t.settlements r.settlements;
-      cash = climbs cash_key t.cash r.cash;
-      moves = climbs move_key t.moves r.moves;
+      cash = climbs cash_transaction_key t.cash r.cash;
+      moves = climbs cash_move_key t.moves r.moves;
     }

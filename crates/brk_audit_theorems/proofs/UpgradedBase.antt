@@ -11,11 +11,11 @@ use Rattle.brk_model.specs.Derived.{Posting, cash_trades, postings_sorted_by_sta
 use Rattle.brk_model.specs.Schemas.{Schema, third_schema}
 use Rattle.brk_model.specs.Tables.{CashRow, MoveRow, Tables, TradeRow, cash_transaction_row, numbered_move_rows, tables_of_base_in_schema, trade_row}
 use Rattle.brk_model.specs.Sheets.{sheets, sheets_in_schema, tables_sorted_by_key}
-use Rattle.brk_model.specs.Keys.{number, rows_sorted_by_key, cash_key, move_key, is_row_key_less}
-use Rattle.brk_model.specs.Adopted.{base_of_tables, is_posting_of_trade, movement_of_row, posting_of_cash_row, posting_of_move_row, postings_of_tables, trade_of_row}
+use Rattle.brk_model.specs.Keys.{number, rows_sorted_by_key, cash_transaction_key, cash_move_key, is_row_key_less}
+use Rattle.brk_model.specs.Adopted.{base_of_tables, is_posting_of_trade, movement_of_row, posting_of_cash_transaction_row, posting_of_cash_move_row, postings_of_tables, trade_of_row}
 use Rattle.brk_model.specs.Form.{trade_ids_of_cash_rows}
 use Rattle.brk_model.specs.LookupView.{is_cash_row_of_trade}
-use Rattle.brk_model.specs.Upgraded.{tables_after_upgrade, tables_upgraded_from_schema}
+use Rattle.brk_model.specs.Upgraded.{tables_with_merged_cash_rows, tables_upgraded_from_schema}
 use Rattle.brk_book_theorems.specs.Books.{BooksInvariant}
 use Rattle.brk_book_theorems.proofs.LotReading.{IdsApart, numbered_rise, rise_apart, rise_filter}
 use Rattle.brk_book_theorems.proofs.MoveReading.{movements_back, postings_back, stamp_one_way, stamp_splits, turn_filter}
@@ -35,13 +35,13 @@ pub turned_twice : (ps : List Posting) → postings_sorted_by_stamp (postings_so
 turned_twice ps = sort_sorted (λ a b. nat_lt a.stamp b.stamp) (postings_sorted_by_stamp ps) (sorted_sort (λ a b. nat_lt a.stamp b.stamp) ps stamp_splits stamp_one_way)
 
 cash_at : (schema : Schema) (base : Base) (b : Bool) → schema.has_cash_move_table ≡ b
-    → (sheets_in_schema schema base).cash ≡ rows_sorted_by_key cash_key (cond b [] (map (cash_transaction_row base.accounts) (cash_trades (completed_trades base))))
+    → (sheets_in_schema schema base).cash ≡ rows_sorted_by_key cash_transaction_key (cond b [] (map (cash_transaction_row base.accounts) (cash_trades (completed_trades base))))
 unfolding tables_sorted_by_key tables_of_base_in_schema
-cash_at schema base b e = ap (λ c. rows_sorted_by_key cash_key (cond c [] (map (cash_transaction_row base.accounts) (cash_trades (completed_trades base))))) e
+cash_at schema base b e = ap (λ c. rows_sorted_by_key cash_transaction_key (cond c [] (map (cash_transaction_row base.accounts) (cash_trades (completed_trades base))))) e
 
-moves_at : (schema : Schema) (base : Base) (b : Bool) → schema.has_cash_move_table ≡ b → (sheets_in_schema schema base).moves ≡ rows_sorted_by_key move_key (cond b (numbered_move_rows 1 (postings_sorted_by_stamp (postings_of_base base))) [])
+moves_at : (schema : Schema) (base : Base) (b : Bool) → schema.has_cash_move_table ≡ b → (sheets_in_schema schema base).moves ≡ rows_sorted_by_key cash_move_key (cond b (numbered_move_rows 1 (postings_sorted_by_stamp (postings_of_base base))) [])
 unfolding tables_sorted_by_key tables_of_base_in_schema
-moves_at schema base b e = ap (λ c. rows_sorted_by_key move_key (cond c (numbered_move_rows 1 (postings_sorted_by_stamp (postings_of_base base))) [])) e
+moves_at schema base b e = ap (λ c. rows_sorted_by_key cash_move_key (cond c (numbered_move_rows 1 (postings_sorted_by_stamp (postings_of_base base))) [])) e
 
 trades_at : (schema : Schema) (base : Base) → (sheets_in_schema schema base).trades ≡ (sheets base).trades
 unfolding tables_sorted_by_key tables_of_base_in_schema
@@ -54,13 +54,13 @@ no_rows before = refl
 -- where they are numbered
 posted_in_moves : (schema : Schema) (base : Base) → schema.has_cash_move_table ≡ true → postings_of_tables (sheets_in_schema schema base) ≡ postings_sorted_by_stamp (postings_of_base base)
 posted_in_moves schema base e =
-    (λ i. map (posting_of_cash_row (sheets_in_schema schema base)) ((cash_at schema base true e ∙ no_rows (is_row_key_less cash_key)) i) ++ map posting_of_move_row ((moves_at schema base true e ∙ numbered_stay 1 (postings_sorted_by_stamp (postings_of_base base))) i))
+    (λ i. map (posting_of_cash_transaction_row (sheets_in_schema schema base)) ((cash_at schema base true e ∙ no_rows (is_row_key_less cash_transaction_key)) i) ++ map posting_of_cash_move_row ((moves_at schema base true e ∙ numbered_stay 1 (postings_sorted_by_stamp (postings_of_base base))) i))
     ∙ postings_back 1 (postings_sorted_by_stamp (postings_of_base base))
 
 -- where they stand by their trades
-cash_in_order : (base : Base) → BooksInvariant base → rows_sorted_by_key cash_key (map (cash_transaction_row base.accounts) (cash_trades (completed_trades base))) ≡ map (cash_transaction_row base.accounts) (cash_trades (completed_trades base))
+cash_in_order : (base : Base) → BooksInvariant base → rows_sorted_by_key cash_transaction_key (map (cash_transaction_row base.accounts) (cash_trades (completed_trades base))) ≡ map (cash_transaction_row base.accounts) (cash_trades (completed_trades base))
 cash_in_order base books =
-    by_key-map (λ t. number t.id ∷ []) cash_key (cash_transaction_row base.accounts) (cash_trades (completed_trades base)) (λ t. refl)
+    by_key-map (λ t. number t.id ∷ []) cash_transaction_key (cash_transaction_row base.accounts) (cash_trades (completed_trades base)) (λ t. refl)
     ∙ ap (map (cash_transaction_row base.accounts)) (sort_sorted (is_row_key_less (λ t. number t.id ∷ [])) (cash_trades (completed_trades base))
     (sorted_filter (is_row_key_less (λ t. number t.id ∷ [])) (λ t. t.is_cash) (completed_trades base)
     (sorted_filter (is_row_key_less (λ t. number t.id ∷ [])) is_completed base.trades (trades_stand 1 base.trades books.numbered))))
@@ -75,9 +75,9 @@ posted_by_trades : (schema : Schema) (base : Base) → BooksInvariant base → s
 posted_by_trades schema base books e =
     let rows : Tables = sheets_in_schema schema base in
     let C : List Trade = cash_trades (completed_trades base) in
-    (λ i. map (posting_of_cash_row rows) ((cash_at schema base false e ∙ cash_in_order base books) i) ++ map posting_of_move_row ((moves_at schema base false e ∙ no_rows (is_row_key_less move_key)) i))
-    ∙ append_nil (map (posting_of_cash_row rows) (map (cash_transaction_row base.accounts) C)) ∙ map-map (posting_of_cash_row rows) (cash_transaction_row base.accounts) C
-    ∙ map-same (λ t. posting_of_cash_row rows (cash_transaction_row base.accounts t)) (posting_of_trade base.accounts) C
+    (λ i. map (posting_of_cash_transaction_row rows) ((cash_at schema base false e ∙ cash_in_order base books) i) ++ map posting_of_cash_move_row ((moves_at schema base false e ∙ no_rows (is_row_key_less cash_move_key)) i))
+    ∙ append_nil (map (posting_of_cash_transaction_row rows) (map (cash_transaction_row base.accounts) C)) ∙ map-map (posting_of_cash_transaction_row rows) (cash_transaction_row base.accounts) C
+    ∙ map-same (λ t. posting_of_cash_transaction_row rows (cash_transaction_row base.accounts t)) (posting_of_trade base.accounts) C
     (All-map C (λ t k. λ i. record (posting_of_trade base.accounts t) {
       account = option_map_or (λ r. r.account) ((ap (find (λ r. r.id == t.id)) (trades_at schema base) ∙ reads_trade base t.id ∙ ap (option_map trade_row) k) i) 0;
     }) (cash_found base books))
@@ -164,19 +164,19 @@ posted_once base id books =
 pub short_rows : (id n : ℕ) (ps : List Posting) → IsShort (filter (is_posting_of_trade id) ps) → IsShort (filter (is_cash_row_of_trade id) (numbered_move_rows n ps))
 short_rows id n ps h = of_postings (filter (is_cash_row_of_trade id) (numbered_move_rows n ps)) (subst IsShort (sym (as_postings (numbered_move_rows n ps) ∙ ap (filter (is_posting_of_trade id)) (postings_back n ps))) h)
   where
-    of_postings : (rows : List MoveRow) → IsShort (map posting_of_move_row rows) → IsShort rows
+    of_postings : (rows : List MoveRow) → IsShort (map posting_of_cash_move_row rows) → IsShort rows
     of_postings [] h = tt
     of_postings (r ∷ []) h = tt
     of_postings (r ∷ q ∷ rows) h = absurd h
 
-    as_postings : (rows : List MoveRow) → map posting_of_move_row (filter (is_cash_row_of_trade id) rows) ≡ filter (is_posting_of_trade id) (map posting_of_move_row rows)
+    as_postings : (rows : List MoveRow) → map posting_of_cash_move_row (filter (is_cash_row_of_trade id) rows) ≡ filter (is_posting_of_trade id) (map posting_of_cash_move_row rows)
     as_postings [] = refl
     as_postings (r ∷ rows) = put (is_cash_row_of_trade id r) (as_postings rows)
       where
-        put : (b : Bool) → map posting_of_move_row (filter (is_cash_row_of_trade id) rows) ≡ filter (is_posting_of_trade id) (map posting_of_move_row rows)
-            → map posting_of_move_row (cond b (r ∷ filter (is_cash_row_of_trade id) rows) (filter (is_cash_row_of_trade id) rows))
-            ≡ cond b (posting_of_move_row r ∷ filter (is_posting_of_trade id) (map posting_of_move_row rows)) (filter (is_posting_of_trade id) (map posting_of_move_row rows))
-        put true ih = ap (λ ps. posting_of_move_row r ∷ ps) ih
+        put : (b : Bool) → map posting_of_cash_move_row (filter (is_cash_row_of_trade id) rows) ≡ filter (is_posting_of_trade id) (map posting_of_cash_move_row rows)
+            → map posting_of_cash_move_row (cond b (r ∷ filter (is_cash_row_of_trade id) rows) (filter (is_cash_row_of_trade id) rows))
+            ≡ cond b (posting_of_cash_move_row r ∷ filter (is_posting_of_trade id) (map posting_of_cash_move_row rows)) (filter (is_posting_of_trade id) (map posting_of_cash_move_row rows))
+        put true ih = ap (λ ps. posting_of_cash_move_row r ∷ ps) ih
         put false ih = ih
 
 unseen : (r : MoveRow) (id : ℕ) (qs : List MoveRow) → IsShort (r ∷ filter (is_cash_row_of_trade id) qs) → contains_number id (trade_ids_of_cash_rows qs) ≡ false
@@ -243,7 +243,7 @@ posted schema t books e = by_schema schema.has_cash_move_table refl
     by_schema false h =
         let C : List Trade = cash_trades (completed_trades base) in
         let all : postings_of_tables t ≡ map (posting_of_trade base.accounts) C = ap postings_of_tables (sym e) ∙ posted_by_trades schema base books h in
-        let none : t.moves ≡ [] = ap (λ u. u.moves) (sym e) ∙ moves_at schema base false h ∙ no_rows (is_row_key_less move_key) in
+        let none : t.moves ≡ [] = ap (λ u. u.moves) (sym e) ∙ moves_at schema base false h ∙ no_rows (is_row_key_less cash_move_key) in
         let no_moves : base.movements ≡ [] = movements_of_rows t ∙ ap (λ rs. map movement_of_row (filter (λ r. is_none r.trade) rs)) none in
         let apart : IdsApart C = rise_apart C (rise_filter (λ t. t.is_cash) (completed_trades base) (rise_filter is_completed base.trades (numbered_rise 1 base.trades books.numbered))) in
         record {
@@ -253,11 +253,11 @@ posted schema t books e = by_schema schema.has_cash_move_table refl
         }
 
 moved_cash : (base : Base) → (sheets base).cash ≡ []
-moved_cash base = cash_at third_schema base true refl ∙ no_rows (is_row_key_less cash_key)
+moved_cash base = cash_at third_schema base true refl ∙ no_rows (is_row_key_less cash_transaction_key)
 
 -- upgraded rows are the tables of the base
-pub upgraded_tables : (schema : Schema) (t : Tables) → sheets_in_schema schema (base_of_tables t) ≡ t → IsPosted t → tables_after_upgrade t ≡ sheets (base_of_tables t)
-unfolding tables_after_upgrade tables_sorted_by_key tables_of_base_in_schema
+pub upgraded_tables : (schema : Schema) (t : Tables) → sheets_in_schema schema (base_of_tables t) ≡ t → IsPosted t → tables_with_merged_cash_rows t ≡ sheets (base_of_tables t)
+unfolding tables_with_merged_cash_rows tables_sorted_by_key tables_of_base_in_schema
 upgraded_tables schema t e p =
     (λ i. record (sym e i) { cash = sym (moved_cash (base_of_tables t)) i; moves = numbered_move_rows 1 (p.turned i) })
     ∙ (λ i. record (sheets (base_of_tables t)) { moves = sym (numbered_stay 1 (postings_sorted_by_stamp (postings_of_base (base_of_tables t)))) i })
@@ -271,26 +271,26 @@ same_sheets schema base e = λ i. record (sheets base) {
 }
 
 -- so what is left of rows there are the upgraded ones
-pub upgraded_from_upgraded : (schema : Schema) (t : Tables) → sheets_in_schema schema (base_of_tables t) ≡ t → IsPosted t → tables_upgraded_from_schema schema t ≡ tables_after_upgrade t
+pub upgraded_from_upgraded : (schema : Schema) (t : Tables) → sheets_in_schema schema (base_of_tables t) ≡ t → IsPosted t → tables_upgraded_from_schema schema t ≡ tables_with_merged_cash_rows t
 upgraded_from_upgraded schema t e p = by_test schema.has_cash_move_table refl
   where
-    by_test : (b : Bool) → schema.has_cash_move_table ≡ b → (if b then t else tables_after_upgrade t) ≡ tables_after_upgrade t
+    by_test : (b : Bool) → schema.has_cash_move_table ≡ b → (if b then t else tables_with_merged_cash_rows t) ≡ tables_with_merged_cash_rows t
     by_test true has = sym e ∙ same_sheets schema (base_of_tables t) has ∙ sym (upgraded_tables schema t e p)
     by_test false has = refl
 
-posted_upgraded : (t : Tables) → postings_of_tables (tables_after_upgrade t) ≡ postings_sorted_by_stamp (postings_of_tables t)
-unfolding tables_after_upgrade
+posted_upgraded : (t : Tables) → postings_of_tables (tables_with_merged_cash_rows t) ≡ postings_sorted_by_stamp (postings_of_tables t)
+unfolding tables_with_merged_cash_rows
 posted_upgraded t = postings_back 1 (postings_sorted_by_stamp (postings_of_tables t))
 
-trade_upgraded : (t : Tables) → IsPosted t → (r : TradeRow) → trade_of_row (tables_after_upgrade t) r ≡ trade_of_row t r
-unfolding tables_after_upgrade
+trade_upgraded : (t : Tables) → IsPosted t → (r : TradeRow) → trade_of_row (tables_with_merged_cash_rows t) r ≡ trade_of_row t r
+unfolding tables_with_merged_cash_rows
 trade_upgraded t p r = λ i. record (trade_of_row t r) { cash_name = option_map_or (λ p. p.name) ((ap (find (is_posting_of_trade r.id)) (posted_upgraded t) ∙ p.once r.id) i) [] }
 
 -- and give the same base
-pub base_upgraded : (schema : Schema) (t : Tables) → sheets_in_schema schema (base_of_tables t) ≡ t → IsPosted t → base_of_tables (tables_after_upgrade t) ≡ base_of_tables t
-unfolding base_of_tables tables_after_upgrade
+pub base_upgraded : (schema : Schema) (t : Tables) → sheets_in_schema schema (base_of_tables t) ≡ t → IsPosted t → base_of_tables (tables_with_merged_cash_rows t) ≡ base_of_tables t
+unfolding base_of_tables tables_with_merged_cash_rows
 base_upgraded schema t e p = λ i. record (base_of_tables t) {
-  trades = map-same (trade_of_row (tables_after_upgrade t)) (trade_of_row t) t.trades (All-of t.trades (trade_upgraded t p)) i;
+  trades = map-same (trade_of_row (tables_with_merged_cash_rows t)) (trade_of_row t) t.trades (All-of t.trades (trade_upgraded t p)) i;
   movements = movements i;
 }
   where

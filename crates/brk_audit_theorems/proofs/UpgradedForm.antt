@@ -14,12 +14,12 @@ use Rattle.brk_model.specs.Schemas.{Schema, third_schema}
 use Rattle.brk_model.specs.Tables.{CashRow, MoveRow, RequestRow, SummaryRow, Tables, TradeRow, numbered_move_rows}
 use Rattle.brk_model.specs.Sheets.{sheets}
 use Rattle.brk_model.specs.Joins.{trade_row_with_id}
-use Rattle.brk_model.specs.Keys.{number, is_key_less, cash_key, move_key}
-use Rattle.brk_model.specs.Adopted.{base_of_tables, movement_of_row, posting_of_cash_row, posting_of_move_row, postings_of_tables, trade_of_row}
+use Rattle.brk_model.specs.Keys.{number, is_key_less, cash_transaction_key, cash_move_key}
+use Rattle.brk_model.specs.Adopted.{base_of_tables, movement_of_row, posting_of_cash_transaction_row, posting_of_cash_move_row, postings_of_tables, trade_of_row}
 use Rattle.brk_model.specs.Lists.{all_distinct}
-use Rattle.brk_model.specs.Form.{is_well_formed_band_row, is_well_formed_cash_row, has_account, has_broker, satisfies_form_condition, tables_are_sorted_by_unique_key, has_security, has_trade, is_cash_row_name_of_trade, has_cash_row_name_of_trade, is_id, is_cash_row_number, is_movement_name_and_amount, is_price, is_quantity_in_schema, is_at_most_last_stamp, is_tier, is_well_formed_move_row, price_matches_completion, is_well_formed_request_row, is_sorted_by_unique_key, is_well_formed_summary_row, is_well_formed_trade_row, trade_ids_of_cash_rows}
+use Rattle.brk_model.specs.Form.{is_well_formed_band_row, is_well_formed_cash_transaction_row, has_account, has_broker, satisfies_form_condition, has_tables_sorted_by_unique_key, has_security, has_trade, is_cash_row_name_of_trade, has_cash_row_name_of_trade, is_id, is_cash_row_number, is_movement_name_and_amount, is_price, is_quantity_in_schema, is_at_most_last_stamp, is_tier, is_well_formed_cash_move_row, has_price_matching_completion, is_well_formed_request_row, is_sorted_by_unique_key, is_well_formed_summary_row, is_well_formed_trade_row, trade_ids_of_cash_rows}
 use Rattle.brk_model.specs.Forms.{is_exchange}
-use Rattle.brk_model.specs.Upgraded.{tables_after_upgrade}
+use Rattle.brk_model.specs.Upgraded.{tables_with_merged_cash_rows}
 use Rattle.brk_model.specs.Names.{TradesAreNumberedFrom}
 use Rattle.brk_book_theorems.specs.Books.{BooksInvariant}
 use Rattle.brk_book_theorems.proofs.LotReading.{All-sort}
@@ -56,7 +56,7 @@ band_wider schema w b e =
 trade_wider : (schema : Schema) (t : Tables) → HasLimitsWithinThirdSchema schema → (r : TradeRow) → is_well_formed_trade_row schema t r ≡ true → is_well_formed_trade_row third_schema t r ≡ true
 trade_wider schema t w r e =
     let k = parts10 (is_id r.id) (is_quantity_in_schema schema r.qty) (is_price r.bid) (nat_le r.charge greatest_charge) (nat_le r.commission greatest_amount) (nat_le r.tax greatest_amount)
-    (is_at_most_last_stamp t r.stamp) (has_security t r.symbol) (has_account t r.account) (price_matches_completion t r) e in
+    (is_at_most_last_stamp t r.stamp) (has_security t r.symbol) (has_account t r.account) (has_price_matching_completion t r) e in
     and_from _ _ (and_from _ _ (and_from _ _ (and_from _ _ (and_from _ _ (and_from _ _ (and_from _ _ (and_from _ _ (and_from _ _ k.0
     (qty_wider schema w r.qty k.1)) k.2) k.3) k.4) k.5) k.6) k.7) k.8) k.9
 
@@ -79,12 +79,12 @@ pub record HasForm (t : Tables) (p : Posting) : Type 0 where
   pub stamp : is_at_most_last_stamp t p.stamp ≡ true
   pub amount : is_within_amount_limit p.amount ≡ true
 
-pub move_posted : (t : Tables) (r : MoveRow) → is_well_formed_move_row t r ≡ true → HasForm t (posting_of_move_row r)
+pub move_posted : (t : Tables) (r : MoveRow) → is_well_formed_cash_move_row t r ≡ true → HasForm t (posting_of_cash_move_row r)
 move_posted t r e =
     let k = parts5 (is_cash_row_number r.id) (has_account t r.account) (option_map_or (has_cash_row_name_of_trade t r) r.trade (is_movement_name_and_amount r.name r.amount)) (is_at_most_last_stamp t r.stamp) (is_within_amount_limit r.amount) e in
     record { account = k.1; name = k.2; stamp = k.3; amount = k.4 }
 
-cash_posted : (schema : Schema) (t : Tables) → AllByRecursion (λ r. is_well_formed_trade_row schema t r ≡ true) t.trades → (c : CashRow) → is_well_formed_cash_row t c ≡ true → HasForm t (posting_of_cash_row t c)
+cash_posted : (schema : Schema) (t : Tables) → AllByRecursion (λ r. is_well_formed_trade_row schema t r ≡ true) t.trades → (c : CashRow) → is_well_formed_cash_transaction_row t c ≡ true → HasForm t (posting_of_cash_transaction_row t c)
 cash_posted schema t h c e =
     let k = parts3 (option_map_or (is_cash_row_name_of_trade t c.name) (trade_row_with_id t c.trade) false) (is_at_most_last_stamp t c.stamp) (is_within_amount_limit c.amount) e in
     record { account = by_trade (trade_row_with_id t c.trade) refl k.0; name = k.0; stamp = k.1; amount = k.2 }
@@ -92,7 +92,7 @@ cash_posted schema t h c e =
     account_of : (r : TradeRow) → is_well_formed_trade_row schema t r ≡ true → has_account t r.account ≡ true
     account_of r f =
         (parts10 (is_id r.id) (is_quantity_in_schema schema r.qty) (is_price r.bid) (nat_le r.charge greatest_charge) (nat_le r.commission greatest_amount) (nat_le r.tax greatest_amount)
-        (is_at_most_last_stamp t r.stamp) (has_security t r.symbol) (has_account t r.account) (price_matches_completion t r) f).8
+        (is_at_most_last_stamp t r.stamp) (has_security t r.symbol) (has_account t r.account) (has_price_matching_completion t r) f).8
 
     by_trade : (o : Option TradeRow) → trade_row_with_id t c.trade ≡ o → option_map_or (is_cash_row_name_of_trade t c.name) o false ≡ true → has_account t (option_map_or (λ r. r.account) (trade_row_with_id t c.trade) 0) ≡ true
     by_trade None f g = absurd (cc)
@@ -101,12 +101,12 @@ cash_posted schema t h c e =
 
 all_posted : (schema : Schema) (t : Tables) → SatisfiesFormParts schema t → AllByRecursion (HasForm t) (postings_of_tables t)
 all_posted schema t p =
-    All-append (HasForm t) (map (posting_of_cash_row t) t.cash) (map posting_of_move_row t.moves)
-    (All-mapped (HasForm t) (posting_of_cash_row t) t.cash
-    (All-map t.cash (cash_posted schema t (list_all_true (is_well_formed_trade_row schema t) t.trades p.trades)) (list_all_true (is_well_formed_cash_row t) t.cash p.cash)))
-    (All-mapped (HasForm t) posting_of_move_row t.moves (All-map t.moves (move_posted t) (list_all_true (is_well_formed_move_row t) t.moves p.moves)))
+    All-append (HasForm t) (map (posting_of_cash_transaction_row t) t.cash) (map posting_of_cash_move_row t.moves)
+    (All-mapped (HasForm t) (posting_of_cash_transaction_row t) t.cash
+    (All-map t.cash (cash_posted schema t (list_all_true (is_well_formed_trade_row schema t) t.trades p.trades)) (list_all_true (is_well_formed_cash_transaction_row t) t.cash p.cash)))
+    (All-mapped (HasForm t) posting_of_cash_move_row t.moves (All-map t.moves (move_posted t) (list_all_true (is_well_formed_cash_move_row t) t.moves p.moves)))
 
-pub numbered_form : (t : Tables) (n : ℕ) (ps : List Posting) → 1 ≤ n → n + length ps ≤ greatest_cash_row_number + 1 → AllByRecursion (HasForm t) ps → AllByRecursion (λ r. is_well_formed_move_row t r ≡ true) (numbered_move_rows n ps)
+pub numbered_form : (t : Tables) (n : ℕ) (ps : List Posting) → 1 ≤ n → n + length ps ≤ greatest_cash_row_number + 1 → AllByRecursion (HasForm t) ps → AllByRecursion (λ r. is_well_formed_cash_move_row t r ≡ true) (numbered_move_rows n ps)
 numbered_form t n [] l h f = tt
 numbered_form t n (p ∷ ps) l h f = (
   and_from _ _ (and_from _ _ (and_from _ _ (and_from _ _ (and_from _ _ (le-leb 1 n l) (le-leb n greatest_cash_row_number (omega (arith, h)))) f.0.account) f.0.name) f.0.stamp) f.0.amount,
@@ -144,7 +144,7 @@ unfolding base_of_tables
 ids_low schema t p =
     All-mapped (λ u. u.id ≤ greatest_id) (trade_of_row t) t.trades (All-map t.trades (λ r e.
     let k = parts10 (is_id r.id) (is_quantity_in_schema schema r.qty) (is_price r.bid) (nat_le r.charge greatest_charge) (nat_le r.commission greatest_amount) (nat_le r.tax greatest_amount)
-    (is_at_most_last_stamp t r.stamp) (has_security t r.symbol) (has_account t r.account) (price_matches_completion t r) e in
+    (is_at_most_last_stamp t r.stamp) (has_security t r.symbol) (has_account t r.account) (has_price_matching_completion t r) e in
     leb-true r.id greatest_id (and_parts (nat_le 1 r.id) (nat_le r.id greatest_id) k.0).1) (list_all_true (is_well_formed_trade_row schema t) t.trades p.trades))
 
 pub few_postings : (base : Base) → TradesAreNumberedFrom 1 base.trades → AllByRecursion (λ u. u.id ≤ greatest_id) base.trades → length base.movements ≤ greatest_id
@@ -176,31 +176,31 @@ few_rows schema t p books posted =
 next_number : (n : ℕ) → is_key_less (number n ∷ []) (number (n + 1) ∷ []) ≡ true
 next_number n = grind (arith, nat_tests)
 
-pub numbered_rises : (n : ℕ) (ps : List Posting) → is_sorted_by_unique_key move_key (numbered_move_rows n ps) ≡ true
+pub numbered_rises : (n : ℕ) (ps : List Posting) → is_sorted_by_unique_key cash_move_key (numbered_move_rows n ps) ≡ true
 numbered_rises n [] = refl
 numbered_rises n (p ∷ []) = refl
 numbered_rises n (p ∷ q ∷ ps) =
-    and_from (is_key_less (number n ∷ []) (number (n + 1) ∷ [])) (is_sorted_by_unique_key move_key (numbered_move_rows (n + 1) (q ∷ ps))) (next_number n) (numbered_rises (n + 1) (q ∷ ps))
+    and_from (is_key_less (number n ∷ []) (number (n + 1) ∷ [])) (is_sorted_by_unique_key cash_move_key (numbered_move_rows (n + 1) (q ∷ ps))) (next_number n) (numbered_rises (n + 1) (q ∷ ps))
 
-keys_upgraded : (t : Tables) → tables_are_sorted_by_unique_key t ≡ true → tables_are_sorted_by_unique_key (tables_after_upgrade t) ≡ true
-unfolding tables_are_sorted_by_unique_key tables_after_upgrade
+keys_upgraded : (t : Tables) → has_tables_sorted_by_unique_key t ≡ true → has_tables_sorted_by_unique_key (tables_with_merged_cash_rows t) ≡ true
+unfolding has_tables_sorted_by_unique_key tables_with_merged_cash_rows
 keys_upgraded t h =
-    let both = and_parts _ (is_sorted_by_unique_key move_key t.moves) h in
-    let rest = and_parts _ (is_sorted_by_unique_key cash_key t.cash) both.0 in
-    and_from _ (is_sorted_by_unique_key move_key (numbered_move_rows 1 (postings_sorted_by_stamp (postings_of_tables t)))) (and_from _ (is_sorted_by_unique_key cash_key []) rest.0 refl) (numbered_rises 1 (postings_sorted_by_stamp (postings_of_tables t)))
+    let both = and_parts _ (is_sorted_by_unique_key cash_move_key t.moves) h in
+    let rest = and_parts _ (is_sorted_by_unique_key cash_transaction_key t.cash) both.0 in
+    and_from _ (is_sorted_by_unique_key cash_move_key (numbered_move_rows 1 (postings_sorted_by_stamp (postings_of_tables t)))) (and_from _ (is_sorted_by_unique_key cash_transaction_key []) rest.0 refl) (numbered_rises 1 (postings_sorted_by_stamp (postings_of_tables t)))
 
 -- ---- all of it
 
-counted_upgraded : (t : Tables) → tables_after_upgrade t ≡ sheets (base_of_tables t) → nat_le (length (filter (λ r. is_none r.trade) t.moves)) greatest_id ≡ true
-    → nat_le (length (filter (λ r. is_none r.trade) (tables_after_upgrade t).moves)) greatest_id ≡ true
+counted_upgraded : (t : Tables) → tables_with_merged_cash_rows t ≡ sheets (base_of_tables t) → nat_le (length (filter (λ r. is_none r.trade) t.moves)) greatest_id ≡ true
+    → nat_le (length (filter (λ r. is_none r.trade) (tables_with_merged_cash_rows t).moves)) greatest_id ≡ true
 counted_upgraded t e h =
     ap (λ n. nat_le n greatest_id) (ap (λ u. length (filter (λ r. is_none r.trade) u.moves)) e ∙ moves_counted (base_of_tables t) ∙ movements_are t) ∙ h
 
 -- each part, of the same tables but for those of cash
-joined : (schema : Schema) (t : Tables) → HasLimitsWithinThirdSchema schema → SatisfiesFormParts schema t → list_all (is_well_formed_move_row t) (numbered_move_rows 1 (postings_sorted_by_stamp (postings_of_tables t))) ≡ true
+joined : (schema : Schema) (t : Tables) → HasLimitsWithinThirdSchema schema → SatisfiesFormParts schema t → list_all (is_well_formed_cash_move_row t) (numbered_move_rows 1 (postings_sorted_by_stamp (postings_of_tables t))) ≡ true
     → all_distinct (trade_ids_of_cash_rows (numbered_move_rows 1 (postings_sorted_by_stamp (postings_of_tables t)))) ≡ true
-    → nat_le (length (filter (λ r. is_none r.trade) (tables_after_upgrade t).moves)) greatest_id ≡ true → SatisfiesFormParts third_schema (tables_after_upgrade t)
-unfolding tables_after_upgrade base_of_tables
+    → nat_le (length (filter (λ r. is_none r.trade) (tables_with_merged_cash_rows t).moves)) greatest_id ≡ true → SatisfiesFormParts third_schema (tables_with_merged_cash_rows t)
+unfolding tables_with_merged_cash_rows base_of_tables
 joined schema t w p rows own counted = record {
   clock = p.clock;
   keys = keys_upgraded t p.keys;
@@ -234,11 +234,11 @@ joined schema t w p rows own counted = record {
   fits = refl;
 }
 
-pub upgraded_form : (schema : Schema) (t : Tables) → HasLimitsWithinThirdSchema schema → satisfies_form_condition schema t ≡ true → BooksInvariant (base_of_tables t) → IsPosted t → tables_after_upgrade t ≡ sheets (base_of_tables t) → satisfies_form_condition third_schema (tables_after_upgrade t) ≡ true
+pub upgraded_form : (schema : Schema) (t : Tables) → HasLimitsWithinThirdSchema schema → satisfies_form_condition schema t ≡ true → BooksInvariant (base_of_tables t) → IsPosted t → tables_with_merged_cash_rows t ≡ sheets (base_of_tables t) → satisfies_form_condition third_schema (tables_with_merged_cash_rows t) ≡ true
 upgraded_form schema t w f books posted e =
     let p : SatisfiesFormParts schema t = form_parts schema t f in
     let all : List Posting = postings_sorted_by_stamp (postings_of_tables t) in
-    let rows = all_list (is_well_formed_move_row t) (numbered_move_rows 1 all) (numbered_form t 1 all (omega arith) (few_rows schema t p books posted)
+    let rows = all_list (is_well_formed_cash_move_row t) (numbered_move_rows 1 all) (numbered_form t 1 all (omega arith) (few_rows schema t p books posted)
     (All-sort (HasForm t) (λ a b. nat_lt a.stamp b.stamp) (postings_of_tables t) (all_posted schema t p))) in
     let own = ap (λ ps. all_distinct (trade_ids_of_cash_rows (numbered_move_rows 1 ps))) posted.turned ∙ moves_own (base_of_tables t) books in
-    form_whole third_schema (tables_after_upgrade t) (joined schema t w p rows own (counted_upgraded t e p.counted))
+    form_whole third_schema (tables_with_merged_cash_rows t) (joined schema t w p rows own (counted_upgraded t e p.counted))

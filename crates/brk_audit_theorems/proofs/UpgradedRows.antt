@@ -10,7 +10,7 @@ use Rattle.brk_model.specs.Tables.{Tables}
 use Rattle.brk_model.specs.Sheets.{sheets, sheets_in_schema}
 use Rattle.brk_model.specs.Adopted.{base_of_tables, movement_of_row}
 use Rattle.brk_model.specs.Audit.{ConditionHolds}
-use Rattle.brk_model.specs.Upgraded.{tables_after_upgrade, tables_upgraded_from_schema}
+use Rattle.brk_model.specs.Upgraded.{tables_with_merged_cash_rows, tables_upgraded_from_schema}
 use Rattle.brk_model.specs.Ways.{completion_stamps, satisfies_status_condition, movement_stamps, has_valid_status_history}
 use Rattle.brk_book_theorems.specs.Books.{BooksInvariant}
 use Rattle.brk_audit_theorems.specs.Upgrade.{UpgradedRowsMatchTheirBase, HasLimitsWithinThirdSchema}
@@ -32,14 +32,14 @@ stamps_of_base : (t : Tables) → movement_stamps t ≡ map (λ m. m.stamp) (bas
 unfolding base_of_tables
 stamps_of_base t = sym (map-map (λ m. m.stamp) movement_of_row (filter (λ r. is_none r.trade) t.moves))
 
-same_statuses : (t : Tables) → (list_all (has_valid_status_history (tables_after_upgrade t)) (tables_after_upgrade t).trades ≡ list_all (has_valid_status_history t) t.trades) × (completion_stamps (tables_after_upgrade t) ≡ completion_stamps t)
-unfolding tables_after_upgrade
+same_statuses : (t : Tables) → (list_all (has_valid_status_history (tables_with_merged_cash_rows t)) (tables_with_merged_cash_rows t).trades ≡ list_all (has_valid_status_history t) t.trades) × (completion_stamps (tables_with_merged_cash_rows t) ≡ completion_stamps t)
+unfolding tables_with_merged_cash_rows
 same_statuses t = (refl, refl)
 
-status_upgraded : (t : Tables) → base_of_tables (tables_after_upgrade t) ≡ base_of_tables t → satisfies_status_condition t ≡ true → satisfies_status_condition (tables_after_upgrade t) ≡ true
+status_upgraded : (t : Tables) → base_of_tables (tables_with_merged_cash_rows t) ≡ base_of_tables t → satisfies_status_condition t ≡ true → satisfies_status_condition (tables_with_merged_cash_rows t) ≡ true
 unfolding satisfies_status_condition
 status_upgraded t e h =
-    (λ i. (same_statuses t).0 i && all_distinct ((same_statuses t).1 i ++ (stamps_of_base (tables_after_upgrade t) ∙ ap (λ b. map (λ m. m.stamp) b.movements) e ∙ sym (stamps_of_base t)) i)) ∙ h
+    (λ i. (same_statuses t).0 i && all_distinct ((same_statuses t).1 i ++ (stamps_of_base (tables_with_merged_cash_rows t) ∙ ap (λ b. map (λ m. m.stamp) b.movements) e ∙ sym (stamps_of_base t)) i)) ∙ h
 
 form_and_status : (schema : Schema) (t : Tables) → PassesAudit schema t → ConditionHolds schema condition.Form t × ConditionHolds schema condition.Status t
 form_and_status schema t p = let h = all_hold schema t p in (h.form, h.status)
@@ -51,16 +51,16 @@ upgraded_rows schema t w p =
     let books : BooksInvariant (base_of_tables t) = adopted_books schema t h.0 h.1 in
     let e : sheets_in_schema schema (base_of_tables t) ≡ t = passing_tables schema t p in
     let all : IsPosted t = posted schema t books e in
-    let tables : tables_after_upgrade t ≡ sheets (base_of_tables t) = upgraded_tables schema t e all in
-    let base : base_of_tables (tables_after_upgrade t) ≡ base_of_tables t = base_upgraded schema t e all in
+    let tables : tables_with_merged_cash_rows t ≡ sheets (base_of_tables t) = upgraded_tables schema t e all in
+    let base : base_of_tables (tables_with_merged_cash_rows t) ≡ base_of_tables t = base_upgraded schema t e all in
     record {
       tables = tables;
       base = base;
-      passes = same_tables_pass third_schema (tables_after_upgrade t) (upgraded_form schema t w h.0 books all tables) (status_upgraded t base h.1) (ap sheets base ∙ sym tables);
+      passes = same_tables_pass third_schema (tables_with_merged_cash_rows t) (upgraded_form schema t w h.0 books all tables) (status_upgraded t base h.1) (ap sheets base ∙ sym tables);
     }
 
 -- the same whatever schema they pass
-pub rows_upgraded_from : (schema : Schema) (t : Tables) → PassesAudit schema t → (tables_upgraded_from_schema schema t ≡ tables_after_upgrade t) × (tables_after_upgrade t ≡ sheets (base_of_tables t))
+pub rows_upgraded_from : (schema : Schema) (t : Tables) → PassesAudit schema t → (tables_upgraded_from_schema schema t ≡ tables_with_merged_cash_rows t) × (tables_with_merged_cash_rows t ≡ sheets (base_of_tables t))
 unfolding ConditionHolds
 rows_upgraded_from schema t p =
     let h = form_and_status schema t p in

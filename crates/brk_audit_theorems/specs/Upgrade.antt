@@ -4,7 +4,7 @@ use Rattle.brk_model.specs.Schemas.{Schema, third_schema}
 use Rattle.brk_model.specs.Tables.{Tables}
 use Rattle.brk_model.specs.Sheets.{sheets}
 use Rattle.brk_model.specs.Adopted.{base_of_tables}
-use Rattle.brk_model.specs.Upgraded.{tables_after_upgrade}
+use Rattle.brk_model.specs.Upgraded.{tables_with_merged_cash_rows}
 use Rattle.brk_audit_theorems.specs.Passing.{PassesAudit}
 
 -- The greatest quantity and the greatest summary of the schema, in shares, are at most the greatest
@@ -16,6 +16,6 @@ pub record HasLimitsWithinThirdSchema (schema : Schema) : Type 0 where
 -- The upgrade of the rows equals the tables of the base that the rows describe. The upgraded rows
 -- describe this base too, and pass the audit of the third schema.
 pub record UpgradedRowsMatchTheirBase (rows : Tables) : Type 0 where
-  pub tables : tables_after_upgrade rows ≡ sheets (base_of_tables rows)
-  pub base : base_of_tables (tables_after_upgrade rows) ≡ base_of_tables rows
-  pub passes : PassesAudit third_schema (tables_after_upgrade rows)
+  pub tables : tables_with_merged_cash_rows rows ≡ sheets (base_of_tables rows)
+  pub base : base_of_tables (tables_with_merged_cash_rows rows) ≡ base_of_tables rows
+  pub passes : PassesAudit third_schema (tables_with_merged_cash_rows rows)

@@ -5,7 +5,7 @@ ghost use Rattle.std.specs.Prelude.{◌≡◌};
 ghost use Rattle.brk_model.specs.Schemas.{Schema, first_schema, second_schema};
 ghost use Rattle.brk_model.specs.Tables.{Tables};
 ghost use Rattle.brk_model.specs.Adopted.{base_of_tables};
-ghost use Rattle.brk_model.specs.Upgraded.{tables_after_upgrade, tables_upgraded_from_schema};
+ghost use Rattle.brk_model.specs.Upgraded.{tables_with_merged_cash_rows, tables_upgraded_from_schema};
 ghost use Rattle.brk_model.specs.Sheets.{sheets};
 ghost use Rattle.brk_audit_theorems.specs.Upgrade.{UpgradedRowsMatchTheirBase, HasLimitsWithinThirdSchema};
 ghost use Rattle.brk_audit_theorems.specs.Passing.{PassesAudit};
@@ -22,8 +22,8 @@ pub fn upgraded_rows_are_tables_of_their_base()
 
 /// Proves that, for rows that pass the audit of a schema, the upgrade from that schema equals the
 /// upgrade with all cash rows in CASH_MOVE, sorted by stamp and numbered from 1
-/// (`tables_after_upgrade`), and equals the tables of the base that the rows describe.
+/// (`tables_with_merged_cash_rows`), and equals the tables of the base that the rows describe.
 pub fn upgrade_yields_tables_of_the_base()
-    ensures same { (schema : Schema) (rows : Tables) → PassesAudit schema rows → tables_upgraded_from_schema schema rows ≡ tables_after_upgrade rows }
+    ensures same { (schema : Schema) (rows : Tables) → PassesAudit schema rows → tables_upgraded_from_schema schema rows ≡ tables_with_merged_cash_rows rows }
     ensures tables { (schema : Schema) (rows : Tables) → PassesAudit schema rows → tables_upgraded_from_schema schema rows ≡ sheets (base_of_tables rows) }
 {}

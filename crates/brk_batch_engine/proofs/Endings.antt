@@ -22,7 +22,7 @@ use Rattle.brk_batch_engine.specs.Script.{RowCallRelation}
 use Rattle.brk_io.specs.Span.{IsUnchangedEnvironment, EnvironmentChange}
 use Rattle.brk_batch_engine.specs.Counts.{end_line_with_counts}
 use Rattle.brk_io.specs.Moments.{ReadsClockAtMostOnce}
-use Rattle.brk_batch_engine.specs.Parts.{CutRowEndsBatchWith, EndRecordFailsWith, HeaderReadFailsWith, LineWriteFailsWith}
+use Rattle.brk_batch_engine.specs.Parts.{LastRowEndsBatchWith, EndRecordFailsWith, HeaderReadFailsWith, LineWriteFailsWith}
 use Rattle.brk_batch_engine.specs.declared.counts.Counts.{Counts}
 use Rattle.brk_io.specs.declared.batch_fault.FaultKind.{FaultKind}
 use Rattle.brk_io.specs.declared.batch_fault.FaultKind.TheVariants as kinds
@@ -250,7 +250,7 @@ cut_stopped form step gives rem start now new text p h = record {
 -- the row has no record after it
 pub row_cut_off : {S X C R : Type 0} (form : Fields → ReadResult X) (step : RowStep S X) (gives : C → ℕ → C → Type 0) (rem : R → Option Text)
     (start : BatchStartWithBase S C R) (now : BatchPositionWithBase S C R) (mid new : Option Text) (text : Option Text) (p : HasDecidedRows form step gives rem start now) (kind : FaultKind)
-    → Appends start.old mid (answer_lines_from 1 p.answers) → ¬ (IsEndRecord now.row) → CutRowEndsBatchWith mid new (answer_line (now.settled + 1) (Refused BadText)) kind
+    → Appends start.old mid (answer_lines_from 1 p.answers) → ¬ (IsEndRecord now.row) → LastRowEndsBatchWith mid new (answer_line (now.settled + 1) (Refused BadText)) kind
     → ((text : Option Text) (before : List Fields) → IsReaderAfterRecords rem text before now.reader → HasExactlyRecords text before)
     → IsReaderAfterRecords rem text (batch_header start.name ∷ []) start.reader → BatchFailsWith form step gives text (change_from_start start now now.later new) (now.settled + 1) kind
 row_cut_off form step gives rem start now mid new text p kinds.NoEnd wrote other part all h =

@@ -7,7 +7,7 @@ use Rattle.brk_model.specs.Answers.{Fields}
 use Rattle.brk_io.specs.declared.batch_fault.FaultKind.{FaultKind}
 use Rattle.brk_io.specs.declared.batch_fault.FaultKind.TheVariants as kinds
 use Rattle.brk_batch_engine.specs.Batch.{DeskFaultIsMemory}
-use Rattle.brk_batch_engine.specs.Parts.{CutRowEndsBatchWith, EndRecordFailsWith, HeaderReadFailsWith, LineWriteFailsWith}
+use Rattle.brk_batch_engine.specs.Parts.{LastRowEndsBatchWith, EndRecordFailsWith, HeaderReadFailsWith, LineWriteFailsWith}
 use Rattle.brk_batch_engine.specs.declared.counts.Counts.{Counts}
 
 pub read_memory : (kind : FaultKind) → (kind ≡ kinds.Read) ⊎ (kind ≡ kinds.Desk Memory) → DeskFaultIsMemory kind
@@ -22,7 +22,7 @@ part_memory old new line kinds.BadHeader part = tt
 part_memory old new line kinds.NoEnd part = tt
 part_memory old new line kinds.BadEnd part = tt
 
-pub cut_memory : (old new : Option Text) (line : Text) (kind : FaultKind) → CutRowEndsBatchWith old new line kind → DeskFaultIsMemory kind
+pub cut_memory : (old new : Option Text) (line : Text) (kind : FaultKind) → LastRowEndsBatchWith old new line kind → DeskFaultIsMemory kind
 cut_memory old new line kinds.NoEnd part = tt
 cut_memory old new line kinds.Write part = tt
 cut_memory old new line (kinds.Desk fault) part = part.0

@@ -97,8 +97,8 @@ WritesPartOfEndLine old new told = (k : ℕ) × Appends old new (answer_lines_fr
 -- the batch `name` and the rows `rows` (`EndsWithoutEndRecord`), and `told` is `answers` followed
 -- by the refusal of one more row, the last of the text, or is empty if the text has only its
 -- header.
-abbrev pub MayAddCutRowRefusal : Option Text → Text → List Fields → List Answer → List Answer → Type 0
-MayAddCutRowRefusal text name rows answers told = (told ≡ answers) ⊎ model.EndsWithoutEndRecord text name rows answers told
+abbrev pub MayAddLastRowRefusal : Option Text → Text → List Fields → List Answer → List Answer → Type 0
+MayAddLastRowRefusal text name rows answers told = (told ≡ answers) ⊎ model.EndsWithoutEndRecord text name rows answers told
 
 -- The batch failed with this fault after `count` decided rows. `BadHeader`: the text has no header,
 -- and nothing changed. `NoEnd` and `BadEnd`: the batch ends as that of the model (`BatchEndsWith`).
@@ -119,14 +119,14 @@ BatchFailsWith form step gives text span count kinds.Read =
     × Appends span.old span.new (answer_lines_from 1 s.told))
 BatchFailsWith form step gives text span count kinds.Write =
     (s : BatchProgress form step gives text span count) × (span.later ≡ s.mid)
-    × ((MayAddCutRowRefusal text s.name s.rows s.answers s.told × WritesPartOfLastLine span.old span.new s.told)
+    × ((MayAddLastRowRefusal text s.name s.rows s.answers s.told × WritesPartOfLastLine span.old span.new s.told)
     ⊎ ((s.told ≡ s.answers) × BeginsWithWholeBatch text s.name s.rows × WritesPartOfEndLine span.old span.new s.told))
 BatchFailsWith form step gives text span count (kinds.Desk fault) =
     ((fault ≡ Memory) × (count ≡ 0) × IsUnchangedEnvironment span)
     ⊎ (((s : BatchProgress form step gives text span count) × ReadsClockAtMostOnce gives s.mid span.later × IsCallFault fault × (s.told ≡ s.answers)
     × Appends span.old span.new (answer_lines_from 1 s.told))
     ⊎ ((s : BatchProgress form step gives text span count) × (span.later ≡ s.mid) × (fault ≡ Memory)
-    × MayAddCutRowRefusal text s.name s.rows s.answers s.told × WritesAllLinesOrAllButLast span.old span.new s.told))
+    × MayAddLastRowRefusal text s.name s.rows s.answers s.told × WritesAllLinesOrAllButLast span.old span.new s.told))
 
 -- The result of the batch: at `Ok` the batch ended with the correct end record (`BatchEndsWith`),
 -- and the counts are the numbers of accepted, repeated and refused answers to all its rows; at an

@@ -37,13 +37,13 @@ EndRecordFailsWith old new row n counts kinds.NoEnd = ⊥
 -- A row without a record after it, which the line `text` refuses, ended the batch with this fault.
 -- `NoEnd`: the line was written. `Write`: the writer received a prefix of the line, perhaps all of
 -- it. `Desk`: memory ran out, and nothing was written. No other fault is possible.
-abbrev pub CutRowEndsBatchWith : Option Text → Option Text → Text → FaultKind → Type 0
-CutRowEndsBatchWith old new text kinds.NoEnd = Appends old new text
-CutRowEndsBatchWith old new text kinds.Write = (k : ℕ) × Appends old new (take k text)
-CutRowEndsBatchWith old new text (kinds.Desk fault) = (fault ≡ Memory) × Appends old new []
-CutRowEndsBatchWith old new text kinds.Read = ⊥
-CutRowEndsBatchWith old new text kinds.BadHeader = ⊥
-CutRowEndsBatchWith old new text kinds.BadEnd = ⊥
+abbrev pub LastRowEndsBatchWith : Option Text → Option Text → Text → FaultKind → Type 0
+LastRowEndsBatchWith old new text kinds.NoEnd = Appends old new text
+LastRowEndsBatchWith old new text kinds.Write = (k : ℕ) × Appends old new (take k text)
+LastRowEndsBatchWith old new text (kinds.Desk fault) = (fault ≡ Memory) × Appends old new []
+LastRowEndsBatchWith old new text kinds.Read = ⊥
+LastRowEndsBatchWith old new text kinds.BadHeader = ⊥
+LastRowEndsBatchWith old new text kinds.BadEnd = ⊥
 
 -- Reading the header of the text failed with this fault. `BadHeader`: the text has no header.
 -- `Desk`: the fault is `Memory`. `Read`: nothing is specified of the text. No other fault is

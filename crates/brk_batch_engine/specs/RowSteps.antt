@@ -20,7 +20,7 @@ use Rattle.brk_model.specs.Lines.{answer_line}
 use Rattle.brk_model.specs.Run.{IsCallFault}
 use Rattle.brk_batch_engine.specs.Answers.{RowHasAnswer, RowFailsWith, PreservesRepresentedBases, RepresentsDurably}
 use Rattle.brk_batch_engine.specs.Counts.{counts_with_answer}
-use Rattle.brk_batch_engine.specs.Parts.{CutRowEndsBatchWith, LineWriteFailsWith}
+use Rattle.brk_batch_engine.specs.Parts.{LastRowEndsBatchWith, LineWriteFailsWith}
 use Rattle.brk_batch_engine.specs.Reading.{ReaderIsAfterRecords}
 use Rattle.brk_batch_engine.specs.Script.{RowCallRelation}
 use Rattle.brk_io.specs.Span.{ClockAndWriterChange}
@@ -55,12 +55,12 @@ FirstRowEndsBatchWith rem reader fault =
 
 -- No record after the row was read, and the batch ended with `fault`. Either reading failed, the
 -- row is not decided, and nothing was written; or no record is left, the row is refused with
--- `BadText`, and its line was written or writing it failed (`CutRowEndsBatchWith`).
+-- `BadText`, and its line was written or writing it failed (`LastRowEndsBatchWith`).
 abbrev pub NextRecordEndsBatchWith : {R : Type 0} → (R → Option Text) → Reader R → ℕ → Option Text → Option Text → BatchFault → Type 0
 NextRecordEndsBatchWith rem reader settled old new fault =
     ((kind : FaultKind) × (fault ≡ record { rows = settled; kind = kind }) × IsReadFault kind × (new ≡ old))
     ⊎ ((kind : FaultKind) × (fault ≡ record { rows = settled + 1; kind = kind }) × HasNoRecordLeft rem reader
-    × CutRowEndsBatchWith old new (answer_line (settled + 1) (Refused BadText)) kind)
+    × LastRowEndsBatchWith old new (answer_line (settled + 1) (Refused BadText)) kind)
 
 -- The row is decided and its line was written: the row has an answer, the line of the answer was
 -- appended to the writer's content, and the counts `more` are `counts` with this answer added. The
@@ -86,7 +86,7 @@ pub record RowIsNotDecided {D S X C : Type 0} (meets_disk_assumption : D → Typ
 
 -- The row has an answer, but writing its line failed (`LineWriteFailsWith`), and the batch ended
 -- with `fault`: a prefix of the line was written, perhaps all of it, or nothing.
-pub record RowLineIsNotWritten {D S X C : Type 0} (meets_disk_assumption : D → Type 0) (represents : D → S → Type 0) (crash_exposes_only : D → S → S → Type 0) (acts : RowCallRelation D X) (step : RowStep S X)
+pub record RowLineWriteFails {D S X C : Type 0} (meets_disk_assumption : D → Type 0) (represents : D → S → Type 0) (crash_exposes_only : D → S → S → Type 0) (acts : RowCallRelation D X) (step : RowStep S X)
     (gives : C → ℕ → C → Type 0) (read : ReadResult X) (batch : Text) (settled : ℕ) (first last : D) (outside : ClockAndWriterChange C) (fault : BatchFault) : Type 0 where
   pub answer : Answer
   pub given : RowHasAnswer meets_disk_assumption (RepresentsDurably represents crash_exposes_only) acts step gives read batch (settled + 1) answer first last outside.clock outside.later
@@ -100,4 +100,4 @@ abbrev pub RowEndsBatchWith : {D S X C : Type 0} → (D → Type 0) → (D → S
     → ReadResult X → Text → ℕ → D → D → ClockAndWriterChange C → BatchFault → Type 0
 RowEndsBatchWith meets_disk_assumption represents crash_exposes_only acts step gives read batch settled first last outside fault =
     RowIsNotDecided meets_disk_assumption represents crash_exposes_only acts step gives read batch settled first last outside fault
-    ⊎ RowLineIsNotWritten meets_disk_assumption represents crash_exposes_only acts step gives read batch settled first last outside fault
+    ⊎ RowLineWriteFails meets_disk_assumption represents crash_exposes_only acts step gives read batch settled first last outside fault

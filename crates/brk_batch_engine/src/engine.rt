@@ -9,7 +9,7 @@ ghost use Rattle.brk_model.specs.Lines.{answer_line};
 ghost use Rattle.brk_ref.specs.Answers.{abstract_answer};
 ghost use Rattle.brk_batch_engine.specs.Batch.{BatchPost, BatchRefinesModel, IsBatchCrashSafe, ChangesOnlyByRowCalls};
 ghost use Rattle.brk_batch_engine.specs.Counts.{end_line_with_counts};
-ghost use Rattle.brk_batch_engine.specs.Parts.{CutRowEndsBatchWith, EndRecordFailsWith, HeaderReadFailsWith, LineWriteFailsWith};
+ghost use Rattle.brk_batch_engine.specs.Parts.{LastRowEndsBatchWith, EndRecordFailsWith, HeaderReadFailsWith, LineWriteFailsWith};
 ghost use Rattle.brk_batch_engine.specs.Reading.{IsBatchReader, ReaderIsAfterRecords};
 ghost use Rattle.brk_batch_engine.specs.RowSteps.{FirstRowEndsBatchWith, NextRecordEndsBatchWith, ReadsOneRecord, RowEndsBatchWith, RowIsDecidedAndWritten};
 
@@ -55,8 +55,8 @@ fn write_answer_line<W: Write, D: Rows>(
 // Writes the line that refuses row `n`, the last row of an input without an end record, with
 // `BadText`. Returns the fault that ends the batch: `NoEnd`, or `Write` or `Desk(Memory)` if the
 // line could not be written.
-fn write_refusal_of_cut_row<W: Write, D: Rows>(alloc: Global, writer: &mut W, n: u64) -> FaultKind
-    ensures { CutRowEndsBatchWith (W.contents writer.old) (W.contents writer.new) (answer_line n (Refused BadText)) result }
+fn write_refusal_of_last_row<W: Write, D: Rows>(alloc: Global, writer: &mut W, n: u64) -> FaultKind
+    ensures { LastRowEndsBatchWith (W.contents writer.old) (W.contents writer.new) (answer_line n (Refused BadText)) result }
 {
     match write_answer_line::<W, D>(alloc, writer, n, &Answer::Refused(Refusal::BadText)) {
         Ok(()) => FaultKind::NoEnd,
@@ -185,7 +185,7 @@ fn read_record_after_row<R: Read, W: Write, D: Rows>(
     };
     let n = settled + 1;
     if !has_next {
-        let kind = write_refusal_of_cut_row::<W, D>(alloc, writer, n);
+        let kind = write_refusal_of_last_row::<W, D>(alloc, writer, n);
         return Err(BatchFault { rows: n, kind });
     }
     Ok(())

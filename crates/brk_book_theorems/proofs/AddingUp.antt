@@ -20,7 +20,7 @@ use Rattle.brk_model.specs.Records.{Account, Broker}
 use Rattle.brk_model.specs.Sheets.{sheets, tables_sorted_by_key}
 use Rattle.brk_model.specs.Tables.{AccountRow, BrokerRow, HoldingRow, SummaryRow, account_row, broker_row, holding_row, summary_rows, tables_of_base_in_schema, trade_row}
 use Rattle.brk_book_theorems.specs.Books.{HasDistinctAccountIds, BooksInvariant}
-use Rattle.brk_book_theorems.specs.Sums.{TableSumsMatchTheirRows, BalanceMatchesCashRows, BrokerTotalsMatch, SummaryMatchesLots, LotHasSummary, lot_row_quantity_sum_of_position, is_lot_of_position}
+use Rattle.brk_book_theorems.specs.Sums.{TableSumsMatchTheirRows, BalanceMatchesCashRows, BrokerTotalsMatchTrades, SummaryMatchesLots, LotHasSummary, lot_row_quantity_sum_of_position, is_lot_of_position}
 use Rattle.brk_book_theorems.specs.TradeReads.{holding_rows_of_position, lots_of_position, lot_of_row}
 use Rattle.brk_book_theorems.proofs.Bools.{numbers_back}
 use Rattle.brk_book_theorems.proofs.Holding.{total_is}
@@ -36,7 +36,7 @@ use Rattle.brk_book_theorems.proofs.Worth.{total-sorted}
 
 -- ---- brokers
 
-broker_adds : (base : Base) → BooksInvariant base → (b : Broker) → BrokerTotalsMatch (sheets base) (broker_row base.accounts (completed_trades base) b)
+broker_adds : (base : Base) → BooksInvariant base → (b : Broker) → BrokerTotalsMatchTrades (sheets base) (broker_row base.accounts (completed_trades base) b)
 unfolding trade_count_of_broker commission_total_of_broker
 broker_adds base books b = record {
   trades = ap pos (sym (ap length (broker_trades base b.id books) ∙ length-map trade_row (trades_of_broker base.accounts (completed_trades base) b.id)));
@@ -47,12 +47,12 @@ brokers_are : (base : Base) → (sheets base).brokers ≡ sort_by (is_row_key_le
 unfolding tables_of_base_in_schema tables_sorted_by_key
 brokers_are base = refl
 
-brokers_add : (base : Base) → BooksInvariant base → AllByRecursion (BrokerTotalsMatch (sheets base)) (sheets base).brokers
+brokers_add : (base : Base) → BooksInvariant base → AllByRecursion (BrokerTotalsMatchTrades (sheets base)) (sheets base).brokers
 brokers_add base books =
     let rows : List BrokerRow = map (broker_row base.accounts (completed_trades base)) base.brokers in
-    subst (AllByRecursion (BrokerTotalsMatch (sheets base))) (sym (brokers_are base))
-    (All-sort (BrokerTotalsMatch (sheets base)) (is_row_key_less broker_key) rows
-    (All-mapped (BrokerTotalsMatch (sheets base)) (broker_row base.accounts (completed_trades base)) base.brokers (All-of base.brokers (broker_adds base books))))
+    subst (AllByRecursion (BrokerTotalsMatchTrades (sheets base))) (sym (brokers_are base))
+    (All-sort (BrokerTotalsMatchTrades (sheets base)) (is_row_key_less broker_key) rows
+    (All-mapped (BrokerTotalsMatchTrades (sheets base)) (broker_row base.accounts (completed_trades base)) base.brokers (All-of base.brokers (broker_adds base books))))
 
 -- ---- balances
 

@@ -10,7 +10,7 @@ use Rattle.brk_money.specs.declared.status.Status.{Status}
 use Rattle.brk_money.specs.declared.status.Status.TheVariants.{Completed, Active, Submitted, Pending, Canceled}
 use Rattle.brk_model.specs.Lists.{update_where}
 use Rattle.brk_model.specs.Records.{StatusChange, Trade}
-use Rattle.brk_model.specs.Base.{Base, completed_trades, has_status, is_completed, trade_with_status_change, trade_with_id}
+use Rattle.brk_model.specs.Base.{Base, completed_trades, has_last_status, is_completed, trade_with_status_change, trade_with_id}
 use Rattle.brk_model.specs.Commands.{Tick}
 use Rattle.brk_model.specs.Feed.{is_triggered_by_tick, is_triggering_price, base_after_tick, base_after_ticks}
 use Rattle.brk_model.specs.Tests.{stamp_of_next_command, status_check}
@@ -53,7 +53,7 @@ completed_unseen p f (t ∷ ts) g h = by_test (p t) refl ∙ ap (λ us. cond (is
 
 -- one that comes to another status than the market's is not there
 pub moved_elsewhere : (stamp : ℕ) (status : Status) (t : Trade) → is_same_trade_status status Submitted ≡ false → HasNoCompletionIfSubmitted (trade_with_status_change stamp status t)
-moved_elsewhere stamp status t s p = let k : has_status Submitted (trade_with_status_change stamp status t) ≡ false = status_of_marked stamp status Submitted t ∙ s in absurd (cc)
+moved_elsewhere stamp status t s p = let k : has_last_status Submitted (trade_with_status_change stamp status t) ≡ false = status_of_marked stamp status Submitted t ∙ s in absurd (cc)
 
 waiting_mark : (status : Status) → is_same_trade_status status Pending ≡ true → is_same_trade_status status Completed ≡ false
 waiting_mark Completed e = cc
@@ -63,7 +63,7 @@ waiting_mark Pending e = refl
 waiting_mark Canceled e = refl
 
 -- nor was one that waited
-pub moved_to_market : (stamp : ℕ) (t : Trade) → HasOneStatusChangeIfPending t → has_status Pending t ≡ true → HasNoCompletionIfSubmitted (trade_with_status_change stamp Submitted t)
+pub moved_to_market : (stamp : ℕ) (t : Trade) → HasOneStatusChangeIfPending t → has_last_status Pending t ≡ true → HasNoCompletionIfSubmitted (trade_with_status_change stamp Submitted t)
 moved_to_market stamp t w p s = All-append IsNotCompletion t.marks (record { stamp = stamp; status = Submitted } ∷ []) (one t.marks refl (w p)) (refl, tt)
   where
     one : (marks : List StatusChange) → t.marks ≡ marks → HasOneStatusChange marks → AllByRecursion IsNotCompletion t.marks
@@ -96,15 +96,15 @@ named_open base id t n e w =
 
 -- the trade that a cancel names waits
 pub named_waits : (base : Base) (id : ℕ) (o : Option Trade) → TradesAreNumberedFrom 1 base.trades → trade_with_id base id ≡ o
-    → AllByRecursion (λ test. test.0 ≡ false) (option_map_or (λ t. status_check (has_status Pending t) t ∷ []) o ((true, NoTrade) ∷ []))
+    → AllByRecursion (λ test. test.0 ≡ false) (option_map_or (λ t. status_check (has_last_status Pending t) t ∷ []) o ((true, NoTrade) ∷ []))
     → AllByRecursion (λ t. (t.id == id) ≡ true → is_completed t ≡ false) base.trades
 named_waits base id None n e k = let h : true ≡ false = k.0 in absurd (cc)
-named_waits base id (Some t) n e k = named_open base id t n e (pending_not_completed t (not_not (has_status Pending t) k.0))
+named_waits base id (Some t) n e k = named_open base id t n e (pending_not_completed t (not_not (has_last_status Pending t) k.0))
 
 -- ---- a feed
 
-pub triggered_waits : (tick : Tick) (t : Trade) → is_triggered_by_tick tick t ≡ true → has_status Pending t ≡ true
-triggered_waits tick t e = first (has_status Pending t) (bytes_eq t.symbol tick.symbol) (is_triggering_price t.kind t.bid tick.price) e
+pub triggered_waits : (tick : Tick) (t : Trade) → is_triggered_by_tick tick t ≡ true → has_last_status Pending t ≡ true
+triggered_waits tick t e = first (has_last_status Pending t) (bytes_eq t.symbol tick.symbol) (is_triggering_price t.kind t.bid tick.price) e
   where
     first : (a b c : Bool) → a && b && c ≡ true → a ≡ true
     first true b c e = refl

@@ -9,7 +9,7 @@ use Rattle.brk_money.specs.Spelling.{Text}
 use Rattle.brk_money.specs.declared.status.Status.TheVariants.{Submitted, Pending, Canceled}
 use Rattle.brk_model.specs.Lists.{update_where}
 use Rattle.brk_model.specs.Records.{Security, Trade}
-use Rattle.brk_model.specs.Base.{Base, trade_with_id, security_with_symbol, completed_trades, has_status, trade_with_status_change, base_with_updated_trades}
+use Rattle.brk_model.specs.Base.{Base, trade_with_id, security_with_symbol, completed_trades, has_last_status, trade_with_status_change, base_with_updated_trades}
 use Rattle.brk_model.specs.Derived.{shares_of_position, holding_summary_quantity, balance_of_account, trade_count_of_broker, commission_total_of_broker}
 use Rattle.brk_model.specs.Tables.{LastTradeRow, tables_of_base_in_schema, security_row, last_trade_row, summary_rows}
 use Rattle.brk_model.specs.Keys.{rows_sorted_by_key, security_key, last_trade_key, summary_key}
@@ -31,7 +31,7 @@ use Rattle.brk_book_theorems.proofs.TermReading.{reads_last_trade}
 -- ---- a cancel
 
 pub canceled_rows : (base : Base) (stamp id : ℕ) (t : Trade) → TradesAreNumberedFrom 1 base.trades → AllByRecursion HasOneStatusChangeIfPending base.trades
-    → trade_with_id base id ≡ Some t → has_status Pending t ≡ true
+    → trade_with_id base id ≡ Some t → has_last_status Pending t ≡ true
     → sheets (base_with_updated_trades (λ u. u.id == id) (trade_with_status_change stamp Canceled) base) ≡ tables_after_cancel stamp id (sheets base)
 canceled_rows base stamp id t n w e p =
     let f : FoundAt Trade (λ u. u.id == id) t base.trades = find-at (λ u. u.id == id) base.trades t e in
@@ -121,8 +121,8 @@ pub ticked_rows : (base : Base) (stamp : ℕ) (tick : Tick) (s : Security) → R
     → sheets (base_after_tick stamp base tick) ≡ tables_after_tick stamp tick (sheets base)
 ticked_rows base stamp tick s r e =
     submitted_all (base_with_security_after_tick stamp tick base) stamp (is_triggered_by_tick tick) [] base.trades r.numbered
-    (All-of base.trades (λ t k. and_left (has_status Pending t) (bytes_eq t.symbol tick.symbol)
-    (and_left (has_status Pending t && bytes_eq t.symbol tick.symbol) (is_triggering_price t.kind t.bid tick.price) k))) r.ways
+    (All-of base.trades (λ t k. and_left (has_last_status Pending t) (bytes_eq t.symbol tick.symbol)
+    (and_left (has_last_status Pending t && bytes_eq t.symbol tick.symbol) (is_triggering_price t.kind t.bid tick.price) k))) r.ways
     ∙ (λ i. tables_with_trades_submitted stamp (sym (reads_triggered base tick r.numbered) i) (priced_rows base stamp tick s r.symbols e i))
 
 symbols_kept : (tick : Tick) (stamp : ℕ) (ss : List Security) → HasDistinctSymbols ss → HasDistinctSymbols (update_where (λ s. bytes_eq s.symbol tick.symbol) (security_after_tick stamp tick) ss)

@@ -14,11 +14,11 @@ use Rattle.brk_model.specs.Shares as model
 use Rattle.brk_model.specs.Shares.{Deal, Share, Touch, closed_share_count_of_deal, changes_lot_quantity, lot_quantity, lots_of_shares, opened_shares, shares_after_deal, signed_by_side, touches_of_existing_lots}
 use Rattle.brk_model.specs.Keys.{number, rows_sorted_by_key, holding_history_key, insert_row_by_key}
 use Rattle.brk_model.specs.Tables.{HoldingHistoryRow}
-use Rattle.brk_lots.specs.HistoryRows.{row_changes_quantity, changing_rows_of_lot, holding_history_rows_of_deals}
+use Rattle.brk_lots.specs.HistoryRows.{has_quantity_change, changing_rows_of_lot, lot_history_rows_per_deal}
 use Rattle.brk_lots.specs.Lots.{list_reversed_if_lifo}
 use Rattle.brk_lots.proofs.Counts.{differ}
 use Rattle.brk_lots.proofs.Deals.{all_after}
-use Rattle.brk_book_theorems.specs.Results.{history_row_of_touch, opening_history_row}
+use Rattle.brk_book_theorems.specs.Results.{holding_history_row_of_touch, opening_holding_history_row}
 use Rattle.brk_book_theorems.proofs.Order.{rows_commute}
 use Rattle.brk_book_theorems.proofs.Same.{NonePass, All-filter, All-map, All-mapped, filter-none, flat_map-append, flat_map-same}
 use Rattle.brk_book_theorems.proofs.Places.{filter-all, filter-append, filter-one}
@@ -34,11 +34,11 @@ use Rattle.brk_book_theorems.proofs.Holdings.{fresh_shares, opened_is, opened_lo
 -- ---- the rows of one lot
 
 abbrev row_at : Base → Trade → Trade → HoldingHistoryRow
-row_at base t v = history_row_of_touch t.id (touch_at base t v)
+row_at base t v = holding_history_row_of_touch t.id (touch_at base t v)
 
 rows_last : (lot : ℕ) (shares : List Share) (deals : List Deal) (d : Deal)
-    → holding_history_rows_of_deals lot shares (deals ++ d ∷ [])
-    ≡ holding_history_rows_of_deals lot shares deals ++ record { lot = lot; trade = d.trade; before = lot_quantity (fold shares_after_deal shares deals) lot; after = lot_quantity (shares_after_deal (fold shares_after_deal shares deals) d) lot } ∷ []
+    → lot_history_rows_per_deal lot shares (deals ++ d ∷ [])
+    ≡ lot_history_rows_per_deal lot shares deals ++ record { lot = lot; trade = d.trade; before = lot_quantity (fold shares_after_deal shares deals) lot; after = lot_quantity (shares_after_deal (fold shares_after_deal shares deals) d) lot } ∷ []
 rows_last lot shares [] d = refl
 rows_last lot shares (e ∷ deals) d =
     ap (λ rows. record { lot = lot; trade = e.trade; before = lot_quantity shares lot; after = lot_quantity (shares_after_deal shares e) lot } ∷ rows) (rows_last lot (shares_after_deal shares e) deals d)
@@ -47,18 +47,18 @@ rows_last lot shares (e ∷ deals) d =
 abbrev pub Others : ℕ → List Deal → Type 0
 Others id deals = AllByRecursion (λ d. (d.trade == id) ≡ false) deals
 
-rows_of_others : (id lot : ℕ) (shares : List Share) (deals : List Deal) → Others id deals → AllByRecursion (λ r. (r.trade == id) ≡ false) (holding_history_rows_of_deals lot shares deals)
+rows_of_others : (id lot : ℕ) (shares : List Share) (deals : List Deal) → Others id deals → AllByRecursion (λ r. (r.trade == id) ≡ false) (lot_history_rows_per_deal lot shares deals)
 rows_of_others id lot shares [] h = tt
 rows_of_others id lot shares (d ∷ deals) h = (h.0, rows_of_others id lot (shares_after_deal shares d) deals h.1)
 
 -- a lot that no deal opens has no rows
-pub no_rows : (id : ℕ) (shares : List Share) (deals : List Deal) → Without id shares → Others id deals → filter row_changes_quantity (holding_history_rows_of_deals id shares deals) ≡ []
+pub no_rows : (id : ℕ) (shares : List Share) (deals : List Deal) → Without id shares → Others id deals → filter has_quantity_change (lot_history_rows_per_deal id shares deals) ≡ []
 no_rows id shares [] w h = refl
 no_rows id shares (d ∷ deals) w h =
     let next : Without id (shares_after_deal shares d) = all_after (λ s. (s.trade == id) ≡ false) d shares h.0 w in
     let row : HoldingHistoryRow = record { lot = id; trade = d.trade; before = lot_quantity shares id; after = lot_quantity (shares_after_deal shares d) id } in
-    let still : row_changes_quantity row ≡ false = λ i. not (is_zero (lot_without id shares w i -ℤ lot_without id (shares_after_deal shares d) next i)) in
-    ap (λ b. cond b (row ∷ filter row_changes_quantity (holding_history_rows_of_deals id (shares_after_deal shares d) deals)) (filter row_changes_quantity (holding_history_rows_of_deals id (shares_after_deal shares d) deals))) still
+    let still : has_quantity_change row ≡ false = λ i. not (is_zero (lot_without id shares w i -ℤ lot_without id (shares_after_deal shares d) next i)) in
+    ap (λ b. cond b (row ∷ filter has_quantity_change (lot_history_rows_per_deal id (shares_after_deal shares d) deals)) (filter has_quantity_change (lot_history_rows_per_deal id (shares_after_deal shares d) deals))) still
     ∙ no_rows id (shares_after_deal shares d) deals next h.1
 
 others_of : (base : Base) (xs : List Trade) (t : Trade) (ys : List Trade) → Completes base xs t ys → (account : ℕ) (symbol : Text) → Others t.id (deals_of_position (completed_trades base) account symbol)
@@ -67,13 +67,13 @@ others_of base xs t ys c account symbol =
 
 -- the rows of a lot of the position, with that of the trade
 own_rows : (base : Base) (xs : List Trade) (t : Trade) (ys : List Trade) → Completes base xs t ys → (v : Trade) → is_here t v ≡ true
-    → changing_rows_of_lot (xs ++ t ∷ ys) v ≡ filter row_changes_quantity (holding_history_rows_of_deals v.id [] (deals_of_position (completed_trades base) t.account t.symbol)) ++ filter row_changes_quantity (row_at base t v ∷ [])
+    → changing_rows_of_lot (xs ++ t ∷ ys) v ≡ filter has_quantity_change (lot_history_rows_per_deal v.id [] (deals_of_position (completed_trades base) t.account t.symbol)) ++ filter has_quantity_change (row_at base t v ∷ [])
 unfolding shares_of_position
 own_rows base xs t ys c v e =
     let D : List Deal = deals_of_position (completed_trades base) t.account t.symbol in
-    ap (λ ds. filter row_changes_quantity (holding_history_rows_of_deals v.id [] ds)) (deals_here base xs t ys c v e)
-    ∙ ap (filter row_changes_quantity) (rows_last v.id [] D (deal_of_trade t))
-    ∙ filter-append row_changes_quantity (holding_history_rows_of_deals v.id [] D) (row_at base t v ∷ [])
+    ap (λ ds. filter has_quantity_change (lot_history_rows_per_deal v.id [] ds)) (deals_here base xs t ys c v e)
+    ∙ ap (filter has_quantity_change) (rows_last v.id [] D (deal_of_trade t))
+    ∙ filter-append has_quantity_change (lot_history_rows_per_deal v.id [] D) (row_at base t v ∷ [])
 
 -- ---- the trade's rows, and the others
 
@@ -96,44 +96,44 @@ none_row p q r e = by_test (q r)
 
 -- the trade's rows of a lot
 new_rows : Base → Trade → Trade → List HoldingHistoryRow
-new_rows base t v = cond (is_here t v) (filter row_changes_quantity (row_at base t v ∷ [])) []
+new_rows base t v = cond (is_here t v) (filter has_quantity_change (row_at base t v ∷ [])) []
 
 its_rows : (base : Base) (xs : List Trade) (t : Trade) (ys : List Trade) → Completes base xs t ys → (v : Trade) (b : Bool) → is_here t v ≡ b
     → filter (is_of t.id) (changing_rows_of_lot (xs ++ t ∷ ys) v) ≡ new_rows base t v
 unfolding new_rows
 its_rows base xs t ys c v true e =
     let D : List Deal = deals_of_position (completed_trades base) t.account t.symbol in
-    let old : List HoldingHistoryRow = filter row_changes_quantity (holding_history_rows_of_deals v.id [] D) in
-    let new : List HoldingHistoryRow = filter row_changes_quantity (row_at base t v ∷ []) in
+    let old : List HoldingHistoryRow = filter has_quantity_change (lot_history_rows_per_deal v.id [] D) in
+    let new : List HoldingHistoryRow = filter has_quantity_change (row_at base t v ∷ []) in
     ap (filter (is_of t.id)) (own_rows base xs t ys c v e) ∙ filter-append (is_of t.id) old new
-    ∙ (λ i. filter-none (is_of t.id) old (All-filter (λ r. (r.trade == t.id) ≡ false) row_changes_quantity (holding_history_rows_of_deals v.id [] D) (rows_of_others t.id v.id [] D (others_of base xs t ys c t.account t.symbol))) i
-    ++ one_row (is_of t.id) row_changes_quantity (row_at base t v) (eq-eqb t.id t.id refl) i)
+    ∙ (λ i. filter-none (is_of t.id) old (All-filter (λ r. (r.trade == t.id) ≡ false) has_quantity_change (lot_history_rows_per_deal v.id [] D) (rows_of_others t.id v.id [] D (others_of base xs t ys c t.account t.symbol))) i
+    ++ one_row (is_of t.id) has_quantity_change (row_at base t v) (eq-eqb t.id t.id refl) i)
     ∙ sym (ap (λ b. cond b new []) e)
 its_rows base xs t ys c v false e =
     let D : List Deal = deals_of_position (completed_trades base) v.account v.symbol in
-    ap (λ ds. filter (is_of t.id) (filter row_changes_quantity (holding_history_rows_of_deals v.id [] ds))) (deals_elsewhere base xs t ys c v e)
-    ∙ filter-none (is_of t.id) (filter row_changes_quantity (holding_history_rows_of_deals v.id [] D))
-    (All-filter (λ r. (r.trade == t.id) ≡ false) row_changes_quantity (holding_history_rows_of_deals v.id [] D) (rows_of_others t.id v.id [] D (others_of base xs t ys c v.account v.symbol)))
-    ∙ sym (ap (λ b. cond b (filter row_changes_quantity (row_at base t v ∷ [])) []) e)
+    ap (λ ds. filter (is_of t.id) (filter has_quantity_change (lot_history_rows_per_deal v.id [] ds))) (deals_elsewhere base xs t ys c v e)
+    ∙ filter-none (is_of t.id) (filter has_quantity_change (lot_history_rows_per_deal v.id [] D))
+    (All-filter (λ r. (r.trade == t.id) ≡ false) has_quantity_change (lot_history_rows_per_deal v.id [] D) (rows_of_others t.id v.id [] D (others_of base xs t ys c v.account v.symbol)))
+    ∙ sym (ap (λ b. cond b (filter has_quantity_change (row_at base t v ∷ [])) []) e)
 
 kept_all : (base : Base) (xs : List Trade) (t : Trade) (ys : List Trade) → Completes base xs t ys → (lot account : ℕ) (symbol : Text)
-    → filter (λ r. not (r.trade == t.id)) (filter row_changes_quantity (holding_history_rows_of_deals lot [] (deals_of_position (completed_trades base) account symbol))) ≡ filter row_changes_quantity (holding_history_rows_of_deals lot [] (deals_of_position (completed_trades base) account symbol))
+    → filter (λ r. not (r.trade == t.id)) (filter has_quantity_change (lot_history_rows_per_deal lot [] (deals_of_position (completed_trades base) account symbol))) ≡ filter has_quantity_change (lot_history_rows_per_deal lot [] (deals_of_position (completed_trades base) account symbol))
 kept_all base xs t ys c lot account symbol =
     let D : List Deal = deals_of_position (completed_trades base) account symbol in
-    filter-all (λ r. not (r.trade == t.id)) (filter row_changes_quantity (holding_history_rows_of_deals lot [] D))
-    (All-map (filter row_changes_quantity (holding_history_rows_of_deals lot [] D)) (λ r k. ap not k) (All-filter (λ r. (r.trade == t.id) ≡ false) row_changes_quantity (holding_history_rows_of_deals lot [] D) (rows_of_others t.id lot [] D (others_of base xs t ys c account symbol))))
+    filter-all (λ r. not (r.trade == t.id)) (filter has_quantity_change (lot_history_rows_per_deal lot [] D))
+    (All-map (filter has_quantity_change (lot_history_rows_per_deal lot [] D)) (λ r k. ap not k) (All-filter (λ r. (r.trade == t.id) ≡ false) has_quantity_change (lot_history_rows_per_deal lot [] D) (rows_of_others t.id lot [] D (others_of base xs t ys c account symbol))))
 
 other_rows : (base : Base) (xs : List Trade) (t : Trade) (ys : List Trade) → Completes base xs t ys → (v : Trade) (b : Bool) → is_here t v ≡ b
     → filter (λ r. not (r.trade == t.id)) (changing_rows_of_lot (xs ++ t ∷ ys) v) ≡ changing_rows_of_lot (completed_trades base) v
 other_rows base xs t ys c v true e =
     let D : List Deal = deals_of_position (completed_trades base) t.account t.symbol in
     let P : HoldingHistoryRow → Bool = λ r. not (r.trade == t.id) in
-    let old : List HoldingHistoryRow = filter row_changes_quantity (holding_history_rows_of_deals v.id [] D) in
-    ap (filter P) (own_rows base xs t ys c v e) ∙ filter-append P old (filter row_changes_quantity (row_at base t v ∷ []))
-    ∙ (λ i. kept_all base xs t ys c v.id t.account t.symbol i ++ none_row P row_changes_quantity (row_at base t v) (ap not (eq-eqb t.id t.id refl)) i)
-    ∙ append_nil old ∙ ap (λ ds. filter row_changes_quantity (holding_history_rows_of_deals v.id [] ds)) (sym (here_deals (completed_trades base) t v e))
+    let old : List HoldingHistoryRow = filter has_quantity_change (lot_history_rows_per_deal v.id [] D) in
+    ap (filter P) (own_rows base xs t ys c v e) ∙ filter-append P old (filter has_quantity_change (row_at base t v ∷ []))
+    ∙ (λ i. kept_all base xs t ys c v.id t.account t.symbol i ++ none_row P has_quantity_change (row_at base t v) (ap not (eq-eqb t.id t.id refl)) i)
+    ∙ append_nil old ∙ ap (λ ds. filter has_quantity_change (lot_history_rows_per_deal v.id [] ds)) (sym (here_deals (completed_trades base) t v e))
 other_rows base xs t ys c v false e =
-    ap (λ ds. filter (λ r. not (r.trade == t.id)) (filter row_changes_quantity (holding_history_rows_of_deals v.id [] ds))) (deals_elsewhere base xs t ys c v e)
+    ap (λ ds. filter (λ r. not (r.trade == t.id)) (filter has_quantity_change (lot_history_rows_per_deal v.id [] ds))) (deals_elsewhere base xs t ys c v e)
     ∙ kept_all base xs t ys c v.id v.account v.symbol
 
 pub filter-flat_map : {X Y : Type 0} (p : Y → Bool) (f : X → List Y) (xs : List X) → filter p (flat_map f xs) ≡ flat_map (λ x. filter p (f x)) xs
@@ -174,7 +174,7 @@ all_old base xs t ys c =
 -- ---- put in, lot by lot
 
 abbrev put_change : ℕ → Touch → List HoldingHistoryRow → List HoldingHistoryRow
-put_change id touch rows = insert_row_by_key holding_history_key (history_row_of_touch id touch) rows
+put_change id touch rows = insert_row_by_key holding_history_key (holding_history_row_of_touch id touch) rows
 
 abbrev put_at : Base → Trade → Trade → List HoldingHistoryRow → List HoldingHistoryRow
 put_at base t v rows = cond (changes_lot_quantity (touch_at base t v)) (put_change t.id (touch_at base t v) rows) rows
@@ -200,8 +200,8 @@ put_new base t (v ∷ vs) rows = by_test (is_here t v) (put_new base t vs rows)
     put false ih = ih
 
     by_test : (b : Bool) → each (insert_row_by_key holding_history_key) F rows ≡ each (put_at base t) H rows
-        → each (insert_row_by_key holding_history_key) (cond b (filter row_changes_quantity (row ∷ [])) [] ++ F) rows ≡ each (put_at base t) (cond b (v ∷ H) H) rows
-    by_test true ih = put (row_changes_quantity row) ih
+        → each (insert_row_by_key holding_history_key) (cond b (filter has_quantity_change (row ∷ [])) [] ++ F) rows ≡ each (put_at base t) (cond b (v ∷ H) H) rows
+    by_test true ih = put (has_quantity_change row) ih
     by_test false ih = ih
 
 -- the rows of different lots can be put in either way round
@@ -234,7 +234,7 @@ touches_commute base t (v ∷ vs) d = by_test (changes_lot_quantity (touch_at ba
     by_test false ih = ih
 
 abbrev pub put_changes : ℕ → List Touch → List HoldingHistoryRow → List HoldingHistoryRow
-put_changes id touched rows = fold (λ rows touch. insert_row_by_key holding_history_key (history_row_of_touch id touch) rows) rows touched
+put_changes id touched rows = fold (λ rows touch. insert_row_by_key holding_history_key (holding_history_row_of_touch id touch) rows) rows touched
 
 -- as the deal touches them, from its end
 touched_put : (base : Base) (xs : List Trade) (t : Trade) (ys : List Trade) → Completes base xs t ys → (rows : List HoldingHistoryRow)
@@ -256,7 +256,7 @@ touched_put base xs t ys c rows =
 -- ---- the lot that the trade opens
 
 abbrev pub put_openings : List model.Lot → List HoldingHistoryRow → List HoldingHistoryRow
-put_openings opened rows = fold (λ rows lot. insert_row_by_key holding_history_key (opening_history_row lot) rows) rows opened
+put_openings opened rows = fold (λ rows lot. insert_row_by_key holding_history_key (opening_holding_history_row lot) rows) rows opened
 
 opened_put : (base : Base) (xs : List Trade) (t : Trade) (ys : List Trade) → Completes base xs t ys → (rows : List HoldingHistoryRow)
     → put_at base t t rows ≡ put_openings (lots_of_shares (opened_shares (deal_of_trade t) (shares_before base t))) rows

@@ -9,7 +9,7 @@ use Rattle.std.proofs.lemmas.Int.{ints}
 use Rattle.brk_money.specs.declared.side.Side.{Side}
 use Rattle.brk_money.specs.declared.side.Side.TheVariants.{Buy}
 use Rattle.brk_lots.specs.Chains.{IsLotHistory, changes_of_lot}
-use Rattle.brk_lots.specs.Deals.{AreAscendingDeals}
+use Rattle.brk_lots.specs.Deals.{AreDistinctAscendingDeals}
 use Rattle.brk_lots.proofs.Books.{side_after}
 use Rattle.brk_lots.proofs.Counts.{OneSide}
 use Rattle.brk_lots.proofs.Deals.{all_after}
@@ -24,7 +24,7 @@ use Rattle.brk_model.specs.Shares.{Deal, Share, lot_quantity, shares_after_deal}
 use Rattle.brk_model.specs.Sheets.{sheets, tables_sorted_by_key}
 use Rattle.brk_model.specs.Tables.{HoldingHistoryRow, HoldingRow, holding_row, tables_of_base_in_schema, trade_row}
 use Rattle.brk_lots.proofs.HistoryRows.{rows_of_lots_are}
-use Rattle.brk_lots.specs.HistoryRows.{row_changes_quantity, changing_rows_of_lot, holding_history_rows_of_deals, touch_of_row}
+use Rattle.brk_lots.specs.HistoryRows.{has_quantity_change, changing_rows_of_lot, lot_history_rows_per_deal, touch_of_row}
 use Rattle.brk_book_theorems.specs.Books.{BooksInvariant}
 use Rattle.brk_book_theorems.specs.Lives.{LotChangesFormChain, BeginsWithTradeOfLot, AllLotChangesFormChains, lot_changes_by_stamp, remaining_lot_quantity}
 use Rattle.brk_book_theorems.proofs.Histories.{Others, filter-flat_map, no_rows}
@@ -90,7 +90,7 @@ sort_any m before (x ∷ xs) r =
 
 -- ---- the changes of one lot
 
-lots_same : (lot : ℕ) (shares : List Share) (deals : List Deal) → AllByRecursion (λ r. r.lot ≡ lot) (holding_history_rows_of_deals lot shares deals)
+lots_same : (lot : ℕ) (shares : List Share) (deals : List Deal) → AllByRecursion (λ r. r.lot ≡ lot) (lot_history_rows_per_deal lot shares deals)
 lots_same lot shares [] = tt
 lots_same lot shares (d ∷ deals) = (refl, lots_same lot (shares_after_deal shares d) deals)
 
@@ -108,7 +108,7 @@ zero_left a b e f = let d : a -ℤ b ≡ pos 0 = zero_is (a -ℤ b) (is_true (is
     is_true false f = absurd (cc)
 
 -- the first deal that changes the lot of a trade is that trade's
-opened_first : (id : ℕ) (side : Side) (shares : List Share) (deals : List Deal) → OneSide side shares → Without id shares → AreAscendingDeals deals → BeginsWithTradeOfLot id (filter row_changes_quantity (holding_history_rows_of_deals id shares deals))
+opened_first : (id : ℕ) (side : Side) (shares : List Share) (deals : List Deal) → OneSide side shares → Without id shares → AreDistinctAscendingDeals deals → BeginsWithTradeOfLot id (filter has_quantity_change (lot_history_rows_per_deal id shares deals))
 opened_first id side shares [] one w a = tt
 opened_first id side shares (d ∷ deals) one w a = by_trade (d.trade == id) refl (opened_first id next.0 after deals next.1)
   where
@@ -122,19 +122,19 @@ opened_first id side shares (d ∷ deals) one w a = by_trade (d.trade == id) ref
     row = record { lot = id; trade = d.trade; before = lot_quantity shares id; after = lot_quantity after id }
 
     rest : List HoldingHistoryRow
-    rest = filter row_changes_quantity (holding_history_rows_of_deals id after deals)
+    rest = filter has_quantity_change (lot_history_rows_per_deal id after deals)
 
     others : d.trade ≡ id → Others id deals
     others own = All-map deals (λ e l. ne_eqb e.trade id (λ same. l.0 (own ∙ sym same))) a.0
 
-    by_own : (b : Bool) → row_changes_quantity row ≡ b → d.trade ≡ id → BeginsWithTradeOfLot id (cond b (row ∷ rest) rest)
+    by_own : (b : Bool) → has_quantity_change row ≡ b → d.trade ≡ id → BeginsWithTradeOfLot id (cond b (row ∷ rest) rest)
     by_own true e own = own
     by_own false e own =
         let none : Without id after = without_of next.0 id after next.1 (zero_left (lot_quantity shares id) (lot_quantity after id) (lot_without id shares w) e) in
         subst (BeginsWithTradeOfLot id) (sym (no_rows id after deals none (others own))) tt
 
-    by_trade : (b : Bool) → (d.trade == id) ≡ b → (Without id after → AreAscendingDeals deals → BeginsWithTradeOfLot id rest) → BeginsWithTradeOfLot id (cond (row_changes_quantity row) (row ∷ rest) rest)
-    by_trade true e again = by_own (row_changes_quantity row) refl (eqb-true d.trade id e)
+    by_trade : (b : Bool) → (d.trade == id) ≡ b → (Without id after → AreDistinctAscendingDeals deals → BeginsWithTradeOfLot id rest) → BeginsWithTradeOfLot id (cond (has_quantity_change row) (row ∷ rest) rest)
+    by_trade true e again = by_own (has_quantity_change row) refl (eqb-true d.trade id e)
     by_trade false e again =
         subst (λ c. BeginsWithTradeOfLot id (cond c (row ∷ rest) rest)) (sym (unchanged id d shares e w)) (again (all_after (λ s. (s.trade == id) ≡ false) d shares e w) a.1)
 
@@ -146,13 +146,13 @@ stamp_is : (base : Base) (t : Trade) → trade_with_id base t.id ≡ Some t → 
 stamp_is base t e = ap (λ o. option_map_or (λ t. t.stamp) o 0) (reads_trade base t.id ∙ ap (option_map trade_row) e)
 
 changes_rise : (base : Base) (lot : ℕ) (shares : List Share) (ts : List Trade) → InOrder ts → AllByRecursion (λ u. stamp_in base u.id ≡ last_status_stamp_of_trade u) ts
-    → Rise (stamp_of_touching_trade (sheets base)) (holding_history_rows_of_deals lot shares (map deal_of_trade ts))
+    → Rise (stamp_of_touching_trade (sheets base)) (lot_history_rows_per_deal lot shares (map deal_of_trade ts))
 changes_rise base lot shares [] o h = tt
 changes_rise base lot shares (u ∷ ts) o h =
     (behind (shares_after_deal shares (deal_of_trade u)) ts o.0 h.1, changes_rise base lot (shares_after_deal shares (deal_of_trade u)) ts o.1 h.1)
   where
     behind : (left : List Share) (vs : List Trade) → AllByRecursion (Follows u) vs → AllByRecursion (λ v. stamp_in base v.id ≡ last_status_stamp_of_trade v) vs
-        → AllByRecursion (λ r. stamp_in base u.id < stamp_of_touching_trade (sheets base) r) (holding_history_rows_of_deals lot left (map deal_of_trade vs))
+        → AllByRecursion (λ r. stamp_in base u.id < stamp_of_touching_trade (sheets base) r) (lot_history_rows_per_deal lot left (map deal_of_trade vs))
     behind left [] f k = tt
     behind left (v ∷ vs) f k =
         let lt : last_status_stamp_of_trade u < last_status_stamp_of_trade v = f.0.1 in (
@@ -166,7 +166,7 @@ done_found base books =
 
 history_rises : (base : Base) (t : Trade) → BooksInvariant base → Rise (stamp_of_touching_trade (sheets base)) (changing_rows_of_lot (completed_trades base) t)
 history_rises base t books =
-    rise_left (stamp_of_touching_trade (sheets base)) row_changes_quantity (holding_history_rows_of_deals t.id [] (deals_of_position (completed_trades base) t.account t.symbol))
+    rise_left (stamp_of_touching_trade (sheets base)) has_quantity_change (lot_history_rows_per_deal t.id [] (deals_of_position (completed_trades base) t.account t.symbol))
     (changes_rise base t.id [] (trades_held base t.account t.symbol) (held_in_order base t.account t.symbol books)
     (of_held (λ u. stamp_in base u.id ≡ last_status_stamp_of_trade u) base t.account t.symbol (All-map (completed_trades base) (λ u e. stamp_is base u e) (done_found base books))))
 
@@ -183,7 +183,7 @@ abbrev of_lot : ℕ → HoldingHistoryRow → Bool
 of_lot lot h = h.lot == lot
 
 own_lots : (done : List Trade) (t : Trade) → AllByRecursion (λ r. r.lot ≡ t.id) (changing_rows_of_lot done t)
-own_lots done t = All-filter (λ r. r.lot ≡ t.id) row_changes_quantity (holding_history_rows_of_deals t.id [] (deals_of_position done t.account t.symbol)) (lots_same t.id [] (deals_of_position done t.account t.symbol))
+own_lots done t = All-filter (λ r. r.lot ≡ t.id) has_quantity_change (lot_history_rows_per_deal t.id [] (deals_of_position done t.account t.symbol)) (lots_same t.id [] (deals_of_position done t.account t.symbol))
 
 none_other : (done : List Trade) (lot : ℕ) (ts : List Trade) → NonePass (λ u. u.id == lot) ts → flat_map (λ u. filter (of_lot lot) (changing_rows_of_lot done u)) ts ≡ []
 none_other done lot ts h =

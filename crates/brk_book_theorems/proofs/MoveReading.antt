@@ -8,8 +8,8 @@ use Rattle.brk_model.specs.Lists.{insert_by, sort_by, sort_by_key}
 use Rattle.brk_model.specs.Records.{Account, Movement, Trade}
 use Rattle.brk_model.specs.Base.{Base, completed_trades}
 use Rattle.brk_model.specs.Derived.{Posting, cash_trades, postings_sorted_by_stamp, posting_of_movement, posting_of_trade, postings, postings_of_base}
-use Rattle.brk_model.specs.Keys.{rows_sorted_by_key, move_key}
-use Rattle.brk_model.specs.Adopted.{movement_of_row, posting_of_move_row}
+use Rattle.brk_model.specs.Keys.{rows_sorted_by_key, cash_move_key}
+use Rattle.brk_model.specs.Adopted.{movement_of_row, posting_of_cash_move_row}
 use Rattle.brk_model.specs.Sheets.{sheets, tables_sorted_by_key}
 use Rattle.brk_model.specs.Tables.{MoveRow, cash_move_row, numbered_move_rows, tables_of_base_in_schema}
 use Rattle.brk_book_theorems.specs.TradeReads.{last_cash_row_number_or_zero}
@@ -20,14 +20,14 @@ use Rattle.brk_book_theorems.proofs.TradeReading.{first_of_more}
 
 -- ---- rows as postings
 
-pub postings_back : (n : ℕ) (ps : List Posting) → map posting_of_move_row (numbered_move_rows n ps) ≡ ps
+pub postings_back : (n : ℕ) (ps : List Posting) → map posting_of_cash_move_row (numbered_move_rows n ps) ≡ ps
 postings_back n [] = refl
 postings_back n (p ∷ ps) = ap (λ qs. p ∷ qs) (postings_back (n + 1) ps)
 
 -- the cash rows of a base are its postings in turn
-pub rows_posted : (base : Base) → map posting_of_move_row (sheets base).moves ≡ postings_sorted_by_stamp (postings_of_base base)
+pub rows_posted : (base : Base) → map posting_of_cash_move_row (sheets base).moves ≡ postings_sorted_by_stamp (postings_of_base base)
 unfolding tables_of_base_in_schema tables_sorted_by_key
-rows_posted base = ap (map posting_of_move_row) (numbered_stay 1 (postings_sorted_by_stamp (postings_of_base base))) ∙ postings_back 1 (postings_sorted_by_stamp (postings_of_base base))
+rows_posted base = ap (map posting_of_cash_move_row) (numbered_stay 1 (postings_sorted_by_stamp (postings_of_base base))) ∙ postings_back 1 (postings_sorted_by_stamp (postings_of_base base))
 
 -- ---- movements
 

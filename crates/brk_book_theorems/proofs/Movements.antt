@@ -12,7 +12,7 @@ use Rattle.brk_model.specs.Records.{Account, Movement, SettleRule, Trade}
 use Rattle.brk_model.specs.Base.{Base, account_with_id, completed_trades, last_status_stamp_of_trade, opening_balance_in_accounts}
 use Rattle.brk_model.specs.Commands.{Command, DepositCash, WithdrawCash, SetOneDay}
 use Rattle.brk_model.specs.Derived.{balance_of_account, due_day, postings_sorted_by_stamp, postings_to_account, posting_of_movement, postings, postings_of_base, days_to_settlement, shares_of_position, holding_summary_quantity, trade_count_of_broker, commission_total_of_broker}
-use Rattle.brk_model.specs.Keys.{account_key, rows_sorted_by_key, move_key, settlement_key}
+use Rattle.brk_model.specs.Keys.{account_key, rows_sorted_by_key, cash_move_key, settlement_key}
 use Rattle.brk_model.specs.Movements.{deposit_movement, withdrawal_movement, base_after_movement, base_with_settlement_day}
 use Rattle.brk_model.specs.Sheets.{sheets, tables_sorted_by_key}
 use Rattle.brk_model.specs.Step.{base_after_command_unstamped}
@@ -55,7 +55,7 @@ row_stands : (base : Base) (now : ℕ) (m : Movement) → BooksInvariant base �
     → (sheets (base_after_movement base m)).moves ≡ (tables_after_movement base m (sheets base)).moves
 unfolding tables_of_base_in_schema tables_sorted_by_key
 row_stands base now m books e =
-    ap (λ ps. rows_sorted_by_key move_key (numbered_move_rows 1 (postings_sorted_by_stamp ps))) (postings_moved base.accounts (completed_trades base) base.movements m)
+    ap (λ ps. rows_sorted_by_key cash_move_key (numbered_move_rows 1 (postings_sorted_by_stamp ps))) (postings_moved base.accounts (completed_trades base) base.movements m)
     ∙ rows_end (postings_of_base base) (posting_of_movement m) (posted_before base.accounts (completed_trades base) base.movements m.stamp
     (subst (λ (n : ℕ). AllByRecursion (λ t. last_status_stamp_of_trade t < n) (completed_trades base)) (sym e) (all_before base now books))
     (subst (λ (n : ℕ). AllByRecursion (λ x. x.stamp < n) base.movements) (sym e) (movements_before base now books.movements)))

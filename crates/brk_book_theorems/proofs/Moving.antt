@@ -10,7 +10,7 @@ use Rattle.brk_money.specs.declared.status.Status.{Status}
 use Rattle.brk_money.specs.declared.status.Status.TheVariants.{Completed, Active, Submitted, Pending, Canceled}
 use Rattle.brk_model.specs.Lists.{update_where}
 use Rattle.brk_model.specs.Records.{Account, StatusChange, Trade}
-use Rattle.brk_model.specs.Base.{Base, has_status, is_completed, trade_with_status_change}
+use Rattle.brk_model.specs.Base.{Base, has_last_status, is_completed, trade_with_status_change}
 use Rattle.brk_model.specs.Derived.{pending_trades, shares_of_position, holding_summary_quantity, balance_of_account, trade_count_of_broker, commission_total_of_broker}
 use Rattle.brk_model.specs.Schemas.{third_schema}
 use Rattle.brk_model.specs.Tables.{Tables, TradeRow, HistoryRow, RequestRow, tables_of_base_in_schema, tables_from_completed_trades, trade_row, history_rows, request_row}
@@ -78,7 +78,7 @@ history_of_others row (t ∷ ts) h =
     number_of m n j k e = cc
 
 -- so have the rows of a trade's one mark
-own_history : (stamp : ℕ) (status : Status) (t : Trade) (marks : List StatusChange) → t.marks ≡ marks → HasOneStatusChange marks → has_status Pending t ≡ true → is_same_trade_status status Pending ≡ false
+own_history : (stamp : ℕ) (status : Status) (t : Trade) (marks : List StatusChange) → t.marks ≡ marks → HasOneStatusChange marks → has_last_status Pending t ≡ true → is_same_trade_status status Pending ≡ false
     → NewKey history_key (history_row_of_status t.id status stamp) (history_rows t)
 own_history stamp status t [] e one p s = absurd one
 own_history stamp status t (m ∷ n ∷ marks) e one p s = absurd one
@@ -90,7 +90,7 @@ own_history stamp status t (m ∷ []) e one p s =
     code_of k = cc
 
 moved_history : (stamp : ℕ) (status : Status) (xs : List Trade) (t : Trade) (ys : List Trade) → ids_other t.id xs
-    → HasOneStatusChange t.marks → has_status Pending t ≡ true → is_same_trade_status status Pending ≡ false
+    → HasOneStatusChange t.marks → has_last_status Pending t ≡ true → is_same_trade_status status Pending ≡ false
     → rows_sorted_by_key history_key (flat_map history_rows (xs ++ trade_with_status_change stamp status t ∷ ys))
     ≡ insert_row_by_key history_key (history_row_of_status t.id status stamp) (rows_sorted_by_key history_key (flat_map history_rows (xs ++ t ∷ ys)))
 moved_history stamp status xs t ys g one p s =
@@ -111,17 +111,17 @@ moved_history stamp status xs t ys g one p s =
 -- ---- TRADE_REQUEST
 
 moved_requests : (accounts : List Account) (stamp : ℕ) (status : Status) (xs : List Trade) (t : Trade) (ys : List Trade) → ids_other t.id xs → ids_other t.id ys
-    → has_status Pending t ≡ true → is_same_trade_status status Pending ≡ false
+    → has_last_status Pending t ≡ true → is_same_trade_status status Pending ≡ false
     → rows_sorted_by_key request_key (map (request_row accounts) (pending_trades (xs ++ trade_with_status_change stamp status t ∷ ys)))
     ≡ filter (λ r. not (r.trade == t.id)) (rows_sorted_by_key request_key (map (request_row accounts) (pending_trades (xs ++ t ∷ ys))))
 moved_requests accounts stamp status xs t ys g h p s =
     let R : List Trade → List RequestRow = map (request_row accounts) in
     let other : RequestRow → Bool = λ r. not (r.trade == t.id) in
     let after : pending_trades (xs ++ trade_with_status_change stamp status t ∷ ys) ≡ pending_trades xs ++ pending_trades ys =
-    filter-not_one (has_status Pending) xs (trade_with_status_change stamp status t) ys (status_of_marked stamp status Pending t ∙ s) in
-    let before : pending_trades (xs ++ t ∷ ys) ≡ pending_trades xs ++ t ∷ pending_trades ys = filter-one (has_status Pending) xs t ys p in
+    filter-not_one (has_last_status Pending) xs (trade_with_status_change stamp status t) ys (status_of_marked stamp status Pending t ∙ s) in
+    let before : pending_trades (xs ++ t ∷ ys) ≡ pending_trades xs ++ t ∷ pending_trades ys = filter-one (has_last_status Pending) xs t ys p in
     let left : (ts : List Trade) → ids_other t.id ts → filter other (R (pending_trades ts)) ≡ R (pending_trades ts) = λ ts k.
-    filter-all other (R (pending_trades ts)) (All-mapped _ (request_row accounts) (pending_trades ts) (All-map (pending_trades ts) (λ u e. ap not e) (All-filter (λ u. (u.id == t.id) ≡ false) (has_status Pending) ts k))) in
+    filter-all other (R (pending_trades ts)) (All-mapped _ (request_row accounts) (pending_trades ts) (All-map (pending_trades ts) (λ u e. ap not e) (All-filter (λ u. (u.id == t.id) ≡ false) (has_last_status Pending) ts k))) in
     let own : other (request_row accounts t) ≡ false = ap not (eq-eqb t.id t.id refl) in
     let rows : R (pending_trades (xs ++ trade_with_status_change stamp status t ∷ ys)) ≡ filter other (R (pending_trades (xs ++ t ∷ ys))) =
     ap R after ∙ map-append (request_row accounts) (pending_trades xs) (pending_trades ys)
@@ -136,7 +136,7 @@ abbrev pub with_list : Base → List Trade → Base
 with_list base trades = record base { trades = trades }
 
 pub moved_one : (base : Base) (stamp : ℕ) (status : Status) (xs : List Trade) (t : Trade) (ys : List Trade) → ids_other t.id xs → ids_other t.id ys
-    → HasOneStatusChange t.marks → has_status Pending t ≡ true → is_same_trade_status status Pending ≡ false → is_same_trade_status status Completed ≡ false
+    → HasOneStatusChange t.marks → has_last_status Pending t ≡ true → is_same_trade_status status Pending ≡ false → is_same_trade_status status Completed ≡ false
     → sheets (with_list base (xs ++ trade_with_status_change stamp status t ∷ ys)) ≡ tables_after_change_from_pending t.id status stamp (sheets (with_list base (xs ++ t ∷ ys)))
 unfolding tables_of_base_in_schema tables_sorted_by_key shares_of_position holding_summary_quantity balance_of_account trade_count_of_broker commission_total_of_broker
 moved_one base stamp status xs t ys g h one p s c =
@@ -152,7 +152,7 @@ moved_one base stamp status xs t ys g h one p s c =
 
 -- several are submitted, where those that were so far stand in front
 pub submitted_all : (base : Base) (stamp : ℕ) (p : Trade → Bool) (xs ts : List Trade) → TradesAreNumberedFrom 1 (xs ++ ts)
-    → AllByRecursion (λ t. p t ≡ true → has_status Pending t ≡ true) ts → AllByRecursion HasOneStatusChangeIfPending ts
+    → AllByRecursion (λ t. p t ≡ true → has_last_status Pending t ≡ true) ts → AllByRecursion HasOneStatusChangeIfPending ts
     → sheets (with_list base (xs ++ update_where p (trade_with_status_change stamp Submitted) ts))
     ≡ tables_with_trades_submitted stamp (map (λ t. t.id) (filter p ts)) (sheets (with_list base (xs ++ ts)))
 submitted_all base stamp p xs [] n w h = refl
@@ -174,7 +174,7 @@ submitted_all base stamp p xs (t ∷ ts) n w h = by_test (λ ys k. submitted_all
         → (b : Bool) → p t ≡ b → Rows (p t)
     by_test ih true e =
         let u : Trade = trade_with_status_change stamp Submitted t in
-        let waits : has_status Pending t ≡ true = w.0 e in
+        let waits : has_last_status Pending t ≡ true = w.0 e in
         let one : HasOneStatusChange t.marks = h.0 waits in
         let rows : Rows true =
         ap S (sym (append_assoc xs (u ∷ []) U))

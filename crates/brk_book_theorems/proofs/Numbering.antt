@@ -10,7 +10,7 @@ use Rattle.brk_money.specs.declared.status.Status.{Status}
 use Rattle.brk_money.specs.declared.status.Status.TheVariants.{Completed, Active, Submitted, Pending, Canceled}
 use Rattle.brk_model.specs.Lists.{update_where}
 use Rattle.brk_model.specs.Records.{StatusChange, Trade}
-use Rattle.brk_model.specs.Base.{has_status, is_completed, trade_with_status_change, last_status_change}
+use Rattle.brk_model.specs.Base.{has_last_status, is_completed, trade_with_status_change, last_status_change}
 use Rattle.brk_model.specs.Names.{TradesAreNumberedFrom}
 use Rattle.brk_book_theorems.specs.Books.{HasOneStatusChangeIfPending}
 use Rattle.brk_book_theorems.proofs.Same.{NonePass}
@@ -24,7 +24,7 @@ last_or-append o (y ∷ xs) x = last_or-append (Some y) xs x
 pub last_of_marked : (stamp : ℕ) (status : Status) (t : Trade) → last_status_change (trade_with_status_change stamp status t) ≡ Some (record { stamp = stamp; status = status })
 last_of_marked stamp status t = last_or-append None t.marks (record { stamp = stamp; status = status })
 
-pub status_of_marked : (stamp : ℕ) (status wanted : Status) (t : Trade) → has_status wanted (trade_with_status_change stamp status t) ≡ is_same_trade_status status wanted
+pub status_of_marked : (stamp : ℕ) (status wanted : Status) (t : Trade) → has_last_status wanted (trade_with_status_change stamp status t) ≡ is_same_trade_status status wanted
 status_of_marked stamp status wanted t = ap (λ o. option_map_or (λ m. is_same_trade_status m.status wanted) o false) (last_of_marked stamp status t)
 
 -- a trade that waits is not completed
@@ -39,12 +39,12 @@ waits_not_done (Some m) h = by_status m.status h
     by_status Pending h = refl
     by_status Canceled h = refl
 
-pub pending_not_completed : (t : Trade) → has_status Pending t ≡ true → is_completed t ≡ false
+pub pending_not_completed : (t : Trade) → has_last_status Pending t ≡ true → is_completed t ≡ false
 pending_not_completed t h = waits_not_done (last_status_change t) h
 
 -- a trade that came to another status does not wait
 pub moved_way : (stamp : ℕ) (status : Status) (t : Trade) → is_same_trade_status status Pending ≡ false → HasOneStatusChangeIfPending (trade_with_status_change stamp status t)
-moved_way stamp status t s p = let k : has_status Pending (trade_with_status_change stamp status t) ≡ false = status_of_marked stamp status Pending t ∙ s in absurd (cc)
+moved_way stamp status t s p = let k : has_last_status Pending (trade_with_status_change stamp status t) ≡ false = status_of_marked stamp status Pending t ∙ s in absurd (cc)
 
 -- ---- ids
 

@@ -7,7 +7,7 @@ use Rattle.brk_money.specs.declared.status.Status.TheVariants.{Completed, Submit
 use Rattle.brk_money.specs.declared.trade_type.TradeType.{TradeType}
 use Rattle.brk_money.specs.declared.trade_type.TradeType.TheVariants.{MarketBuy, MarketSell, StopLoss, LimitSell, LimitBuy}
 use Rattle.brk_model.specs.Records.{Trade}
-use Rattle.brk_model.specs.Base.{Base, broker_id_of_account, completed_trades, has_status, is_completed}
+use Rattle.brk_model.specs.Base.{Base, broker_id_of_account, completed_trades, has_last_status, is_completed}
 use Rattle.brk_model.specs.Derived.{pending_trades, shares_of_position, holding_summary_quantity, balance_of_account, trade_count_of_broker, commission_total_of_broker}
 use Rattle.brk_model.specs.Schemas.{third_schema}
 use Rattle.brk_model.specs.Tables.{HistoryRow, Tables, tables_of_base_in_schema, tables_from_completed_trades, trade_row, history_rows, request_row}
@@ -67,8 +67,8 @@ ordered_rows base stamp o n = by_market (is_market_type (trade_type_of_order o.o
 
     by_market : (b : Bool) → is_market_type (trade_type_of_order o.order_type) ≡ b → Rows (is_market_type (trade_type_of_order o.order_type))
     by_market true e =
-        let waits : has_status Pending t ≡ false = ap (λ b. is_same_trade_status (cond b Submitted Pending) Pending) e in
-        let left = filter-not_one (has_status Pending) base.trades t [] waits ∙ append_nil (pending_trades base.trades) in
+        let waits : has_last_status Pending t ≡ false = ap (λ b. is_same_trade_status (cond b Submitted Pending) Pending) e in
+        let left = filter-not_one (has_last_status Pending) base.trades t [] waits ∙ append_nil (pending_trades base.trades) in
         let rows : Rows true = λ i. record (tables_sorted_by_key (tables_from_completed_trades third_schema base (done i))) {
           trades = trades i;
           history = history i;
@@ -76,11 +76,11 @@ ordered_rows base stamp o n = by_market (is_market_type (trade_type_of_order o.o
         } in
         subst Rows (sym e) rows
     by_market false e =
-        let waits : has_status Pending t ≡ true = ap (λ b. is_same_trade_status (cond b Submitted Pending) Pending) e in
-        let requests = ap (λ ts. rows_sorted_by_key request_key (map (request_row base.accounts) ts)) (filter-one (has_status Pending) base.trades t [] waits)
+        let waits : has_last_status Pending t ≡ true = ap (λ b. is_same_trade_status (cond b Submitted Pending) Pending) e in
+        let requests = ap (λ ts. rows_sorted_by_key request_key (map (request_row base.accounts) ts)) (filter-one (has_last_status Pending) base.trades t [] waits)
         ∙ row_last request_key (request_row base.accounts) (pending_trades base.trades) t
         (All-mapped _ (request_row base.accounts) (pending_trades base.trades)
-        (new_number (λ u. u.id) t (pending_trades base.trades) (All-filter _ (has_status Pending) base.trades others))) in
+        (new_number (λ u. u.id) t (pending_trades base.trades) (All-filter _ (has_last_status Pending) base.trades others))) in
         let rows : Rows false = λ i. record (tables_sorted_by_key (tables_from_completed_trades third_schema base (done i))) {
           trades = trades i;
           history = history i;

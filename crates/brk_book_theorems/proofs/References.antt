@@ -9,10 +9,10 @@ use Rattle.brk_money.specs.Spelling.{Text}
 use Rattle.brk_money.specs.declared.status.Status.TheVariants.{Pending}
 use Rattle.brk_model.specs.Lists.{total_by}
 use Rattle.brk_model.specs.Records.{Broker, Customer, Account, Trade}
-use Rattle.brk_model.specs.Base.{Base, account_with_id_in_list, account_with_id, broker_with_id, broker_id_in_accounts, completed_trades, is_completed, has_status, last_status_stamp_of_trade}
+use Rattle.brk_model.specs.Base.{Base, account_with_id_in_list, account_with_id, broker_with_id, broker_id_in_accounts, completed_trades, is_completed, has_last_status, last_status_stamp_of_trade}
 use Rattle.brk_model.specs.Derived.{trades_of_account, trades_of_position, trades_of_broker, shares_of_position, holding_summary_quantity, settlement_amount, due_day, posting_of_trade, posting_of_movement, postings, postings_to_account, postings_sorted_by_stamp, balance_of_account, trade_count_of_broker, commission_total_of_broker, cash_trades, pending_trades}
 use Rattle.brk_model.specs.Tables.{BrokerRow, AccountRow, tables_of_base_in_schema, broker_row, account_row, request_row, summary_rows, settlement_row, numbered_move_rows}
-use Rattle.brk_model.specs.Keys.{KeyPart, number, rows_sorted_by_key, insert_row_by_key, broker_key, customer_key, account_key, request_key, summary_key, settlement_key, move_key}
+use Rattle.brk_model.specs.Keys.{KeyPart, number, rows_sorted_by_key, insert_row_by_key, broker_key, customer_key, account_key, request_key, summary_key, settlement_key, cash_move_key}
 use Rattle.brk_model.specs.Sheets.{sheets, tables_sorted_by_key}
 use Rattle.brk_model.specs.Commands.{AddBroker, AddCustomer, AddAccount}
 use Rattle.brk_model.specs.Step.{base_after_command_unstamped, base_after_accepted_command}
@@ -180,7 +180,7 @@ account_rows base stamp a books h =
     -- requests and settlements
     let requests = map-same (request_row after) (request_row base.accounts) (pending_trades base.trades) (All-map (pending_trades base.trades)
     (λ t k. λ i. record { trade = t.id; kind = t.kind; symbol = t.symbol; qty = t.qty; bid = t.bid; broker = option_map_or (λ a. a.broker) (as_before base a t.account k i) 0 })
-    (All-filter (AccountOfTradeExists base) (has_status Pending) base.trades books.accounts)) in
+    (All-filter (AccountOfTradeExists base) (has_last_status Pending) base.trades books.accounts)) in
     let settlements = map-same (settlement_row after base.rule) (settlement_row base.accounts base.rule) done (All-map done
     (λ t k. λ i. record { trade = t.id; cash_type = t.cash_type; due_day = due_day base.rule t; amount = amount_as_before base a t k i }) known) in
     -- no summary of the new account
@@ -197,5 +197,5 @@ account_rows base stamp a books h =
       requests = rows_sorted_by_key request_key (requests i);
       summaries = rows_sorted_by_key summary_key (sums i);
       settlements = rows_sorted_by_key settlement_key (settlements i);
-      moves = rows_sorted_by_key move_key (numbered_move_rows 1 (postings_sorted_by_stamp (postings_as_before base a books i)));
+      moves = rows_sorted_by_key cash_move_key (numbered_move_rows 1 (postings_sorted_by_stamp (postings_as_before base a books i)));
     }

@@ -8,7 +8,7 @@ use Rattle.brk_money.specs.Spelling.{Text}
 use Rattle.brk_money.specs.declared.refusal.Refusal.TheVariants.{NoTrade}
 use Rattle.brk_money.specs.declared.status.Status.TheVariants.{Submitted, Pending}
 use Rattle.brk_model.specs.Records.{Account, Security, Trade}
-use Rattle.brk_model.specs.Base.{Base, account_with_id, completed_trades, has_status, is_completed, last_status_stamp_of_trade, security_with_symbol, trade_with_id}
+use Rattle.brk_model.specs.Base.{Base, account_with_id, completed_trades, has_last_status, is_completed, last_status_stamp_of_trade, security_with_symbol, trade_with_id}
 use Rattle.brk_model.specs.Commands.{CompleteTrade}
 use Rattle.brk_model.specs.Results.{completed_trade, base_after_result}
 use Rattle.brk_model.specs.Sheets.{sheets}
@@ -79,13 +79,13 @@ pub record Found (base : Base) (now price : ℕ) (t : Trade) : Type 0 where
   pub back : List Trade
   pub result : IsResult base (stamp_of_next_command base now) price t front back
 
-pub found_at : (base : Base) (now id price : ℕ) (t : Trade) → BooksInvariant base → trade_with_id base id ≡ Some t → has_status Submitted t ≡ true → Found base now price t
+pub found_at : (base : Base) (now id price : ℕ) (t : Trade) → BooksInvariant base → trade_with_id base id ≡ Some t → has_last_status Submitted t ≡ true → Found base now price t
 found_at base now id price t books e s =
     let f : FoundAt Trade (λ u. u.id == id) t base.trades = find-at (λ u. u.id == id) base.trades t e in
     record { front = f.before; back = f.after; result = record { books = books; stands = f.stands; submitted = s; later = all_before base now books; moved = movements_before base now books.movements } }
 
-pub submitted : (base : Base) (now id price : ℕ) (t : Trade) → trade_with_id base id ≡ Some t → refusal_of_command base now (CompleteTrade id price) ≡ None → has_status Submitted t ≡ true
-submitted base now id price t e accepted = not_not (has_status Submitted t) (result_passed base now id price t e accepted).0
+pub submitted : (base : Base) (now id price : ℕ) (t : Trade) → trade_with_id base id ≡ Some t → refusal_of_command base now (CompleteTrade id price) ≡ None → has_last_status Submitted t ≡ true
+submitted base now id price t e accepted = not_not (has_last_status Submitted t) (result_passed base now id price t e accepted).0
 
 -- ---- its rows
 
@@ -94,7 +94,7 @@ pub step_result : (base : Base) (now id price : ℕ) (t : Trade) → trade_with_
 unfolding base_after_command_unstamped
 step_result base now id price t e books accepted =
     let stamp : ℕ = stamp_of_next_command base now in
-    let s : has_status Submitted t ≡ true = submitted base now id price t e accepted in
+    let s : has_last_status Submitted t ≡ true = submitted base now id price t e accepted in
     let f : Found base now price t = found_at base now id price t books e s in
     let a : (a : Account) × (account_with_id base t.account ≡ Some a) = some_of (account_with_id base t.account) (find-All (AccountOfTradeExists base) (λ u. u.id == id) base.trades t books.accounts e) in
     let y : (y : Security) × (security_with_symbol base t.symbol ≡ Some y) = some_of (security_with_symbol base t.symbol) (find-All (SecurityOfTradeExists base) (λ u. u.id == id) base.trades t books.securities e) in
@@ -120,10 +120,10 @@ moments_more (x ∷ xs) t ys h m = (
 )
 
 not_waiting : (base : Base) (stamp price : ℕ) (t : Trade) → HasOneStatusChangeIfPending (completed_trade base stamp price t)
-not_waiting base stamp price t p = let k : has_status Pending (completed_trade base stamp price t) ≡ false = status_then base stamp price t Pending in absurd (cc)
+not_waiting base stamp price t p = let k : has_last_status Pending (completed_trade base stamp price t) ≡ false = status_then base stamp price t Pending in absurd (cc)
 
 not_at_market : (base : Base) (stamp price : ℕ) (t : Trade) → HasNoCompletionIfSubmitted (completed_trade base stamp price t)
-not_at_market base stamp price t p = let k : has_status Submitted (completed_trade base stamp price t) ≡ false = status_then base stamp price t Submitted in absurd (cc)
+not_at_market base stamp price t p = let k : has_last_status Submitted (completed_trade base stamp price t) ≡ false = status_then base stamp price t Submitted in absurd (cc)
 
 same_id : (base : Base) (stamp price : ℕ) (t : Trade) → (completed_trade base stamp price t).id ≡ t.id
 unfolding completed_trade

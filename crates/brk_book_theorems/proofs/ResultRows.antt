@@ -9,7 +9,7 @@ use Rattle.brk_money.specs.declared.status.Status.{Status}
 use Rattle.brk_money.specs.declared.status.Status.TheVariants.{Completed, Active, Submitted, Pending, Canceled}
 use Rattle.brk_model.specs.Lists.{is_zero, update_where}
 use Rattle.brk_model.specs.Records.{Account, StatusChange, Security, Trade}
-use Rattle.brk_model.specs.Base.{Base, account_with_id, broker_id_in_accounts, completed_trades, has_status, is_completed, last_status_change, last_status_stamp_of_trade, security_with_symbol}
+use Rattle.brk_model.specs.Base.{Base, account_with_id, broker_id_in_accounts, completed_trades, has_last_status, is_completed, last_status_change, last_status_stamp_of_trade, security_with_symbol}
 use Rattle.brk_model.specs.Derived.{Posting, balance_of_account, commission_total_of_broker, deal_of_trade, postings_sorted_by_stamp, pending_trades, posting_of_trade, postings, postings_of_base, trade_count_of_broker}
 use Rattle.brk_model.specs.Results.{completed_trade, deal_of_result, base_after_result}
 use Rattle.brk_model.specs.Shares as model
@@ -17,11 +17,11 @@ use Rattle.brk_model.specs.Shares.{Touch}
 use Rattle.brk_model.specs.Tables.{BrokerRow, HistoryRow, MoveRow, SummaryRow, Tables, TradeRow, account_row, broker_row, history_rows, holding_row, cash_move_row as numbered_row, numbered_move_rows, request_row, settlement_row, tables_of_base_in_schema, trade_row}
 use Rattle.brk_lots.proofs.HistoryRows.{rows_of_lots_are}
 use Rattle.brk_lots.specs.HistoryRows.{changing_rows_of_lot}
-use Rattle.brk_model.specs.Keys.{number, word, account_key, broker_key, rows_sorted_by_key, history_key, holding_history_key, holding_key, insert_row_by_key, move_key, request_key, settlement_key, summary_key, trade_key}
+use Rattle.brk_model.specs.Keys.{number, word, account_key, broker_key, rows_sorted_by_key, history_key, holding_history_key, holding_key, insert_row_by_key, cash_move_key, request_key, settlement_key, summary_key, trade_key}
 use Rattle.brk_model.specs.Sheets.{sheets, tables_sorted_by_key}
 use Rattle.brk_model.specs.Names.{TradesAreNumberedFrom}
 use Rattle.brk_book_theorems.specs.Books.{BooksInvariant, IsNotCompletion}
-use Rattle.brk_book_theorems.specs.Results.{ResultRows, tables_with_cash_row_if_cash_trade, history_row_of_touch, tables_with_trade_completed_and_history, tables_with_lot_reduced, tables_with_lots_opened, tables_after_result, result_rows_of_trade, result_rows_of_deal, tables_with_summary_changed, tables_with_lots_touched}
+use Rattle.brk_book_theorems.specs.Results.{ResultRows, tables_with_cash_row_if_cash_trade, holding_history_row_of_touch, tables_with_trade_completed_and_history, tables_with_touched_holding, tables_with_lots_opened, tables_after_result, result_rows_of_trade, result_rows_of_deal, tables_with_summary_changed, tables_with_lots_touched}
 use Rattle.brk_changes.specs.Changes.{tables_with_broker_totals, tables_with_lot_change, tables_with_settlement}
 use Rattle.brk_book_theorems.specs.Trading.{history_row_of_status}
 use Rattle.brk_book_theorems.proofs.Order.{NewKey, by_key-map, by_key-middle}
@@ -50,13 +50,13 @@ at_market (Some m) h = by_status m.status h
     by_status Pending h = absurd (cc)
     by_status Canceled h = (refl, refl)
 
-pub submitted_not_completed : (t : Trade) → has_status Submitted t ≡ true → is_completed t ≡ false
+pub submitted_not_completed : (t : Trade) → has_last_status Submitted t ≡ true → is_completed t ≡ false
 submitted_not_completed t h = (at_market (last_status_change t) h).0
 
-submitted_not_pending : (t : Trade) → has_status Submitted t ≡ true → has_status Pending t ≡ false
+submitted_not_pending : (t : Trade) → has_last_status Submitted t ≡ true → has_last_status Pending t ≡ false
 submitted_not_pending t h = (at_market (last_status_change t) h).1
 
-pub status_then : (base : Base) (stamp price : ℕ) (t : Trade) (wanted : Status) → has_status wanted (completed_trade base stamp price t) ≡ is_same_trade_status Completed wanted
+pub status_then : (base : Base) (stamp price : ℕ) (t : Trade) (wanted : Status) → has_last_status wanted (completed_trade base stamp price t) ≡ is_same_trade_status Completed wanted
 unfolding completed_trade
 status_then base stamp price t wanted = status_of_marked stamp Completed wanted t
 
@@ -141,7 +141,7 @@ history_after base stamp price xs t ys g h =
 
 -- ---- the rows of a result, table by table
 
-left_is : (touch : Touch) (t : Tables) → tables_with_lot_reduced touch t ≡ record t { holdings = set_lot touch t.holdings }
+left_is : (touch : Touch) (t : Tables) → tables_with_touched_holding touch t ≡ record t { holdings = set_lot touch t.holdings }
 left_is touch t = by_test (is_zero touch.after)
   where
     by_test : (b : Bool)
@@ -153,8 +153,8 @@ left_is touch t = by_test (is_zero touch.after)
 touched_are : (id : ℕ) (touched : List Touch) (t : Tables) → tables_with_lots_touched id touched t ≡ record t { holdings = set_lots touched t.holdings; holding_history = put_changes id touched t.holding_history }
 touched_are id [] t = refl
 touched_are id (touch ∷ touched) t =
-    ap (λ t. tables_with_lots_touched id touched (tables_with_lot_change (history_row_of_touch id touch) t)) (left_is touch t)
-    ∙ touched_are id touched (tables_with_lot_change (history_row_of_touch id touch) (record t { holdings = set_lot touch t.holdings }))
+    ap (λ t. tables_with_lots_touched id touched (tables_with_lot_change (holding_history_row_of_touch id touch) t)) (left_is touch t)
+    ∙ touched_are id touched (tables_with_lot_change (holding_history_row_of_touch id touch) (record t { holdings = set_lot touch t.holdings }))
 
 opened_are : (u : Trade) (opened : List model.Lot) (t : Tables)
     → tables_with_lots_opened (trade_row u) opened t ≡ record t { holdings = open_lots u opened t.holdings; holding_history = put_openings opened t.holding_history }
@@ -179,11 +179,11 @@ summary_is before after row t = by_test (is_zero after) (is_zero before)
     by_test false false = refl
 
 cash_is : (u : Trade) (c : ResultRows) (t : Tables) → tables_with_cash_row_if_cash_trade u.is_cash c.cash u.account c.balance t
-    ≡ record t { accounts = cond u.is_cash (map (with_other_balance u.account c.balance) t.accounts) t.accounts; moves = cond u.is_cash (insert_row_by_key move_key c.cash t.moves) t.moves }
+    ≡ record t { accounts = cond u.is_cash (map (with_other_balance u.account c.balance) t.accounts) t.accounts; moves = cond u.is_cash (insert_row_by_key cash_move_key c.cash t.moves) t.moves }
 cash_is u c t = by_test u.is_cash
   where
     by_test : (b : Bool) → tables_with_cash_row_if_cash_trade b c.cash u.account c.balance t
-        ≡ record t { accounts = cond b (map (with_other_balance u.account c.balance) t.accounts) t.accounts; moves = cond b (insert_row_by_key move_key c.cash t.moves) t.moves }
+        ≡ record t { accounts = cond b (map (with_other_balance u.account c.balance) t.accounts) t.accounts; moves = cond b (insert_row_by_key cash_move_key c.cash t.moves) t.moves }
     by_test true = refl
     by_test false = refl
 
@@ -193,7 +193,7 @@ cash_is u c t = by_test u.is_cash
 pub record IsResult (base : Base) (stamp price : ℕ) (t : Trade) (xs ys : List Trade) : Type 0 where
   pub books : BooksInvariant base
   pub stands : base.trades ≡ xs ++ t ∷ ys
-  pub submitted : has_status Submitted t ≡ true
+  pub submitted : has_last_status Submitted t ≡ true
   pub later : AllByRecursion (λ u. last_status_stamp_of_trade u < stamp) (completed_trades base)
   pub moved : AllByRecursion (λ m. m.stamp < stamp) base.movements
 
@@ -238,7 +238,7 @@ rows_set u c t = record t {
   summaries = move_row c.before c.after (record { account = u.account; symbol = u.symbol; qty = c.after }) t.summaries;
   holding_history = put_openings c.opened (put_changes u.id c.touched t.holding_history);
   settlements = insert_row_by_key settlement_key c.settlement t.settlements;
-  moves = cond u.is_cash (insert_row_by_key move_key c.cash t.moves) t.moves;
+  moves = cond u.is_cash (insert_row_by_key cash_move_key c.cash t.moves) t.moves;
 }
 
 rows_are : (u : Trade) (c : ResultRows) (t : Tables) → tables_after_result (record c { trade = trade_row u }) t ≡ rows_set u c t
@@ -357,7 +357,7 @@ sheets_then base stamp price t xs ys k a s ea es marks =
     requests =
         ap (λ ts. rows_sorted_by_key request_key (map (request_row base.accounts) (pending_trades ts))) all
         ∙ ap (λ ts. rows_sorted_by_key request_key (map (request_row base.accounts) ts))
-        (filter-not_one (has_status Pending) xs u ys (status_then base stamp price t Pending) ∙ sym (filter-not_one (has_status Pending) xs t ys (submitted_not_pending t k.submitted))
+        (filter-not_one (has_last_status Pending) xs u ys (status_then base stamp price t Pending) ∙ sym (filter-not_one (has_last_status Pending) xs t ys (submitted_not_pending t k.submitted))
         ∙ ap pending_trades (sym k.stands))
 
     settlements : rows_sorted_by_key settlement_key (map (settlement_row base.accounts base.rule) (completed_trades after)) ≡ insert_row_by_key settlement_key (settlement_row base.accounts base.rule u) (sheets base).settlements
@@ -367,7 +367,7 @@ sheets_then base stamp price t xs ys k a s ea es marks =
 
     -- what was posted before
     M : Tables → List MoveRow
-    M x = cond u.is_cash (insert_row_by_key move_key c.cash x.moves) x.moves
+    M x = cond u.is_cash (insert_row_by_key cash_move_key c.cash x.moves) x.moves
 
     before : AllByRecursion (λ p. p.stamp < last_status_stamp_of_trade u) (postings base.accounts (A ++ Z) base.movements)
     before =
@@ -377,15 +377,15 @@ sheets_then base stamp price t xs ys k a s ea es marks =
     row_of : List Trade → MoveRow
     row_of ts = numbered_row (length (postings base.accounts ts base.movements) + 1) (posting_of_trade base.accounts u)
 
-    cash : (b : Bool) → t.is_cash ≡ b → rows_sorted_by_key move_key (numbered_move_rows 1 (postings_sorted_by_stamp (postings_of_base after))) ≡ M (sheets base)
+    cash : (b : Bool) → t.is_cash ≡ b → rows_sorted_by_key cash_move_key (numbered_move_rows 1 (postings_sorted_by_stamp (postings_of_base after))) ≡ M (sheets base)
     cash true e =
-        ap (λ ts. rows_sorted_by_key move_key (numbered_move_rows 1 (postings_sorted_by_stamp (postings base.accounts ts base.movements)))) then ∙ cash_after base.accounts A u Z base.movements e before
-        ∙ ap (λ ts. insert_row_by_key move_key (row_of ts) (rows_sorted_by_key move_key (numbered_move_rows 1 (postings_sorted_by_stamp (postings base.accounts ts base.movements))))) (sym now)
-        ∙ sym (ap (λ b. cond b (insert_row_by_key move_key (row_of (completed_trades base)) (sheets base).moves) (sheets base).moves) e)
+        ap (λ ts. rows_sorted_by_key cash_move_key (numbered_move_rows 1 (postings_sorted_by_stamp (postings base.accounts ts base.movements)))) then ∙ cash_after base.accounts A u Z base.movements e before
+        ∙ ap (λ ts. insert_row_by_key cash_move_key (row_of ts) (rows_sorted_by_key cash_move_key (numbered_move_rows 1 (postings_sorted_by_stamp (postings base.accounts ts base.movements))))) (sym now)
+        ∙ sym (ap (λ b. cond b (insert_row_by_key cash_move_key (row_of (completed_trades base)) (sheets base).moves) (sheets base).moves) e)
     cash false e =
-        ap (λ ts. rows_sorted_by_key move_key (numbered_move_rows 1 (postings_sorted_by_stamp (postings base.accounts ts base.movements)))) then ∙ margin_cash base.accounts A u Z base.movements e
-        ∙ ap (λ ts. rows_sorted_by_key move_key (numbered_move_rows 1 (postings_sorted_by_stamp (postings base.accounts ts base.movements)))) (sym now)
-        ∙ sym (ap (λ b. cond b (insert_row_by_key move_key (row_of (completed_trades base)) (sheets base).moves) (sheets base).moves) e)
+        ap (λ ts. rows_sorted_by_key cash_move_key (numbered_move_rows 1 (postings_sorted_by_stamp (postings base.accounts ts base.movements)))) then ∙ margin_cash base.accounts A u Z base.movements e
+        ∙ ap (λ ts. rows_sorted_by_key cash_move_key (numbered_move_rows 1 (postings_sorted_by_stamp (postings base.accounts ts base.movements)))) (sym now)
+        ∙ sym (ap (λ b. cond b (insert_row_by_key cash_move_key (row_of (completed_trades base)) (sheets base).moves) (sheets base).moves) e)
 
     holdings : (sheets after).holdings ≡ open_lots u c.opened (set_lots c.touched (sheets base).holdings)
     holdings = ap (λ ts. rows_sorted_by_key holding_key (filter (λ row. not (is_zero row.qty)) (map (holding_row ts) ts))) then ∙ holdings_after base A u Z m

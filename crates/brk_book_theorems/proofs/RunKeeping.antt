@@ -8,16 +8,16 @@ use Rattle.brk_money.specs.Spelling.{Text}
 use Rattle.brk_money.specs.declared.refusal.Refusal.{Refusal}
 use Rattle.brk_money.specs.declared.status.Status.{Status}
 use Rattle.brk_money.specs.declared.status.Status.TheVariants.{Completed}
-use Rattle.brk_model.specs.Base.{Base, has_status, is_completed, last_status_stamp_of_trade, base_with_updated_trades}
+use Rattle.brk_model.specs.Base.{Base, has_last_status, is_completed, last_status_stamp_of_trade, base_with_updated_trades}
 use Rattle.brk_model.specs.Commands.{AddAccount, AddBand, AddBroker, AddCharge, AddCustomer, AddCustomerTax, AddPermission, AddSecurity, AddTaxRate, Answer, CancelTrade, ChangeCashNames, ChangeCashTypes, ChangeExecutors, Command, CompleteTrade, FeedTicks, PlaceOrder, Reply, DepositCash, WithdrawCash, SetOneDay}
-use Rattle.brk_model.specs.Keyed.{answer_and_base_of_step, base_with_stored_reply, stored_row_with_optional_key, answer_by_stored_row, keyed_step}
+use Rattle.brk_model.specs.Keyed.{answer_and_base_of_step, base_with_stored_reply, stored_row_with_optional_key, answer_and_base_by_stored_row, keyed_step}
 use Rattle.brk_model.specs.Lists.{contains_number, update_where}
 use Rattle.brk_model.specs.Queries.{Query, View}
 use Rattle.brk_model.specs.Records.{Key, Kept, Movement, Trade}
 use Rattle.brk_model.specs.Run.{IsOutcomeOfCall, Ask, Call, Did, Do, Failed, IsResultOfQuery, NoView, Outcome, Run, Saw}
 use Rattle.brk_model.specs.Step.{base_after_accepted_command, base_after_command_unstamped, reply_to_command, step, value_unless_refused}
 use Rattle.brk_model.specs.Tests.{stamp_of_next_command, refusal_of_command}
-use Rattle.brk_model.specs.Updates.{updated_cash_row_name, updated_cash_type, updated_executor_name, selected_ids_of_account, selected_ids_of_symbol}
+use Rattle.brk_model.specs.Updates.{updated_cash_row_name, updated_cash_type, updated_executor_name, selected_trade_ids_of_account, selected_trade_ids_of_symbol}
 use Rattle.brk_model.specs.Names.{AccountOfTradeExists, SecurityOfTradeExists}
 use Rattle.brk_book_theorems.specs.Books.{HasNoCompletionIfSubmitted, BooksInvariant, TradeStampIsAtMostLastStamp, HasLastStatusAtOtherStamp, HasDistinctLastStatusStamps, HasDistinctMovementStamps, HasOneStatusChangeIfPending}
 use Rattle.brk_book_theorems.specs.Steps.{PreservesBooksInvariant, base_after_command}
@@ -41,7 +41,7 @@ pub record IsSame (t u : Trade) : Type 0 where
   pub marks : u.marks ≡ t.marks
   pub tax : u.tax ≡ t.tax
 
-pub same_status_of : (status : Status) (t u : Trade) → IsSame t u → has_status status u ≡ has_status status t
+pub same_status_of : (status : Status) (t u : Trade) → IsSame t u → has_last_status status u ≡ has_last_status status t
 same_status_of status t u s = ap (λ ms. option_map_or (λ m. is_same_trade_status m.status status) (last_or None ms) false) s.marks
 
 same_moment : (t u : Trade) → IsSame t u → last_status_stamp_of_trade u ≡ last_status_stamp_of_trade t
@@ -142,12 +142,12 @@ books_executors base now ids k e =
 books_cash_types : (base : Base) (now account first last : ℕ) → PreservesBooksInvariant base now (ChangeCashTypes account first last)
 unfolding base_after_command_unstamped
 books_cash_types base now account first last k e =
-    books_changed base now (ChangeCashTypes account first last) (λ t. contains_number t.id (selected_ids_of_account base account first last)) (λ t. record t { cash_type = updated_cash_type t }) cash_type_same k e
+    books_changed base now (ChangeCashTypes account first last) (λ t. contains_number t.id (selected_trade_ids_of_account base account first last)) (λ t. record t { cash_type = updated_cash_type t }) cash_type_same k e
 
 books_cash_names : (base : Base) (now : ℕ) (symbol : Text) (first last : ℕ) → PreservesBooksInvariant base now (ChangeCashNames symbol first last)
 unfolding base_after_command_unstamped
 books_cash_names base now symbol first last k e =
-    books_changed base now (ChangeCashNames symbol first last) (λ t. contains_number t.id (selected_ids_of_symbol base symbol first last)) (λ t. record t { cash_name = updated_cash_row_name base t }) (cash_name_same base) k e
+    books_changed base now (ChangeCashNames symbol first last) (λ t. contains_number t.id (selected_trade_ids_of_symbol base symbol first last)) (λ t. record t { cash_name = updated_cash_row_name base t }) (cash_name_same base) k e
 
 -- ---- every command
 
@@ -195,7 +195,7 @@ pub call_keeps : (P : Base → Type 0) → ((base : Base) (key : Option Key) (co
 unfolding keyed_step
 call_keeps P kept step_keeps base now command key h = by_kept (stored_row_with_optional_key base key)
   where
-    by_kept : (o : Option Kept) → P (answer_by_stored_row base now command key o).1
+    by_kept : (o : Option Kept) → P (answer_and_base_by_stored_row base now command key o).1
     by_kept (Some k) = h
     by_kept None = acted_keeps P base now command key (λ after reply. kept after key command reply) h (step_keeps base now command h)
 

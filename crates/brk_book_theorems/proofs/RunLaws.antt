@@ -6,7 +6,7 @@ use Rattle.std.specs.List.{AllByRecursion}
 use Rattle.std.proofs.lemmas.Bool.{eqb-false, eqb-true, eq-eqb}
 use Rattle.brk_lots.specs.Books.{deal_quantity_sum, realised_gain_sum, lot_cost_basis, lot_quantity_sum, purchases_minus_sales}
 use Rattle.brk_lots.specs.Chains.{IsLotHistory, changes_of_lot}
-use Rattle.brk_lots.specs.Deals.{AreAscendingDeals, IsLaterDeal}
+use Rattle.brk_lots.specs.Deals.{AreDistinctAscendingDeals, IsLaterDealOfOtherTrade}
 use Rattle.brk_lots.specs.Lots.{abstract_lot, shares_of_lots}
 use Rattle.brk_lots.proofs.Books.{costs_add_up, quantities_add_up}
 use Rattle.brk_lots.proofs.Chains.{lots_live}
@@ -29,7 +29,7 @@ use Rattle.brk_model.specs.Sheets.{sheets}
 use Rattle.brk_model.specs.Step.{base_after_command_unstamped}
 use Rattle.brk_model.specs.Tables.{trade_row}
 use Rattle.brk_model.specs.Tests.{stamp_of_next_command, refusal_of_command, checks_of_command}
-use Rattle.brk_model.specs.Updates.{updated_cash_row_name, updated_cash_type, updated_executor_name, selected_ids_of_account, selected_ids_of_symbol}
+use Rattle.brk_model.specs.Updates.{updated_cash_row_name, updated_cash_type, updated_executor_name, selected_trade_ids_of_account, selected_trade_ids_of_symbol}
 use Rattle.brk_book_theorems.specs.Books.{BooksInvariant}
 use Rattle.brk_book_theorems.specs.Steps.{base_after_command}
 use Rattle.brk_book_theorems.specs.Runs.{TradeRowHasTax, CompletedTradeHasTax, tax_at_completion}
@@ -48,14 +48,14 @@ use Rattle.brk_book_theorems.proofs.TradeReading.{reads_trade}
 
 -- ---- the deals of a position
 
-deals_of : (ts : List Trade) → InOrder ts → AreAscendingDeals (map deal_of_trade ts)
+deals_of : (ts : List Trade) → InOrder ts → AreDistinctAscendingDeals (map deal_of_trade ts)
 deals_of [] o = tt
 deals_of (t ∷ ts) o = (
-  All-mapped (IsLaterDeal (deal_of_trade t)) deal_of_trade ts (All-map ts (λ u h. ((λ e. eqb-false u.id t.id h.0 (sym e)), h.1)) o.0),
+  All-mapped (IsLaterDealOfOtherTrade (deal_of_trade t)) deal_of_trade ts (All-map ts (λ u h. ((λ e. eqb-false u.id t.id h.0 (sym e)), h.1)) o.0),
   deals_of ts o.1,
 )
 
-pub deals_are : (base : Base) (account : ℕ) (symbol : Text) → BooksInvariant base → AreAscendingDeals (deals_of_position (completed_trades base) account symbol)
+pub deals_are : (base : Base) (account : ℕ) (symbol : Text) → BooksInvariant base → AreDistinctAscendingDeals (deals_of_position (completed_trades base) account symbol)
 deals_are base account symbol books = deals_of _ (held_in_order base account symbol books)
 
 pub shares_spelled : (base : Base) (account : ℕ) (symbol : Text) → BooksInvariant base → shares_of_lots (lots_of_position (sheets base) account symbol) ≡ replay (deals_of_position (completed_trades base) account symbol)
@@ -204,9 +204,9 @@ taxed_command base now id tax (CompleteTrade other price) books e k = taxed_resu
 taxed_command base now id tax (ChangeExecutors ids) books e k =
     words_changed base (base_after_command base now (ChangeExecutors ids)) id tax (λ t. contains_number t.id ids) (λ t. record t { executor = updated_executor_name t.executor }) executor_same refl k
 taxed_command base now id tax (ChangeCashTypes account first last) books e k =
-    words_changed base (base_after_command base now (ChangeCashTypes account first last)) id tax (λ t. contains_number t.id (selected_ids_of_account base account first last)) (λ t. record t { cash_type = updated_cash_type t }) cash_type_same refl k
+    words_changed base (base_after_command base now (ChangeCashTypes account first last)) id tax (λ t. contains_number t.id (selected_trade_ids_of_account base account first last)) (λ t. record t { cash_type = updated_cash_type t }) cash_type_same refl k
 taxed_command base now id tax (ChangeCashNames symbol first last) books e k =
-    words_changed base (base_after_command base now (ChangeCashNames symbol first last)) id tax (λ t. contains_number t.id (selected_ids_of_symbol base symbol first last)) (λ t. record t { cash_name = updated_cash_row_name base t }) (cash_name_same base) refl k
+    words_changed base (base_after_command base now (ChangeCashNames symbol first last)) id tax (λ t. contains_number t.id (selected_trade_ids_of_symbol base symbol first last)) (λ t. record t { cash_name = updated_cash_row_name base t }) (cash_name_same base) refl k
 taxed_command base now id tax (DepositCash account amount) books e k = same_trades base (base_after_command base now (DepositCash account amount)) id tax refl k
 taxed_command base now id tax (WithdrawCash account amount) books e k = same_trades base (base_after_command base now (WithdrawCash account amount)) id tax refl k
 taxed_command base now id tax (SetOneDay day) books e k = same_trades base (base_after_command base now (SetOneDay day)) id tax refl k

@@ -5,7 +5,7 @@ use Rattle.brk_money.specs.declared.refusal.Refusal.TheVariants.{KeyReused}
 use Rattle.brk_money.specs.Spelling.{Text}
 use Rattle.brk_model.specs.Base.{Base, trade_with_id}
 use Rattle.brk_model.specs.Commands.{Again, Answer, Command, CompleteTrade, Done, Refused, Reply}
-use Rattle.brk_model.specs.Keyed.{answer_and_base_of_step, base_with_stored_reply, stored_row_with_optional_key, answer_by_stored_row, keyed_step}
+use Rattle.brk_model.specs.Keyed.{answer_and_base_of_step, base_with_stored_reply, stored_row_with_optional_key, answer_and_base_by_stored_row, keyed_step}
 use Rattle.brk_model.specs.Records.{Kept, Key, Trade}
 use Rattle.brk_model.specs.Rows.{row_text}
 use Rattle.brk_model.specs.Run.{IsOutcomeOfCall, Call, Did, Do, Outcome, Run}
@@ -45,7 +45,7 @@ done_is_accepted : (base : Base) (now : ℕ) (command : Command) (key : Option K
 unfolding keyed_step step
 done_is_accepted base now command key reply after e = by_kept (stored_row_with_optional_key base key) e
   where
-    by_kept : (o : Option Kept) → answer_by_stored_row base now command key o ≡ (Done reply, after) → IsAccepted base now command key after
+    by_kept : (o : Option Kept) → answer_and_base_by_stored_row base now command key o ≡ (Done reply, after) → IsAccepted base now command key after
     by_kept (Some k) e = absurd (is_again (bytes_eq k.row_text (row_text command)) k.line base after reply e)
     by_kept None e = by_refusal base now command key reply after (refusal_of_command base now command) refl e
 

@@ -14,7 +14,7 @@ use Rattle.brk_model.specs.Tables.{Tables, LastTradeRow, RequestRow}
 use Rattle.brk_changes.specs.Changes.{tables_with_last_trade_replaced}
 use Rattle.brk_book_theorems.specs.Books.{BooksInvariant}
 use Rattle.brk_book_theorems.specs.TradeReads.{last_trade_row_of_symbol, requests_of_symbol}
-use Rattle.brk_book_theorems.specs.Trading.{trade_ids_triggered_by_tick, triggers_request, tables_after_change_from_pending, last_trade_row_after_tick, tables_with_trades_submitted, tables_after_tick, tables_with_last_trade_after_tick}
+use Rattle.brk_book_theorems.specs.Trading.{trade_ids_triggered_by_tick, is_triggered_request, tables_after_change_from_pending, last_trade_row_after_tick, tables_with_trades_submitted, tables_after_tick, tables_with_last_trade_after_tick}
 use Rattle.brk_book_theorems.proofs.Bools.{numbers_back}
 use Rattle.brk_book_theorems.proofs.Same.{All-map, filter-same}
 use Rattle.brk_book_theorems.proofs.Places.{filter-all}
@@ -122,18 +122,18 @@ requests_kept : (t : Tables) (stamp : ℕ) (tick : Tick) (o : Option LastTradeRo
 requests_kept t stamp tick None = refl
 requests_kept t stamp tick (Some l) = refl
 
-tick_requests : (t : Tables) (stamp : ℕ) (tick : Tick) → AreApart t.requests → (tables_after_tick stamp tick t).requests ≡ filter (λ r. not (triggers_request tick r)) t.requests
+tick_requests : (t : Tables) (stamp : ℕ) (tick : Tick) → AreApart t.requests → (tables_after_tick stamp tick t).requests ≡ filter (λ r. not (is_triggered_request tick r)) t.requests
 tick_requests t stamp tick d =
     gone stamp (trade_ids_triggered_by_tick tick t) (tables_with_last_trade_after_tick stamp tick t)
     ∙ ap (filter (λ r. not (contains_number r.trade (trade_ids_triggered_by_tick tick t)))) (requests_kept t stamp tick (last_trade_row_of_symbol t tick.symbol))
-    ∙ filter-same (λ r. not (contains_number r.trade (trade_ids_triggered_by_tick tick t))) (λ r. not (triggers_request tick r)) t.requests
-    (All-map t.requests (λ r e. ap not e) (own_trades (triggers_request tick) t.requests d))
+    ∙ filter-same (λ r. not (contains_number r.trade (trade_ids_triggered_by_tick tick t))) (λ r. not (is_triggered_request tick r)) t.requests
+    (All-map t.requests (λ r e. ap not e) (own_trades (is_triggered_request tick) t.requests d))
 
 -- of a symbol
 pub tick_symbol : (t : Tables) (stamp : ℕ) (tick : Tick) (symbol : Text) → AreApart t.requests
-    → requests_of_symbol (tables_after_tick stamp tick t) symbol ≡ filter (λ r. not (triggers_request tick r)) (requests_of_symbol t symbol)
+    → requests_of_symbol (tables_after_tick stamp tick t) symbol ≡ filter (λ r. not (is_triggered_request tick r)) (requests_of_symbol t symbol)
 tick_symbol t stamp tick symbol d =
-    ap (filter (λ r. bytes_eq r.symbol symbol)) (tick_requests t stamp tick d) ∙ filter-swap (λ r. bytes_eq r.symbol symbol) (λ r. not (triggers_request tick r)) t.requests
+    ap (filter (λ r. bytes_eq r.symbol symbol)) (tick_requests t stamp tick d) ∙ filter-swap (λ r. bytes_eq r.symbol symbol) (λ r. not (is_triggered_request tick r)) t.requests
 
 apart_filter : (p : RequestRow → Bool) (rs : List RequestRow) → AreApart rs → AreApart (filter p rs)
 apart_filter p [] d = refl
@@ -146,4 +146,4 @@ apart_filter p (r ∷ rs) d =
     by_test false g k = k
 
 pub tick_apart : (t : Tables) (stamp : ℕ) (tick : Tick) → AreApart t.requests → AreApart (tables_after_tick stamp tick t).requests
-tick_apart t stamp tick d = subst AreApart (sym (tick_requests t stamp tick d)) (apart_filter (λ r. not (triggers_request tick r)) t.requests d)
+tick_apart t stamp tick d = subst AreApart (sym (tick_requests t stamp tick d)) (apart_filter (λ r. not (is_triggered_request tick r)) t.requests d)

@@ -9,7 +9,7 @@ use Rattle.brk_money.specs.Spelling.{Text}
 use Rattle.brk_money.specs.declared.status.Status.TheVariants.{Pending}
 use Rattle.brk_model.specs.Lists.{all_distinct, contains_number}
 use Rattle.brk_model.specs.Records.{Account, Customer, Executor, Permission, Security, Trade}
-use Rattle.brk_model.specs.Base.{Base, security_with_symbol, trade_with_id, has_status}
+use Rattle.brk_model.specs.Base.{Base, security_with_symbol, trade_with_id, has_last_status}
 use Rattle.brk_model.specs.Derived.{pending_trades}
 use Rattle.brk_model.specs.Commands.{Tick}
 use Rattle.brk_model.specs.Orders.{executor_has_identity, is_customer_or_has_permission}
@@ -21,7 +21,7 @@ use Rattle.brk_model.specs.Ways.{is_strictly_ascending}
 use Rattle.brk_model.specs.Names.{TradesAreNumberedFrom}
 use Rattle.brk_book_theorems.specs.Books.{BooksInvariant}
 use Rattle.brk_book_theorems.specs.TradeReads.{trade_id_in_last_row_or_zero, permissions_of_account, volume_of_symbol}
-use Rattle.brk_book_theorems.specs.Trading.{trade_ids_triggered_by_tick, triggers_request}
+use Rattle.brk_book_theorems.specs.Trading.{trade_ids_triggered_by_tick, is_triggered_request}
 use Rattle.brk_book_theorems.proofs.Order.{Sorted, by_key-filter, by_key-map, sort_sorted, sorted_filter}
 use Rattle.brk_book_theorems.proofs.Same.{All-filter, All-mapped}
 use Rattle.brk_book_theorems.proofs.Numbering.{numbered_after}
@@ -56,17 +56,17 @@ unfolding tables_of_base_in_schema tables_sorted_by_key
 requests_in_order base n =
     by_key-map (λ t. number t.id ∷ []) request_key (request_row base.accounts) (pending_trades base.trades) (λ t. refl)
     ∙ ap (map (request_row base.accounts)) (sort_sorted (is_row_key_less (λ t. number t.id ∷ [])) (pending_trades base.trades)
-    (sorted_filter (is_row_key_less (λ t. number t.id ∷ [])) (has_status Pending) base.trades (trades_stand 1 base.trades n)))
+    (sorted_filter (is_row_key_less (λ t. number t.id ∷ [])) (has_last_status Pending) base.trades (trades_stand 1 base.trades n)))
 
 -- ---- the requests that a tick triggers
 
 hits : (accounts : List Account) (tick : Tick) (ts : List Trade)
-    → map (λ r. r.trade) (filter (triggers_request tick) (map (request_row accounts) (pending_trades ts))) ≡ map (λ t. t.id) (filter (is_triggered_by_tick tick) ts)
+    → map (λ r. r.trade) (filter (is_triggered_request tick) (map (request_row accounts) (pending_trades ts))) ≡ map (λ t. t.id) (filter (is_triggered_by_tick tick) ts)
 hits accounts tick [] = refl
-hits accounts tick (t ∷ ts) = by_pending (has_status Pending t) refl (hits accounts tick ts)
+hits accounts tick (t ∷ ts) = by_pending (has_last_status Pending t) refl (hits accounts tick ts)
   where
     rows : List RequestRow
-    rows = filter (triggers_request tick) (map (request_row accounts) (pending_trades ts))
+    rows = filter (is_triggered_request tick) (map (request_row accounts) (pending_trades ts))
 
     T : List Trade
     T = filter (is_triggered_by_tick tick) ts
@@ -75,19 +75,19 @@ hits accounts tick (t ∷ ts) = by_pending (has_status Pending t) refl (hits acc
     by_hit true e = ap (λ is. t.id ∷ is) e
     by_hit false e = e
 
-    by_pending : (b : Bool) → has_status Pending t ≡ b → map (λ r. r.trade) rows ≡ map (λ t. t.id) T
-        → map (λ r. r.trade) (filter (triggers_request tick) (map (request_row accounts) (cond (has_status Pending t) (t ∷ pending_trades ts) (pending_trades ts))))
-        ≡ map (λ t. t.id) (cond (has_status Pending t && bytes_eq t.symbol tick.symbol && is_triggering_price t.kind t.bid tick.price) (t ∷ T) T)
+    by_pending : (b : Bool) → has_last_status Pending t ≡ b → map (λ r. r.trade) rows ≡ map (λ t. t.id) T
+        → map (λ r. r.trade) (filter (is_triggered_request tick) (map (request_row accounts) (cond (has_last_status Pending t) (t ∷ pending_trades ts) (pending_trades ts))))
+        ≡ map (λ t. t.id) (cond (has_last_status Pending t && bytes_eq t.symbol tick.symbol && is_triggering_price t.kind t.bid tick.price) (t ∷ T) T)
     by_pending true f e =
-        ap (λ b. map (λ r. r.trade) (filter (triggers_request tick) (map (request_row accounts) (cond b (t ∷ pending_trades ts) (pending_trades ts))))) f
-        ∙ by_hit (triggers_request tick (request_row accounts t)) e
+        ap (λ b. map (λ r. r.trade) (filter (is_triggered_request tick) (map (request_row accounts) (cond b (t ∷ pending_trades ts) (pending_trades ts))))) f
+        ∙ by_hit (is_triggered_request tick (request_row accounts t)) e
         ∙ ap (λ b. map (λ t. t.id) (cond (b && bytes_eq t.symbol tick.symbol && is_triggering_price t.kind t.bid tick.price) (t ∷ T) T)) (sym f)
     by_pending false f e =
-        ap (λ b. map (λ r. r.trade) (filter (triggers_request tick) (map (request_row accounts) (cond b (t ∷ pending_trades ts) (pending_trades ts))))) f ∙ e
+        ap (λ b. map (λ r. r.trade) (filter (is_triggered_request tick) (map (request_row accounts) (cond b (t ∷ pending_trades ts) (pending_trades ts))))) f ∙ e
         ∙ ap (λ b. map (λ t. t.id) (cond (b && bytes_eq t.symbol tick.symbol && is_triggering_price t.kind t.bid tick.price) (t ∷ T) T)) (sym f)
 
 pub reads_triggered : (base : Base) (tick : Tick) → TradesAreNumberedFrom 1 base.trades → trade_ids_triggered_by_tick tick (sheets base) ≡ map (λ t. t.id) (filter (is_triggered_by_tick tick) base.trades)
-reads_triggered base tick n = ap (λ rows. map (λ r. r.trade) (filter (triggers_request tick) rows)) (requests_in_order base n) ∙ hits base.accounts tick base.trades
+reads_triggered base tick n = ap (λ rows. map (λ r. r.trade) (filter (is_triggered_request tick) rows)) (requests_in_order base n) ∙ hits base.accounts tick base.trades
 
 -- ---- the volume of a symbol
 
@@ -188,4 +188,4 @@ filtered_apart accounts p n (t ∷ ts) k = by_test (p t) (filtered_apart account
 
 pub reads_apart : (base : Base) → BooksInvariant base → all_distinct (map (λ r. r.trade) (sheets base).requests) ≡ true
 reads_apart base books =
-    ap (λ rows. all_distinct (map (λ r. r.trade) rows)) (requests_in_order base books.numbered) ∙ filtered_apart base.accounts (has_status Pending) 1 base.trades books.numbered
+    ap (λ rows. all_distinct (map (λ r. r.trade) rows)) (requests_in_order base books.numbered) ∙ filtered_apart base.accounts (has_last_status Pending) 1 base.trades books.numbered

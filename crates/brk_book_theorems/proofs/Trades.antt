@@ -8,7 +8,7 @@ use Rattle.brk_money.specs.Kinds.{is_market_type}
 use Rattle.brk_money.specs.declared.refusal.Refusal.TheVariants.{NoTrade}
 use Rattle.brk_money.specs.declared.status.Status.TheVariants.{Pending, Canceled}
 use Rattle.brk_model.specs.Records.{Trade}
-use Rattle.brk_model.specs.Base.{Base, broker_id_of_account, has_status, trade_with_status_change, security_with_symbol, trade_with_id, base_with_updated_trades}
+use Rattle.brk_model.specs.Base.{Base, broker_id_of_account, has_last_status, trade_with_status_change, security_with_symbol, trade_with_id, base_with_updated_trades}
 use Rattle.brk_model.specs.Derived.{shares_of_position, holding_summary_quantity, balance_of_account, trade_count_of_broker, commission_total_of_broker}
 use Rattle.brk_model.specs.Tables.{Tables, tables_of_base_in_schema, trade_row}
 use Rattle.brk_model.specs.Sheets.{sheets, tables_sorted_by_key}
@@ -42,13 +42,13 @@ step_order base now o books e =
     whole (base_after_order base (stamp_of_next_command base now) o) (stamp_of_next_command base now) _ (ordered_rows base (stamp_of_next_command base now) o books.numbered)
 
 canceled : (base : Base) (stamp id : ℕ) (o : Option Trade) → BooksInvariant base → trade_with_id base id ≡ o
-    → AllByRecursion (λ t. t.0 ≡ false) (option_map_or (λ t. status_check (has_status Pending t) t ∷ []) o ((true, NoTrade) ∷ []))
+    → AllByRecursion (λ t. t.0 ≡ false) (option_map_or (λ t. status_check (has_last_status Pending t) t ∷ []) o ((true, NoTrade) ∷ []))
     → sheets (base_with_updated_trades (λ u. u.id == id) (trade_with_status_change stamp Canceled) base) ≡ tables_after_cancel stamp id (sheets base)
 canceled base stamp id None books e k = absurd (true_false k.0)
   where
     true_false : true ≡ false → ⊥
     true_false e = absurd (cc)
-canceled base stamp id (Some t) books e k = canceled_rows base stamp id t books.numbered books.ways e (not_not (has_status Pending t) k.0)
+canceled base stamp id (Some t) books e k = canceled_rows base stamp id t books.numbered books.ways e (not_not (has_last_status Pending t) k.0)
 
 pub step_cancel : (base : Base) (now id : ℕ) → HasTableEffect base now (CancelTrade id) (tables_after_cancel (stamp_of_next_command base now) id)
 unfolding checks_of_command base_after_command_unstamped

@@ -17,7 +17,7 @@ use Rattle.brk_model.specs.Feed.{security_after_tick, base_after_tick, base_afte
 use Rattle.brk_book_theorems.specs.Books.{BooksInvariant, HasDistinctSymbols, HasVolumeWithinLimit}
 use Rattle.brk_book_theorems.specs.TradeReads.{volume_of_symbol}
 use Rattle.brk_book_theorems.specs.Trading.{tables_after_feed}
-use Rattle.brk_book_theorems.specs.Ticks.{exceeds_symbol_volume_limit, tick_quantity_sum_of_symbol}
+use Rattle.brk_book_theorems.specs.Ticks.{is_symbol_volume_above_limit, tick_quantity_sum_of_symbol}
 use Rattle.brk_book_theorems.proofs.Bools.{both_ways, same_text, texts_back}
 use Rattle.brk_book_theorems.proofs.Places.{FoundAt, find-at, some_of}
 use Rattle.brk_book_theorems.proofs.TradeReading.{reads_volume}
@@ -143,27 +143,27 @@ volume_found : (base : Base) (s : Security) → security_with_symbol base s.symb
 volume_found base s e = reads_volume base s.symbol ∙ ap (λ o. option_map_or (λ s. s.volume) o 0) e
 
 pub reads_exceeds : (base : Base) (stamp : ℕ) (ticks : List Tick) → BooksInvariant base → KnowsTicks base ticks
-    → list_any (exceeds_symbol_volume_limit (sheets base) ticks) ticks ≡ list_any (λ s. nat_lt greatest_amount s.volume) (base_after_ticks stamp base ticks).securities
+    → list_any (is_symbol_volume_above_limit (sheets base) ticks) ticks ≡ list_any (λ s. nat_lt greatest_amount s.volume) (base_after_ticks stamp base ticks).securities
 reads_exceeds base stamp ticks books known =
     sym (exceeds_after base stamp ticks ∙ both_ways _ _ to_ticks to_securities)
   where
     E : Security → Bool
     E s = nat_lt greatest_amount (volume_with ticks s)
 
-    to_ticks : list_any E base.securities ≡ true → list_any (exceeds_symbol_volume_limit (sheets base) ticks) ticks ≡ true
+    to_ticks : list_any E base.securities ≡ true → list_any (is_symbol_volume_above_limit (sheets base) ticks) ticks ≡ true
     to_ticks e =
         let one = any-one _ E base.securities (All-both HasVolumeWithinLimit (λ s. security_with_symbol base s.symbol ≡ Some s) base.securities books.volumes (each_found base.securities books.symbols)) e in
         let s : Security = one.0 in
         let volume : volume_of_symbol (sheets base) s.symbol ≡ s.volume = volume_found base s one.1.0.1 in
         let exceeds : nat_lt greatest_amount (volume_of_symbol (sheets base) s.symbol + tick_quantity_sum_of_symbol s.symbol ticks) ≡ true =
         ap (λ n. nat_lt greatest_amount (n + tick_quantity_sum_of_symbol s.symbol ticks)) volume ∙ one.1.1 in
-        any-more (λ u. bytes_eq u.symbol s.symbol) (exceeds_symbol_volume_limit (sheets base) ticks) ticks
+        any-more (λ u. bytes_eq u.symbol s.symbol) (is_symbol_volume_above_limit (sheets base) ticks) ticks
         (λ u same. ap (λ symbol. nat_lt greatest_amount (volume_of_symbol (sheets base) symbol + tick_quantity_sum_of_symbol symbol ticks)) (same_text u.symbol s.symbol same) ∙ exceeds)
         (tick_of s.symbol ticks (some_fed s.volume (tick_quantity_sum_of_symbol s.symbol ticks) one.1.0.0 one.1.1))
 
-    to_securities : list_any (exceeds_symbol_volume_limit (sheets base) ticks) ticks ≡ true → list_any E base.securities ≡ true
+    to_securities : list_any (is_symbol_volume_above_limit (sheets base) ticks) ticks ≡ true → list_any E base.securities ≡ true
     to_securities e =
-        let one = any-one _ (exceeds_symbol_volume_limit (sheets base) ticks) ticks known e in
+        let one = any-one _ (is_symbol_volume_above_limit (sheets base) ticks) ticks known e in
         let u : Tick = one.0 in
         let found = some_of (security_with_symbol base u.symbol) one.1.0 in
         let s : Security = found.0 in

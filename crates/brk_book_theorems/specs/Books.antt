@@ -7,7 +7,7 @@ use Rattle.brk_money.specs.Kinds.{is_same_trade_status}
 use Rattle.brk_money.specs.declared.status.Status.TheVariants.{Completed, Pending, Submitted}
 use Rattle.brk_model.specs.Limits.{greatest_amount}
 use Rattle.brk_model.specs.Records.{Account, Band, Broker, Customer, StatusChange, Movement, Permission, Security, Trade}
-use Rattle.brk_model.specs.Base.{Base, completed_trades, account_with_id_in_list, has_status, last_status_stamp_of_trade}
+use Rattle.brk_model.specs.Base.{Base, completed_trades, account_with_id_in_list, has_last_status, last_status_stamp_of_trade}
 use Rattle.brk_model.specs.Base.{broker_with_id_in_list, customer_with_id_in_list, security_with_symbol_in_list}
 use Rattle.brk_model.specs.Names.{TradesAreNumberedFrom}
 use Rattle.brk_model.specs.Tests.{bands_overlap}
@@ -43,7 +43,7 @@ HasOneStatusChange (m ∷ n ∷ marks) = ⊥
 -- If the trade is pending, its history has exactly one status change. Vacuous for a trade of
 -- another status.
 abbrev pub HasOneStatusChangeIfPending : Trade → Type 0
-HasOneStatusChangeIfPending t = has_status Pending t ≡ true → HasOneStatusChange t.marks
+HasOneStatusChangeIfPending t = has_last_status Pending t ≡ true → HasOneStatusChange t.marks
 
 -- The status of the status change is not `Completed`.
 abbrev pub IsNotCompletion : StatusChange → Type 0
@@ -52,7 +52,7 @@ IsNotCompletion m = is_same_trade_status m.status Completed ≡ false
 -- If the trade is submitted, no status change of its history is a completion. Vacuous for a trade
 -- of another status.
 abbrev pub HasNoCompletionIfSubmitted : Trade → Type 0
-HasNoCompletionIfSubmitted t = has_status Submitted t ≡ true → AllByRecursion IsNotCompletion t.marks
+HasNoCompletionIfSubmitted t = has_last_status Submitted t ≡ true → AllByRecursion IsNotCompletion t.marks
 
 -- The stamp of the last status change of the trade `t` is at most the last stamp `last`. False if
 -- `last` is `None`.

@@ -50,19 +50,19 @@ tables_with_trade_completed_and_history r t =
 
 -- The row of HOLDING_HISTORY of the lot change `touch`, which the trade `trade` makes: the lot, the
 -- trade, and the lot's quantity before and after.
-abbrev pub history_row_of_touch : ℕ → Touch → HoldingHistoryRow
-history_row_of_touch trade touch = record { lot = touch.lot; trade = trade; before = touch.before; after = touch.after }
+abbrev pub holding_history_row_of_touch : ℕ → Touch → HoldingHistoryRow
+holding_history_row_of_touch trade touch = record { lot = touch.lot; trade = trade; before = touch.before; after = touch.after }
 
 -- The tables with the quantity of the touched lot set to `touch.after`, or without the lot if
 -- `touch.after` is 0.
-abbrev pub tables_with_lot_reduced : Touch → Tables → Tables
-tables_with_lot_reduced touch t = if is_zero touch.after then tables_without_lot touch.lot t else tables_with_lot_quantity touch.lot touch.after t
+abbrev pub tables_with_touched_holding : Touch → Tables → Tables
+tables_with_touched_holding touch t = if is_zero touch.after then tables_without_lot touch.lot t else tables_with_lot_quantity touch.lot touch.after t
 
 -- The tables with each lot of `touched`, in order, reduced or deleted, and a row of HOLDING_HISTORY
 -- by the trade `trade` added for it.
 abbrev pub tables_with_lots_touched : ℕ → List Touch → Tables → Tables
 tables_with_lots_touched trade touched t =
-    fold (λ t touch. tables_with_lot_change (history_row_of_touch trade touch) (tables_with_lot_reduced touch t)) t touched
+    fold (λ t touch. tables_with_lot_change (holding_history_row_of_touch trade touch) (tables_with_touched_holding touch t)) t touched
 
 -- The row of HOLDING of the lot `lot`, with the account and the symbol of the trade `r`.
 abbrev pub holding_row_of_lot : TradeRow → Lot → HoldingRow
@@ -70,13 +70,13 @@ holding_row_of_lot r lot = record { trade = lot.trade; account = r.account; symb
 
 -- The row of HOLDING_HISTORY that records the opening of the lot `lot`: from 0 to its quantity, by
 -- the trade that opened it.
-abbrev pub opening_history_row : Lot → HoldingHistoryRow
-opening_history_row lot = record { lot = lot.trade; trade = lot.trade; before = pos 0; after = lot.qty }
+abbrev pub opening_holding_history_row : Lot → HoldingHistoryRow
+opening_holding_history_row lot = record { lot = lot.trade; trade = lot.trade; before = pos 0; after = lot.qty }
 
 -- The tables with the lots `opened` added in order, each with the account and the symbol of the
 -- trade `r` and with its row of HOLDING_HISTORY. A trade opens at most one lot.
 abbrev pub tables_with_lots_opened : TradeRow → List Lot → Tables → Tables
-tables_with_lots_opened r opened t = fold (λ t lot. tables_with_lot_change (opening_history_row lot) (tables_with_lot (holding_row_of_lot r lot) t)) t opened
+tables_with_lots_opened r opened t = fold (λ t lot. tables_with_lot_change (opening_holding_history_row lot) (tables_with_lot (holding_row_of_lot r lot) t)) t opened
 
 -- ---- its summary, which has no row if it is 0
 

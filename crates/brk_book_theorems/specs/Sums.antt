@@ -36,7 +36,7 @@ lot_row_quantity_sum_of_position t account symbol = total_by (λ h. h.qty) (filt
 
 -- The trade count and the commission total of the broker's row `b` equal the number of completed
 -- trades of the broker's accounts and the sum of their commissions, in cents.
-pub record BrokerTotalsMatch (t : Tables) (b : BrokerRow) : Type 0 where
+pub record BrokerTotalsMatchTrades (t : Tables) (b : BrokerRow) : Type 0 where
   pub trades : b.trades ≡ pos (length (completed_trade_rows_of_broker t b.id))
   pub commissions : b.commissions ≡ sum_by (λ r. r.commission) (completed_trade_rows_of_broker t b.id)
 
@@ -59,7 +59,7 @@ LotHasSummary t h = is_some (summary_row_of_position t h.account h.symbol) ≡ t
 -- count. Each lot has a summary, the lots of an account in a symbol form a position, and the
 -- changes of each lot form a chain.
 pub record TableSumsMatchTheirRows (t : Tables) : Type 0 where
-  pub brokers : AllByRecursion (BrokerTotalsMatch t) t.brokers
+  pub brokers : AllByRecursion (BrokerTotalsMatchTrades t) t.brokers
   pub balances : AllByRecursion (BalanceMatchesCashRows t) t.accounts
   pub summaries : AllByRecursion (SummaryMatchesLots t) t.summaries
   -- Each lot has a summary.

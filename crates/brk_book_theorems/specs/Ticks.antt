@@ -16,5 +16,5 @@ is_tick_of_unknown_symbol t tick = is_none (find (λ r. bytes_eq r.symbol tick.s
 
 -- True if the volume of the tick's symbol plus the quantities of all `ticks` of this symbol, in
 -- shares, exceeds the greatest amount.
-abbrev pub exceeds_symbol_volume_limit : Tables → List Tick → Tick → Bool
-exceeds_symbol_volume_limit t ticks tick = nat_lt greatest_amount (volume_of_symbol t tick.symbol + tick_quantity_sum_of_symbol tick.symbol ticks)
+abbrev pub is_symbol_volume_above_limit : Tables → List Tick → Tick → Bool
+is_symbol_volume_above_limit t ticks tick = nat_lt greatest_amount (volume_of_symbol t tick.symbol + tick_quantity_sum_of_symbol tick.symbol ticks)

@@ -59,12 +59,12 @@ tables_with_last_trade_after_tick stamp tick t =
     option_map_or (λ l. tables_with_last_trade_replaced (last_trade_row_after_tick stamp tick l) t) (find (λ l. bytes_eq l.symbol tick.symbol) t.last_trades) t
 
 -- True if the request `r` has the symbol of the tick, and the tick's price triggers it.
-abbrev pub triggers_request : Tick → RequestRow → Bool
-triggers_request tick r = bytes_eq r.symbol tick.symbol && is_triggering_price r.kind r.bid tick.price
+abbrev pub is_triggered_request : Tick → RequestRow → Bool
+is_triggered_request tick r = bytes_eq r.symbol tick.symbol && is_triggering_price r.kind r.bid tick.price
 
 -- The ids of the trades whose requests the tick triggers, in the order of the requests.
 abbrev pub trade_ids_triggered_by_tick : Tick → Tables → List ℕ
-trade_ids_triggered_by_tick tick t = map (λ r. r.trade) (filter (triggers_request tick) t.requests)
+trade_ids_triggered_by_tick tick t = map (λ r. r.trade) (filter (is_triggered_request tick) t.requests)
 
 -- The tables with each trade whose id is in `trades` submitted at the stamp `stamp`, in order: its
 -- status set, a row of TRADE_HISTORY added, and its row of TRADE_REQUEST deleted.

@@ -4,7 +4,7 @@
 use crate::failed::Failed;
 use crate::replay::append_lines_after_mark;
 use brk_exit::end_with;
-use brk_jobs::execute_arguments;
+use brk_jobs::execute_requested_job;
 use sqlite::Connection;
 use std::alloc::{AllocError, Global};
 use std::fs;
@@ -32,7 +32,7 @@ fn run_program(
     let alloc = rt.alloc();
     let mut printed = Vec::new(alloc);
     let mut errors = Vec::new(alloc);
-    let ending = execute_arguments(rt, split_command_line(alloc, words)?, input, &mut printed);
+    let ending = execute_requested_job(rt, split_command_line(alloc, words)?, input, &mut printed);
     let status = end_with(&ending, &mut errors);
     append_lines_after_mark(out, "> ", &printed)?;
     append_lines_after_mark(out, "> ! ", &errors)?;

@@ -9,7 +9,7 @@ use Rattle.brk_model.specs.Tables.{Tables, SecurityRow, LastTradeRow, TradeRow, 
 use Rattle.brk_model.specs.Tables.{HoldingRow, SummaryRow, HoldingHistoryRow, SettlementRow, MoveRow}
 use Rattle.brk_model.specs.Keys.{insert_row_by_key, broker_key, customer_key, account_key, permission_key, security_key}
 use Rattle.brk_model.specs.Keys.{last_trade_key, charge_key, band_key, tax_rate_key, customer_tax_key, kept_key, trade_key}
-use Rattle.brk_model.specs.Keys.{history_key, request_key, holding_key, summary_key, holding_history_key, settlement_key, move_key}
+use Rattle.brk_model.specs.Keys.{history_key, request_key, holding_key, summary_key, holding_history_key, settlement_key, cash_move_key}
 use Rattle.brk_model.specs.LookupView.{is_cash_row_of_trade}
 use Rattle.brk_ref.specs.Records.{abstract_broker, abstract_customer, abstract_account, abstract_permission, abstract_security_row}
 use Rattle.brk_ref.specs.Records.{abstract_last_trade_row, abstract_charge, abstract_band, abstract_tax_rate, abstract_customer_tax}
@@ -147,7 +147,7 @@ tables_with_settlement r t = record t { settlements = insert_row_by_key settleme
 
 -- The tables `t` with the CASH_MOVE row `r` inserted in key order.
 abbrev pub tables_with_cash_row : MoveRow → Tables → Tables
-tables_with_cash_row r t = record t { moves = insert_row_by_key move_key r t.moves }
+tables_with_cash_row r t = record t { moves = insert_row_by_key cash_move_key r t.moves }
 
 -- The tables `t` with the balance of `account` set to `balance` cents. They are unchanged if there
 -- is no such account.

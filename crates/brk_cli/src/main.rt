@@ -3,7 +3,7 @@
 
 use brk_args::{UsageFault, non_utf8_argument_fault};
 use brk_exit::{Ending, end_with};
-use brk_jobs::execute_arguments;
+use brk_jobs::execute_requested_job;
 use std::alloc::AllocError;
 use std::env;
 use std::io::ErrorKind;
@@ -28,7 +28,7 @@ fn command_line_arguments(rt: &HostRuntime) -> Result<Vec<String>, UsageFault> {
 // and returns its outcome, or `Usage` with the fault if the arguments cannot be read.
 fn execute_command_line(rt: &HostRuntime) -> Ending {
     match command_line_arguments(rt) {
-        Ok(words) => execute_arguments(rt, words, rt.reader(), &mut rt.stdout()),
+        Ok(words) => execute_requested_job(rt, words, rt.reader(), &mut rt.stdout()),
         Err(fault) => Ending::Usage(fault),
     }
 }

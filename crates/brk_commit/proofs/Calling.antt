@@ -21,7 +21,7 @@ use Rattle.brk_model.specs.Rows.{row_text}
 use Rattle.brk_money.specs.declared.refusal.Refusal.TheVariants.{KeyReused}
 use Rattle.std.specs.Prelude.{bytes_eq}
 use Rattle.brk_model.specs.Run.{IsCallFault}
-use Rattle.brk_model.specs.Keyed.{answer_and_base_of_step, base_with_stored_reply, keyed_step, answer_to_repeated_row}
+use Rattle.brk_model.specs.Keyed.{answer_and_base_of_step, base_with_stored_reply, keyed_step, answer_and_base_of_retry}
 use Rattle.brk_changes.specs.Changes.{tables_after_changes}
 use Rattle.brk_plans.specs.declared.plan.Plan.{Plan}
 use Rattle.brk_sql.proofs.Inside.{clean_before}
@@ -39,7 +39,7 @@ use Rattle.brk_decisions.proofs.Looking.{none_then, same_then}
 use Rattle.brk_commit.specs.Answers.{CommandAnswer, IsDoneResult, model_answer}
 use Rattle.brk_commit.specs.Booked.{CommandPost, IsDiskContentAfterCommand, base_after_keyed_command}
 use Rattle.brk_store.specs.Audited.{Represents}
-use Rattle.brk_commit.specs.Keys.{ReadStoredReplyPost, stored_reply_under_key, with_stored_command}
+use Rattle.brk_commit.specs.Keys.{ReadStoredReplyPost, kept_row_under_key, tables_with_stored_command}
 use Rattle.brk_ref.specs.declared.answer.Answer.TheVariants as given
 use Rattle.brk_commit.proofs.Kept.{rows_with_key, steps_again, steps_anew}
 use Rattle.brk_commit.proofs.RowTexts.{changes_keep_texts}
@@ -47,13 +47,13 @@ use Rattle.brk_commit.proofs.Seen.{still_kept, HoldsWithoutChange, seen, seen_bo
 
 -- No reply is stored under the key, and `planned` is the decision of the model on the command.
 abbrev pub DecidesCommandOfNewKey : ℕ → Command → Option Key → Result Plan Refusal → Tables → Type 0
-DecidesCommandOfNewKey now command key planned t = (None ≡ stored_reply_under_key t key) × DecidesCommand now command planned t
+DecidesCommandOfNewKey now command key planned t = (None ≡ kept_row_under_key t key) × DecidesCommand now command planned t
 
 -- it is known after two reads
 pub known : {S E : Type 0} (g : Ghosts S) (old first mid : Held S) (now : ℕ) (command : Command) (key : Option Key) (planned : Result Plan Refusal) → ReadStoredReplyPost g old first key (Ok None)
     → ReadPost {E = E} g first mid (Ok planned) (DecidesCommand now command) → HoldsWithoutChange g old mid (DecidesCommandOfNewKey now command key planned)
 known g old first mid now command key planned sought decided =
-    seen_both g old first mid (λ t. None ≡ stored_reply_under_key t key) (DecidesCommand now command planned) (sought_none g old first key sought) (seen g first mid planned (DecidesCommand now command) decided)
+    seen_both g old first mid (λ t. None ≡ kept_row_under_key t key) (DecidesCommand now command planned) (sought_none g old first key sought) (seen g first mid planned (DecidesCommand now command) decided)
 
 pub same_fault : {V : Type 0} (fault other : Fault) (result : Result V Fault) → result ≡ Err fault → result ≡ Err other → fault ≡ other
 same_fault fault other result is was = cc
@@ -63,7 +63,7 @@ not_done true line reply e = absurd (let f = e in cc)
 not_done false line reply e = absurd (let f = e in cc)
 
 -- what a kept key is answered with is never that it was done now
-never_done : (base : Base) (command : Command) (k : Kept) (answer : CommandAnswer) → answer_to_repeated_row base command k ≡ (model_answer answer, base) → IsDoneResult (Ok answer) → ⊥
+never_done : (base : Base) (command : Command) (k : Kept) (answer : CommandAnswer) → answer_and_base_of_retry base command k ≡ (model_answer answer, base) → IsDoneResult (Ok answer) → ⊥
 never_done base command k (given.Done reply) e done = not_done (bytes_eq k.row_text (row_text command)) k.line (abstract_reply reply) (ap (λ (x : Answer × Base). x.0) e)
 never_done base command k (given.Again line) e done = done
 never_done base command k (given.Refused refusal) e done = done
@@ -88,7 +88,7 @@ module _ {S : Type 0} (g : Ghosts S) (old mid : Held S) (now : ℕ) (command : C
   }
 
   -- its key is kept
-  pub repeats : (k : Kept) (answer : CommandAnswer) → ((base : Base) → answer_to_repeated_row base command k ≡ (model_answer answer, base)) → HoldsWithoutChange g old mid (λ t. Some k ≡ stored_reply_under_key t key)
+  pub repeats : (k : Kept) (answer : CommandAnswer) → ((base : Base) → answer_and_base_of_retry base command k ≡ (model_answer answer, base)) → HoldsWithoutChange g old mid (λ t. Some k ≡ kept_row_under_key t key)
       → CommandPost g old mid now command key (Ok answer)
   repeats k answer told seen = record {
     answered = λ clean base keeps. (
@@ -107,10 +107,10 @@ module _ {S : Type 0} (g : Ghosts S) (old mid : Held S) (now : ℕ) (command : C
   }
 
   -- its key is kept, and the answer may find no memory
-  pub repeats_or_fails : (k : Kept) (result : Result CommandAnswer Fault) → IfOk result (λ answer. (base : Base) → answer_to_repeated_row base command k ≡ (model_answer answer, base))
-      → OnErr result (result ≡ Err Memory) → HoldsWithoutChange g old mid (λ t. Some k ≡ stored_reply_under_key t key) → CommandPost g old mid now command key result
+  pub repeats_or_fails : (k : Kept) (result : Result CommandAnswer Fault) → IfOk result (λ answer. (base : Base) → answer_and_base_of_retry base command k ≡ (model_answer answer, base))
+      → OnErr result (result ≡ Err Memory) → HoldsWithoutChange g old mid (λ t. Some k ≡ kept_row_under_key t key) → CommandPost g old mid now command key result
   repeats_or_fails k (Ok answer) told none seen = repeats k answer told seen
-  repeats_or_fails k (Err fault) none e seen = fails (λ t. Some k ≡ stored_reply_under_key t key) seen fault (inl (same_fault fault Memory (Err fault) refl e))
+  repeats_or_fails k (Err fault) none e seen = fails (λ t. Some k ≡ kept_row_under_key t key) seen fault (inl (same_fault fault Memory (Err fault) refl e))
 
   -- it is refused
   pub refuses : (refusal : Refusal) → HoldsWithoutChange g old mid (DecidesCommandOfNewKey now command key (Err refusal)) → CommandPost g old mid now command key (Ok (given.Refused refusal))
@@ -134,7 +134,7 @@ module _ {S : Type 0} (g : Ghosts S) (old mid : Held S) (now : ℕ) (command : C
 
   -- it is planned, and is kept with its plan
   module _ (plan : Plan) (seen : HoldsWithoutChange g old mid (DecidesCommandOfNewKey now command key (Ok plan))) (end : Held S) (kept : Plan) (reply : kept.reply ≡ plan.reply)
-      (rows : (t : Tables) → tables_after_changes kept.changes.items t ≡ with_stored_command key command (abstract_reply plan.reply) (tables_after_changes plan.changes.items t)) where
+      (rows : (t : Tables) → tables_after_changes kept.changes.items t ≡ tables_with_stored_command key command (abstract_reply plan.reply) (tables_after_changes plan.changes.items t)) where
     clean_then : {r : Result (Unit {0}) Fault} → ApplyPost g mid end r (tables_after_changes kept.changes.items) → HasCleanDisk (state g end) → HasCleanDisk (state g mid)
     clean_then applied = clean_before (state g mid) (state g end) _ applied.survives
 
@@ -148,7 +148,7 @@ module _ {S : Type 0} (g : Ghosts S) (old mid : Held S) (now : ℕ) (command : C
         let after = base_after_command base now command in
         let told = abstract_reply plan.reply in
         let all : tables_after_changes kept.changes.items (sheets base) ≡ sheets (base_with_stored_reply key command told after) =
-        rows (sheets base) ∙ ap (with_stored_command key command told) (sym does.rows) ∙ sym (rows_with_key base (stamp_of_next_command base now) command key told new) in (
+        rows (sheets base) ∙ ap (tables_with_stored_command key command told) (sym does.rows) ∙ sym (rows_with_key base (stamp_of_next_command base now) command key told new) in (
           base_with_stored_reply key command told after,
           sym all,
           books_kept after key command told does.books_after,

@@ -5,7 +5,7 @@ use Rattle.std.specs.Prelude.{◌&&◌, string_bytes}
 use Rattle.std.specs.List.{AllByRecursion, list_all}
 use Rattle.std.specs.Str.{is_utf8}
 use Rattle.std.proofs.lemmas.Bool.{and_from, and_parts}
-use Rattle.brk_model.specs.Keys.{kept_key, move_key, is_row_key_less, trade_key}
+use Rattle.brk_model.specs.Keys.{kept_key, cash_move_key, is_row_key_less, trade_key}
 use Rattle.brk_model.specs.Records.{Kept}
 use Rattle.brk_model.specs.LookupView.{is_cash_row_of_trade}
 use Rattle.brk_model.specs.Tables.{CashRow, MoveRow, Tables, TradeRow, tables_without_rows}
@@ -88,7 +88,7 @@ changed t (SetSummary row) h = record { kept = h.kept; names = h.names; cash = h
 changed t (RemoveSummary account symbol) h = record { kept = h.kept; names = h.names; cash = h.cash; moves = h.moves }
 changed t (AddSettlement row) h = record { kept = h.kept; names = h.names; cash = h.cash; moves = h.moves }
 changed t (AddMove row) h =
-    record { kept = h.kept; names = h.names; cash = h.cash; moves = All-insert HasUtf8MoveName (is_row_key_less move_key) (abstract_move_row row) t.moves (text_is_utf8 row.name) h.moves }
+    record { kept = h.kept; names = h.names; cash = h.cash; moves = All-insert HasUtf8MoveName (is_row_key_less cash_move_key) (abstract_move_row row) t.moves (text_is_utf8 row.name) h.moves }
 changed t (SetBalance account balance) h = record { kept = h.kept; names = h.names; cash = h.cash; moves = h.moves }
 changed t (SetBrokerTotals broker trades commissions) h = record { kept = h.kept; names = h.names; cash = h.cash; moves = h.moves }
 changed t (SetExecutor trade executor) h = record {

@@ -15,7 +15,7 @@ use Rattle.brk_sql.proofs.Inside.{clean_before}
 use Rattle.brk_store.specs.Holds.{HoldsRows, ReadPost, WasOpenAndIsUnchanged}
 use Rattle.brk_decisions.proofs.Looking.{none_then, same_then}
 use Rattle.brk_store.specs.Audited.{Represents}
-use Rattle.brk_commit.specs.Keys.{ReadStoredReplyPost, stored_reply_under_key}
+use Rattle.brk_commit.specs.Keys.{ReadStoredReplyPost, kept_row_under_key}
 
 -- a call that does nothing
 pub still : (s : State) → Survives s s (λ _. ⊥)
@@ -53,11 +53,11 @@ module _ {S : Type 0} (g : Ghosts S) where
       record { told = λ clean t holds. all t; kept = λ t holds. holds; unchanged_if_open = λ clean o. record { was_open = o; now = refl; committed = refl }; clean = λ clean. clean; survives = still (state g store) }
 
   -- nothing is kept under the key
-  pub sought_none : (old new : Held S) (key : Option Key) → ReadStoredReplyPost g old new key (Ok None) → HoldsWithoutChange old new (λ t. None ≡ stored_reply_under_key t key)
-  sought_none old new None s = subst (λ n. HoldsWithoutChange old n (λ t. None ≡ stored_reply_under_key t None)) (sym s.0) (seen_still old (λ t. None ≡ stored_reply_under_key t None) (λ t. refl))
-  sought_none old new (Some key) s = seen old new None (λ kept t. option_map abstract_kept_row kept ≡ stored_reply_under_key t (Some key)) s
+  pub sought_none : (old new : Held S) (key : Option Key) → ReadStoredReplyPost g old new key (Ok None) → HoldsWithoutChange old new (λ t. None ≡ kept_row_under_key t key)
+  sought_none old new None s = subst (λ n. HoldsWithoutChange old n (λ t. None ≡ kept_row_under_key t None)) (sym s.0) (seen_still old (λ t. None ≡ kept_row_under_key t None) (λ t. refl))
+  sought_none old new (Some key) s = seen old new None (λ kept t. option_map abstract_kept_row kept ≡ kept_row_under_key t (Some key)) s
 
   -- this row is
-  pub sought_some : (old new : Held S) (key : Option Key) (k : row.Kept) → ReadStoredReplyPost g old new key (Ok (Some k)) → HoldsWithoutChange old new (λ t. Some (abstract_kept_row k) ≡ stored_reply_under_key t key)
+  pub sought_some : (old new : Held S) (key : Option Key) (k : row.Kept) → ReadStoredReplyPost g old new key (Ok (Some k)) → HoldsWithoutChange old new (λ t. Some (abstract_kept_row k) ≡ kept_row_under_key t key)
   sought_some old new None k s = let other = s.1 in absurd (cc)
-  sought_some old new (Some key) k s = seen old new (Some k) (λ kept t. option_map abstract_kept_row kept ≡ stored_reply_under_key t (Some key)) s
+  sought_some old new (Some key) k s = seen old new (Some k) (λ kept t. option_map abstract_kept_row kept ≡ kept_row_under_key t (Some key)) s

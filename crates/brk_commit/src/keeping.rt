@@ -6,9 +6,9 @@ ghost use Rattle.std.specs.Option.{option_copied};
 ghost use Rattle.brk_commands.specs.Commands.{abstract_command};
 ghost use Rattle.brk_commit.specs.Answers.{model_answer};
 ghost use Rattle.brk_commit.specs.Keys.{optional_model_key};
-ghost use Rattle.brk_commit.specs.Keys.{ReadStoredReplyPost, with_stored_command};
+ghost use Rattle.brk_commit.specs.Keys.{ReadStoredReplyPost, tables_with_stored_command};
 ghost use Rattle.brk_model.specs.Base.{Base};
-ghost use Rattle.brk_model.specs.Keyed.{answer_to_repeated_row};
+ghost use Rattle.brk_model.specs.Keyed.{answer_and_base_of_retry};
 ghost use Rattle.brk_model.specs.Run.{IsCallFault};
 ghost use Rattle.brk_model.specs.Tables.{Tables};
 ghost use Rattle.brk_money.specs.declared.fault.Fault.TheVariants.{Memory};
@@ -50,7 +50,7 @@ pub(crate) fn answer_retry(
     kept: Kept,
 ) -> Result<CommandAnswer, Fault>
     ensures answer { IfOk result (λ answer. (base : Base)
-        → answer_to_repeated_row base (abstract_command command.now) (abstract_kept_row kept) ≡ (model_answer answer, base)) }
+        → answer_and_base_of_retry base (abstract_command command.now) (abstract_kept_row kept) ≡ (model_answer answer, base)) }
     ensures fault { OnErr result (result ≡ Err Memory) }
 {
     let row = row_text(alloc, command)?;
@@ -71,7 +71,7 @@ pub(crate) fn plan_with_stored_reply(
 ) -> Result<Plan, Fault>
     ensures reply { IfOk result (λ kept. kept.reply ≡ plan.reply) }
     ensures rows { IfOk result (λ kept. (t : Tables) → tables_after_changes kept.changes.items t
-        ≡ with_stored_command (optional_model_key (option_copied key.entry)) (abstract_command command.now)
+        ≡ tables_with_stored_command (optional_model_key (option_copied key.entry)) (abstract_command command.now)
         (abstract_reply plan.reply) (tables_after_changes plan.changes.items t)) }
     ensures fault { OnErr result (result ≡ Err Memory) }
 {

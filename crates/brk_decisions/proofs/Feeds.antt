@@ -17,7 +17,7 @@ use Rattle.brk_orders.specs.Records.{abstract_ticks}
 use Rattle.brk_orders.specs.declared.tick.Tick.{Tick}
 use Rattle.brk_ref.specs.Records.{abstract_last_trade_row}
 use Rattle.brk_ref.specs.declared.last_trade.LastTrade.{LastTrade}
-use Rattle.brk_plans.specs.Feed.{SymbolState, IsFeedPlan, feed_checks, states_of_quotes, state_of_quote, is_state_of_symbol, lacks_state_of_symbol, price_span_of_first_symbol}
+use Rattle.brk_plans.specs.Feed.{SymbolState, IsFeedPlan, feed_checks, states_of_quotes, state_of_quote, is_state_of_symbol, has_no_state_of_symbol, price_span_of_first_symbol}
 use Rattle.brk_plans.specs.Reference.{later_stamp_check}
 use Rattle.brk_changes.specs.Rows.{abstract_request_row}
 use Rattle.brk_changes.specs.declared.request_row.RequestRow as request
@@ -66,13 +66,13 @@ selected_quote t tick ticks span last losses sells buys quote is l e f g same p 
 
 -- with each tick they are known of one tick more
 module _ (all ticks : List Tick) (tick : Tick) (quotes : List Quote) (last : Option ℕ) where
-  pub one_quoted : lacks_state_of_symbol (states_of_quotes quotes) tick ≡ false → (t : Tables) → QuotesAndLastStampMatch all ticks (states_of_quotes quotes) last t → QuotesAndLastStampMatch all (ticks ++ tick ∷ []) (states_of_quotes quotes) last t
+  pub one_quoted : has_no_state_of_symbol (states_of_quotes quotes) tick ≡ false → (t : Tables) → QuotesAndLastStampMatch all ticks (states_of_quotes quotes) last t → QuotesAndLastStampMatch all (ticks ++ tick ∷ []) (states_of_quotes quotes) last t
   one_quoted e t k = (k.0, quoted_before t all ticks tick quotes k.1 (not_not (list_any (is_state_of_symbol tick.symbol) (states_of_quotes quotes)) e))
 
   pub one_not_listed : (t : Tables) → QuotesAndLastStampMatch all ticks (states_of_quotes quotes) last t → IsQuoteOfTickOrNone all tick None t → QuotesAndLastStampMatch all (ticks ++ tick ∷ []) (states_of_quotes quotes) last t
   one_not_listed t k l = (k.0, not_listed t all ticks tick quotes k.1 (sym l.0))
 
-  pub one_read : (quote : Quote) → Contains all tick → lacks_state_of_symbol (states_of_quotes quotes) tick ≡ true → (t : Tables) → QuotesAndLastStampMatch all ticks (states_of_quotes quotes) last t → IsQuoteOfTickOrNone all tick (Some quote) t
+  pub one_read : (quote : Quote) → Contains all tick → has_no_state_of_symbol (states_of_quotes quotes) tick ≡ true → (t : Tables) → QuotesAndLastStampMatch all ticks (states_of_quotes quotes) last t → IsQuoteOfTickOrNone all tick (Some quote) t
       → QuotesAndLastStampMatch all (ticks ++ tick ∷ []) (states_of_quotes (quotes ++ quote ∷ [])) last t
   one_read quote m e t k l = (k.0, quote_read t all ticks tick quotes quote k.1 (is_false (list_any (is_state_of_symbol tick.symbol) (states_of_quotes quotes)) e) m l.1)
     where

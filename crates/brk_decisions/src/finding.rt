@@ -141,7 +141,7 @@ fn read_account_facts<S: Alter>(
 
 // Returns the fact that decides on a new security: whether a security with its symbol exists.
 // Changes nothing. Fails with `Memory` or `Store` only.
-fn read_listing_facts<S: Alter>(
+fn read_new_security_facts<S: Alter>(
     store: &mut Store<S>,
     symbol: &Symbol,
 ) -> Result<ReferenceFacts, Fault>
@@ -184,7 +184,7 @@ pub(crate) fn read_reference_facts<S: Alter>(
         Reference::Customer(customer) => read_customer_facts(store, customer),
         Reference::Account(account) => read_account_facts(alloc, store, account),
         Reference::Permission(permission) => read_permission_facts(store, permission),
-        Reference::Security(listing) => read_listing_facts(store, &listing.security.symbol),
+        Reference::Security(listing) => read_new_security_facts(store, &listing.security.symbol),
         Reference::Charge(charge) => read_charge_facts(store, charge),
         Reference::Band(band) => read_band_facts(alloc, store, band),
         Reference::TaxRate(tax) => read_tax_facts(store, tax.id),

@@ -13,7 +13,7 @@ ghost use Rattle.brk_store.specs.Holds.{ReadPost};
 
 use crate::finding::{NO_REFERENCE_FACTS, account_exists, customer_exists};
 use brk_money::{Fault, Id, TaxRate};
-use brk_ref::{Band, Charge, CustomerTax, Permission, Tax, TaxId, overlaps_any_band, tax_sum};
+use brk_ref::{Band, Charge, CustomerTax, Permission, Tax, TaxId, has_overlapping_band, tax_sum};
 use brk_store::Store;
 use brk_trade::ReferenceFacts;
 use sqlite::Alter;
@@ -139,7 +139,7 @@ pub(crate) fn read_band_facts<S: Alter>(
     ensures fault { IfErr result IsCallFault }
 {
     let bands = store.commission_bands(alloc, band.tier, band.kind, &band.exchange)?;
-    let overlaps = overlaps_any_band(&bands, band);
+    let overlaps = has_overlapping_band(&bands, band);
     Ok(ReferenceFacts {
         overlaps,
         ..NO_REFERENCE_FACTS

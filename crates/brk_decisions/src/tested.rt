@@ -72,7 +72,7 @@ fn is_executor_permitted<S: Alter>(
 
 // Returns the charge of a trade type and a customer tier, in cents, or `None` if there is none.
 // Changes nothing. Fails with `Memory` or `Store` only.
-fn read_charge_of_tier<S: Alter>(
+fn read_charge_of_type_and_tier<S: Alter>(
     store: &mut Store<S>,
     kind: TradeType,
     tier: Tier,
@@ -150,7 +150,7 @@ pub(crate) fn read_order_check_facts<S: Alter>(
     let tier = customer.tier;
     let last_price = read_last_price(store, &order.symbol)?;
     let is_permitted = is_executor_permitted(store, order.account, customer, &order.executor)?;
-    let charge = read_charge_of_tier(store, order.order_type.kind(), tier)?;
+    let charge = read_charge_of_type_and_tier(store, order.order_type.kind(), tier)?;
     let rate = read_commission_rate_of_order(alloc, store, order, tier)?;
     Ok(OrderCheckFacts {
         last_price,

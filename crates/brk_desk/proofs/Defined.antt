@@ -7,7 +7,7 @@ use Rattle.brk_model.specs.Schemas.{Schema}
 use Rattle.brk_model.specs.Tables.{Tables}
 use Rattle.brk_changes.specs.Schemas.{abstract_schema}
 use Rattle.brk_sql.specs.Desk.{IsTableAt}
-use Rattle.brk_tables_schema.specs.Desk.{DeskTable, schema_has_table, table_name, table_definition_at}
+use Rattle.brk_tables_schema.specs.Desk.{DeskTable, schema_has_table, table_name, table_definition_at_tree}
 use Rattle.brk_tables_schema.specs.Made.{HasDeskTablesInSchema, IsTableOfSchema}
 use Rattle.brk_tables_scan.specs.Schemas.{TablesWithDeskNamesAreDeskTables, HasDeskDefinitions}
 use Rattle.brk_tables_scan.proofs.Defined.{desk_is_defined, desk_is_there}
@@ -25,7 +25,7 @@ module _ (a : Schema) (t : Tables) (db : Database) (has : HasDeskTablesInSchema 
       by_test true e = e
       by_test false e = absurd (let clash : None ≡ Some at = sym (has.2 w e).0 ∙ named in cc)
 
-  named_at : (w : DeskTable) (at n : ℕ) → IsTableAt db.schema (table_definition_at w n) at → table_named db.schema (table_name w) ≡ Some at
+  named_at : (w : DeskTable) (at n : ℕ) → IsTableAt db.schema (table_definition_at_tree w n) at → table_named db.schema (table_name w) ≡ Some at
   named_at w at n s = ap (table_named db.schema) (same_name_at w 0 n) ∙ s.named
 
   pub defined_over : (b : Schema) → HasDeskDefinitions b db

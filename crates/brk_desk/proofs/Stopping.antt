@@ -6,7 +6,7 @@ use Rattle.brk_money.specs.declared.fault.Fault.{Fault}
 use Rattle.brk_model.specs.Base.{Base}
 use Rattle.brk_money.specs.declared.refusal.Refusal.{Refusal}
 use Rattle.brk_model.specs.Commands.{Answer, Command, Reply}
-use Rattle.brk_model.specs.Keyed.{answer_and_base_of_step, stored_row_with_optional_key, answer_by_stored_row, keyed_step}
+use Rattle.brk_model.specs.Keyed.{answer_and_base_of_step, stored_row_with_optional_key, answer_and_base_by_stored_row, keyed_step}
 use Rattle.brk_model.specs.Records.{Kept, Key}
 use Rattle.brk_model.specs.Run.{IsOutcomeOfCall, Ask, Call, Did, Do, Outcome, Failed, NoView, Run, Saw}
 use Rattle.brk_model.specs.Step.{step}
@@ -47,7 +47,7 @@ acted_quiet : (base : Base) (key : Option Key) (command : Command) (r : Result (
 acted_quiet base key command (Ok booked) answer after e quiet = absurd (subst (λ (x : Answer × Base). AcknowledgesNothing (Did x.0)) (sym e) quiet)
 acted_quiet base key command (Err refusal) answer after e quiet = ap (λ (x : Answer × Base). x.1) (sym e)
 
-keyed_quiet : (base : Base) (now : ℕ) (command : Command) (key : Option Key) (k : Option Kept) (answer : Answer) (after : Base) → answer_by_stored_row base now command key k ≡ (answer, after) → AcknowledgesNothing (Did answer) → after ≡ base
+keyed_quiet : (base : Base) (now : ℕ) (command : Command) (key : Option Key) (k : Option Kept) (answer : Answer) (after : Base) → answer_and_base_by_stored_row base now command key k ≡ (answer, after) → AcknowledgesNothing (Did answer) → after ≡ base
 keyed_quiet base now command key (Some k) answer after e quiet = ap (λ (x : Answer × Base). x.1) (sym e)
 keyed_quiet base now command key None answer after e quiet = acted_quiet base key command (step base now command) answer after e quiet
 

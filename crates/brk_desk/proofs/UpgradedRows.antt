@@ -5,10 +5,10 @@ use Rattle.std.specs.Prelude.{◌&&◌}
 use Rattle.std.specs.List.{AllByRecursion, list_all}
 use Rattle.std.specs.Str.{is_utf8}
 use Rattle.std.proofs.lemmas.Bool.{and_from, and_parts}
-use Rattle.brk_model.specs.Adopted.{base_of_tables, posting_of_cash_row, posting_of_move_row, postings_of_tables}
+use Rattle.brk_model.specs.Adopted.{base_of_tables, posting_of_cash_transaction_row, posting_of_cash_move_row, postings_of_tables}
 use Rattle.brk_model.specs.Derived.{Posting, postings_sorted_by_stamp}
 use Rattle.brk_model.specs.Form.{has_utf8_texts}
-use Rattle.brk_model.specs.Upgraded.{tables_after_upgrade, tables_upgraded_from_schema}
+use Rattle.brk_model.specs.Upgraded.{tables_with_merged_cash_rows, tables_upgraded_from_schema}
 use Rattle.brk_model.specs.Schemas.{Schema, third_schema}
 use Rattle.brk_model.specs.Sheets.{sheets}
 use Rattle.brk_model.specs.Tables.{MoveRow, Tables, numbered_move_rows}
@@ -35,14 +35,14 @@ numbered_read : (n : ℕ) (ps : List Posting) → AllByRecursion HasUtf8Name ps 
 numbered_read n [] h = tt
 numbered_read n (p ∷ ps) h = (h.0, numbered_read (n + 1) ps h.1)
 
-upgraded_read : (t : Tables) → has_utf8_texts t ≡ true → has_utf8_texts (tables_after_upgrade t) ≡ true
-unfolding tables_after_upgrade
+upgraded_read : (t : Tables) → has_utf8_texts t ≡ true → has_utf8_texts (tables_with_merged_cash_rows t) ≡ true
+unfolding tables_with_merged_cash_rows
 upgraded_read t e =
     let all = and_parts (kept && trades && cash) moves e in
     let three = and_parts (kept && trades) cash all.0 in
     let posted : AllByRecursion HasUtf8Name (postings_of_tables t) =
-    All-append HasUtf8Name (map (posting_of_cash_row t) t.cash) (map posting_of_move_row t.moves)
-    (All-mapped HasUtf8Name (posting_of_cash_row t) t.cash (list_all_true (λ r. is_utf8 r.name) t.cash three.1)) (All-mapped HasUtf8Name posting_of_move_row t.moves (list_all_true (λ r. is_utf8 r.name) t.moves all.1)) in
+    All-append HasUtf8Name (map (posting_of_cash_transaction_row t) t.cash) (map posting_of_cash_move_row t.moves)
+    (All-mapped HasUtf8Name (posting_of_cash_transaction_row t) t.cash (list_all_true (λ r. is_utf8 r.name) t.cash three.1)) (All-mapped HasUtf8Name posting_of_cash_move_row t.moves (list_all_true (λ r. is_utf8 r.name) t.moves all.1)) in
     and_from _ _ (and_from _ _ three.0 refl) (all_list (λ (r : MoveRow). is_utf8 r.name) (numbered_move_rows 1 (postings_sorted_by_stamp (postings_of_tables t))) (numbered_read 1 (postings_sorted_by_stamp (postings_of_tables t)) (All-sort HasUtf8Name _ (postings_of_tables t) posted)))
   where
     kept : Bool
@@ -77,6 +77,6 @@ are_upgraded schema rows passes texts =
     record {
       tables = same.0 ∙ same.1;
       books = passing_books (abstract_schema schema) rows passes;
-      sound = subst AuditInvariant over.base (passing_sound (tables_after_upgrade rows) over.passes);
+      sound = subst AuditInvariant over.base (passing_sound (tables_with_merged_cash_rows rows) over.passes);
       texts = subst (λ t. IsTrue (has_utf8_texts t)) same.1 (upgraded_read rows texts);
     }

@@ -27,7 +27,7 @@ use sqlite::Alter;
 
 /// Proves that a store that holds tables without rows, for example a newly created one, represents
 /// the empty base.
-pub fn new_stores_represent_the_empty_base<S: Alter>()
+pub fn empty_stores_represent_the_empty_base<S: Alter>()
     ensures { (store : Held S) → HoldsRows S.Store store tables_without_rows → Represents S.Store store empty_base }
 {}
 
@@ -37,7 +37,7 @@ pub fn new_stores_represent_the_empty_base<S: Alter>()
 /// `upgraded`: a store with rows that were upgraded from an older schema represents the base that
 /// the rows before the upgrade determine, if those rows pass the audit of their schema and their
 /// texts are UTF-8.
-pub fn adopted_rows_represent_their_base<S: Alter>()
+pub fn store_represents_base_of_audited_rows<S: Alter>()
     ensures rows { (store : Held S) (rows : Tables) → HoldsRows S.Store store rows → IsTrue (has_utf8_texts rows) → PassesAudit third_schema rows
         → Represents S.Store store (base_of_tables rows) }
     ensures upgraded { (store : Held S) (schema : Schema) (rows : Tables) → HoldsRows S.Store store (tables_upgraded_from_schema (abstract_schema schema) rows)

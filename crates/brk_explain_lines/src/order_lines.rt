@@ -139,7 +139,7 @@ fn put_order_terms_lines(
 /// Appends to `out` the lines of the title of the explanation of a trade, of its parties, of the
 /// terms of its order, and of its status changes. Fails with `Memory` only.
 #[tactic(auto, unfolding(brk_explain_model::specs::TradeLines::order_and_status_lines))]
-pub(crate) fn put_order_lines(
+pub(crate) fn put_order_and_status_lines(
     alloc: Global,
     out: &mut Vec<u8>,
     order: &OrderDetails,

@@ -59,7 +59,7 @@ fn put_tax_status_line(out: &mut Vec<u8>, order: &OrderDetails) -> Result<(), Fa
 
 // Appends to `out` the line of the sum of tax rates, in hundred-thousandths: the label `Rates now`,
 // the sum, and ` of 100000`. Fails with `Memory` only.
-fn put_rates_line(out: &mut Vec<u8>, rates: TaxRate) -> Result<(), Fault>
+fn put_tax_rate_sum_line(out: &mut Vec<u8>, rates: TaxRate) -> Result<(), Fault>
     ensures ok { OnOk result (out.new.items ≡ out.old.items ++ line_with_line_feed (labeled_number (codes "Rates now") rates ++ codes " of 100000")) }
     ensures fault { OnErr result (result ≡ Err Memory) }
 {
@@ -84,7 +84,7 @@ fn put_current_and_recorded_tax_lines(
 {
     let rates = sum_of_tax_rates(&details.rates)?;
     let now = tax_at_current_rates(order, details)?;
-    put_rates_line(out, rates)?;
+    put_tax_rate_sum_line(out, rates)?;
     put_labeled_amount_line(alloc, out, "Tax now", now)?;
     put_labeled_amount_line(alloc, out, "Tax recorded", Wide::from(order.trade.tax))
 }
@@ -111,9 +111,9 @@ pub(crate) fn put_tax_lines(
 
 // Appends to `out` the text after the rate of a commission band: ` of 10000 for `, its lower bound,
 // ` to ` and its upper bound. Fails with `Memory` only.
-#[tactic(auto, unfolding(brk_explain_model::specs::TradeLines::band_bounds_text))]
+#[tactic(auto, unfolding(brk_explain_model::specs::TradeLines::band_unit_and_bounds_text))]
 fn put_band_bounds(out: &mut Vec<u8>, band: &Band) -> Result<(), Fault>
-    ensures ok { OnOk result (out.new.items ≡ out.old.items ++ lines.band_bounds_text (abstract_band band.now)) }
+    ensures ok { OnOk result (out.new.items ≡ out.old.items ++ lines.band_unit_and_bounds_text (abstract_band band.now)) }
     ensures fault { OnErr result (result ≡ Err Memory) }
 {
     put_text_and_number(out, " of 10000 for ", u64::from(band.from_qty.get()))?;

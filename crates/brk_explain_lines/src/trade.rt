@@ -8,7 +8,7 @@ ghost use Rattle.brk_model.specs.Statement.{text_of_lines};
 
 use crate::balance_lines::{put_balance_lines, put_counts_of_completed_trade};
 use crate::lots_lines::put_lot_and_gain_lines;
-use crate::order_lines::put_order_lines;
+use crate::order_lines::put_order_and_status_lines;
 use crate::settlement_lines::{put_due_day_lines, put_settlement_lines};
 use crate::tax_lines::{put_band_and_commission_lines, put_tax_lines};
 use crate::waiting_lines::put_uncompleted_trade_lines;
@@ -70,7 +70,7 @@ pub fn trade_explanation_text(alloc: Global, details: &TradeDetails) -> Result<V
     ensures fault { IfErr result IsCallFault }
 {
     let mut text = Vec::new(alloc);
-    put_order_lines(alloc, &mut text, &details.order)?;
+    put_order_and_status_lines(alloc, &mut text, &details.order)?;
     put_lines_after_statuses(alloc, &mut text, &details.order, &details.result)?;
     Ok(text)
 }

@@ -88,7 +88,7 @@ fn put_awaited_event(
 // Appends to `out` the line of the label `Waits for` and the event for which a trade waits. Fails
 // with `Memory` only.
 #[tactic(auto, unfolding(brk_explain_model::specs::Texts::labeled_text))]
-fn put_waiting_line(out: &mut Vec<u8>, trade: &TradeRow) -> Result<(), Fault>
+fn put_awaited_event_line(out: &mut Vec<u8>, trade: &TradeRow) -> Result<(), Fault>
     ensures ok { OnOk result (out.new.items
         ≡ out.old.items ++ line_with_line_feed (labeled_text (codes "Waits for") (lines.awaited_event_text trade.now.status trade.now.kind trade.now.bid))) }
     ensures fault { OnErr result (result ≡ Err Memory) }
@@ -147,7 +147,7 @@ pub(crate) fn put_uncompleted_trade_lines(
         commission,
         commission_remark(trade.status),
     )?;
-    put_waiting_line(out, trade)?;
+    put_awaited_event_line(out, trade)?;
     put_labeled_number_line(out, "Shares moved", 0)?;
     put_labeled_amount_line(alloc, out, "Cash moved", Wide::new(0))?;
     put_status_count_line(out, order.statuses.len())

@@ -9,7 +9,7 @@ use Rattle.brk_model.specs.Lists.{total_by}
 use Rattle.brk_model.specs.Rows.{nonnegative_cents_text}
 use Rattle.brk_model.specs.Tables.{Tables, AccountRow, HoldingRow, MoveRow, SummaryRow}
 use Rattle.brk_model.specs.Joins.{last_price_in_tables}
-use Rattle.brk_model.specs.Statement.{left_aligned_text, right_aligned_text, cash_move_rows_of_account, cash_move_rows_within_days, lot_line}
+use Rattle.brk_model.specs.Statement.{left_aligned_text, right_aligned_text, sorted_cash_rows_of_account, cash_move_rows_within_days, lot_line}
 use Rattle.brk_model.specs.Statement.{holding_rows_of_account}
 use Rattle.brk_explain_model.specs.Texts.{amount_column, labeled_number, timestamp_text, labeled_amount, labeled_text}
 use Rattle.brk_explain_model.specs.Running.{lines_with_running_total}
@@ -30,7 +30,7 @@ account_header_lines a =
 -- The cash rows of `account` with stamps from 1970-01-01 to 9999-12-31, both included, sorted by
 -- stamp, ascending.
 abbrev pub account_cash_rows_by_stamp : Tables → ℕ → List MoveRow
-account_cash_rows_by_stamp tables account = cash_move_rows_within_days 0 greatest_day (cash_move_rows_of_account tables account)
+account_cash_rows_by_stamp tables account = cash_move_rows_within_days 0 greatest_day (sorted_cash_rows_of_account tables account)
 
 -- The optional id `trade` in decimal digits, or a hyphen if there is none.
 abbrev pub trade_id_or_hyphen : Option ℕ → Text

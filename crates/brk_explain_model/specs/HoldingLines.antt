@@ -74,8 +74,8 @@ lot_history_lines lot = lot_opening_line lot ∷ lot_change_lines (completion_pr
 
 -- The lines of the total purchases `bought`, the total sales `sold`, the realised gain `gain` and
 -- the cost basis `cost` of a holding, in cents.
-unfoldable pub purchase_sale_and_cost_lines : ℤ → ℤ → ℤ → ℤ → List Text
-purchase_sale_and_cost_lines bought sold gain cost =
+unfoldable pub purchase_sale_gain_and_cost_lines : ℤ → ℤ → ℤ → ℤ → List Text
+purchase_sale_gain_and_cost_lines bought sold gain cost =
     labeled_amount (codes "Purchases") bought ∷ labeled_amount (codes "Sales") sold ∷ labeled_amount (codes "Realised gain") gain
     ∷ labeled_amount (codes "Cost basis") cost ∷ []
 
@@ -102,7 +102,7 @@ holding_counts_line trades lots open_count changes =
 -- and the counts.
 unfoldable pub holding_total_lines : List TradeRow → List LotDetails → ℤ → ℕ → List Text
 holding_total_lines done lots shares price =
-    purchase_sale_and_cost_lines (total_purchase_value done) (total_sale_value done) (realised_gain_of_lots lots) (remaining_cost_of_lots lots)
+    purchase_sale_gain_and_cost_lines (total_purchase_value done) (total_sale_value done) (realised_gain_of_lots lots) (remaining_cost_of_lots lots)
     ++ holding_value_lines shares price (remaining_cost_of_lots lots)
     ++ holding_counts_line (length done) (length lots) (length (lots_not_fully_closed lots)) (count_of_lot_changes lots)
     ∷ []

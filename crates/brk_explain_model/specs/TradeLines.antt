@@ -16,7 +16,7 @@ use Rattle.brk_model.specs.Statement.{left_aligned_text, right_aligned_text}
 use Rattle.brk_explain_model.specs.Texts.{labeled_number, labeled_value, timestamp_text, labeled_amount, leading_row_columns, shares_column, value_column}
 use Rattle.brk_explain_model.specs.Texts.{labeled_text}
 use Rattle.brk_explain_model.specs.Trades.{Closing, OrderDetails, ResultDetails, TradeDetails, balance_after_trade, balance_before_trade, buy_value_of_closing}
-use Rattle.brk_explain_model.specs.Trades.{buy_value_of_closings, balance_change_of_trade, commission_in_current_band, days_to_settle}
+use Rattle.brk_explain_model.specs.Trades.{buy_value_of_closings, balance_change_of_trade, commission_in_current_band, days_to_settle_trade}
 use Rattle.brk_explain_model.specs.Trades.{realised_gain_of_closings, opened_quantity, sum_of_tax_rates, sell_value_of_closings, sell_value_of_closing}
 use Rattle.brk_explain_model.specs.Trades.{shares_of_closing, total_closed_shares, tax_at_current_rates, signed_trade_value, withheld_tax_of_trade}
 
@@ -198,8 +198,8 @@ trade_tax_lines o r = account_tax_status_lines o ++ map tax_rate_line r.rates ++
 
 -- The text after the rate of the commission band `b`, such as ` of 10000 for 1 to 100`: the unit of
 -- the rate, ten-thousandths, and the least and the greatest quantity of the band.
-unfoldable pub band_bounds_text : Band → Text
-band_bounds_text b = codes " of 10000 for " ++ decimal b.from_qty ++ codes " to " ++ decimal b.to_qty
+unfoldable pub band_unit_and_bounds_text : Band → Text
+band_unit_and_bounds_text b = codes " of 10000 for " ++ decimal b.from_qty ++ codes " to " ++ decimal b.to_qty
 
 -- The text after the quantities of the commission band `b`: its tier and its exchange.
 unfoldable pub band_tier_and_exchange_text : Band → Text
@@ -209,7 +209,7 @@ band_tier_and_exchange_text b = codes ", tier " ++ decimal b.tier ++ codes ", " 
 -- and its exchange, or `none` if there is no band.
 unfoldable pub commission_band_line : Option Band → Text
 commission_band_line None = labeled_value (codes "Band now") (codes "none")
-commission_band_line (Some b) = labeled_number (codes "Band now") b.rate ++ band_bounds_text b ++ band_tier_and_exchange_text b
+commission_band_line (Some b) = labeled_number (codes "Band now") b.rate ++ band_unit_and_bounds_text b ++ band_tier_and_exchange_text b
 
 -- The line of the commission at the rate of the current commission band, in cents, or of `none` if
 -- there is no such commission.
@@ -239,7 +239,7 @@ unfoldable pub due_day_lines : OrderDetails → ResultDetails → List Text
 due_day_lines o r =
     labeled_text (codes "Completed on") (day_text (day_of o.trade.stamp))
     ∷ labeled_text (codes "One day from") (option_map_or day_text r.rule (codes "none"))
-    ∷ labeled_number (codes "Days to settle") (days_to_settle o r)
+    ∷ labeled_number (codes "Days to settle") (days_to_settle_trade o r)
     ∷ labeled_text (codes "Due on") (day_text r.settlement.due_day)
     ∷ []
 

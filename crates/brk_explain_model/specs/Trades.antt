@@ -19,7 +19,7 @@ use Rattle.brk_model.specs.Derived.{signed_proceeds, days_to_settlement}
 use Rattle.brk_model.specs.Tables.{Tables, SecurityRow, TradeRow, HistoryRow, HoldingHistoryRow, SettlementRow, MoveRow}
 use Rattle.brk_model.specs.Joins.{account_row_with_id, history_rows_with_trade_id, security_row_with_symbol, trade_row_with_id}
 use Rattle.brk_model.specs.LookupView.{is_cash_row_of_trade}
-use Rattle.brk_model.specs.Statement.{cash_move_rows_of_account, cash_row_total}
+use Rattle.brk_model.specs.Statement.{sorted_cash_rows_of_account, cash_row_total}
 
 -- ---- facts
 
@@ -118,14 +118,14 @@ reversed_if_lifo is_lifo xs = if is_lifo then reverse xs else xs
 
 -- True if the HOLDING_HISTORY row `row` records a change by `trade` of a lot that another trade
 -- opened.
-abbrev pub is_closing_by : ℕ → HoldingHistoryRow → Bool
-is_closing_by trade row = (row.trade == trade) && not (row.lot == trade)
+abbrev pub is_closing_by_trade : ℕ → HoldingHistoryRow → Bool
+is_closing_by_trade trade row = (row.trade == trade) && not (row.lot == trade)
 
 -- The closings by the trade `u`, sorted by the stamps of the trades that opened the lots:
 -- descending if the trade closes the newest lots first (`u.is_lifo`), otherwise ascending.
 abbrev pub closings_of_trade : Tables → TradeRow → List Closing
 closings_of_trade tables u =
-    reversed_if_lifo u.is_lifo (sort_by_key (λ c. c.stamp) (map (recorded_closing tables) (filter (is_closing_by u.id) tables.holding_history)))
+    reversed_if_lifo u.is_lifo (sort_by_key (λ c. c.stamp) (map (recorded_closing tables) (filter (is_closing_by_trade u.id) tables.holding_history)))
 
 -- The HOLDING_HISTORY row that records the opening of a lot by `trade`, or none if `trade` opened
 -- no lot.
@@ -171,7 +171,7 @@ settlement_of_trade_or_zeros tables trade = unwrap_or (find (λ s. s.trade == tr
 -- The cash rows of the account of the completed trade `u` with stamps before its completion
 -- (T_DTS), sorted by stamp, ascending.
 abbrev pub cash_rows_before_completion : Tables → TradeRow → List MoveRow
-cash_rows_before_completion tables u = filter (λ row. nat_lt row.stamp u.stamp) (cash_move_rows_of_account tables u.account)
+cash_rows_before_completion tables u = filter (λ row. nat_lt row.stamp u.stamp) (sorted_cash_rows_of_account tables u.account)
 
 -- The results of the completed trade `u`, read from `tables`. The price is 0 if the trade has none,
 -- and the settlement is `zero_settlement_row` if the trade has none.
@@ -277,5 +277,5 @@ balance_after_trade o r = balance_before_trade o r +ℤ balance_change_of_trade 
 
 -- The number of days from the completion of the trade to its settlement, 1 or 2, by the current
 -- settlement day.
-abbrev pub days_to_settle : OrderDetails → ResultDetails → ℕ
-days_to_settle o r = days_to_settlement r.rule (day_of o.trade.stamp)
+abbrev pub days_to_settle_trade : OrderDetails → ResultDetails → ℕ
+days_to_settle_trade o r = days_to_settlement r.rule (day_of o.trade.stamp)

@@ -11,7 +11,7 @@ use Rattle.brk_explain_model.specs.Trades.{band_for_customer_and_security, has_c
 use Rattle.brk_explain_rows.specs.Details.{abstract_order_details, abstract_result_details, abstract_trade_details}
 use Rattle.brk_explain_rows.specs.declared.details.OrderDetails.{OrderDetails}
 use Rattle.brk_explain_rows.specs.declared.details.ResultDetails.{ResultDetails}
-use Rattle.brk_explain_reads.specs.Found.{AreTradeLotsInClosingOrder, AreTaxRatesAndBand, IsCashSumBeforeStamp, IsOrderOfTrade, IsSettlementOfTrade}
+use Rattle.brk_explain_reads.specs.Found.{AreTradeLotsInClosingOrder, AreTaxRatesAndBand, IsCashSumBeforeStamp, IsOrderOfTrade, IsSettlementAndCashOfTrade}
 use Rattle.brk_explain_reads.specs.declared.cash.CashSum.{CashSum}
 use Rattle.brk_explain_reads.specs.declared.lots.TradeLots.{TradeLots}
 use Rattle.brk_explain_reads.specs.declared.settled.SettlementAndCash.{SettlementAndCash}
@@ -49,7 +49,7 @@ module _ (t : Tables) (order : OrderDetails) (price : ℕ) (lots : TradeLots) (t
   abbrev u : TradeRow
   u = abstract_trade_row order.trade
 
-  pub result_known : order.trade.price ≡ Some price → AreTradeLotsInClosingOrder t u lots → AreTaxRatesAndBand t order terms → IsSettlementOfTrade t u.id settled → IsCashSumBeforeStamp t u.account u.stamp cash
+  pub result_known : order.trade.price ≡ Some price → AreTradeLotsInClosingOrder t u lots → AreTaxRatesAndBand t order terms → IsSettlementAndCashOfTrade t u.id settled → IsCashSumBeforeStamp t u.account u.stamp cash
       → IsOrderOfTrade order.trade order t → abstract_result_details (result_with price lots terms settled cash) ≡ result_details_of_trade t u
   result_known priced l k s c o =
       let customer : order.account.account.customer ≡ (order_details_of_trade t u).customer = ap (λ x. option_map_or (λ (a : AccountRow). a.customer) x 0) (sym o.account) in

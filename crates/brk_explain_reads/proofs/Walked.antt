@@ -8,7 +8,7 @@ use Rattle.sqlite.specs.Held.{Held}
 use Rattle.brk_changes.specs.Rows.{abstract_move_row}
 use Rattle.brk_changes.specs.declared.move_row.MoveRow as move
 use Rattle.brk_model.specs.Lists.{total_by}
-use Rattle.brk_model.specs.Statement.{cash_move_rows_of_account, cash_row_total}
+use Rattle.brk_model.specs.Statement.{sorted_cash_rows_of_account, cash_row_total}
 use Rattle.brk_model.specs.Tables.{MoveRow, Tables}
 use Rattle.brk_store.specs.Holds.{ReadPost}
 use Rattle.brk_store.specs.Walked.{WalkPost, cash_rows_in_span}
@@ -89,6 +89,6 @@ pub earlier_told : (t : Tables) (account start until : ℕ) (p q : EarlierCashSu
 earlier_told t account start until p q taken none at count total folds all =
     let same : earlier_rows p.until (map abstract_move_row taken) ≡ cash_rows_before_stamp t account until =
     (λ i. earlier_rows (at i) (all i))
-    ∙ narrower (λ (r : MoveRow). nat_lt r.stamp until) (λ (r : MoveRow). nat_le start r.stamp && nat_le r.stamp until) (λ r before. within start until r.stamp none before) (cash_move_rows_of_account t account) in
+    ∙ narrower (λ (r : MoveRow). nat_lt r.stamp until) (λ (r : MoveRow). nat_le start r.stamp && nat_le r.stamp until) (λ r before. within start until r.stamp none before) (sorted_cash_rows_of_account t account) in
     let c = all_added p taken q folds in
     (omega (arith, c.0, count, ap length same), c.1 ∙ (λ i. total i +ℤ cash_row_total (same i)) ∙ +ℤ_idl (cash_row_total (cash_rows_before_stamp t account until)))

@@ -2,14 +2,14 @@
 use Rattle.std.specs.Prelude.{◌≡◌, ℕ, ◌==◌, List, filter, find, length, map, nat_lt, Some, option_map}
 use Rattle.brk_changes.specs.Rows.{abstract_history_row, abstract_lot_change_row, abstract_move_row, abstract_settlement_row, abstract_trade_row}
 use Rattle.brk_changes.specs.declared.trade_row.TradeRow as trade
-use Rattle.brk_explain_model.specs.Trades.{band_for_customer_and_security, recorded_closing, closings_of_trade, is_closing_by, opened_lot_row}
+use Rattle.brk_explain_model.specs.Trades.{band_for_customer_and_security, recorded_closing, closings_of_trade, is_closing_by_trade, opened_lot_row}
 use Rattle.brk_explain_model.specs.Trades.{tax_rates_of_customer, result_details_of_trade, settlement_of_trade_or_zeros, sorted_statuses_of_trade}
 use Rattle.brk_explain_rows.specs.Details.{abstract_closing, abstract_result_details}
 use Rattle.brk_explain_rows.specs.declared.details.OrderDetails.{OrderDetails}
 use Rattle.brk_explain_rows.specs.declared.details.ResultDetails.{ResultDetails}
 use Rattle.brk_model.specs.Joins.{account_row_with_id, security_row_with_symbol}
 use Rattle.brk_model.specs.LookupView.{is_cash_row_of_trade}
-use Rattle.brk_model.specs.Statement.{cash_move_rows_of_account, cash_row_total}
+use Rattle.brk_model.specs.Statement.{sorted_cash_rows_of_account, cash_row_total}
 use Rattle.brk_model.specs.Tables.{MoveRow, Tables, TradeRow}
 use Rattle.brk_ref.specs.Records.{abstract_account_row, abstract_band, abstract_security_row, abstract_tax_rate}
 use Rattle.brk_explain_reads.specs.declared.cash.CashSum.{CashSum}
@@ -20,7 +20,7 @@ use Rattle.brk_explain_reads.specs.declared.terms.TaxRatesAndBand.{TaxRatesAndBa
 -- The cash rows of `account` in the tables `t` with stamps before `until`, sorted by stamp,
 -- ascending. Rows with equal stamps are in the order of the table CASH_MOVE.
 abbrev pub cash_rows_before_stamp : Tables → ℕ → ℕ → List MoveRow
-cash_rows_before_stamp t account until = filter (λ r. nat_lt r.stamp until) (cash_move_rows_of_account t account)
+cash_rows_before_stamp t account until = filter (λ r. nat_lt r.stamp until) (sorted_cash_rows_of_account t account)
 
 -- `sum` has the number of the cash rows of `account` in the tables `t` with stamps before `until`,
 -- and the sum of their amounts, in cents.
@@ -31,9 +31,9 @@ IsCashSumBeforeStamp t account until sum =
 -- `lots` has the closings by the trade with the id `trade`, in the order of the table
 -- HOLDING_HISTORY, and the change with which this trade opened a lot, if it opened one, as the
 -- tables `t` record them.
-abbrev pub AreTradeLotsByKey : Tables → ℕ → TradeLots → Type 0
-AreTradeLotsByKey t trade lots =
-    (map abstract_closing lots.closings.items ≡ map (recorded_closing t) (filter (is_closing_by trade) t.holding_history))
+abbrev pub AreTradeLotsByLotId : Tables → ℕ → TradeLots → Type 0
+AreTradeLotsByLotId t trade lots =
+    (map abstract_closing lots.closings.items ≡ map (recorded_closing t) (filter (is_closing_by_trade trade) t.holding_history))
     × (option_map abstract_lot_change_row lots.own_lot ≡ opened_lot_row t trade)
 
 -- `lots` has the closings by the trade `u`, in the order of closing, and the change with which this
@@ -62,8 +62,8 @@ AreTaxRatesAndBand t order terms =
 
 -- `settled` has the row of SETTLEMENT of `trade` (a row of zeros if there is none), the trade's
 -- cash row, if any, and the settlement day of the tables `t`, if any.
-abbrev pub IsSettlementOfTrade : Tables → ℕ → SettlementAndCash → Type 0
-IsSettlementOfTrade t trade settled =
+abbrev pub IsSettlementAndCashOfTrade : Tables → ℕ → SettlementAndCash → Type 0
+IsSettlementAndCashOfTrade t trade settled =
     (abstract_settlement_row settled.settlement ≡ settlement_of_trade_or_zeros t trade)
     × (option_map abstract_move_row settled.cash ≡ find (is_cash_row_of_trade trade) t.moves) × (settled.rule ≡ t.rule)
 

@@ -32,7 +32,7 @@ pub fn read_broker_details<S: Alter>(
     let Some(row) = store.broker(broker)? else {
         return Ok(None);
     };
-    let accounts = store.accounts_of_broker(alloc, broker)?;
+    let accounts = store.broker_account_ids(alloc, broker)?;
     Ok(Some(BrokerDetails {
         broker: row,
         accounts: accounts.len(),
@@ -106,7 +106,7 @@ pub fn visit_completed_trades<S: Alter, E, V: Visitor<TradeRow, E>>(
         V.takes V.stops visitor.old visitor.new result }
 {
     let _least = broker.get();
-    let accounts = match store.accounts_of_broker(alloc, broker) {
+    let accounts = match store.broker_account_ids(alloc, broker) {
         Ok(accounts) => accounts,
         Err(fault) => return Err(WalkError::Failed(fault)),
     };

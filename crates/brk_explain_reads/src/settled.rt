@@ -1,7 +1,7 @@
 //! The settlement of a trade.
 
 ghost use Rattle.std.specs.Prelude.{IfErr};
-ghost use Rattle.brk_explain_reads.specs.Found.{IsSettlementOfTrade};
+ghost use Rattle.brk_explain_reads.specs.Found.{IsSettlementAndCashOfTrade};
 ghost use Rattle.brk_model.specs.Run.{IsCallFault};
 ghost use Rattle.brk_store.specs.Holds.{ReadPost};
 
@@ -23,11 +23,11 @@ pub struct SettlementAndCash {
 
 // Returns the settlement and the cash row of the trade with the id, and the settlement day. Writes
 // nothing. Fails with `Memory` or `Store`; with `Store` also if the trade has no settlement.
-pub(crate) fn read_settlement_of_trade<S: Alter>(
+pub(crate) fn read_settlement_and_cash<S: Alter>(
     store: &mut Store<S>,
     trade: Id,
 ) -> Result<SettlementAndCash, Fault>
-    ensures read { ReadPost S.Store store.old store.new result (λ settled t. IsSettlementOfTrade t trade settled) }
+    ensures read { ReadPost S.Store store.old store.new result (λ settled t. IsSettlementAndCashOfTrade t trade settled) }
     ensures fault { IfErr result IsCallFault }
 {
     let settlement = read_existing_settlement(store, trade)?;

@@ -50,7 +50,7 @@ fn band_contains_quantity(band: &Band, qty: Qty) -> bool
 }
 
 // Returns `band` if its bounds contain the quantity, otherwise `other`, which may be `None`.
-fn band_or_other(band: Band, qty: Qty, other: Option<Band>) -> Option<Band>
+fn band_for_quantity_or_other(band: Band, qty: Qty, other: Option<Band>) -> Option<Band>
     ensures { option_map abstract_band result
         ≡ (if nat_le band.from_qty qty && nat_le qty band.to_qty then Some (abstract_band band) else option_map abstract_band other) }
 {
@@ -68,7 +68,7 @@ fn first_band_with_quantity(bands: Vec<Band>, qty: Qty) -> Option<Band>
     let mut rest = bands;
     let mut found = None;
     while let Some(band) = rest.pop() {
-        found = band_or_other(band, qty, found);
+        found = band_for_quantity_or_other(band, qty, found);
     }
     found
 }

@@ -24,7 +24,7 @@ use std::alloc::Global;
 
 // Appends to `out` the lines of the total purchases `bought`, the total sales `sold`, the realised
 // gain `gain` and the cost basis `cost` of a holding, in cents. Fails with `Memory` only.
-#[tactic(auto, unfolding(brk_explain_model::specs::HoldingLines::purchase_sale_and_cost_lines))]
+#[tactic(auto, unfolding(brk_explain_model::specs::HoldingLines::purchase_sale_gain_and_cost_lines))]
 fn put_purchase_sale_and_cost_lines(
     alloc: Global,
     out: &mut Vec<u8>,
@@ -33,7 +33,7 @@ fn put_purchase_sale_and_cost_lines(
     gain: Wide,
     cost: Wide,
 ) -> Result<(), Fault>
-    ensures ok { OnOk result (out.new.items ≡ out.old.items ++ text_of_lines (lines.purchase_sale_and_cost_lines bought sold gain cost)) }
+    ensures ok { OnOk result (out.new.items ≡ out.old.items ++ text_of_lines (lines.purchase_sale_gain_and_cost_lines bought sold gain cost)) }
     ensures fault { OnErr result (result ≡ Err Memory) }
 {
     put_labeled_amount_line(alloc, out, "Purchases", bought)?;

@@ -7,7 +7,7 @@ use Rattle.std.proofs.lemmas.Bool.{eqb-true, eq-eqb}
 use Rattle.std.proofs.lemmas.Bool.Decides.{nat_tests}
 use Rattle.std.proofs.lemmas.Int.{ints}
 use lib.IntN.{+ℤ_assoc, +ℤ_idr}
-use Rattle.brk_model.specs.Adopted.{is_posting_of_trade, posting_of_move_row}
+use Rattle.brk_model.specs.Adopted.{is_posting_of_trade, posting_of_cash_move_row}
 use Rattle.brk_model.specs.Base.{Base, account_with_id, is_completed, last_status_stamp_of_trade, opening_balance_in_accounts, trade_with_id}
 use Rattle.brk_model.specs.Derived.{Posting, settlement_amount, balance_of_account, cash_trades, postings_sorted_by_stamp, posting_of_movement, posting_of_trade, postings, postings_of_base}
 use Rattle.brk_model.specs.Joins.{account_row_with_id, move_rows_of_account}
@@ -15,7 +15,7 @@ use Rattle.brk_model.specs.Lists.{sort_by, total_by}
 use Rattle.brk_model.specs.LookupView.{is_cash_row_of_trade}
 use Rattle.brk_model.specs.Records.{Account, Movement, Trade}
 use Rattle.brk_model.specs.Sheets.{sheets}
-use Rattle.brk_model.specs.Statement.{cash_move_rows_of_account}
+use Rattle.brk_model.specs.Statement.{sorted_cash_rows_of_account}
 use Rattle.brk_model.specs.Tables.{AccountRow, MoveRow, account_row, trade_row}
 use Rattle.brk_explain_model.specs.Running.{running_totals}
 use Rattle.brk_explain_model.specs.Trades.{balance_change_of_trade, result_details_of_trade}
@@ -53,9 +53,9 @@ running_ends f from [] = sym (+ℤ_idr from)
 running_ends f from (x ∷ xs) = last_running f from x xs
 
 pub last_is_balance : (base : Base) (id : ℕ) (r : AccountRow) → BooksInvariant base → account_row_with_id (sheets base) id ≡ Some r
-    → last_number_or_default r.opening (running_totals (λ (row : MoveRow). row.amount) r.opening (cash_move_rows_of_account (sheets base) r.id)) ≡ r.balance
+    → last_number_or_default r.opening (running_totals (λ (row : MoveRow). row.amount) r.opening (sorted_cash_rows_of_account (sheets base) r.id)) ≡ r.balance
 last_is_balance base id r books e =
-    running_ends (λ (row : MoveRow). row.amount) r.opening (cash_move_rows_of_account (sheets base) r.id)
+    running_ends (λ (row : MoveRow). row.amount) r.opening (sorted_cash_rows_of_account (sheets base) r.id)
     ∙ ap (λ z. r.opening +ℤ z) (total_sorted (λ (row : MoveRow). row.amount) (λ a b. nat_lt a.stamp b.stamp) (filter (λ (row : MoveRow). row.account == r.id) (sheets base).moves)
     ∙ ap (λ (n : ℕ). total_by (λ (row : MoveRow). row.amount) (move_rows_of_account (sheets base) n)) (eqb-true r.id id (found_passes (λ (a : AccountRow). a.id == id) (sheets base).accounts r e)))
     ∙ sym (balance_sums base id r books e)
@@ -77,13 +77,13 @@ is_to account p = p.account == account
 
 -- the cash rows of an account whose stamps pass a test, and its postings whose stamps do
 cash_sum : (base : Base) (account : ℕ) (test : ℕ → Bool)
-    → total_by (λ (row : MoveRow). row.amount) (filter (λ (row : MoveRow). test row.stamp) (cash_move_rows_of_account (sheets base) account))
+    → total_by (λ (row : MoveRow). row.amount) (filter (λ (row : MoveRow). test row.stamp) (sorted_cash_rows_of_account (sheets base) account))
     ≡ total_by (λ p. p.amount) (filter (λ p. test p.stamp) (filter (is_to account) (postings_of_base base)))
 cash_sum base account test =
     total_sort (λ (row : MoveRow). row.amount) (λ (row : MoveRow). test row.stamp) (λ a b. nat_lt a.stamp b.stamp) (filter (λ (row : MoveRow). row.account == account) M)
-    ∙ sym (total-map (λ (p : Posting). p.amount) posting_of_move_row (filter (λ (row : MoveRow). test row.stamp) (filter (λ (row : MoveRow). row.account == account) M)))
-    ∙ ap (total_by (λ p. p.amount)) (sym (filter-map E posting_of_move_row (filter (λ (row : MoveRow). row.account == account) M))
-    ∙ ap (filter E) (sym (filter-map A posting_of_move_row M) ∙ ap (filter A) (rows_posted base)) ∙ sym (filter-both A E (postings_sorted_by_stamp ps)))
+    ∙ sym (total-map (λ (p : Posting). p.amount) posting_of_cash_move_row (filter (λ (row : MoveRow). test row.stamp) (filter (λ (row : MoveRow). row.account == account) M)))
+    ∙ ap (total_by (λ p. p.amount)) (sym (filter-map E posting_of_cash_move_row (filter (λ (row : MoveRow). row.account == account) M))
+    ∙ ap (filter E) (sym (filter-map A posting_of_cash_move_row M) ∙ ap (filter A) (rows_posted base)) ∙ sym (filter-both A E (postings_sorted_by_stamp ps)))
     ∙ total_sort (λ (p : Posting). p.amount) (λ p. A p && E p) (λ a b. nat_lt a.stamp b.stamp) ps
     ∙ ap (total_by (λ p. p.amount)) (filter-both A E ps)
   where
@@ -146,7 +146,7 @@ by_its_number base t a =
 
 -- ---- its cash row
 
-amount_or : (o : Option MoveRow) → option_map_or (λ (row : MoveRow). row.amount) o (pos 0) ≡ option_map_or (λ p. p.amount) (option_map posting_of_move_row o) (pos 0)
+amount_or : (o : Option MoveRow) → option_map_or (λ (row : MoveRow). row.amount) o (pos 0) ≡ option_map_or (λ p. p.amount) (option_map posting_of_cash_move_row o) (pos 0)
 amount_or None = refl
 amount_or (Some row) = refl
 
@@ -154,7 +154,7 @@ pub moved_is : (base : Base) (t : Trade) → Among base t → balance_change_of_
 unfolding sort_by
 moved_is base t a =
     amount_or (find (is_cash_row_of_trade t.id) (sheets base).moves)
-    ∙ ap (λ o. option_map_or (λ p. p.amount) o (pos 0)) (sym (find-map (is_posting_of_trade t.id) posting_of_move_row (sheets base).moves)
+    ∙ ap (λ o. option_map_or (λ p. p.amount) o (pos 0)) (sym (find-map (is_posting_of_trade t.id) posting_of_cash_move_row (sheets base).moves)
     ∙ ap (find (is_posting_of_trade t.id)) (rows_posted base) ∙ find_first (is_posting_of_trade t.id) (postings_sorted_by_stamp (postings_of_base base))
     ∙ ap first (turn_filter (is_posting_of_trade t.id) (postings_of_base base) ∙ ap postings_sorted_by_stamp (by_its_number base t a)))
     ∙ by_kind t.is_cash

@@ -10,14 +10,14 @@ use Rattle.brk_model.specs.Records.{Trade}
 use Rattle.brk_model.specs.Shares.{Share, changes_lot_quantity, touch_of_lot, touches_of_existing_lots}
 use Rattle.brk_model.specs.Sheets.{sheets}
 use Rattle.brk_model.specs.Tables.{HoldingHistoryRow, Tables, holding_history_row, trade_row}
-use Rattle.brk_lots.specs.HistoryRows.{row_changes_quantity}
+use Rattle.brk_lots.specs.HistoryRows.{has_quantity_change}
 use Rattle.brk_lots.specs.Lots as lots_spec
 use Rattle.brk_lots.specs.Lots.{abstract_touch, shares_of_lots, side_of_qty}
 use Rattle.brk_lots.specs.Walks.{closed_share_count, touches_of_first_shares}
 use Rattle.brk_lots.specs.declared.lot.Touch.{Touch}
 use Rattle.brk_lots.proofs.Ends.{reverse_first, walk_of}
 use Rattle.brk_lots.proofs.Upon.{rows_are}
-use Rattle.brk_explain_model.specs.Trades.{Closing, recorded_closing, closings_of_trade, reversed_if_lifo, is_closing_by, trade_stamp_or_zero}
+use Rattle.brk_explain_model.specs.Trades.{Closing, recorded_closing, closings_of_trade, reversed_if_lifo, is_closing_by_trade, trade_stamp_or_zero}
 use Rattle.brk_book_theorems.specs.Books.{BooksInvariant, HasDistinctLastStatusStamps}
 use Rattle.brk_book_theorems.proofs.Bools.{numbers_back}
 use Rattle.brk_book_theorems.proofs.Completing.{is_here, of_here}
@@ -33,15 +33,15 @@ use Rattle.brk_explain_theorems.proofs.TradeRows.{IsPlaced, done_found, passes, 
 
 -- ---- which rows
 
-only_own : (id : ℕ) (r : HoldingHistoryRow) → (r.trade == id) ≡ false → is_closing_by id r ≡ false
+only_own : (id : ℕ) (r : HoldingHistoryRow) → (r.trade == id) ≡ false → is_closing_by_trade id r ≡ false
 only_own id r e = ap (λ b. b && not (r.lot == id)) e
 
 -- the lot is that of another trade, and the deal changes it
 abbrev closes_of : Trade → List Share → Trade → Bool
-closes_of t us v = not (v.id == t.id) && row_changes_quantity (row_by us (deal_of_trade t) v)
+closes_of t us v = not (v.id == t.id) && has_quantity_change (row_by us (deal_of_trade t) v)
 
-passes_closing : (t : Trade) (us : List Share) (v : Trade) → passes (is_closing_by t.id) us t v ≡ closes_of t us v
-passes_closing t us v = ap (λ b. (b && not (v.id == t.id)) && row_changes_quantity (row_by us (deal_of_trade t) v)) (eq-eqb t.id t.id refl)
+passes_closing : (t : Trade) (us : List Share) (v : Trade) → passes (is_closing_by_trade t.id) us t v ≡ closes_of t us v
+passes_closing t us v = ap (λ b. (b && not (v.id == t.id)) && has_quantity_change (row_by us (deal_of_trade t) v)) (eq-eqb t.id t.id refl)
 
 apart_moments : (ts : List Trade) → HasDistinctLastStatusStamps ts → Apart last_status_stamp_of_trade ts
 apart_moments [] m = tt
@@ -62,7 +62,7 @@ none_later t us (v ∷ back) h w =
 
 -- the deal changes the lot of a trade
 abbrev moves_lot : Trade → List Share → Trade → Bool
-moves_lot t us v = row_changes_quantity (row_by us (deal_of_trade t) v)
+moves_lot t us v = has_quantity_change (row_by us (deal_of_trade t) v)
 
 -- of the trades of the position it changes lots of earlier ones alone
 closed_held : (base : Base) (t : Trade) (front back : List Trade) → IsPlaced base t front back
@@ -87,15 +87,15 @@ closed_held base t front back k =
 
 -- the rows of the closings, sorted by the stamps of their lots
 rows_sorted : (base : Base) (t : Trade) (front back : List Trade) → IsPlaced base t front back
-    → sort_by (by (λ (r : HoldingHistoryRow). trade_stamp_or_zero (sheets base) r.lot)) (filter (is_closing_by t.id) (sheets base).holding_history)
+    → sort_by (by (λ (r : HoldingHistoryRow). trade_stamp_or_zero (sheets base) r.lot)) (filter (is_closing_by_trade t.id) (sheets base).holding_history)
     ≡ map (row_by (left_by front) (deal_of_trade t)) (filter (moves_lot t (left_by front)) front)
 rows_sorted base t front back k =
-    ap (sort_by (by m)) (rows_found base t front back k (is_closing_by t.id) (only_own t.id))
+    ap (sort_by (by m)) (rows_found base t front back k (is_closing_by_trade t.id) (only_own t.id))
     ∙ sort_again m (is_row_key_less holding_history_key) (map row F) (apart_map m row F (apart_filter n here done (apart_same n last_status_stamp_of_trade done stamps (apart_moments done k.books.moments))))
     ∙ sort_map m row F
     ∙ ap (map row) (sort_same n last_status_stamp_of_trade F (All-filter (λ v. n v ≡ last_status_stamp_of_trade v) here done stamps)
-    ∙ ap (sort_by (by last_status_stamp_of_trade)) (filter-both (is_here t) (passes (is_closing_by t.id) us t) done
-    ∙ (λ i. filter (passes (is_closing_by t.id) us t) (of_here t done i)) ∙ filter-same (passes (is_closing_by t.id) us t) (closes_of t us) P (All-each P))
+    ∙ ap (sort_by (by last_status_stamp_of_trade)) (filter-both (is_here t) (passes (is_closing_by_trade t.id) us t) done
+    ∙ (λ i. filter (passes (is_closing_by_trade t.id) us t) (of_here t done i)) ∙ filter-same (passes (is_closing_by_trade t.id) us t) (closes_of t us) P (All-each P))
     ∙ sort_filter (by last_status_stamp_of_trade) (closes_of t us) P (by_splits last_status_stamp_of_trade) (by_one_way last_status_stamp_of_trade)
     ∙ closed_held base t front back k)
   where
@@ -118,7 +118,7 @@ rows_sorted base t front back k =
     n v = trade_stamp_or_zero (sheets base) v.id
 
     here : Trade → Bool
-    here v = is_here t v && passes (is_closing_by t.id) us t v
+    here v = is_here t v && passes (is_closing_by_trade t.id) us t v
 
     F : List Trade
     F = filter here done
@@ -126,7 +126,7 @@ rows_sorted base t front back k =
     stamps : AllByRecursion (λ v. trade_stamp_or_zero (sheets base) v.id ≡ last_status_stamp_of_trade v) done
     stamps = stamps_are base k.books
 
-    All-each : (vs : List Trade) → AllByRecursion (λ v. passes (is_closing_by t.id) us t v ≡ closes_of t us v) vs
+    All-each : (vs : List Trade) → AllByRecursion (λ v. passes (is_closing_by_trade t.id) us t v ≡ closes_of t us v) vs
     All-each [] = tt
     All-each (v ∷ vs) = (passes_closing t us v, All-each vs)
 
@@ -172,7 +172,7 @@ taken_by t front = closed_share_count (deal_of_trade t).side (deal_of_trade t).q
 pub closings_are : (base : Base) (t : Trade) (front back : List Trade) → IsPlaced base t front back
     → closings_of_trade (sheets base) (trade_row t) ≡ map (closing_at (sheets base) t.id) (touches_of_first_shares (taken_by t front) (lots_spec.list_reversed_if_lifo t.is_lifo (lots_by front)))
 closings_are base t front back k =
-    ap (reversed_if_lifo t.is_lifo) (sort_map (λ (c : Closing). c.stamp) (recorded_closing T) (filter (is_closing_by t.id) T.holding_history)
+    ap (reversed_if_lifo t.is_lifo) (sort_map (λ (c : Closing). c.stamp) (recorded_closing T) (filter (is_closing_by_trade t.id) T.holding_history)
     ∙ ap (map (recorded_closing T)) (rows_sorted base t front back k ∙ rows_touched t front first (front_precedes front t back o)))
     ∙ end_map t.is_lifo (recorded_closing T) (map (holding_history_row t.id) (touches_of_existing_lots (deal_of_trade t) us))
     ∙ ap (map (recorded_closing T)) (lots_map t.is_lifo (holding_history_row t.id) (touches_of_existing_lots (deal_of_trade t) us)

@@ -17,7 +17,7 @@ use Rattle.brk_model.specs.Run.{Call, Outcome, Run}
 use Rattle.brk_model.specs.Shares.{Share, replay, signed_by_side}
 use Rattle.brk_model.specs.Sheets.{sheets, tables_sorted_by_key}
 use Rattle.brk_model.specs.Tables.{AccountRow, HistoryRow, HoldingHistoryRow, SettlementRow, Tables, account_row, history_rows, tables_of_base_in_schema, trade_row}
-use Rattle.brk_lots.specs.HistoryRows.{row_changes_quantity}
+use Rattle.brk_lots.specs.HistoryRows.{has_quantity_change}
 use Rattle.brk_lots.specs.Lots.{list_reversed_if_lifo, side_of_qty}
 use Rattle.brk_lots.specs.Walks.{closed_share_count, touches_of_first_shares}
 use Rattle.brk_lots.specs.declared.lot.Lot.{Lot}
@@ -119,7 +119,7 @@ closings_core t ts = ap (λ ls. closings_taken (closed_share_count (deal_of_trad
 
 -- the row of its own lot, by the shares before it
 abbrev own_by : Trade → List Share → Option HoldingHistoryRow
-own_by t us = cond (row_changes_quantity (row_by us (deal_of_trade t) t)) (Some (row_by us (deal_of_trade t) t)) None
+own_by t us = cond (has_quantity_change (row_by us (deal_of_trade t) t)) (Some (row_by us (deal_of_trade t) t)) None
 
 -- ---- the trades before it
 

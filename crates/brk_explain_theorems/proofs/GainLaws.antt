@@ -16,7 +16,7 @@ use Rattle.brk_model.specs.Records.{StatusChange, Trade}
 use Rattle.brk_model.specs.Shares.{Deal, Share, lot_quantity, opened_share, replay, signed_by_side}
 use Rattle.brk_model.specs.Sheets.{sheets}
 use Rattle.brk_model.specs.Tables.{HoldingHistoryRow, Tables, TradeRow, trade_row}
-use Rattle.brk_lots.specs.HistoryRows.{row_changes_quantity, changing_rows_of_lot, holding_history_rows_of_deals, touch_of_row}
+use Rattle.brk_lots.specs.HistoryRows.{has_quantity_change, changing_rows_of_lot, lot_history_rows_per_deal, touch_of_row}
 use Rattle.brk_lots.specs.Books.{realised_gain_sum, lot_cost_basis, purchases_minus_sales}
 use Rattle.brk_lots.specs.Chains.{ShrinksTowardZero, IsLotHistory}
 use Rattle.brk_lots.specs.declared.lot.Lot.{Lot}
@@ -79,7 +79,7 @@ done_are base account symbol books =
 record IsOf (base : Base) (account : ℕ) (symbol : Text) (v : Trade) : Type 0 where
   found : trade_with_id base v.id ≡ Some v
   among_all : Among base v
-  history : changing_rows_of_lot (completed_trades base) v ≡ filter row_changes_quantity (holding_history_rows_of_deals v.id [] (deals_of_position (completed_trades base) account symbol))
+  history : changing_rows_of_lot (completed_trades base) v ≡ filter has_quantity_change (lot_history_rows_per_deal v.id [] (deals_of_position (completed_trades base) account symbol))
 
 each_is : (base : Base) (account : ℕ) (symbol : Text) → BooksInvariant base → AllByRecursion (IsOf base account symbol) (trades_held base account symbol)
 each_is base account symbol books =
@@ -105,8 +105,8 @@ each_is base account symbol books =
     all_done : (ts : List Trade) → AllByRecursion (λ v. is_completed v ≡ true) (filter is_completed ts)
     all_done ts = all_pass is_completed ts
 
-    rows : (v : Trade) → (v.account == account) ≡ true → bytes_eq v.symbol symbol ≡ true → changing_rows_of_lot (completed_trades base) v ≡ filter row_changes_quantity (holding_history_rows_of_deals v.id [] (deals_of_position (completed_trades base) account symbol))
-    rows v a s = λ i. filter row_changes_quantity (holding_history_rows_of_deals v.id [] (deals_of_position (completed_trades base) (eqb-true v.account account a i) (same_text v.symbol symbol s i)))
+    rows : (v : Trade) → (v.account == account) ≡ true → bytes_eq v.symbol symbol ≡ true → changing_rows_of_lot (completed_trades base) v ≡ filter has_quantity_change (lot_history_rows_per_deal v.id [] (deals_of_position (completed_trades base) account symbol))
+    rows v a s = λ i. filter has_quantity_change (lot_history_rows_per_deal v.id [] (deals_of_position (completed_trades base) (eqb-true v.account account a i) (same_text v.symbol symbol s i)))
 
 -- the gains of the lot's changes
 changed_total : (base : Base) (v : Trade) (rows : List HoldingHistoryRow)
@@ -228,7 +228,7 @@ left_is : (base : Base) (account : ℕ) (symbol : Text) (v : Trade) → BooksInv
     → remaining_quantity_of_lot (lot_with_later_changes (sheets base) (trade_row v)) ≡ lot_quantity (replay (deals_of_position (completed_trades base) account symbol)) v.id
 left_is base account symbol v books k =
     left_rows base v books k.among_all ∙ ap (rows_leave (sheets base)) k.history
-    ∙ life_ends (sheets base) (filter row_changes_quantity (holding_history_rows_of_deals v.id [] (deals_of_position (completed_trades base) account symbol))) (lot_quantity (replay (deals_of_position (completed_trades base) account symbol)) v.id) (lot_lives base account symbol v.id books)
+    ∙ life_ends (sheets base) (filter has_quantity_change (lot_history_rows_per_deal v.id [] (deals_of_position (completed_trades base) account symbol))) (lot_quantity (replay (deals_of_position (completed_trades base) account symbol)) v.id) (lot_lives base account symbol v.id books)
 
 none_left : (base : Base) (v : Trade) → BooksInvariant base → Among base v → is_some (opened_lot_row (sheets base) v.id) ≡ false → remaining_quantity_of_lot (lot_with_later_changes (sheets base) (trade_row v)) ≡ pos 0
 none_left base v books a e = left_rows base v books a ∙ ap (rows_leave (sheets base)) (no_history base v books a e)

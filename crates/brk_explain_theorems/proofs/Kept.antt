@@ -18,7 +18,7 @@ use Rattle.brk_model.specs.Results.{completed_trade, base_after_result}
 use Rattle.brk_model.specs.Run.{Call, Outcome, Run}
 use Rattle.brk_model.specs.Step.{base_after_command_unstamped}
 use Rattle.brk_model.specs.Tests.{stamp_of_next_command, refusal_of_command, checks_of_command}
-use Rattle.brk_model.specs.Updates.{updated_cash_row_name, updated_cash_type, updated_executor_name, selected_ids_of_account, selected_ids_of_symbol}
+use Rattle.brk_model.specs.Updates.{updated_cash_row_name, updated_cash_type, updated_executor_name, selected_trade_ids_of_account, selected_trade_ids_of_symbol}
 use Rattle.brk_explain_theorems.specs.Before.{trades_completed_before_stamp}
 use Rattle.brk_book_theorems.specs.Books.{BooksInvariant}
 use Rattle.brk_book_theorems.specs.Steps.{base_after_command}
@@ -245,9 +245,9 @@ keeps_command s base now (CompleteTrade id price) books past e = keeps_result s 
 keeps_command s base now (ChangeExecutors ids) books past e =
     keeps_words s base (λ t. contains_number t.id ids) (λ t. record t { executor = updated_executor_name t.executor }) (base_after_command base now (ChangeExecutors ids)) (λ t. refl) refl refl refl refl
 keeps_command s base now (ChangeCashTypes account first last) books past e =
-    keeps_words s base (λ t. contains_number t.id (selected_ids_of_account base account first last)) (λ t. record t { cash_type = updated_cash_type t }) (base_after_command base now (ChangeCashTypes account first last)) (λ t. refl) refl refl refl refl
+    keeps_words s base (λ t. contains_number t.id (selected_trade_ids_of_account base account first last)) (λ t. record t { cash_type = updated_cash_type t }) (base_after_command base now (ChangeCashTypes account first last)) (λ t. refl) refl refl refl refl
 keeps_command s base now (ChangeCashNames symbol first last) books past e =
-    keeps_words s base (λ t. contains_number t.id (selected_ids_of_symbol base symbol first last)) (λ t. record t { cash_name = updated_cash_row_name base t }) (base_after_command base now (ChangeCashNames symbol first last)) (λ t. refl) refl refl refl refl
+    keeps_words s base (λ t. contains_number t.id (selected_trade_ids_of_symbol base symbol first last)) (λ t. record t { cash_name = updated_cash_row_name base t }) (base_after_command base now (ChangeCashNames symbol first last)) (λ t. refl) refl refl refl refl
 keeps_command s base now (DepositCash account amount) books past e = keeps_moved s base now (deposit_movement (stamp_of_next_command base now) account amount) (base_after_command base now (DepositCash account amount)) past refl refl refl refl refl
 keeps_command s base now (WithdrawCash account amount) books past e = keeps_moved s base now (withdrawal_movement (stamp_of_next_command base now) account amount) (base_after_command base now (WithdrawCash account amount)) past refl refl refl refl refl
 keeps_command s base now (SetOneDay day) books past e = keeps_one_day s base now day books e

@@ -11,7 +11,7 @@ use Rattle.brk_model.specs.Base.{completion_price}
 use Rattle.brk_model.specs.Lists.{is_zero, total_by}
 use Rattle.brk_model.specs.Records.{Trade}
 use Rattle.brk_model.specs.Tables.{HoldingHistoryRow}
-use Rattle.brk_lots.specs.HistoryRows.{row_changes_quantity, holding_history_rows_of_deals}
+use Rattle.brk_lots.specs.HistoryRows.{has_quantity_change, lot_history_rows_per_deal}
 use Rattle.brk_model.specs.Shares.{Share, Deal, realised_gain, lot_quantity, net_share_count, shares_opened_by_trade, opened_share, replay, shares_after_deal, signed_by_side}
 use Rattle.brk_lots.specs.Books.{realised_gain_sum, share_cost_basis}
 use Rattle.brk_lots.proofs.Deals.{all_after}
@@ -171,18 +171,18 @@ zero_is (pos (suc n)) e = absurd (cc)
 zero_is (negsuc n) e = absurd (cc)
 
 pub rows_gain : (price : ℕ → ℕ) (p id : ℕ) (us : List Share) (ds : List Deal) → AllByRecursion (λ d. price d.trade ≡ d.price) ds
-    → total_by (row_gain price p) (filter row_changes_quantity (holding_history_rows_of_deals id us ds)) ≡ lot_gains p id us ds
+    → total_by (row_gain price p) (filter has_quantity_change (lot_history_rows_per_deal id us ds)) ≡ lot_gains p id us ds
 unfolding total_by
 rows_gain price p id us [] h = refl
-rows_gain price p id us (d ∷ ds) h = by_test (row_changes_quantity row) refl (rows_gain price p id (shares_after_deal us d) ds h.1)
+rows_gain price p id us (d ∷ ds) h = by_test (has_quantity_change row) refl (rows_gain price p id (shares_after_deal us d) ds h.1)
   where
     row : HoldingHistoryRow
     row = record { lot = id; trade = d.trade; before = lot_quantity us id; after = lot_quantity (shares_after_deal us d) id }
 
     rest : List HoldingHistoryRow
-    rest = filter row_changes_quantity (holding_history_rows_of_deals id (shares_after_deal us d) ds)
+    rest = filter has_quantity_change (lot_history_rows_per_deal id (shares_after_deal us d) ds)
 
-    by_test : (b : Bool) → row_changes_quantity row ≡ b → total_by (row_gain price p) rest ≡ lot_gains p id (shares_after_deal us d) ds
+    by_test : (b : Bool) → has_quantity_change row ≡ b → total_by (row_gain price p) rest ≡ lot_gains p id (shares_after_deal us d) ds
         → total_by (row_gain price p) (cond b (row ∷ rest) rest) ≡ (row.before -ℤ row.after) *ℤ (pos d.price -ℤ pos p) +ℤ lot_gains p id (shares_after_deal us d) ds
     by_test true e ih = λ i. (row.before -ℤ row.after) *ℤ (pos (h.0 i) -ℤ pos p) +ℤ ih i
     by_test false e ih =

@@ -12,7 +12,7 @@ use Rattle.brk_model.specs.Records.{Trade}
 use Rattle.brk_model.specs.Shares.{Deal, Share, shares_after_deal}
 use Rattle.brk_model.specs.Sheets.{sheets}
 use Rattle.brk_model.specs.Tables.{HoldingHistoryRow, Tables}
-use Rattle.brk_lots.specs.HistoryRows.{row_changes_quantity, changing_rows_of_lot, holding_history_rows_of_deals}
+use Rattle.brk_lots.specs.HistoryRows.{has_quantity_change, changing_rows_of_lot, lot_history_rows_per_deal}
 use Rattle.brk_explain_model.specs.Holdings.{LotChange, is_later_change_of_lot, recorded_lot_change, later_changes_of_lot}
 use Rattle.brk_explain_model.specs.Trades.{trade_stamp_or_zero, opened_lot_row}
 use Rattle.brk_book_theorems.specs.Books.{BooksInvariant}
@@ -65,12 +65,12 @@ abbrev made_at : Base → HoldingHistoryRow → ℕ
 made_at base r = trade_stamp_or_zero (sheets base) r.trade
 
 rows_rise : (base : Base) (lot : ℕ) (shares : List Share) (ts : List Trade) → InOrder ts → AllByRecursion (λ u. trade_stamp_or_zero (sheets base) u.id ≡ last_status_stamp_of_trade u) ts
-    → Rise (made_at base) (holding_history_rows_of_deals lot shares (map deal_of_trade ts))
+    → Rise (made_at base) (lot_history_rows_per_deal lot shares (map deal_of_trade ts))
 rows_rise base lot shares [] o h = tt
 rows_rise base lot shares (u ∷ ts) o h = (behind (shares_after_deal shares (deal_of_trade u)) ts o.0 h.1, rows_rise base lot (shares_after_deal shares (deal_of_trade u)) ts o.1 h.1)
   where
     behind : (left : List Share) (vs : List Trade) → AllByRecursion (Follows u) vs → AllByRecursion (λ v. trade_stamp_or_zero (sheets base) v.id ≡ last_status_stamp_of_trade v) vs
-        → AllByRecursion (λ r. trade_stamp_or_zero (sheets base) u.id < made_at base r) (holding_history_rows_of_deals lot left (map deal_of_trade vs))
+        → AllByRecursion (λ r. trade_stamp_or_zero (sheets base) u.id < made_at base r) (lot_history_rows_per_deal lot left (map deal_of_trade vs))
     behind left [] f k = tt
     behind left (v ∷ vs) f k =
         let lt : last_status_stamp_of_trade u < last_status_stamp_of_trade v = f.0.1 in (
@@ -80,16 +80,16 @@ rows_rise base lot shares (u ∷ ts) o h = (behind (shares_after_deal shares (de
 
 history_rises : (base : Base) (v : Trade) → BooksInvariant base → Rise (made_at base) (changing_rows_of_lot (completed_trades base) v)
 history_rises base v books =
-    rise_left (made_at base) row_changes_quantity (holding_history_rows_of_deals v.id [] (deals_of_position (completed_trades base) v.account v.symbol))
+    rise_left (made_at base) has_quantity_change (lot_history_rows_per_deal v.id [] (deals_of_position (completed_trades base) v.account v.symbol))
     (rows_rise base v.id [] (trades_held base v.account v.symbol) (held_in_order base v.account v.symbol books)
     (of_held (λ u. trade_stamp_or_zero (sheets base) u.id ≡ last_status_stamp_of_trade u) base v.account v.symbol (All-map (completed_trades base) (λ u e. stamp_is base u e) (done_found base books))))
 
-lots_same : (lot : ℕ) (shares : List Share) (deals : List Deal) → AllByRecursion (λ r. r.lot ≡ lot) (holding_history_rows_of_deals lot shares deals)
+lots_same : (lot : ℕ) (shares : List Share) (deals : List Deal) → AllByRecursion (λ r. r.lot ≡ lot) (lot_history_rows_per_deal lot shares deals)
 lots_same lot shares [] = tt
 lots_same lot shares (d ∷ deals) = (refl, lots_same lot (shares_after_deal shares d) deals)
 
 own_lots : (done : List Trade) (u : Trade) → AllByRecursion (λ r. r.lot ≡ u.id) (changing_rows_of_lot done u)
-own_lots done u = All-filter (λ r. r.lot ≡ u.id) row_changes_quantity (holding_history_rows_of_deals u.id [] (deals_of_position done u.account u.symbol)) (lots_same u.id [] (deals_of_position done u.account u.symbol))
+own_lots done u = All-filter (λ r. r.lot ≡ u.id) has_quantity_change (lot_history_rows_per_deal u.id [] (deals_of_position done u.account u.symbol)) (lots_same u.id [] (deals_of_position done u.account u.symbol))
 
 abbrev of_lot : ℕ → HoldingHistoryRow → Bool
 of_lot lot r = r.lot == lot

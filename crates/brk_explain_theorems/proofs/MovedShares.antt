@@ -10,7 +10,7 @@ use Rattle.brk_model.specs.Lists.{is_zero, total_by}
 use Rattle.brk_model.specs.Records.{Trade}
 use Rattle.brk_model.specs.Shares.{Deal, Share, lot_quantity, net_share_count, opened_share, shares_after_deal, signed_by_side}
 use Rattle.brk_model.specs.Tables.{HoldingHistoryRow}
-use Rattle.brk_lots.specs.HistoryRows.{row_changes_quantity}
+use Rattle.brk_lots.specs.HistoryRows.{has_quantity_change}
 use Rattle.brk_lots.proofs.Deals.{all_after}
 use Rattle.brk_book_theorems.specs.Books.{BooksInvariant}
 use Rattle.brk_book_theorems.proofs.Completing.{is_here, of_here}
@@ -91,7 +91,7 @@ of_placed base t front back k =
 
     none : (v : Trade) → passes E us t v ≡ false → moved (row v) ≡ pos 0
     none v e =
-        let f : row_changes_quantity (row v) ≡ false = sym (ap (λ b. b && row_changes_quantity (row v)) (eq-eqb t.id t.id refl)) ∙ e in
+        let f : has_quantity_change (row v) ≡ false = sym (ap (λ b. b && has_quantity_change (row v)) (eq-eqb t.id t.id refl)) ∙ e in
         still (row v).before (row v).after (zero_is ((row v).before -ℤ (row v).after) (not_not (is_zero ((row v).before -ℤ (row v).after)) f))
 
     difference : (x y : ℤ) → (x +ℤ y) -ℤ x ≡ y

@@ -12,7 +12,7 @@ use Rattle.brk_model.specs.Records.{Trade}
 use Rattle.brk_model.specs.Shares.{Share, closed_share_count_of_deal, lot_quantity, shares_after_deal, signed_by_side}
 use Rattle.brk_model.specs.Sheets.{sheets}
 use Rattle.brk_model.specs.Tables.{HoldingHistoryRow}
-use Rattle.brk_lots.specs.HistoryRows.{row_changes_quantity}
+use Rattle.brk_lots.specs.HistoryRows.{has_quantity_change}
 use Rattle.brk_lots.proofs.History.{opened_qty}
 use Rattle.brk_explain_model.specs.Trades.{opened_lot_row}
 use Rattle.brk_book_theorems.proofs.Completing.{here_itself, is_here}
@@ -35,7 +35,7 @@ only_own id r e = ap (λ b. b && (r.lot == id)) e
 
 -- the only trade that can have made it
 own_alone : (base : Base) (t : Trade) (front back : List Trade) → IsPlaced base t front back → is_completed t ≡ true
-    → filter (λ v. is_here t v && passes (is_own t.id) (left_by front) t v) (completed_trades base) ≡ cond (row_changes_quantity (row_by (left_by front) (deal_of_trade t) t)) (t ∷ []) []
+    → filter (λ v. is_here t v && passes (is_own t.id) (left_by front) t v) (completed_trades base) ≡ cond (has_quantity_change (row_by (left_by front) (deal_of_trade t) t)) (t ∷ []) []
 own_alone base t front back k c =
     ap (filter Q) a.stands ∙ filter-append Q a.front (t ∷ a.back)
     ∙ (λ i. filter-none Q a.front (All-map a.front (λ v e. other v e) a.ids_before) i
@@ -55,19 +55,19 @@ own_alone base t front back k c =
     and_false false = refl
 
     other : (v : Trade) → (v.id == t.id) ≡ false → Q v ≡ false
-    other v e = ap (λ b. is_here t v && (((t.id == t.id) && b) && row_changes_quantity (row v))) e ∙ ap (λ b. is_here t v && (b && row_changes_quantity (row v))) (and_false (t.id == t.id)) ∙ and_false (is_here t v)
+    other v e = ap (λ b. is_here t v && (((t.id == t.id) && b) && has_quantity_change (row v))) e ∙ ap (λ b. is_here t v && (b && has_quantity_change (row v))) (and_false (t.id == t.id)) ∙ and_false (is_here t v)
 
-    own : Q t ≡ row_changes_quantity (row t)
-    own = (λ i. here_itself t i && ((eq-eqb t.id t.id refl i && eq-eqb t.id t.id refl i) && row_changes_quantity (row t)))
+    own : Q t ≡ has_quantity_change (row t)
+    own = (λ i. here_itself t i && ((eq-eqb t.id t.id refl i && eq-eqb t.id t.id refl i) && has_quantity_change (row t)))
 
 pub own_row : (base : Base) (t : Trade) (front back : List Trade) → IsPlaced base t front back → is_completed t ≡ true
-    → opened_lot_row (sheets base) t.id ≡ cond (row_changes_quantity (row_by (left_by front) (deal_of_trade t) t)) (Some (row_by (left_by front) (deal_of_trade t) t)) None
+    → opened_lot_row (sheets base) t.id ≡ cond (has_quantity_change (row_by (left_by front) (deal_of_trade t) t)) (Some (row_by (left_by front) (deal_of_trade t) t)) None
 unfolding sort_by
 own_row base t front back k c =
     find_first (is_own t.id) (sheets base).holding_history
     ∙ ap first (rows_found base t front back k (is_own t.id) (only_own t.id)
     ∙ ap (λ vs. rows_sorted_by_key holding_history_key (map (row_by (left_by front) (deal_of_trade t)) vs)) (own_alone base t front back k c))
-    ∙ alone (row_changes_quantity (row_by (left_by front) (deal_of_trade t) t))
+    ∙ alone (has_quantity_change (row_by (left_by front) (deal_of_trade t) t))
   where
     alone : (b : Bool) → first (rows_sorted_by_key holding_history_key (map (row_by (left_by front) (deal_of_trade t)) (cond b (t ∷ []) []))) ≡ cond b (Some (row_by (left_by front) (deal_of_trade t) t)) None
     alone true = refl
@@ -78,7 +78,7 @@ pub own_qty : (base : Base) (t : Trade) (front back : List Trade) → IsPlaced b
     → option_map_or (λ (r : HoldingHistoryRow). r.after) (opened_lot_row (sheets base) t.id) (pos 0) ≡ signed_by_side (side_of_trade_type t.kind) (t.qty - closed_share_count_of_deal (deal_of_trade t) (left_by front))
 own_qty base t front back k c =
     ap (λ o. option_map_or (λ (r : HoldingHistoryRow). r.after) o (pos 0)) (own_row base t front back k c)
-    ∙ by_test (row_changes_quantity row) refl
+    ∙ by_test (has_quantity_change row) refl
     ∙ opened_qty (deal_of_trade t) us (All-map us (λ s e. eqb-false s.trade t.id e) none)
   where
     us : List Share
@@ -99,6 +99,6 @@ own_qty base t front back k c =
         zero_too : (x y : ℤ) → x ≡ pos 0 → x -ℤ y ≡ pos 0 → pos 0 ≡ y
         zero_too x y b d = omega (arith, ints, b, d)
 
-    by_test : (b : Bool) → row_changes_quantity row ≡ b → option_map_or (λ (r : HoldingHistoryRow). r.after) (cond b (Some row) None) (pos 0) ≡ lot_quantity (shares_after_deal us (deal_of_trade t)) t.id
+    by_test : (b : Bool) → has_quantity_change row ≡ b → option_map_or (λ (r : HoldingHistoryRow). r.after) (cond b (Some row) None) (pos 0) ≡ lot_quantity (shares_after_deal us (deal_of_trade t)) t.id
     by_test true e = refl
     by_test false e = still e

@@ -11,7 +11,7 @@ use Rattle.brk_model.specs.Joins.{account_row_with_id}
 use Rattle.brk_model.specs.Orders.{assets_of_account}
 use Rattle.brk_model.specs.Records.{Movement, Trade}
 use Rattle.brk_model.specs.Sheets.{sheets, tables_sorted_by_key}
-use Rattle.brk_model.specs.Statement.{cash_move_rows_of_account}
+use Rattle.brk_model.specs.Statement.{sorted_cash_rows_of_account}
 use Rattle.brk_model.specs.Tables.{AccountRow, MoveRow, SummaryRow, numbered_move_rows, tables_of_base_in_schema}
 use Rattle.brk_explain_model.specs.AccountLines.{priced_holding, account_cash_rows_by_stamp, market_value_of_holding}
 use Rattle.brk_explain_model.specs.Running.{running_totals}
@@ -65,9 +65,9 @@ moves_are : (base : Base) → (sheets base).moves ≡ numbered_move_rows 1 (post
 unfolding tables_of_base_in_schema tables_sorted_by_key
 moves_are base = numbered_stay 1 (postings_sorted_by_stamp (postings_of_base base))
 
-pub all_listed : (base : Base) (account : ℕ) → BooksInvariant base → account_cash_rows_by_stamp (sheets base) account ≡ cash_move_rows_of_account (sheets base) account
+pub all_listed : (base : Base) (account : ℕ) → BooksInvariant base → account_cash_rows_by_stamp (sheets base) account ≡ sorted_cash_rows_of_account (sheets base) account
 all_listed base account books =
-    filter-all (λ (r : MoveRow). on_some_day r.stamp) (cash_move_rows_of_account (sheets base) account)
+    filter-all (λ (r : MoveRow). on_some_day r.stamp) (sorted_cash_rows_of_account (sheets base) account)
     (All-sort (λ (r : MoveRow). on_some_day r.stamp ≡ true) (λ a b. nat_lt a.stamp b.stamp) (filter (λ (r : MoveRow). r.account == account) (sheets base).moves)
     (All-filter (λ (r : MoveRow). on_some_day r.stamp ≡ true) (λ r. r.account == account) (sheets base).moves
     (subst (AllByRecursion (λ (r : MoveRow). on_some_day r.stamp ≡ true)) (sym (moves_are base))

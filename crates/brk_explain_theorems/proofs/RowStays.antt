@@ -4,14 +4,14 @@ use Rattle.std.specs.Prelude.{find, nat_le, nat_lt, option_map}
 use Rattle.std.specs.List.{AllByRecursion}
 use Rattle.std.proofs.lemmas.Bool.{eq-eqb}
 use Rattle.std.proofs.lemmas.Bool.Decides.{nat_tests}
-use Rattle.brk_model.specs.Adopted.{is_posting_of_trade, posting_of_move_row}
+use Rattle.brk_model.specs.Adopted.{is_posting_of_trade, posting_of_cash_move_row}
 use Rattle.brk_model.specs.Base.{Base, completed_trades, last_status_stamp_of_trade}
 use Rattle.brk_model.specs.Derived.{Posting, cash_trades, postings_sorted_by_stamp, posting_of_movement, posting_of_trade, postings, postings_of_base}
 use Rattle.brk_model.specs.Lists.{sort_by}
 use Rattle.brk_model.specs.LookupView.{is_cash_row_of_trade}
 use Rattle.brk_model.specs.Records.{Account, Movement, Trade}
 use Rattle.brk_model.specs.Sheets.{sheets, tables_sorted_by_key}
-use Rattle.brk_model.specs.Statement.{cash_move_rows_of_account}
+use Rattle.brk_model.specs.Statement.{sorted_cash_rows_of_account}
 use Rattle.brk_model.specs.Tables.{MoveRow, cash_move_row, numbered_move_rows, tables_of_base_in_schema}
 use Rattle.brk_explain_theorems.specs.Before.{trades_completed_before_stamp}
 use Rattle.brk_book_theorems.proofs.LotReading.{filter-map, filter-swap}
@@ -83,12 +83,12 @@ count_kept s base later q k =
 -- ---- the cash rows before it
 
 pub rows_counted : (base : Base) (account s : ℕ)
-    → length (filter (λ (row : MoveRow). nat_lt row.stamp s) (cash_move_rows_of_account (sheets base) account)) ≡ length (filter (λ p. p.account == account) (filter (is_earlier s) (postings_of_base base)))
+    → length (filter (λ (row : MoveRow). nat_lt row.stamp s) (sorted_cash_rows_of_account (sheets base) account)) ≡ length (filter (λ p. p.account == account) (filter (is_earlier s) (postings_of_base base)))
 rows_counted base account s =
     ap length (sym (sort_filter (by (λ (row : MoveRow). row.stamp)) R (filter A M) (by_splits (λ (row : MoveRow). row.stamp)) (by_one_way (λ (row : MoveRow). row.stamp))))
     ∙ length_sort (by (λ (row : MoveRow). row.stamp)) (filter R (filter A M))
-    ∙ sym (length-map posting_of_move_row (filter R (filter A M)))
-    ∙ ap length (sym (filter-map (is_earlier s) posting_of_move_row (filter A M)) ∙ ap (filter (is_earlier s)) (sym (filter-map to posting_of_move_row M) ∙ ap (filter to) (rows_posted base) ∙ turn_filter to (postings_of_base base))
+    ∙ sym (length-map posting_of_cash_move_row (filter R (filter A M)))
+    ∙ ap length (sym (filter-map (is_earlier s) posting_of_cash_move_row (filter A M)) ∙ ap (filter (is_earlier s)) (sym (filter-map to posting_of_cash_move_row M) ∙ ap (filter to) (rows_posted base) ∙ turn_filter to (postings_of_base base))
     ∙ turn_filter (is_earlier s) (filter to (postings_of_base base)))
     ∙ length_sort (λ a b. nat_lt a.stamp b.stamp) (filter (is_earlier s) (filter to (postings_of_base base)))
     ∙ ap length (filter-swap (is_earlier s) to (postings_of_base base))
@@ -108,13 +108,13 @@ rows_counted base account s =
 -- ---- the number of its own row
 
 find_numbered : (q : Posting → Bool) (n : ℕ) (front : List Posting) (p : Posting) (back : List Posting) → NonePass q front → q p ≡ true
-    → find (λ r. q (posting_of_move_row r)) (numbered_move_rows n (front ++ p ∷ back)) ≡ Some (cash_move_row (n + length front) p)
-find_numbered q n [] p back h e = ap (λ b. cond b (Some (cash_move_row n p)) (find (λ r. q (posting_of_move_row r)) (numbered_move_rows (n + 1) back))) e ∙ ap (λ (m : ℕ). Some (cash_move_row m p)) (none n)
+    → find (λ r. q (posting_of_cash_move_row r)) (numbered_move_rows n (front ++ p ∷ back)) ≡ Some (cash_move_row (n + length front) p)
+find_numbered q n [] p back h e = ap (λ b. cond b (Some (cash_move_row n p)) (find (λ r. q (posting_of_cash_move_row r)) (numbered_move_rows (n + 1) back))) e ∙ ap (λ (m : ℕ). Some (cash_move_row m p)) (none n)
   where
     none : (n : ℕ) → n ≡ n + 0
     none n = omega arith
 find_numbered q n (x ∷ front) p back h e =
-    ap (λ b. cond b (Some (cash_move_row n x)) (find (λ r. q (posting_of_move_row r)) (numbered_move_rows (n + 1) (front ++ p ∷ back)))) h.0
+    ap (λ b. cond b (Some (cash_move_row n x)) (find (λ r. q (posting_of_cash_move_row r)) (numbered_move_rows (n + 1) (front ++ p ∷ back)))) h.0
     ∙ find_numbered q (n + 1) front p back h.1 e ∙ ap (λ (m : ℕ). Some (cash_move_row m p)) (more n (length front))
   where
     more : (n m : ℕ) → n + 1 + m ≡ n + suc m
@@ -217,7 +217,7 @@ number_of base t a e =
         ∙ (λ i. filter-all (is_earlier (last_status_stamp_of_trade t)) s.front earlier i ++ filter-none (is_earlier (last_status_stamp_of_trade t)) (p ∷ s.back) (not_itself (last_status_stamp_of_trade t), sorted_back s.front p s.back in_order) i)
         ∙ append_nil s.front)
 
-no_row : (o : Option MoveRow) → option_map posting_of_move_row o ≡ None → option_map (λ (row : MoveRow). row.id) o ≡ None
+no_row : (o : Option MoveRow) → option_map posting_of_cash_move_row o ≡ None → option_map (λ (row : MoveRow). row.id) o ≡ None
 no_row None e = refl
 no_row (Some row) e = absurd (cc)
 
@@ -227,7 +227,7 @@ unfolding sort_by
 number_is base t a true e = ap (option_map (λ (row : MoveRow). row.id)) (number_of base t a e)
 number_is base t a false e =
     no_row (find (is_cash_row_of_trade t.id) (sheets base).moves)
-    (sym (find-map (is_posting_of_trade t.id) posting_of_move_row (sheets base).moves) ∙ ap (find (is_posting_of_trade t.id)) (rows_posted base) ∙ find_first (is_posting_of_trade t.id) (postings_sorted_by_stamp (postings_of_base base))
+    (sym (find-map (is_posting_of_trade t.id) posting_of_cash_move_row (sheets base).moves) ∙ ap (find (is_posting_of_trade t.id)) (rows_posted base) ∙ find_first (is_posting_of_trade t.id) (postings_sorted_by_stamp (postings_of_base base))
     ∙ ap first (turn_filter (is_posting_of_trade t.id) (postings_of_base base) ∙ ap postings_sorted_by_stamp (by_its_number base t a ∙ ap (λ b. cond b (posting_of_trade base.accounts t ∷ []) []) e)))
 
 all_true : {X : Type 0} (xs : List X) → filter (λ x. true) xs ≡ xs

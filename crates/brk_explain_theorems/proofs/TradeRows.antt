@@ -13,7 +13,7 @@ use Rattle.brk_model.specs.Shares.{Deal, Share, shares_after_deal, touch_of_lot}
 use Rattle.brk_model.specs.Sheets.{sheets, tables_sorted_by_key}
 use Rattle.brk_model.specs.Tables.{HoldingHistoryRow, tables_of_base_in_schema, holding_history_row, trade_row}
 use Rattle.brk_lots.proofs.HistoryRows.{rows_of_lots_are}
-use Rattle.brk_lots.specs.HistoryRows.{row_changes_quantity, changing_rows_of_lot, holding_history_rows_of_deals}
+use Rattle.brk_lots.specs.HistoryRows.{has_quantity_change, changing_rows_of_lot, lot_history_rows_per_deal}
 use Rattle.brk_explain_model.specs.Trades.{trade_stamp_or_zero}
 use Rattle.brk_book_theorems.specs.Books.{BooksInvariant}
 use Rattle.brk_book_theorems.proofs.Completing.{here_deals, is_here, other_way}
@@ -76,12 +76,12 @@ abbrev pub row_by : List Share → Deal → Trade → HoldingHistoryRow
 row_by us d v = holding_history_row d.trade (touch_of_lot v.id d us)
 
 rows_split : (lot : ℕ) (us : List Share) (ds : List Deal) (d : Deal) (es : List Deal)
-    → holding_history_rows_of_deals lot us (ds ++ d ∷ es)
-    ≡ holding_history_rows_of_deals lot us ds ++ holding_history_row d.trade (touch_of_lot lot d (fold shares_after_deal us ds)) ∷ holding_history_rows_of_deals lot (shares_after_deal (fold shares_after_deal us ds) d) es
+    → lot_history_rows_per_deal lot us (ds ++ d ∷ es)
+    ≡ lot_history_rows_per_deal lot us ds ++ holding_history_row d.trade (touch_of_lot lot d (fold shares_after_deal us ds)) ∷ lot_history_rows_per_deal lot (shares_after_deal (fold shares_after_deal us ds) d) es
 rows_split lot us [] d es = refl
 rows_split lot us (e ∷ ds) d es = ap (λ rows. holding_history_row e.trade (touch_of_lot lot e us) ∷ rows) (rows_split lot (shares_after_deal us e) ds d es)
 
-rows_of_others : (id lot : ℕ) (us : List Share) (ds : List Deal) → Others id ds → AllByRecursion (λ r. (r.trade == id) ≡ false) (holding_history_rows_of_deals lot us ds)
+rows_of_others : (id lot : ℕ) (us : List Share) (ds : List Deal) → Others id ds → AllByRecursion (λ r. (r.trade == id) ≡ false) (lot_history_rows_per_deal lot us ds)
 rows_of_others id lot us [] h = tt
 rows_of_others id lot us (d ∷ ds) h = (h.0, rows_of_others id lot (shares_after_deal us d) ds h.1)
 
@@ -89,20 +89,20 @@ rows_of_others id lot us (d ∷ ds) h = (h.0, rows_of_others id lot (shares_afte
 abbrev OnlyOf : ℕ → (HoldingHistoryRow → Bool) → Type 0
 OnlyOf id p = (r : HoldingHistoryRow) → (r.trade == id) ≡ false → p r ≡ false
 
-none_of_others : (id lot : ℕ) (p : HoldingHistoryRow → Bool) (us : List Share) (ds : List Deal) → OnlyOf id p → Others id ds → filter p (filter row_changes_quantity (holding_history_rows_of_deals lot us ds)) ≡ []
+none_of_others : (id lot : ℕ) (p : HoldingHistoryRow → Bool) (us : List Share) (ds : List Deal) → OnlyOf id p → Others id ds → filter p (filter has_quantity_change (lot_history_rows_per_deal lot us ds)) ≡ []
 none_of_others id lot p us ds only h =
-    filter-none p (filter row_changes_quantity (holding_history_rows_of_deals lot us ds))
-    (All-filter (λ r. p r ≡ false) row_changes_quantity (holding_history_rows_of_deals lot us ds) (All-map (holding_history_rows_of_deals lot us ds) (λ r k. only r k) (rows_of_others id lot us ds h)))
+    filter-none p (filter has_quantity_change (lot_history_rows_per_deal lot us ds))
+    (All-filter (λ r. p r ≡ false) has_quantity_change (lot_history_rows_per_deal lot us ds) (All-map (lot_history_rows_per_deal lot us ds) (λ r k. only r k) (rows_of_others id lot us ds h)))
 
 one_of : (lot : ℕ) (p : HoldingHistoryRow → Bool) (us : List Share) (ds : List Deal) (d : Deal) (es : List Deal) → OnlyOf d.trade p → Others d.trade ds → Others d.trade es
-    → filter p (filter row_changes_quantity (holding_history_rows_of_deals lot us (ds ++ d ∷ es))) ≡ filter p (filter row_changes_quantity (holding_history_row d.trade (touch_of_lot lot d (fold shares_after_deal us ds)) ∷ []))
+    → filter p (filter has_quantity_change (lot_history_rows_per_deal lot us (ds ++ d ∷ es))) ≡ filter p (filter has_quantity_change (holding_history_row d.trade (touch_of_lot lot d (fold shares_after_deal us ds)) ∷ []))
 one_of lot p us ds d es only g h =
-    ap (λ rows. filter p (filter row_changes_quantity rows)) (rows_split lot us ds d es)
-    ∙ ap (filter p) (filter-append row_changes_quantity X (row ∷ Y) ∙ ap (λ rows. filter row_changes_quantity X ++ rows) (filter-append row_changes_quantity (row ∷ []) Y))
-    ∙ filter-append p (filter row_changes_quantity X) (filter row_changes_quantity (row ∷ []) ++ filter row_changes_quantity Y)
-    ∙ (λ i. none_of_others d.trade lot p us ds only g i ++ filter-append p (filter row_changes_quantity (row ∷ [])) (filter row_changes_quantity Y) i)
-    ∙ ap (λ rows. filter p (filter row_changes_quantity (row ∷ [])) ++ rows) (none_of_others d.trade lot p (shares_after_deal vs d) es only h)
-    ∙ append_nil (filter p (filter row_changes_quantity (row ∷ [])))
+    ap (λ rows. filter p (filter has_quantity_change rows)) (rows_split lot us ds d es)
+    ∙ ap (filter p) (filter-append has_quantity_change X (row ∷ Y) ∙ ap (λ rows. filter has_quantity_change X ++ rows) (filter-append has_quantity_change (row ∷ []) Y))
+    ∙ filter-append p (filter has_quantity_change X) (filter has_quantity_change (row ∷ []) ++ filter has_quantity_change Y)
+    ∙ (λ i. none_of_others d.trade lot p us ds only g i ++ filter-append p (filter has_quantity_change (row ∷ [])) (filter has_quantity_change Y) i)
+    ∙ ap (λ rows. filter p (filter has_quantity_change (row ∷ [])) ++ rows) (none_of_others d.trade lot p (shares_after_deal vs d) es only h)
+    ∙ append_nil (filter p (filter has_quantity_change (row ∷ [])))
   where
     vs : List Share
     vs = fold shares_after_deal us ds
@@ -111,10 +111,10 @@ one_of lot p us ds d es only g h =
     row = holding_history_row d.trade (touch_of_lot lot d vs)
 
     X : List HoldingHistoryRow
-    X = holding_history_rows_of_deals lot us ds
+    X = lot_history_rows_per_deal lot us ds
 
     Y : List HoldingHistoryRow
-    Y = holding_history_rows_of_deals lot (shares_after_deal vs d) es
+    Y = lot_history_rows_per_deal lot (shares_after_deal vs d) es
 
 twice : (p q : HoldingHistoryRow → Bool) (r : HoldingHistoryRow) → filter p (filter q (r ∷ [])) ≡ cond (p r && q r) (r ∷ []) []
 twice p q r = by_test (q r) (p r) refl
@@ -150,15 +150,15 @@ all_others id (u ∷ ts) h = (h.0, all_others id ts h.1)
 
 -- the row that the trade made of the lot of another, if it passes
 abbrev pub passes : (HoldingHistoryRow → Bool) → List Share → Trade → Trade → Bool
-passes p us t v = p (row_by us (deal_of_trade t) v) && row_changes_quantity (row_by us (deal_of_trade t) v)
+passes p us t v = p (row_by us (deal_of_trade t) v) && has_quantity_change (row_by us (deal_of_trade t) v)
 
 lot_row : (base : Base) (t : Trade) (front back : List Trade) → IsPlaced base t front back → (p : HoldingHistoryRow → Bool) → OnlyOf t.id p → (v : Trade) (b : Bool) → is_here t v ≡ b
     → filter p (changing_rows_of_lot (completed_trades base) v) ≡ cond (b && passes p (left_by front) t v) (row_by (left_by front) (deal_of_trade t) v ∷ []) []
 lot_row base t front back k p only v true e =
     let o : InOrder (front ++ t ∷ back) = placed_order base t front back k in
-    ap (λ ds. filter p (filter row_changes_quantity (holding_history_rows_of_deals v.id [] ds))) (here_deals (completed_trades base) t v e ∙ ap (map deal_of_trade) k.stands ∙ map-append deal_of_trade front (t ∷ back))
+    ap (λ ds. filter p (filter has_quantity_change (lot_history_rows_per_deal v.id [] ds))) (here_deals (completed_trades base) t v e ∙ ap (map deal_of_trade) k.stands ∙ map-append deal_of_trade front (t ∷ back))
     ∙ one_of v.id p [] (map deal_of_trade front) (deal_of_trade t) (map deal_of_trade back) only (front_others t front (front_precedes front t back o)) (back_others t back (back_follows front t back o))
-    ∙ twice p row_changes_quantity (row_by (left_by front) (deal_of_trade t) v)
+    ∙ twice p has_quantity_change (row_by (left_by front) (deal_of_trade t) v)
 lot_row base t front back k p only v false e =
     none_of_others t.id v.id p [] (deals_of_position (completed_trades base) v.account v.symbol) only (all_others t.id (trades_held base v.account v.symbol) (elsewhere base t v.account v.symbol k.books k.found (other_way t v e)))
 

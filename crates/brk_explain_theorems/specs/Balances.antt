@@ -8,7 +8,7 @@ use Rattle.brk_model.specs.Derived.{Posting, balance_of_account, postings_of_bas
 use Rattle.brk_model.specs.Orders.{assets_of_account}
 use Rattle.brk_model.specs.Run.{Call, Outcome, Run}
 use Rattle.brk_model.specs.Sheets.{sheets}
-use Rattle.brk_model.specs.Statement.{cash_move_rows_of_account}
+use Rattle.brk_model.specs.Statement.{sorted_cash_rows_of_account}
 use Rattle.brk_model.specs.Tables.{AccountRow, Tables, trade_row}
 use Rattle.brk_book_theorems.specs.Steps.{base_after_command}
 use Rattle.brk_explain_model.specs.AccountLines.{priced_holdings_of_account, account_cash_rows_by_stamp, market_value_of_holdings}
@@ -70,6 +70,6 @@ RunsPreservePrintedBalanceAfterTrade base now id price =
 -- prints is the account's balance, and this balance plus the market values of the account's
 -- holdings equals the account's assets.
 pub record PrintedAccountMatchesBase (base : Base) (a : AccountRow) : Type 0 where
-  pub posted : account_cash_rows_by_stamp (sheets base) a.id ≡ cash_move_rows_of_account (sheets base) a.id
+  pub posted : account_cash_rows_by_stamp (sheets base) a.id ≡ sorted_cash_rows_of_account (sheets base) a.id
   pub last : last_printed_balance (sheets base) a ≡ a.balance
   pub assets : a.balance +ℤ market_value_of_holdings (priced_holdings_of_account (sheets base) a.id) ≡ assets_of_account base a.id

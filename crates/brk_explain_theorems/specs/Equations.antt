@@ -7,7 +7,7 @@ use Rattle.brk_model.specs.Derived.{settlement_amount, deal_of_trade, due_day}
 use Rattle.brk_model.specs.Orders.{commission_by_band, tax_on_deal}
 use Rattle.brk_model.specs.Sheets.{sheets}
 use Rattle.brk_model.specs.Tables.{trade_row}
-use Rattle.brk_explain_model.specs.Trades.{OrderDetails, balance_change_of_trade, commission_in_current_band, days_to_settle, order_details_of_trade}
+use Rattle.brk_explain_model.specs.Trades.{OrderDetails, balance_change_of_trade, commission_in_current_band, days_to_settle_trade, order_details_of_trade}
 use Rattle.brk_explain_model.specs.Trades.{tax_at_current_rates, signed_trade_value, withheld_tax_of_trade}
 use Rattle.brk_explain_theorems.specs.Before.{shares_before_trade}
 use Rattle.brk_explain_theorems.specs.Closings.{result_details_in_base}
@@ -31,7 +31,7 @@ pub record PrintedSettlementMatchesBase (base : Base) (t : Trade) : Type 0 where
   pub moved : balance_change_of_trade (result_details_in_base base t) ≡ if t.is_cash then (result_details_in_base base t).settlement.amount else pos 0
   -- Due on is Completed on plus Days to settle, and the day on which the trade settles.
   pub due : (result_details_in_base base t).settlement.due_day
-      ≡ day_of (last_status_stamp_of_trade t) + days_to_settle (order_details_in_base base t) (result_details_in_base base t)
+      ≡ day_of (last_status_stamp_of_trade t) + days_to_settle_trade (order_details_in_base base t) (result_details_in_base base t)
   pub day : (result_details_in_base base t).settlement.due_day ≡ due_day base.rule t
   -- Tax now is the tax on the gain of the deal at the rates of the base.
   pub tax : tax_at_current_rates (order_details_in_base base t) (result_details_in_base base t)

@@ -14,23 +14,23 @@ abbrev pub HeadField : Type 0
 HeadField = Text × Text
 
 -- True if the texts are equal when the case of ASCII letters is ignored.
-abbrev pub equals_ignoring_case : Text → Text → Bool
-equals_ignoring_case a b = pointwise nat_eq (map to_ascii_lowercase a) (map to_ascii_lowercase b)
+abbrev pub is_equal_ignoring_case : Text → Text → Bool
+is_equal_ignoring_case a b = pointwise nat_eq (map to_ascii_lowercase a) (map to_ascii_lowercase b)
 
 -- The values of the fields whose name equals `name` when the case of ASCII letters is ignored, in
 -- the sequence of the fields.
 abbrev pub values_of_field : Text → List HeadField → List Text
-values_of_field name pairs = filter_map (λ p. if equals_ignoring_case p.0 name then Some p.1 else None) pairs
+values_of_field name pairs = filter_map (λ p. if is_equal_ignoring_case p.0 name then Some p.1 else None) pairs
 
 -- True if at least one field has a name that equals `name` when the case of ASCII letters is
 -- ignored.
 abbrev pub has_field_named : Text → List HeadField → Bool
-has_field_named name pairs = list_any (λ p. equals_ignoring_case p.0 name) pairs
+has_field_named name pairs = list_any (λ p. is_equal_ignoring_case p.0 name) pairs
 
 -- True if a field has the name `Connection` and the value `close`, when the case of ASCII letters
 -- is ignored in both.
-abbrev pub asks_to_close_stream : List HeadField → Bool
-asks_to_close_stream pairs = list_any (λ p. equals_ignoring_case p.0 (codes "connection") && equals_ignoring_case p.1 (codes "close")) pairs
+abbrev pub has_connection_close : List HeadField → Bool
+has_connection_close pairs = list_any (λ p. is_equal_ignoring_case p.0 (codes "connection") && is_equal_ignoring_case p.1 (codes "close")) pairs
 
 -- The greatest length of a request's body, in bytes.
 abbrev pub most_body_bytes : ℕ

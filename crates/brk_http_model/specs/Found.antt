@@ -4,7 +4,7 @@ use Rattle.httparse.specs.Grammar.{RequestHead, ReadsRequest}
 use Rattle.httparse.specs.Spans.{name_and_value}
 use Rattle.brk_money.specs.Spelling.{Text}
 use Rattle.brk_http_model.specs.Heads.{head_end}
-use Rattle.brk_http_model.specs.Fields.{body_length_of_fields, asks_to_close_stream}
+use Rattle.brk_http_model.specs.Fields.{body_length_of_fields, has_connection_close}
 use Rattle.brk_http_model.specs.declared.problem.RequestProblem.{RequestProblem}
 use Rattle.brk_http_model.specs.declared.problem.RequestProblem.TheVariants.{TooLarge, BadRequest}
 use Rattle.brk_http_model.specs.declared.head_end.HeadEnd.{HeadEnd}
@@ -43,7 +43,7 @@ reading_with_body_length h rest (Ok n) =
       method = h.method;
       target = h.target;
       closes = (h.minor == 0)
-          || asks_to_close_stream (map name_and_value h.fields);
+          || has_connection_close (map name_and_value h.fields);
       body = take n rest;
     }) (drop n rest)
 

@@ -12,7 +12,7 @@ use Rattle.std.proofs.lemmas.Grind.{pow_more}
 use Rattle.httparse.proofs.ChunkLemmas.{digits_value_after_push}
 use Rattle.httparse.specs.Spans.{header_bytes}
 use Rattle.httparse.specs.declared.spans.HeaderSpan.{HeaderSpan}
-use Rattle.brk_http_model.specs.Fields.{HeadField, equals_ignoring_case, values_of_field, has_field_named, body_length_of_values, body_length_of_value}
+use Rattle.brk_http_model.specs.Fields.{HeadField, is_equal_ignoring_case, values_of_field, has_field_named, body_length_of_values, body_length_of_value}
 use Rattle.brk_http_reader.specs.FieldFactUpdates.{facts_with_field, facts_of_fields}
 use Rattle.brk_http_model.specs.declared.problem.RequestProblem.TheVariants.{BadRequest}
 use Rattle.brk_http_reader.specs.declared.fields.FieldFactsSoFar.{FieldFactsSoFar}
@@ -32,17 +32,17 @@ any_push p (x ∷ ps) q = ap (λ b. p x || b) (any_push p ps q) ∙ or_last (p x
 -- the values and whether there is one
 values_any : (name : List ℕ) (ps : List HeadField) → has_field_named name ps ≡ false → values_of_field name ps ≡ []
 values_any name [] none = refl
-values_any name (p ∷ ps) none = by (equals_ignoring_case p.0 name) refl (values_any name ps)
+values_any name (p ∷ ps) none = by (is_equal_ignoring_case p.0 name) refl (values_any name ps)
   where
-    by : (b : Bool) → equals_ignoring_case p.0 name ≡ b → (has_field_named name ps ≡ false → values_of_field name ps ≡ []) → values_of_field name (p ∷ ps) ≡ []
+    by : (b : Bool) → is_equal_ignoring_case p.0 name ≡ b → (has_field_named name ps ≡ false → values_of_field name ps ≡ []) → values_of_field name (p ∷ ps) ≡ []
     by true e rest = let f = rw e at none in cc
     by false e rest = let f = rw e at none in rw e (rest f)
 
 values_some : (name : List ℕ) (ps : List HeadField) → has_field_named name ps ≡ true → (v : List ℕ) × (vs : List (List ℕ)) × (values_of_field name ps ≡ v ∷ vs)
 values_some name [] some = cc
-values_some name (p ∷ ps) some = by (equals_ignoring_case p.0 name) refl (values_some name ps)
+values_some name (p ∷ ps) some = by (is_equal_ignoring_case p.0 name) refl (values_some name ps)
   where
-    by : (b : Bool) → equals_ignoring_case p.0 name ≡ b → (has_field_named name ps ≡ true → (v : List ℕ) × (vs : List (List ℕ)) × (values_of_field name ps ≡ v ∷ vs))
+    by : (b : Bool) → is_equal_ignoring_case p.0 name ≡ b → (has_field_named name ps ≡ true → (v : List ℕ) × (vs : List (List ℕ)) × (values_of_field name ps ≡ v ∷ vs))
         → (v : List ℕ) × (vs : List (List ℕ)) × (values_of_field name (p ∷ ps) ≡ v ∷ vs)
     by true e rest = (p.1, values_of_field name ps, rw e refl)
     by false e rest = let r = rest (rw e at some) in (r.0, r.1, rw e r.2)
@@ -52,10 +52,10 @@ many [] v w = refl
 many (u ∷ vs) v w = refl
 
 len_push : (name : List ℕ) (ps : List HeadField) (q : HeadField)
-    → body_length_of_values (values_of_field name (ps ++ q ∷ [])) ≡ (if equals_ignoring_case q.0 name then (if has_field_named name ps then Err BadRequest else body_length_of_value q.1) else body_length_of_values (values_of_field name ps))
-len_push name ps q = rw (filter_map-append (λ p. if equals_ignoring_case p.0 name then Some p.1 else None) ps (q ∷ [])) (by (equals_ignoring_case q.0 name) (has_field_named name ps) refl refl)
+    → body_length_of_values (values_of_field name (ps ++ q ∷ [])) ≡ (if is_equal_ignoring_case q.0 name then (if has_field_named name ps then Err BadRequest else body_length_of_value q.1) else body_length_of_values (values_of_field name ps))
+len_push name ps q = rw (filter_map-append (λ p. if is_equal_ignoring_case p.0 name then Some p.1 else None) ps (q ∷ [])) (by (is_equal_ignoring_case q.0 name) (has_field_named name ps) refl refl)
   where
-    by : (b c : Bool) → equals_ignoring_case q.0 name ≡ b → has_field_named name ps ≡ c
+    by : (b c : Bool) → is_equal_ignoring_case q.0 name ≡ b → has_field_named name ps ≡ c
         → body_length_of_values (values_of_field name ps ++ values_of_field name (q ∷ [])) ≡ (if b then (if c then Err BadRequest else body_length_of_value q.1) else body_length_of_values (values_of_field name ps))
     by true true e f = let r = values_some name ps f in rw (e, r.2) (many r.1 r.0 q.1)
     by true false e f = rw (e, values_any name ps f) refl
@@ -67,9 +67,9 @@ len_push name ps q = rw (filter_map-append (λ p. if equals_ignoring_case p.0 na
 
 pub seen_push : (ps : List HeadField) (q : HeadField) → facts_of_fields (ps ++ q ∷ []) ≡ facts_with_field (facts_of_fields ps) q
 seen_push ps q =
-    let a = any_push (λ p. equals_ignoring_case p.0 (codes "transfer-encoding")) ps q in
-    let b = any_push (λ p. equals_ignoring_case p.0 (codes "connection") && equals_ignoring_case p.1 (codes "close")) ps q in
-    let d = any_push (λ p. equals_ignoring_case p.0 (codes "content-length")) ps q in
+    let a = any_push (λ p. is_equal_ignoring_case p.0 (codes "transfer-encoding")) ps q in
+    let b = any_push (λ p. is_equal_ignoring_case p.0 (codes "connection") && is_equal_ignoring_case p.1 (codes "close")) ps q in
+    let d = any_push (λ p. is_equal_ignoring_case p.0 (codes "content-length")) ps q in
     let e = len_push (codes "content-length") ps q in
     (let made : facts_of_fields (ps ++ q ∷ []) ≡ facts_with_field (facts_of_fields ps) q = cc (a, b, d, e) in made)
 

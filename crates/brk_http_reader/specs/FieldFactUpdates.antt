@@ -1,6 +1,6 @@
 -- The facts of the fields of a head that were read so far.
 use Rattle.std.specs.Prelude.{List, codes, ◌&&◌, ◌||◌, if◌then◌else◌, Err}
-use Rattle.brk_http_model.specs.Fields.{HeadField, equals_ignoring_case, has_field_named, asks_to_close_stream}
+use Rattle.brk_http_model.specs.Fields.{HeadField, is_equal_ignoring_case, has_field_named, has_connection_close}
 use Rattle.brk_http_model.specs.Fields.{body_length_of_values, values_of_field, body_length_of_value}
 use Rattle.brk_http_model.specs.declared.problem.RequestProblem.TheVariants.{BadRequest}
 use Rattle.brk_http_reader.specs.declared.fields.FieldFactsSoFar.{FieldFactsSoFar}
@@ -12,10 +12,10 @@ use Rattle.brk_http_reader.specs.declared.fields.FieldFactsSoFar.{FieldFactsSoFa
 -- repeated.
 abbrev pub facts_with_field : FieldFactsSoFar → HeadField → FieldFactsSoFar
 facts_with_field s p = record {
-  chunked = s.chunked || equals_ignoring_case p.0 (codes "transfer-encoding");
-  closes = s.closes || (equals_ignoring_case p.0 (codes "connection") && equals_ignoring_case p.1 (codes "close"));
-  any_length = s.any_length || equals_ignoring_case p.0 (codes "content-length");
-  len = if equals_ignoring_case p.0 (codes "content-length") then (if s.any_length then Err BadRequest else body_length_of_value p.1) else s.len;
+  chunked = s.chunked || is_equal_ignoring_case p.0 (codes "transfer-encoding");
+  closes = s.closes || (is_equal_ignoring_case p.0 (codes "connection") && is_equal_ignoring_case p.1 (codes "close"));
+  any_length = s.any_length || is_equal_ignoring_case p.0 (codes "content-length");
+  len = if is_equal_ignoring_case p.0 (codes "content-length") then (if s.any_length then Err BadRequest else body_length_of_value p.1) else s.len;
 }
 
 -- The facts of all fields `ps` of a head: whether there is a `Transfer-Encoding` (`chunked`),
@@ -25,7 +25,7 @@ facts_with_field s p = record {
 abbrev pub facts_of_fields : List HeadField → FieldFactsSoFar
 facts_of_fields ps = record {
   chunked = has_field_named (codes "transfer-encoding") ps;
-  closes = asks_to_close_stream ps;
+  closes = has_connection_close ps;
   any_length = has_field_named (codes "content-length") ps;
   len = body_length_of_values (values_of_field (codes "content-length") ps);
 }

@@ -3,7 +3,7 @@
 use Rattle.std.specs.Prelude.{◌≡◌, ◌≤◌, ℕ, List, map, length, ◌==◌, ◌||◌}
 use Rattle.httparse.specs.Grammar.{RequestHead, ReadsRequest}
 use Rattle.httparse.specs.Spans.{span_bytes, name_and_value}
-use Rattle.brk_http_model.specs.Fields.{body_length_of_fields, asks_to_close_stream}
+use Rattle.brk_http_model.specs.Fields.{body_length_of_fields, has_connection_close}
 use Rattle.brk_http_model.specs.Found.{most_head_fields}
 use Rattle.brk_http_reader.specs.declared.head.HeadFacts.{HeadFacts}
 
@@ -17,4 +17,4 @@ pub record FactsDescribeHead (front : List ℕ) (facts : HeadFacts) (h : Request
   pub method : span_bytes front facts.method ≡ h.method
   pub target : span_bytes front facts.target ≡ h.target
   pub len : facts.len ≡ body_length_of_fields (map name_and_value h.fields)
-  pub closes : facts.closes ≡ ((h.minor == 0) || asks_to_close_stream (map name_and_value h.fields))
+  pub closes : facts.closes ≡ ((h.minor == 0) || has_connection_close (map name_and_value h.fields))

@@ -23,8 +23,8 @@ pub struct FieldFacts {
 }
 
 // Returns true if two texts are equal, apart from upper and lower case of ASCII letters.
-fn equals_ignoring_case(a: &[u8], b: &[u8]) -> bool
-    ensures { result ≡ spec.equals_ignoring_case a.now b.now }
+fn is_equal_ignoring_case(a: &[u8], b: &[u8]) -> bool
+    ensures { result ≡ spec.is_equal_ignoring_case a.now b.now }
 {
     a.eq_ignore_ascii_case(b)
 }
@@ -99,9 +99,9 @@ fn facts_with_one_more_field(seen: FieldFactsSoFar, name: &[u8], value: &[u8]) -
     ensures value { result ≡ facts_with_field seen (name.now, value.now) }
     ensures small { IfOk seen.len (λ n. n ≤ spec.most_body_bytes) → IfOk result.len (λ n. n ≤ spec.most_body_bytes) }
 {
-    let is_length = equals_ignoring_case(name, b"content-length");
-    let is_close = equals_ignoring_case(name, b"connection")
-        && equals_ignoring_case(value, b"close");
+    let is_length = is_equal_ignoring_case(name, b"content-length");
+    let is_close = is_equal_ignoring_case(name, b"connection")
+        && is_equal_ignoring_case(value, b"close");
     let len = match is_length {
         false => seen.len,
         true => match seen.any_length {
@@ -110,7 +110,7 @@ fn facts_with_one_more_field(seen: FieldFactsSoFar, name: &[u8], value: &[u8]) -
         },
     };
     FieldFactsSoFar {
-        chunked: seen.chunked || equals_ignoring_case(name, b"transfer-encoding"),
+        chunked: seen.chunked || is_equal_ignoring_case(name, b"transfer-encoding"),
         closes: seen.closes || is_close,
         any_length: seen.any_length || is_length,
         len,
@@ -128,7 +128,7 @@ pub fn facts_from_fields(front: &[u8], headers: &[HeaderSpan]) -> FieldFacts
     requires { All (IsHeaderWithin (length front.now)) headers.now }
     ensures len { result.len ≡ spec.body_length_of_fields (map (header_bytes front.now) headers.now) }
     ensures small { IfOk result.len (λ n. n ≤ spec.most_body_bytes) }
-    ensures closes { result.closes ≡ spec.asks_to_close_stream (map (header_bytes front.now) headers.now) }
+    ensures closes { result.closes ≡ spec.has_connection_close (map (header_bytes front.now) headers.now) }
 {
     let mut seen = FieldFactsSoFar {
         chunked: false,

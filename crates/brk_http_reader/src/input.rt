@@ -120,7 +120,7 @@ pub fn read_head<R: Read>(reader: &mut R, buffer: &mut Vec<u8>) -> Result<HeadEn
 /// ends before the buffer has so many bytes.
 ///
 /// Fails with `Read` or `Memory`.
-pub fn read_body<R: Read>(
+pub fn read_to_length<R: Read>(
     reader: &mut R,
     buffer: &mut Vec<u8>,
     len: usize,

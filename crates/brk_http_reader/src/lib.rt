@@ -9,6 +9,6 @@ mod rest;
 
 pub use fields::{FieldFacts, facts_from_fields};
 pub use head::{HeadFacts, parse_head};
-pub use input::{InputFault, head_length_in_bytes, read_body, read_head, read_into_buffer};
+pub use input::{InputFault, head_length_in_bytes, read_head, read_into_buffer, read_to_length};
 pub use next::{NextRequest, RequestPositions, read_next_request};
 pub use rest::remove_front_bytes;

@@ -5,7 +5,7 @@ ghost use Rattle.brk_http_reader.specs.Moves.{ReadsIntoBuffer};
 ghost use Rattle.brk_http_reader.specs.FirstRequests.{MatchesNextRequest, IsRequestWithin};
 
 use crate::head::parse_head;
-use crate::input::{InputFault, read_body, read_head};
+use crate::input::{InputFault, read_head, read_to_length};
 use brk_http_model::{HeadEnd, RequestProblem};
 use httparse::spans::Span;
 use std::io::Read;
@@ -59,7 +59,7 @@ pub fn read_next_request<R: Read>(
         Err(problem) => return Ok(NextRequest::Broken(problem)),
     };
     let stop = end + len;
-    let there = read_body(reader, buffer, stop)?;
+    let there = read_to_length(reader, buffer, stop)?;
     if !there {
         return Ok(NextRequest::Broken(RequestProblem::BadRequest));
     }

@@ -5,7 +5,7 @@ use Rattle.std.specs.List.{AllByRecursion}
 use Rattle.std.proofs.lemmas.List.{length-append}
 use Rattle.brk_money.specs.Spelling.{Text}
 use Rattle.brk_model.specs.Answers.{Fields, RowStep}
-use Rattle.brk_model_theorems.specs.RowCalls.{CallsHaveAnswers, RowCall, answer_to_row_call, calls_of_rows, well_formed_rows_from, with_well_formed_row, answers_interleaved_with_refusals, RowsAreAnsweredByCalls}
+use Rattle.brk_model_theorems.specs.RowCalls.{CallsHaveAnswers, RowCall, result_of_row_call, calls_of_rows, well_formed_rows_from, prepended_if_well_formed, answers_interleaved_with_refusals, RowsAreAnsweredByCalls}
 use Rattle.brk_model.specs.Batch.{BatchRowsAreDecided}
 use Rattle.brk_model.specs.Commands.{Answer}
 use Rattle.brk_model.specs.Forms.{ReadResult}
@@ -18,7 +18,7 @@ turned : {S X : Type 0} (step : RowStep S X) (base after : S) (calls : List (Row
 turned step base after [] [] r = refl
 turned step base after [] (a ∷ rs) r = absurd r
 turned step base after (c ∷ cs) [] r = absurd r
-turned step base after (c ∷ cs) (a ∷ rs) r = let more = turned step (answer_to_row_call step base c).1 after cs rs r.1 in omega arith
+turned step base after (c ∷ cs) (a ∷ rs) r = let more = turned step (result_of_row_call step base c).1 after cs rs r.1 in omega arith
 
 module _ {S X : Type 0} (form : Fields → ReadResult X) (step : RowStep S X) (name : Text) (base mid after : S) (moments : List ℕ) (rows : List Fields) (answers : List Answer)
     (h : BatchRowsAreDecided form step name base moments rows answers mid) (row : Fields) (command : X) (formed : form row ≡ Ok command) (moment : ℕ) (answer : Answer)
@@ -27,7 +27,7 @@ module _ {S X : Type 0} (form : Fields → ReadResult X) (step : RowStep S X) (n
   asked = calls-of-decided h
 
   calls : well_formed_rows_from form 1 (rows ++ row ∷ []) ≡ well_formed_rows_from form 1 rows ++ (1 + length rows, command) ∷ []
-  calls = formed_push form 1 rows row ∙ ap (λ (o : ReadResult X). well_formed_rows_from form 1 rows ++ with_well_formed_row o (1 + length rows) []) formed
+  calls = formed_push form 1 rows row ∙ ap (λ (o : ReadResult X). well_formed_rows_from form 1 rows ++ prepended_if_well_formed o (1 + length rows) []) formed
 
   longer : length (well_formed_rows_from form 1 (rows ++ row ∷ [])) ≡ length (well_formed_rows_from form 1 rows) + 1
   longer = ap length calls ∙ length-append (well_formed_rows_from form 1 rows) ((1 + length rows, command) ∷ [])

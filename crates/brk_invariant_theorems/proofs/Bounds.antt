@@ -8,7 +8,7 @@ use Rattle.std.proofs.lemmas.List.Sums.{sum_by-cons}
 use Rattle.brk_money.specs.Amounts.{commission, half_up, tax}
 use Rattle.brk_money.specs.declared.side.Side.{Side}
 use Rattle.brk_money.specs.declared.side.Side.TheVariants.{Buy, Sell}
-use Rattle.brk_model.specs.Shares.{Share, Deal, closed_share_count_of_deal, closed_shares, closed_value_at_deal_price, realised_gain, remaining_shares, opposes_position, opened_share, opened_shares, closed_value_at_opening_prices, sell_value, sell_value_for_side, shares_after_deal, buy_value}
+use Rattle.brk_model.specs.Shares.{Share, Deal, closed_share_count_of_deal, closed_shares, closed_value_at_deal_price, realised_gain, remaining_shares, is_opposite_to_position, opened_share, opened_shares, closed_value_at_opening_prices, sell_value, sell_value_for_side, shares_after_deal, buy_value}
 use Rattle.brk_model.specs.Derived.{signed_proceeds}
 use Rattle.brk_model.specs.Orders.{tax_on_deal}
 use Rattle.brk_model.specs.Base.{Base, customer_id_of_account, is_taxable_account, tax_rate_sum_of_customer}
@@ -83,12 +83,12 @@ opening_high d shares q h =
     (All-drop IsCheap (length shares - closed_share_count_of_deal d shares) shares h) (All-take IsCheap (closed_share_count_of_deal d shares) shares h) in
     let s = sum_high (closed_shares d shares) cheap in
     let l = closed_long d shares in
-    let c = count_low (opposes_position d shares) d.qty (length shares) in
+    let c = count_low (is_opposite_to_position d shares) d.qty (length shares) in
     omega (arith, s, l, c, q)
 
 closing_high : (d : Deal) (shares : List Share) → d.qty ≤ 9999999 → d.price ≤ 9999999 → closed_value_at_deal_price d shares ≤ 10 ^ 14
 closing_high d shares q p =
-    let c = count_low (opposes_position d shares) d.qty (length shares) in
+    let c = count_low (is_opposite_to_position d shares) d.qty (length shares) in
     let k : closed_share_count_of_deal d shares ≤ 9999999 = omega (arith, c, q) in
     let all : closed_share_count_of_deal d shares * d.price ≤ 9999999 * 9999999 = mul-le-mul k p in
     omega (arith, all)

@@ -20,11 +20,11 @@ use Rattle.brk_model.specs.Derived.{settlement_amount, balance_of_account, cash_
 use Rattle.brk_model.specs.Shares.{signed_by_side}
 use Rattle.brk_model.specs.Tables.{Tables, account_row, broker_row, history_rows, last_trade_row, security_row, settlement_row, summary_rows, tables_of_base_in_schema, trade_row}
 use Rattle.brk_model.specs.Sheets.{sheets, tables_sorted_by_key}
-use Rattle.brk_model.specs.Adopted.{base_of_tables, posting_of_move_row}
+use Rattle.brk_model.specs.Adopted.{base_of_tables, posting_of_cash_move_row}
 use Rattle.brk_model.specs.Joins.{history_rows_with_trade_id, trade_row_with_id}
-use Rattle.brk_model.specs.Form.{is_well_formed_account_row, is_well_formed_broker_row, is_well_formed_cash_row, is_well_formed_charge_row, is_well_formed_customer_row, is_within_customer_limits, is_well_formed_customer_tax_row, has_account, has_broker, has_customer, satisfies_form_condition, has_security, has_trade, is_well_formed_history_row, is_cash_row_name_of_trade, is_cash_type_of_trade, is_id, is_up_to_last_stamp, is_price, is_quantity_in_schema, is_well_formed_last_trade_row, has_distinct_tax_ids, is_well_formed_permission_row, price_matches_completion, is_well_formed_security_row, is_well_formed_settlement_row, is_well_formed_summary_row, is_well_formed_trade_row, is_movement_name_and_amount, is_well_formed_move_row}
+use Rattle.brk_model.specs.Form.{is_well_formed_account_row, is_well_formed_broker_row, is_well_formed_cash_transaction_row, is_well_formed_charge_row, is_well_formed_customer_row, is_within_customer_limits, is_well_formed_customer_tax_row, has_account, has_broker, has_customer, satisfies_form_condition, has_security, has_trade, is_well_formed_history_row, is_cash_row_name_of_trade, is_cash_type_of_trade, is_id, is_up_to_last_stamp, is_price, is_quantity_in_schema, is_well_formed_last_trade_row, has_distinct_tax_ids, is_well_formed_permission_row, has_price_matching_completion, is_well_formed_security_row, is_well_formed_settlement_row, is_well_formed_summary_row, is_well_formed_trade_row, is_movement_name_and_amount, is_well_formed_cash_move_row}
 use Rattle.brk_model.specs.Forms.{is_acl, is_exchange, is_name, is_symbol, is_tax_id}
-use Rattle.brk_model.specs.Keys.{KeyPart, word, rows_sorted_by_key, is_row_key_less, account_key, band_key, broker_key, cash_key, charge_key, customer_key, customer_tax_key, history_key, kept_key, last_trade_key, permission_key, security_key, settlement_key, summary_key, tax_rate_key, trade_key}
+use Rattle.brk_model.specs.Keys.{KeyPart, word, rows_sorted_by_key, is_row_key_less, account_key, band_key, broker_key, cash_transaction_key, charge_key, customer_key, customer_tax_key, history_key, kept_key, last_trade_key, permission_key, security_key, settlement_key, summary_key, tax_rate_key, trade_key}
 use Rattle.brk_book_theorems.specs.Books.{BooksInvariant}
 use Rattle.brk_book_theorems.proofs.NewKeys.{same_bytes, unused}
 use Rattle.brk_book_theorems.proofs.Order.{NewKey, by_key-filter}
@@ -240,7 +240,7 @@ unfolding tables_sorted_by_key tables_of_base_in_schema
 trade_back base t books told h =
     let T : Tables = sheets base in
     let f = parts10 (is_id t.id) (is_quantity_in_schema third_schema t.qty) (is_price t.bid) (nat_le t.charge greatest_charge) (nat_le t.commission greatest_amount) (nat_le t.tax greatest_amount)
-    (is_up_to_last_stamp base.last (last_status_stamp_of_trade t)) (has_security T t.symbol) (has_account T t.account) (price_matches_completion T (trade_row t)) h.row in
+    (is_up_to_last_stamp base.last (last_status_stamp_of_trade t)) (has_security T t.symbol) (has_account T t.account) (has_price_matching_completion T (trade_row t)) h.row in
     let marks = All-map t.marks (λ m k. parts3 (has_trade T t.id) (is_up_to_last_stamp base.last m.stamp) (not (is_same_trade_status m.status Completed) || nat_le (due_day_of_completion_stamp base.rule m.stamp) greatest_day) k)
     (All-unmapped (λ r. is_well_formed_history_row T r ≡ true) (row_of t.id) t.marks h.history) in
     let done : list_any (λ h. is_same_trade_status h.status Completed) (history_rows_with_trade_id T t.id) ≡ is_completed t =
@@ -268,11 +268,11 @@ trade_back base t books told h =
     }
 
 -- the postings of a base whose cash rows have form
-posted_back : (base : Base) → list_all (is_well_formed_move_row (sheets base)) (sheets base).moves ≡ true → AllByRecursion (HasForm (sheets base)) (postings_of_base base)
+posted_back : (base : Base) → list_all (is_well_formed_cash_move_row (sheets base)) (sheets base).moves ≡ true → AllByRecursion (HasForm (sheets base)) (postings_of_base base)
 posted_back base f =
     All-unsort (HasForm (sheets base)) (λ a b. nat_lt a.stamp b.stamp) (postings_of_base base)
     (subst (AllByRecursion (HasForm (sheets base))) (rows_posted base)
-    (All-mapped (HasForm (sheets base)) posting_of_move_row (sheets base).moves (All-map (sheets base).moves (move_posted (sheets base)) (list_all_true (is_well_formed_move_row (sheets base)) (sheets base).moves f))))
+    (All-mapped (HasForm (sheets base)) posting_of_cash_move_row (sheets base).moves (All-map (sheets base).moves (move_posted (sheets base)) (list_all_true (is_well_formed_cash_move_row (sheets base)) (sheets base).moves f))))
 
 cash_back : (base : Base) → AllByRecursion (HasForm (sheets base)) (postings_of_base base) → AllByRecursion (λ t. HasForm (sheets base) (posting_of_trade base.accounts t)) (cash_trades (completed_trades base))
 cash_back base h =

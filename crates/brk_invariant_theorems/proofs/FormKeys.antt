@@ -11,15 +11,15 @@ use Rattle.brk_book_theorems.proofs.Postings.{numbered_stay}
 use Rattle.brk_audit_theorems.proofs.UpgradedForm.{numbered_rises}
 use Rattle.brk_model.specs.Lists.{is_zero, sort_by}
 use Rattle.brk_model.specs.Records.{Account, StatusChange, Security, Trade}
-use Rattle.brk_model.specs.Base.{Base, completed_trades, has_status, is_completed, last_status_stamp_of_trade}
+use Rattle.brk_model.specs.Base.{Base, completed_trades, has_last_status, is_completed, last_status_stamp_of_trade}
 use Rattle.brk_model.specs.Derived.{cash_trades, deal_of_trade, deals_of_position, trades_of_account, trades_of_position, pending_trades, holding_summary_quantity, postings_sorted_by_stamp, postings_of_base}
 use Rattle.brk_model.specs.Shares.{Deal, Share, shares_after_deal}
 use Rattle.brk_model.specs.Tables.{HistoryRow, HoldingHistoryRow, SummaryRow, account_row, broker_row, cash_transaction_row, history_rows, holding_row, last_trade_row, request_row, security_row, settlement_row, summary_rows, tables_of_base_in_schema, trade_row}
 use Rattle.brk_lots.proofs.HistoryRows.{rows_of_lots_are}
-use Rattle.brk_lots.specs.HistoryRows.{changing_rows_of_lot, holding_history_rows_of_deals}
+use Rattle.brk_lots.specs.HistoryRows.{changing_rows_of_lot, lot_history_rows_per_deal}
 use Rattle.brk_model.specs.Sheets.{sheets, tables_sorted_by_key}
-use Rattle.brk_model.specs.Form.{tables_are_sorted_by_unique_key, is_sorted_by_unique_key}
-use Rattle.brk_model.specs.Keys.{KeyPart, number, word, rows_sorted_by_key, kept_key, broker_key, customer_key, account_key, permission_key, security_key, last_trade_key, charge_key, band_key, tax_rate_key, customer_tax_key, trade_key, history_key, request_key, holding_key, summary_key, holding_history_key, settlement_key, cash_key, move_key}
+use Rattle.brk_model.specs.Form.{has_tables_sorted_by_unique_key, is_sorted_by_unique_key}
+use Rattle.brk_model.specs.Keys.{KeyPart, number, word, rows_sorted_by_key, kept_key, broker_key, customer_key, account_key, permission_key, security_key, last_trade_key, charge_key, band_key, tax_rate_key, customer_tax_key, trade_key, history_key, request_key, holding_key, summary_key, holding_history_key, settlement_key, cash_transaction_key, cash_move_key}
 use Rattle.brk_model.specs.Ways.{is_valid_status_sequence}
 use Rattle.brk_model_theorems.proofs.FormParts.{keys_whole}
 use Rattle.brk_book_theorems.specs.Books.{HasDistinctAccountIds, HasDistinctSymbols, BooksInvariant}
@@ -121,16 +121,16 @@ accounts_other done ss (a ∷ as') d = (
 
 -- what holds of a lot and of each deal's trade holds of the rows of that lot
 pub All-lots : (P : ℕ → ℕ → Type 0) (lot : ℕ) (shares : List Share) (deals : List Deal) → AllByRecursion (λ d. P lot d.trade) deals
-    → AllByRecursion (λ r. P r.lot r.trade) (holding_history_rows_of_deals lot shares deals)
+    → AllByRecursion (λ r. P r.lot r.trade) (lot_history_rows_per_deal lot shares deals)
 All-lots P lot shares [] h = tt
 All-lots P lot shares (d ∷ deals) h = (h.0, All-lots P lot (shares_after_deal shares d) deals h.1)
 
 pub All-history : (P : ℕ → ℕ → Type 0) (done : List Trade) (t : Trade) → AllByRecursion (λ d. P t.id d.trade) (deals_of_position done t.account t.symbol)
     → AllByRecursion (λ r. P r.lot r.trade) (changing_rows_of_lot done t)
 All-history P done t h =
-    All-filter (λ r. P r.lot r.trade) (λ row. not (is_zero (row.before -ℤ row.after))) (holding_history_rows_of_deals t.id [] (deals_of_position done t.account t.symbol)) (All-lots P t.id [] (deals_of_position done t.account t.symbol) h)
+    All-filter (λ r. P r.lot r.trade) (λ row. not (is_zero (row.before -ℤ row.after))) (lot_history_rows_per_deal t.id [] (deals_of_position done t.account t.symbol)) (All-lots P t.id [] (deals_of_position done t.account t.symbol) h)
 
-lots_apart : (lot : ℕ) (shares : List Share) (deals : List Deal) → HasDistinctKeys (λ d. number d.trade ∷ []) deals → HasDistinctKeys holding_history_key (holding_history_rows_of_deals lot shares deals)
+lots_apart : (lot : ℕ) (shares : List Share) (deals : List Deal) → HasDistinctKeys (λ d. number d.trade ∷ []) deals → HasDistinctKeys holding_history_key (lot_history_rows_per_deal lot shares deals)
 lots_apart lot shares [] a = tt
 lots_apart lot shares (d ∷ deals) a = (
   All-lots (λ l n. number l ∷ number n ∷ [] ≡ number lot ∷ number d.trade ∷ [] → ⊥) lot (shares_after_deal shares d) deals
@@ -141,7 +141,7 @@ lots_apart lot shares (d ∷ deals) a = (
 history_apart : (done : List Trade) (t : Trade) → HasDistinctKeys id_key done → HasDistinctKeys holding_history_key (changing_rows_of_lot done t)
 history_apart done t a =
     let before : Trade → Trade → Bool = λ x y. nat_lt (last_status_stamp_of_trade x) (last_status_stamp_of_trade y) in
-    apart_filter holding_history_key (λ row. not (is_zero (row.before -ℤ row.after))) (holding_history_rows_of_deals t.id [] (deals_of_position done t.account t.symbol))
+    apart_filter holding_history_key (λ row. not (is_zero (row.before -ℤ row.after))) (lot_history_rows_per_deal t.id [] (deals_of_position done t.account t.symbol))
     (lots_apart t.id [] (deals_of_position done t.account t.symbol)
     (apart_map id_key (λ d. number d.trade ∷ []) deal_of_trade (sort_by before (trades_of_position done t.account t.symbol)) (λ u. refl)
     (apart_sort id_key before (trades_of_position done t.account t.symbol)
@@ -159,7 +159,7 @@ lots_other done (t ∷ ts) d = (
 
 -- ---- all tables
 
-pub keys_of : (base : Base) → BooksInvariant base → AuditInvariant base → tables_are_sorted_by_unique_key (sheets base) ≡ true
+pub keys_of : (base : Base) → BooksInvariant base → AuditInvariant base → has_tables_sorted_by_unique_key (sheets base) ≡ true
 unfolding tables_sorted_by_key tables_of_base_in_schema
 keys_of base books k =
     let done : List Trade = completed_trades base in
@@ -186,7 +186,7 @@ keys_of base books k =
       history = apart_rises history_key (flat_map history_rows base.trades)
           (apart_flat_map history_key history_rows base.trades (All-map base.trades (λ t h. marks_apart t.id t.marks h.way) k.trades) (histories_other base.trades (rise_apart base.trades rise)));
       requests = apart_rises request_key (map (request_row base.accounts) (pending_trades base.trades))
-          (apart_map id_key request_key (request_row base.accounts) (pending_trades base.trades) (λ t. refl) (apart_filter id_key (has_status Pending) base.trades trades));
+          (apart_map id_key request_key (request_row base.accounts) (pending_trades base.trades) (λ t. refl) (apart_filter id_key (has_last_status Pending) base.trades trades));
       holdings = apart_rises holding_key (filter (λ row. not (is_zero row.qty)) (map (holding_row done) done))
           (apart_filter holding_key (λ row. not (is_zero row.qty)) (map (holding_row done) done) (apart_map id_key holding_key (holding_row done) done (λ t. refl) dones));
       summaries = apart_rises summary_key (flat_map (rows_of done base.securities) base.accounts)
@@ -197,6 +197,6 @@ keys_of base books k =
           (apart_rises holding_history_key (flat_map (changing_rows_of_lot done) done)
           (apart_flat_map holding_history_key (changing_rows_of_lot done) done (All-of done (λ t. history_apart done t dones)) (lots_other done done doneIds)));
       settlements = apart_rises settlement_key (map (settlement_row base.accounts base.rule) done) (apart_map id_key settlement_key (settlement_row base.accounts base.rule) done (λ t. refl) dones);
-      cash = apart_rises cash_key [] tt;
-      moves = ap (is_sorted_by_unique_key move_key) (numbered_stay 1 (postings_sorted_by_stamp (postings_of_base base))) ∙ numbered_rises 1 (postings_sorted_by_stamp (postings_of_base base));
+      cash = apart_rises cash_transaction_key [] tt;
+      moves = ap (is_sorted_by_unique_key cash_move_key) (numbered_stay 1 (postings_sorted_by_stamp (postings_of_base base))) ∙ numbered_rises 1 (postings_sorted_by_stamp (postings_of_base base));
     })

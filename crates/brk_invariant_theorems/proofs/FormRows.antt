@@ -16,7 +16,7 @@ use Rattle.brk_model.specs.Schemas.{third_schema}
 use Rattle.brk_model.specs.Limits.{greatest_amount, greatest_charge, greatest_summary, greatest_tax_rate, most_accounts_per_customer, greatest_id}
 use Rattle.brk_model.specs.Lists.{all_distinct, is_zero, sort_by}
 use Rattle.brk_model.specs.Records.{Account, Customer, StatusChange, Permission, Security, Trade, Movement}
-use Rattle.brk_model.specs.Base.{Base, account_with_id, broker_id_in_accounts, broker_with_id, completed_trades, customer_with_id, has_status, is_completed, last_status_change, last_status_stamp_of_trade, completion_price, tax_rate_sum_of_customer, security_name, security_with_symbol, tax_rate_record_with_id, trade_with_id}
+use Rattle.brk_model.specs.Base.{Base, account_with_id, broker_id_in_accounts, broker_with_id, completed_trades, customer_with_id, has_last_status, is_completed, last_status_change, last_status_stamp_of_trade, completion_price, tax_rate_sum_of_customer, security_name, security_with_symbol, tax_rate_record_with_id, trade_with_id}
 use Rattle.brk_model.specs.Derived.{settlement_amount, balance_of_account, cash_trades, commission_total_of_broker, deal_of_trade, due_day, trades_of_account, trades_of_position, pending_trades, holding_summary_quantity, postings_sorted_by_stamp, posting_of_movement, posting_of_trade, postings_of_base, due_day_of_completion_stamp}
 use Rattle.brk_model.specs.Tables.{HistoryRow, HoldingHistoryRow, Tables, account_row, broker_row, history_rows, holding_row, last_trade_row, request_row, security_row, settlement_row, summary_rows, tables_of_base_in_schema, trade_row, numbered_move_rows}
 use Rattle.brk_lots.proofs.HistoryRows.{rows_of_lots_are}
@@ -24,9 +24,9 @@ use Rattle.brk_lots.specs.HistoryRows.{changing_rows_of_lot}
 use Rattle.brk_model.specs.Sheets.{sheets, tables_sorted_by_key}
 use Rattle.brk_model.specs.Adopted.{base_of_tables}
 use Rattle.brk_model.specs.Joins.{history_rows_with_trade_id, trade_row_with_id}
-use Rattle.brk_model.specs.Form.{is_well_formed_account_row, is_well_formed_band_row, is_well_formed_broker_row, is_well_formed_cash_row, is_well_formed_charge_row, is_well_formed_customer_row, is_within_customer_limits, is_well_formed_customer_tax_row, has_account, has_broker, has_customer, satisfies_form_condition, has_security, has_trade, is_well_formed_history_row, is_well_formed_holding_row, is_well_formed_holding_history_row, is_cash_row_name_of_trade, is_cash_type_of_trade, is_id, is_up_to_last_stamp, is_price, is_quantity_in_schema, is_well_formed_kept_row, is_well_formed_last_trade_row, is_well_formed_permission_row, price_matches_completion, is_well_formed_request_row, are_equal_number_lists, is_well_formed_security_row, is_well_formed_settlement_row, is_well_formed_summary_row, is_well_formed_tax_rate_row, is_well_formed_trade_row, is_movement_name_and_amount, is_well_formed_move_row, trade_ids_of_cash_rows, has_well_formed_permission_texts}
+use Rattle.brk_model.specs.Form.{is_well_formed_account_row, is_well_formed_band_row, is_well_formed_broker_row, is_well_formed_cash_transaction_row, is_well_formed_charge_row, is_well_formed_customer_row, is_within_customer_limits, is_well_formed_customer_tax_row, has_account, has_broker, has_customer, satisfies_form_condition, has_security, has_trade, is_well_formed_history_row, is_well_formed_holding_row, is_well_formed_holding_history_row, is_cash_row_name_of_trade, is_cash_type_of_trade, is_id, is_up_to_last_stamp, is_price, is_quantity_in_schema, is_well_formed_kept_row, is_well_formed_last_trade_row, is_well_formed_permission_row, has_price_matching_completion, is_well_formed_request_row, are_equal_number_lists, is_well_formed_security_row, is_well_formed_settlement_row, is_well_formed_summary_row, is_well_formed_tax_rate_row, is_well_formed_trade_row, is_movement_name_and_amount, is_well_formed_cash_move_row, trade_ids_of_cash_rows, has_well_formed_permission_texts}
 use Rattle.brk_model.specs.Forms.{is_acl, is_exchange, is_name, is_symbol, is_tax_id}
-use Rattle.brk_model.specs.Keys.{KeyPart, word, rows_sorted_by_key, is_row_key_less, account_key, band_key, broker_key, cash_key, charge_key, customer_key, customer_tax_key, history_key, holding_history_key, holding_key, kept_key, last_trade_key, permission_key, request_key, security_key, settlement_key, summary_key, tax_rate_key, trade_key, move_key}
+use Rattle.brk_model.specs.Keys.{KeyPart, word, rows_sorted_by_key, is_row_key_less, account_key, band_key, broker_key, cash_transaction_key, charge_key, customer_key, customer_tax_key, history_key, holding_history_key, holding_key, kept_key, last_trade_key, permission_key, request_key, security_key, settlement_key, summary_key, tax_rate_key, trade_key, cash_move_key}
 use Rattle.brk_model.specs.Ways.{is_valid_status_sequence}
 use Rattle.brk_model.specs.Names.{AccountOfTradeExists, BrokerOfAccountExists, CustomerOfAccountExists, SecurityOfTradeExists, TradesAreNumberedFrom}
 use Rattle.brk_model_theorems.proofs.FormParts.{form_whole}
@@ -157,7 +157,7 @@ any_mark id (m ∷ n ∷ o ∷ []) w =
     (λ i. is_same_trade_status (k.0 i) Completed || (is_same_trade_status (k.1 i) Completed || (is_same_trade_status o.status Completed || false))) ∙ or_false (is_same_trade_status o.status Completed)
 any_mark id (m ∷ n ∷ o ∷ p ∷ ms) w = absurd (no_more_ways m.status n.status o.status p.status (map (λ m. m.status) ms) w)
 
-priced_row : (base : Base) (t : Trade) → Known base t → price_matches_completion (sheets base) (trade_row t) ≡ true
+priced_row : (base : Base) (t : Trade) → Known base t → has_price_matching_completion (sheets base) (trade_row t) ≡ true
 unfolding tables_sorted_by_key tables_of_base_in_schema
 priced_row base t h =
     let done : list_any (λ h. is_same_trade_status h.status Completed) (history_rows_with_trade_id (sheets base) t.id) ≡ is_completed t =
@@ -171,7 +171,7 @@ unfolding tables_sorted_by_key tables_of_base_in_schema
 trade_whole base t h =
     let f = parts6 (is_id t.id) (is_quantity_in_schema third_schema t.qty) (is_price t.bid) (nat_le t.charge greatest_charge) (nat_le t.commission greatest_amount) (nat_le t.tax greatest_amount) h.sound.fields in
     and10 (is_id t.id) (is_quantity_in_schema third_schema t.qty) (is_price t.bid) (nat_le t.charge greatest_charge) (nat_le t.commission greatest_amount) (nat_le t.tax greatest_amount)
-    (is_up_to_last_stamp base.last (last_status_stamp_of_trade t)) (has_security (sheets base) t.symbol) (has_account (sheets base) t.account) (price_matches_completion (sheets base) (trade_row t))
+    (is_up_to_last_stamp base.last (last_status_stamp_of_trade t)) (has_security (sheets base) t.symbol) (has_account (sheets base) t.account) (has_price_matching_completion (sheets base) (trade_row t))
     f.0 f.1 f.2 f.3 f.4 f.5 (moment_past base t h.sound) (has_security_is base t.symbol ∙ h.security) (has_account_is base t.account ∙ h.account) (priced_row base t h)
 
 numbers_whole : (n : ℕ) (ts : List Trade) → TradesAreNumberedFrom n ts → are_equal_number_lists (map (λ row. row.id) (map trade_row ts)) (range_with_len n (length (map trade_row ts))) ≡ true
@@ -250,7 +250,7 @@ ids_low base k = All-map base.trades (λ t h.
     leb-true t.id greatest_id (and_parts (nat_le 1 t.id) (nat_le t.id greatest_id) f.0).1) k.trades
 
 moves_whole : (base : Base) → BooksInvariant base → AuditInvariant base → HasValidHistories base → AllByRecursion (Done base) (completed_trades base)
-    → AllByRecursion (λ r. is_well_formed_move_row (sheets base) r ≡ true) (numbered_move_rows 1 (postings_sorted_by_stamp (postings_of_base base)))
+    → AllByRecursion (λ r. is_well_formed_cash_move_row (sheets base) r ≡ true) (numbered_move_rows 1 (postings_sorted_by_stamp (postings_of_base base)))
 moves_whole base books k told dones =
     numbered_form (sheets base) 1 (postings_sorted_by_stamp (postings_of_base base)) (omega arith) (few_postings base books.numbered (ids_low base k) k.cash.few)
     (All-sort (HasForm (sheets base)) (λ a b. nat_lt a.stamp b.stamp) (postings_of_base base) (all_posted base books k told dones))
@@ -362,7 +362,7 @@ form_of base books k =
           (All-flat_map (λ r. is_well_formed_history_row T r ≡ true) history_rows base.trades (All-map base.trades (λ t h. All-mapped (λ r. is_well_formed_history_row T r ≡ true) (row_of t.id) t.marks
           (All-map t.marks (λ m p. mark_whole base t m h p.0 p.1) (both_all (StatusStampIsAtMostLastStamp base.last) (HasDueDayInCalendar base.rule) t.marks h.sound.past h.sound.due))) known));
       requests = mapped_form (is_well_formed_request_row third_schema T) request_key (request_row base.accounts) (pending_trades base.trades)
-          (All-map (pending_trades base.trades) (λ t h. request_whole base t books h) (All-filter (Known base) (has_status Pending) base.trades known));
+          (All-map (pending_trades base.trades) (λ t h. request_whole base t books h) (All-filter (Known base) (has_last_status Pending) base.trades known));
       holdings = rows_form (is_well_formed_holding_row T) holding_key (filter (λ row. not (is_zero row.qty)) (map (holding_row done) done))
           (All-filter (λ r. is_well_formed_holding_row T r ≡ true) (λ row. not (is_zero row.qty)) (map (holding_row done) done)
           (All-mapped (λ r. is_well_formed_holding_row T r ≡ true) (holding_row done) done (All-map done (λ t h. holding_whole base done t h) dones)));
@@ -382,8 +382,8 @@ form_of base books k =
           (All-filter (λ u. has_trade T t.id && has_trade T u.id ≡ true) (λ u. u.account == t.account) done
           (All-map done (λ u g. and_from (has_trade T t.id) (has_trade T u.id) (there base t h.0) (there base u g.0)) dones)))))) dones)));
       settlements = mapped_form (is_well_formed_settlement_row T) settlement_key (settlement_row base.accounts base.rule) done (All-map done (λ t h. settlement_whole base t h) dones);
-      cash = rows_form (is_well_formed_cash_row T) cash_key [] tt;
-      moves = rows_form (is_well_formed_move_row T) move_key (numbered_move_rows 1 (postings_sorted_by_stamp (postings_of_base base))) (moves_whole base books k told dones);
+      cash = rows_form (is_well_formed_cash_transaction_row T) cash_transaction_key [] tt;
+      moves = rows_form (is_well_formed_cash_move_row T) cash_move_key (numbered_move_rows 1 (postings_sorted_by_stamp (postings_of_base base))) (moves_whole base books k told dones);
       own_moves = ap (λ rows. all_distinct (trade_ids_of_cash_rows rows)) (numbered_stay 1 (postings_sorted_by_stamp (postings_of_base base))) ∙ moves_own base books;
       counted = ap (λ n. nat_le n greatest_id) (moves_counted base) ∙ le-leb (length base.movements) greatest_id k.cash.few;
       rule = k.cash.day;

@@ -12,7 +12,7 @@ use Rattle.brk_model.specs.Schemas.{third_schema}
 use Rattle.brk_model.specs.Limits.{greatest_price, greatest_qty}
 use Rattle.brk_model.specs.Lists.{sort_by, update_where}
 use Rattle.brk_model.specs.Records.{StatusChange, Trade}
-use Rattle.brk_model.specs.Base.{Base, completed_trades, has_status, is_completed, trade_with_status_change, last_status_stamp_of_trade, completion_price}
+use Rattle.brk_model.specs.Base.{Base, completed_trades, has_last_status, is_completed, trade_with_status_change, last_status_stamp_of_trade, completion_price}
 use Rattle.brk_model.specs.Derived.{deal_of_trade, deals_of_position, trades_of_account, trades_of_position, shares_of_position}
 use Rattle.brk_model.specs.Form.{is_up_to_last_stamp, is_price, is_quantity_in_schema}
 use Rattle.brk_model.specs.Tests.{stamp_of_next_command}
@@ -83,10 +83,10 @@ open_way s (m ∷ n ∷ []) k w h = false_true (sym (two_ways m.status n.status 
 open_way s (m ∷ n ∷ o ∷ []) k w h = let j = three_ways m.status n.status o.status w in false_true (sym (ap (λ s. is_same_trade_status s Pending) j.2) ∙ h)
 open_way s (m ∷ n ∷ o ∷ p ∷ ms) k w h = absurd (no_more_ways m.status n.status o.status p.status (map (λ m. m.status) ms) w)
 
-pub completes_way : (stamp : ℕ) (t : Trade) → HasValidStatusSequence t → has_status Submitted t ≡ true → HasValidStatusSequence (trade_with_status_change stamp Completed t)
+pub completes_way : (stamp : ℕ) (t : Trade) → HasValidStatusSequence t → has_last_status Submitted t ≡ true → HasValidStatusSequence (trade_with_status_change stamp Completed t)
 completes_way stamp t w h = ap is_valid_status_sequence (map-last (λ m. m.status) t.marks (record { stamp = stamp; status = Completed })) ∙ done_way t.marks w h
 
-pub leaves_way : (stamp : ℕ) (status : Status) (t : Trade) → is_valid_status_sequence (Pending ∷ status ∷ []) ≡ true → HasValidStatusSequence t → has_status Pending t ≡ true → HasValidStatusSequence (trade_with_status_change stamp status t)
+pub leaves_way : (stamp : ℕ) (status : Status) (t : Trade) → is_valid_status_sequence (Pending ∷ status ∷ []) ≡ true → HasValidStatusSequence t → has_last_status Pending t ≡ true → HasValidStatusSequence (trade_with_status_change stamp status t)
 leaves_way stamp status t k w h = ap is_valid_status_sequence (map-last (λ m. m.status) t.marks (record { stamp = stamp; status = status })) ∙ open_way status t.marks k w h
 
 -- ---- prices and quantities

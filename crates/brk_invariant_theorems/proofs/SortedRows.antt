@@ -5,7 +5,7 @@ use Rattle.std.specs.List.{AllByRecursion, list_any}
 use Rattle.std.proofs.lemmas.Bool.{and_from}
 use Rattle.std.proofs.lemmas.Slice.Eq.{bytes_eq-Decides}
 use Rattle.brk_money.specs.Spelling.{Text}
-use Rattle.brk_model.specs.Form.{bands_are_disjoint, has_distinct_tax_ids, is_sorted_by_unique_key}
+use Rattle.brk_model.specs.Form.{has_disjoint_bands, has_distinct_tax_ids, is_sorted_by_unique_key}
 use Rattle.brk_model.specs.Keys.{KeyPart, number, word, rows_sorted_by_key, is_key_less, is_row_key_less}
 use Rattle.brk_model.specs.Lists.{insert_by, sort_by}
 use Rattle.brk_model.specs.Records.{Account, Band, Customer, Permission, Security, Trade}
@@ -149,9 +149,9 @@ tax_ids_apart (c ∷ cs) a =
     and_from (not (list_any (λ d. bytes_eq d.tax_id c.tax_id) cs)) (has_distinct_tax_ids cs)
     (ap not (none_any (λ d. bytes_eq d.tax_id c.tax_id) cs (All-map cs (λ d h. other_text d.tax_id c.tax_id h) a.0))) (tax_ids_apart cs a.1)
 
-pub overlap_none : (bs : List Band) → HasDisjointBands bs → bands_are_disjoint bs ≡ true
+pub overlap_none : (bs : List Band) → HasDisjointBands bs → has_disjoint_bands bs ≡ true
 overlap_none [] d = refl
-overlap_none (b ∷ bs) d = and_from (not (list_any (bands_overlap b) bs)) (bands_are_disjoint bs) (ap not (none_any (bands_overlap b) bs d.0)) (overlap_none bs d.1)
+overlap_none (b ∷ bs) d = and_from (not (list_any (bands_overlap b) bs)) (has_disjoint_bands bs) (ap not (none_any (bands_overlap b) bs d.0)) (overlap_none bs d.1)
 
 bands_insert : (before : Band → Band → Bool) (x : Band) (ys : List Band) → NonePass (bands_overlap x) ys → HasDisjointBands ys → HasDisjointBands (insert_by before x ys)
 bands_insert before x [] n a = (tt, tt)

@@ -12,7 +12,7 @@ use Rattle.brk_money.specs.declared.status.Status.TheVariants.{Completed, Submit
 use Rattle.brk_model.specs.Schemas.{third_schema}
 use Rattle.brk_model.specs.Limits.{greatest_amount, greatest_charge, greatest_commission_rate, greatest_summary}
 use Rattle.brk_model.specs.Records.{Account, Band, Trade, Movement}
-use Rattle.brk_model.specs.Base.{Base, commission_band_for_quantity, broker_id_in_accounts, completed_trades, customer_id_of_account, exchange_of_security, has_status, is_completed, is_withholding_status, tax_status_in_accounts, tier_of_account, trade_with_id}
+use Rattle.brk_model.specs.Base.{Base, commission_band_for_quantity, broker_id_in_accounts, completed_trades, customer_id_of_account, exchange_of_security, has_last_status, is_completed, is_withholding_status, tax_status_in_accounts, tier_of_account, trade_with_id}
 use Rattle.brk_model.specs.Derived.{balance_of_account, commission_total_of_broker, shares_of_position, holding_summary_quantity, postings, due_day_of_completion_stamp}
 use Rattle.brk_model.specs.Commands.{CompleteTrade}
 use Rattle.brk_model.specs.Orders.{commission_by_band}
@@ -110,7 +110,7 @@ unfolding completed_trade
 completed_sound base now id price t k books form e accepted h =
     let stamp : ℕ = stamp_of_next_command base now in
     let u : Trade = completed_trade base stamp price t in
-    let s : has_status Submitted t ≡ true = submitted base now id price t e accepted in
+    let s : has_last_status Submitted t ≡ true = submitted base now id price t e accepted in
     let p = result_passed base now id price t e accepted in
     let done : is_completed u ≡ true = status_then base stamp price t Completed in
     let f = parts6 (is_id t.id) (is_quantity_in_schema third_schema t.qty) (is_price t.bid) (nat_le t.charge greatest_charge) (nat_le t.commission greatest_amount) (nat_le t.tax greatest_amount) h.fields in

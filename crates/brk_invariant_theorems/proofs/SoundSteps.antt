@@ -10,7 +10,7 @@ use Rattle.brk_model.specs.Derived.{balance_of_account, commission_total_of_brok
 use Rattle.brk_model.specs.Feed.{base_after_tick, base_after_ticks}
 use Rattle.brk_model.specs.Results.{base_after_result}
 use Rattle.brk_model.specs.Commands.{Command, Reply, Tick, AddBroker, AddCustomer, AddAccount, AddPermission, AddSecurity, AddCharge, AddBand, AddTaxRate, AddCustomerTax, PlaceOrder, FeedTicks, CancelTrade, CompleteTrade, ChangeExecutors, ChangeCashTypes, ChangeCashNames, DepositCash, WithdrawCash, SetOneDay}
-use Rattle.brk_model.specs.Keyed.{answer_and_base_of_step, stored_row_with_optional_key, answer_by_stored_row, keyed_step}
+use Rattle.brk_model.specs.Keyed.{answer_and_base_of_step, stored_row_with_optional_key, answer_and_base_by_stored_row, keyed_step}
 use Rattle.brk_model.specs.Step.{base_after_command_unstamped, reply_to_command, step, value_unless_refused}
 use Rattle.brk_model.specs.Tests.{stamp_of_next_command, refusal_of_command}
 use Rattle.std.specs.Option.{option_map_or}
@@ -130,7 +130,7 @@ pub keyed_sound : (base : Base) (now : ℕ) (command : Command) (key : Option Ke
 unfolding keyed_step
 keyed_sound base now command key k books form named = by_kept (stored_row_with_optional_key base key) refl
   where
-    by_kept : (o : Option Kept) → stored_row_with_optional_key base key ≡ o → AuditInvariant (answer_by_stored_row base now command key o).1
+    by_kept : (o : Option Kept) → stored_row_with_optional_key base key ≡ o → AuditInvariant (answer_and_base_by_stored_row base now command key o).1
     by_kept None e = free_sound base now command key k books form named e
     by_kept (Some row) e = k
 

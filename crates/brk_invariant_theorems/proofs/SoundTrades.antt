@@ -18,14 +18,14 @@ use Rattle.brk_model.specs.Schemas.{third_schema}
 use Rattle.brk_model.specs.Limits.{greatest_amount, greatest_charge, greatest_summary, greatest_id}
 use Rattle.brk_model.specs.Lists.{contains_number, contains_text, is_pair_less, total_by, update_where}
 use Rattle.brk_model.specs.Records.{Account, Charge, StatusChange, Security, Trade, Movement}
-use Rattle.brk_model.specs.Base.{Base, broker_id_in_accounts, charge_for_type_and_tier, completed_trades, has_status, is_completed, last_price, trade_with_status_change, last_status_stamp_of_trade, opening_balance_in_accounts, security_with_symbol, tier_of_account, trade_with_id}
+use Rattle.brk_model.specs.Base.{Base, broker_id_in_accounts, charge_for_type_and_tier, completed_trades, has_last_status, is_completed, last_price, trade_with_status_change, last_status_stamp_of_trade, opening_balance_in_accounts, security_with_symbol, tier_of_account, trade_with_id}
 use Rattle.brk_model.specs.Derived.{settlement_amount, balance_of_account, commission_total_of_broker, holding_summary_quantity, postings_to_account, posting_of_movement, postings, due_day_of_completion_stamp}
 use Rattle.brk_model.specs.Commands.{Order, Tick, PlaceOrder, FeedTicks, CancelTrade, ChangeExecutors, ChangeCashTypes, ChangeCashNames}
 use Rattle.brk_model.specs.Orders.{estimate, first_status, trade_of_order, requested_price}
 use Rattle.brk_model.specs.Feed.{is_triggered_by_tick, security_after_tick, base_after_tick, base_after_ticks}
 use Rattle.brk_model.specs.Results.{cash_row_name}
 use Rattle.brk_model.specs.Shares.{signed_by_side}
-use Rattle.brk_model.specs.Updates.{updated_cash_row_name, updated_cash_type, updated_executor_name, selected_trade_ids, selected_ids_of_account, selected_ids_of_symbol, trade_stamp_is_between, trades_oldest_first, toggled_word}
+use Rattle.brk_model.specs.Updates.{updated_cash_row_name, updated_cash_type, updated_executor_name, selected_trade_ids, selected_trade_ids_of_account, selected_trade_ids_of_symbol, trade_stamp_is_between, trades_oldest_first, toggled_word}
 use Rattle.brk_model.specs.Form.{is_well_formed_charge_row, is_cash_type_of_trade, is_up_to_last_stamp, is_price, is_quantity_in_schema, is_tier, is_id}
 use Rattle.brk_model.specs.Forms.{is_exchange, is_name, is_symbol}
 use Rattle.brk_model.specs.Step.{base_after_command_unstamped}
@@ -154,7 +154,7 @@ stamps_below stamp status t r h =
     ∙ rising_more (map (λ m. m.stamp) t.marks) stamp r (All-mapped (λ n. n < stamp) (λ m. m.stamp) t.marks h)
 
 marked_sound : (b : Base) (stamp : ℕ) (status : Status) (t : Trade) → is_valid_status_sequence (Pending ∷ status ∷ []) ≡ true → is_same_trade_status status Completed ≡ false
-    → BaseTradeAuditInvariant (record b { last = Some stamp }) t → AllByRecursion (λ m. m.stamp < stamp) t.marks → has_status Pending t ≡ true
+    → BaseTradeAuditInvariant (record b { last = Some stamp }) t → AllByRecursion (λ m. m.stamp < stamp) t.marks → has_last_status Pending t ≡ true
     → BaseTradeAuditInvariant (record b { last = Some stamp }) (trade_with_status_change stamp status t)
 marked_sound b stamp status t w other k below h =
     let u : Trade = trade_with_status_change stamp status t in
@@ -192,10 +192,10 @@ named_all P base id t n e w =
     (All-append (λ u. (u.id == id) ≡ true → P u) f.before (t ∷ f.after) (others f.before f.others) ((λ same. w), others f.after behind))
 
 waiting_named : (base : Base) (id : ℕ) (o : Option Trade) → TradesAreNumberedFrom 1 base.trades → trade_with_id base id ≡ o
-    → AllByRecursion (λ test. test.0 ≡ false) (option_map_or (λ t. status_check (has_status Pending t) t ∷ []) o ((true, NoTrade) ∷ []))
-    → AllByRecursion (λ t. (t.id == id) ≡ true → has_status Pending t ≡ true) base.trades
+    → AllByRecursion (λ test. test.0 ≡ false) (option_map_or (λ t. status_check (has_last_status Pending t) t ∷ []) o ((true, NoTrade) ∷ []))
+    → AllByRecursion (λ t. (t.id == id) ≡ true → has_last_status Pending t ≡ true) base.trades
 waiting_named base id None n e k = let h : true ≡ false = k.0 in absurd (cc)
-waiting_named base id (Some t) n e k = named_all (λ t. has_status Pending t ≡ true) base id t n e (not_not (has_status Pending t) k.0)
+waiting_named base id (Some t) n e k = named_all (λ t. has_last_status Pending t ≡ true) base id t n e (not_not (has_last_status Pending t) k.0)
 
 pub sound_cancel : (base : Base) (now id : ℕ) → LeavesSound base now (CancelTrade id)
 unfolding base_after_command_unstamped checks_of_command
@@ -205,14 +205,14 @@ sound_cancel base now id k books form e =
     let l : AuditInvariant c = sound_last base now k in
     let ts : List Trade = update_where (λ t. t.id == id) (trade_with_status_change stamp Canceled) base.trades in
     let waits = waiting_named base id (trade_with_id base id) books.numbered refl (passed base now (CancelTrade id) e) in
-    let P : Trade → Type 0 = λ t. BaseTradeAuditInvariant c t × (AllByRecursion (StatusStampIsAtMostLastStamp base.last) t.marks × ((t.id == id) ≡ true → has_status Pending t ≡ true)) in
+    let P : Trade → Type 0 = λ t. BaseTradeAuditInvariant c t × (AllByRecursion (StatusStampIsAtMostLastStamp base.last) t.marks × ((t.id == id) ≡ true → has_last_status Pending t ≡ true)) in
     let past = All-map base.trades (λ t h. h.past) k.trades in
     sound_moved c base.securities ts l k.securities l.moments
     (updated_all P (BaseTradeAuditInvariant (record c { trades = ts })) (λ t. t.id == id) (trade_with_status_change stamp Canceled) base.trades
     (λ t i h. marked_sound base stamp Canceled t refl refl h.0 (All-map t.marks (λ m b. past_before base.last now m.stamp b) h.1.0) (h.1.1 i))
     (λ t h. h.0)
-    (both_all (BaseTradeAuditInvariant c) (λ t. AllByRecursion (StatusStampIsAtMostLastStamp base.last) t.marks × ((t.id == id) ≡ true → has_status Pending t ≡ true)) base.trades l.trades
-    (both_all (λ t. AllByRecursion (StatusStampIsAtMostLastStamp base.last) t.marks) (λ t. (t.id == id) ≡ true → has_status Pending t ≡ true) base.trades past waits)))
+    (both_all (BaseTradeAuditInvariant c) (λ t. AllByRecursion (StatusStampIsAtMostLastStamp base.last) t.marks × ((t.id == id) ≡ true → has_last_status Pending t ≡ true)) base.trades l.trades
+    (both_all (λ t. AllByRecursion (StatusStampIsAtMostLastStamp base.last) t.marks) (λ t. (t.id == id) ≡ true → has_last_status Pending t ≡ true) base.trades past waits)))
     (completed_unseen (λ t. t.id == id) (trade_with_status_change stamp Canceled) base.trades (λ t. status_of_marked stamp Canceled Completed t)
     (All-map base.trades (λ t w i. pending_not_completed t (w i)) waits))
 
@@ -220,7 +220,7 @@ sound_cancel base now id k books form e =
 
 -- a trade that waits came to its status before a stamp
 abbrev Waits : ℕ → Trade → Type 0
-Waits stamp t = has_status Pending t ≡ true → AllByRecursion (λ m. m.stamp < stamp) t.marks
+Waits stamp t = has_last_status Pending t ≡ true → AllByRecursion (λ m. m.stamp < stamp) t.marks
 
 names_stay : (stamp : ℕ) (tick : Tick) (symbol : Text) (q : Security → Bool) (ss : List Security)
     → option_map_or (λ s. s.name) (find (λ s. bytes_eq s.symbol symbol) (update_where q (security_after_tick stamp tick) ss)) [] ≡ option_map_or (λ s. s.name) (find (λ s. bytes_eq s.symbol symbol) ss) []
@@ -466,7 +466,7 @@ unfolding base_after_command_unstamped
 sound_cash_types base now account first last k books form e =
     let c : Base = record base { last = Some (stamp_of_next_command base now) } in
     let l : AuditInvariant c = sound_last base now k in
-    let p : Trade → Bool = λ t. contains_number t.id (selected_ids_of_account base account first last) in
+    let p : Trade → Bool = λ t. contains_number t.id (selected_trade_ids_of_account base account first last) in
     let x : Trade → Text = λ t. t.executor in
     let y : Trade → Text = updated_cash_type in
     let z : Trade → Text = λ t. t.cash_name in
@@ -502,7 +502,7 @@ unfolding base_after_command_unstamped
 sound_cash_names base now symbol first last k books form e =
     let c : Base = record base { last = Some (stamp_of_next_command base now) } in
     let l : AuditInvariant c = sound_last base now k in
-    let p : Trade → Bool = λ t. contains_number t.id (selected_ids_of_symbol base symbol first last) in
+    let p : Trade → Bool = λ t. contains_number t.id (selected_trade_ids_of_symbol base symbol first last) in
     let x : Trade → Text = λ t. t.executor in
     let y : Trade → Text = λ t. t.cash_type in
     let z : Trade → Text = updated_cash_row_name base in

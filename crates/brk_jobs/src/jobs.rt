@@ -85,7 +85,7 @@ fn execute_job<R: Read + Drop, W: Write>(
 /// they request, and returns the outcome of the job; `Usage` if they request help, the version or
 /// no job, and `Output` if the help or the version cannot be written. A batch is read from `input`.
 /// The output of the job, also help, is written to `output`.
-pub fn execute_arguments<R: Read + Drop, W: Write>(
+pub fn execute_requested_job<R: Read + Drop, W: Write>(
     rt: &HostRuntime,
     words: Vec<String>,
     input: R,

@@ -12,4 +12,4 @@ mod pipe;
 mod serve;
 mod statement;
 
-pub use jobs::execute_arguments;
+pub use jobs::execute_requested_job;

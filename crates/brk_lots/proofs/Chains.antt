@@ -9,9 +9,9 @@ use Rattle.brk_money.specs.declared.side.Side.{Side}
 use Rattle.brk_money.specs.declared.side.Side.TheVariants.{Buy, Sell}
 use Rattle.brk_model.specs.Lists.{is_zero}
 use Rattle.brk_model.specs.Shares.{Share, Deal, Touch, signed_by_side, replay, shares_after_deal, opened_share, closed_share_count_of_deal, lot_quantity, changes_lot_quantity, touch_of_lot}
-use Rattle.brk_lots.specs.Deals.{IsLaterDeal, AreAscendingDeals}
+use Rattle.brk_lots.specs.Deals.{IsLaterDealOfOtherTrade, AreDistinctAscendingDeals}
 use Rattle.brk_model.specs.Tables.{HoldingHistoryRow, holding_history_row}
-use Rattle.brk_lots.specs.HistoryRows.{row_changes_quantity, holding_history_rows_of_deals, touch_of_row}
+use Rattle.brk_lots.specs.HistoryRows.{has_quantity_change, lot_history_rows_per_deal, touch_of_row}
 use Rattle.brk_lots.specs.Chains.{changes_of_lot, ShrinksTowardZero, IsLotHistory}
 use Rattle.brk_lots.proofs.Runs.{count_of, without}
 use Rattle.brk_lots.proofs.Changes.{all_from, shares_appended}
@@ -39,7 +39,7 @@ change_by t d s us one h =
 -- The HOLDING_HISTORY rows of the lot of the trade `t` that change its quantity, by the deals `ds`
 -- on the shares `us`.
 abbrev moved : ℕ → List Deal → List Share → List HoldingHistoryRow
-moved t ds us = filter row_changes_quantity (holding_history_rows_of_deals t us ds)
+moved t ds us = filter has_quantity_change (lot_history_rows_per_deal t us ds)
 
 -- where no deal opens the lot again, it falls
 falls : (t : ℕ) (ds : List Deal) (s : Side) (us : List Share) → OneSide s us → AllByRecursion (λ d. d.trade ≢ t) ds → ShrinksTowardZero (lot_quantity us t) (changes_of_lot t ds us) (lot_quantity (fold shares_after_deal us ds) t)
@@ -92,7 +92,7 @@ zero_is (pos (suc n)) e = cc
 zero_is (negsuc n) e = cc
 
 -- from no share of it, a lot has a life
-life : (t : ℕ) (ds : List Deal) (s : Side) (us : List Share) → OneSide s us → AreAscendingDeals ds → count_of t us ≡ 0 → IsLotHistory (changes_of_lot t ds us) (lot_quantity (fold shares_after_deal us ds) t)
+life : (t : ℕ) (ds : List Deal) (s : Side) (us : List Share) → OneSide s us → AreDistinctAscendingDeals ds → count_of t us ≡ 0 → IsLotHistory (changes_of_lot t ds us) (lot_quantity (fold shares_after_deal us ds) t)
 life t [] s us one a z = sym (lot_counts s t us one ∙ ap (signed_by_side s) z ∙ none_signed s)
 life t (d ∷ ds) s us one a z = let b = side_after s d us one in step b.0 b.1 (cases_eq d.trade t) (life t ds b.0 (shares_after_deal us d) b.1 a.1) where
   after : List Share
@@ -117,7 +117,7 @@ life t (d ∷ ds) s us one a z = let b = side_after s d us one in step b.0 b.1 (
 
   step : (r : Side) → OneSide r after → (d.trade ≡ t) ⊎ (d.trade ≡ t → ⊥) → (count_of t after ≡ 0 → IsLotHistory rows to) → IsLotHistory (changes_of_lot t (d ∷ ds) us) to
   step r side (inl own) rest =
-      let others : AllByRecursion (λ e. e.trade ≢ t) ds = all_from (IsLaterDeal d) (IsLaterDeal d) (λ e. e.trade ≢ t) (λ e l m x. l.0 (own ∙ sym x)) ds a.0 a.0 in
+      let others : AllByRecursion (λ e. e.trade ≢ t) ds = all_from (IsLaterDealOfOtherTrade d) (IsLaterDealOfOtherTrade d) (λ e. e.trade ≢ t) (λ e l m x. l.0 (own ∙ sym x)) ds a.0 a.0 in
       opened (changes_lot_quantity (touch_of_lot t d us)) refl (falls t ds r after side others)
   step r side (inr other) rest =
       let fewer = count_after t d us other in
@@ -126,5 +126,5 @@ life t (d ∷ ds) s us one a z = let b = side_after s d us one in step b.0 b.1 (
       change_by t d s us one other ∙ ap (λ n. not (is_zero (signed_by_side s n -ℤ signed_by_side s (count_of t after)))) (z ∙ sym zero_after) ∙ ap not (differ_none s (count_of t after)) in
       subst (λ b. IsLotHistory (map touch_of_row (cond b (holding_history_row d.trade (touch_of_lot t d us) ∷ moved t ds after) (moved t ds after))) to) (sym no) (rest zero_after)
 
-pub lots_live : (ds : List Deal) (t : ℕ) → AreAscendingDeals ds → IsLotHistory (changes_of_lot t ds []) (lot_quantity (replay ds) t)
+pub lots_live : (ds : List Deal) (t : ℕ) → AreDistinctAscendingDeals ds → IsLotHistory (changes_of_lot t ds []) (lot_quantity (replay ds) t)
 lots_live ds t a = life t ds Buy [] tt a refl

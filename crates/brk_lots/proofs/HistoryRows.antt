@@ -4,10 +4,10 @@ use Rattle.std.specs.Prelude.{flat_map}
 use Rattle.brk_model.specs.Derived.{deals_of_position}
 use Rattle.brk_model.specs.Records.{Trade}
 use Rattle.brk_model.specs.Shares.{Share, Deal, shares_after_deal, touch_of_lot}
-use Rattle.brk_model.specs.Tables.{HoldingHistoryRow, holding_history_of_lot, holding_history_rows_of_lot, rows_with_lot_touch}
-use Rattle.brk_lots.specs.HistoryRows.{changing_rows_of_lot, holding_history_rows_of_deals, row_changes_quantity}
+use Rattle.brk_model.specs.Tables.{HoldingHistoryRow, holding_history_over_deals, holding_history_rows_of_lot, rows_with_lot_touch}
+use Rattle.brk_lots.specs.HistoryRows.{changing_rows_of_lot, lot_history_rows_per_deal, has_quantity_change}
 
-by_deals : (lot : ℕ) (shares : List Share) (deals : List Deal) → holding_history_of_lot lot shares deals ≡ filter row_changes_quantity (holding_history_rows_of_deals lot shares deals)
+by_deals : (lot : ℕ) (shares : List Share) (deals : List Deal) → holding_history_over_deals lot shares deals ≡ filter has_quantity_change (lot_history_rows_per_deal lot shares deals)
 by_deals lot shares [] = refl
 by_deals lot shares (d ∷ deals) = ap (rows_with_lot_touch d.trade (touch_of_lot lot d shares)) (by_deals lot (shares_after_deal shares d) deals)
 

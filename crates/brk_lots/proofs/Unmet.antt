@@ -6,7 +6,7 @@ use Rattle.brk_money.specs.declared.side.Side.{Side}
 use Rattle.brk_money.specs.declared.side.Side.TheVariants.{Buy, Sell}
 use Rattle.brk_model.specs.Shares.{Deal, signed_by_side}
 use Rattle.brk_lots.specs.declared.lot.Lot.{Lot}
-use Rattle.brk_lots.specs.Against.{trade_closes_lots}
+use Rattle.brk_lots.specs.Against.{is_trade_closing_lots}
 use Rattle.brk_lots.specs.Books.{lot_quantity_sum}
 use Rattle.brk_lots.specs.Lots.{list_reversed_if_lifo, shares_of_lots}
 use Rattle.brk_lots.specs.Position.{IsPositionInAnyOrder}
@@ -19,7 +19,7 @@ use Rattle.brk_lots.proofs.Ends.{met_all, met_end}
 use Rattle.brk_lots.proofs.Walks.{paid_none}
 
 -- so many shares of a side, none of which a trade of another side would close
-none_against : (side s : Side) (q n : ℕ) → trade_closes_lots side (signed_by_side s n) ≡ false → cond (is_same_side s side) 0 (min q n) ≡ 0
+none_against : (side s : Side) (q n : ℕ) → is_trade_closing_lots side (signed_by_side s n) ≡ false → cond (is_same_side s side) 0 (min q n) ≡ 0
 none_against Buy Buy q n e = refl
 none_against Sell Sell q n e = refl
 none_against Sell Buy q zero e = omega arith
@@ -27,20 +27,20 @@ none_against Sell Buy q (suc n) e = absurd (omega (arith, ltb-false 0 (suc n) e)
 none_against Buy Sell q zero e = omega arith
 none_against Buy Sell q (suc n) e = let f : true ≡ false = e in absurd (cc)
 
-pub none_met : (side : Side) (q : ℕ) (ls : List Lot) → IsPositionInAnyOrder ls → trade_closes_lots side (lot_quantity_sum ls) ≡ false → closed_share_count side q ls ≡ 0
+pub none_met : (side : Side) (q : ℕ) (ls : List Lot) → IsPositionInAnyOrder ls → is_trade_closing_lots side (lot_quantity_sum ls) ≡ false → closed_share_count side q ls ≡ 0
 none_met side q ls w e =
     let s = walk_side ls w in
     let total : lot_quantity_sum ls ≡ signed_by_side s.0 (length (shares_of_lots ls)) = lots_net ls ∙ net_of s.0 (shares_of_lots ls) (all_shares (λ v. v.side ≡ s.0) ls s.1) in
-    met_all side s.0 q ls s.1 ∙ none_against side s.0 q (length (shares_of_lots ls)) (sym (ap (trade_closes_lots side) total) ∙ e)
+    met_all side s.0 q ls s.1 ∙ none_against side s.0 q (length (shares_of_lots ls)) (sym (ap (is_trade_closing_lots side) total) ∙ e)
 
-pub none_met_from : (lifo : Bool) (side : Side) (q : ℕ) (ls : List Lot) → IsPositionInAnyOrder ls → trade_closes_lots side (lot_quantity_sum ls) ≡ false → closed_share_count side q (list_reversed_if_lifo lifo ls) ≡ 0
+pub none_met_from : (lifo : Bool) (side : Side) (q : ℕ) (ls : List Lot) → IsPositionInAnyOrder ls → is_trade_closing_lots side (lot_quantity_sum ls) ≡ false → closed_share_count side q (list_reversed_if_lifo lifo ls) ≡ 0
 none_met_from lifo side q ls w e = met_end lifo side q ls w ∙ none_met side q ls w e
 
 no_worth : (side : Side) → closing_values_by_side side 0 0 ≡ record { buy_value = 0; sell_value = 0 }
 no_worth Buy = refl
 no_worth Sell = refl
 
-pub no_values_are : (d : Deal) (ls : List Lot) → IsPositionInAnyOrder ls → trade_closes_lots d.side (lot_quantity_sum ls) ≡ false → closing_values_of_deal d (shares_of_lots ls) ≡ record { buy_value = 0; sell_value = 0 }
+pub no_values_are : (d : Deal) (ls : List Lot) → IsPositionInAnyOrder ls → is_trade_closing_lots d.side (lot_quantity_sum ls) ≡ false → closing_values_of_deal d (shares_of_lots ls) ≡ record { buy_value = 0; sell_value = 0 }
 no_values_are d ls w e =
     let walk = list_reversed_if_lifo d.is_lifo ls in
     let none = none_met_from d.is_lifo d.side d.qty ls w e in

@@ -3,7 +3,7 @@ use Rattle.std.specs.Prelude.{◌≡◌, ℕ, ◌<◌, ℤ, pos, List, [], ◌�
 use Rattle.brk_money.specs.declared.side.Side.{Side}
 use Rattle.brk_model.specs.Shares.{Share, Deal, Lot, Touch, signed_by_side, shares_after_deal, lots_of_shares, opened_shares, touches_of_existing_lots}
 use Rattle.brk_model.specs.Tables.{HoldingHistoryRow, holding_history_row}
-use Rattle.brk_lots.specs.HistoryRows.{row_changes_quantity, holding_history_rows_of_deals, touch_of_row}
+use Rattle.brk_lots.specs.HistoryRows.{has_quantity_change, lot_history_rows_per_deal, touch_of_row}
 use Rattle.brk_lots.specs.declared.replay.DealTouch.{DealTouch}
 use Rattle.brk_lots.specs.Lots.{list_reversed_if_lifo}
 
@@ -11,7 +11,7 @@ use Rattle.brk_lots.specs.Lots.{list_reversed_if_lifo}
 -- sequence to the position with the shares `us`. A deal that does not change the quantity of the
 -- lot has no element in the list.
 abbrev pub changes_of_lot : ℕ → List Deal → List Share → List Touch
-changes_of_lot trade ds us = map touch_of_row (filter row_changes_quantity (holding_history_rows_of_deals trade us ds))
+changes_of_lot trade ds us = map touch_of_row (filter has_quantity_change (lot_history_rows_per_deal trade us ds))
 
 -- The signed quantity `after` is nearer to 0 than `before`, and is 0 or has the sign of `before`.
 abbrev pub IsNearerToZero : ℤ → ℤ → Type 0

@@ -22,7 +22,7 @@ pub record AreLotsTouchedByDeal (d : Deal) (ls : List Lot) (rows : List Touch) (
 -- The `ClosedLots` record `closed` is the effect of the deal `d` on the shares of the lots `ls`:
 -- the changes of the lots that it closes or reduces, the lot that it opens, if any, and the buy
 -- value and the sell value, as amounts, of exactly the shares that it closes.
-pub record AreLotsClosedByDeal (d : Deal) (ls : List Lot) (closed : ClosedLots) : Type 0 where
+pub record IsEffectOfDealOnLots (d : Deal) (ls : List Lot) (closed : ClosedLots) : Type 0 where
   pub lots : AreLotsTouchedByDeal d ls closed.touched.items closed.opened
   pub values : closed.values ≡ closing_values_of_deal d (shares_of_lots ls)
 

@@ -11,18 +11,18 @@ abbrev pub touch_of_row : HoldingHistoryRow → Touch
 touch_of_row row = record { lot = row.lot; before = row.before; after = row.after }
 
 -- True if the quantities before and after of a HOLDING_HISTORY row differ.
-abbrev pub row_changes_quantity : HoldingHistoryRow → Bool
-row_changes_quantity row = changes_lot_quantity (touch_of_row row)
+abbrev pub has_quantity_change : HoldingHistoryRow → Bool
+has_quantity_change row = changes_lot_quantity (touch_of_row row)
 
 -- One HOLDING_HISTORY row of the lot `lot` for each deal, also for a deal that does not change the
 -- lot. The deals are applied in sequence to the position with the shares `shares`.
-abbrev pub holding_history_rows_of_deals : ℕ → List Share → List Deal → List HoldingHistoryRow
-holding_history_rows_of_deals lot shares [] = []
-holding_history_rows_of_deals lot shares (d ∷ deals) =
-    holding_history_row d.trade (touch_of_lot lot d shares) ∷ holding_history_rows_of_deals lot (shares_after_deal shares d) deals
+abbrev pub lot_history_rows_per_deal : ℕ → List Share → List Deal → List HoldingHistoryRow
+lot_history_rows_per_deal lot shares [] = []
+lot_history_rows_per_deal lot shares (d ∷ deals) =
+    holding_history_row d.trade (touch_of_lot lot d shares) ∷ lot_history_rows_per_deal lot (shares_after_deal shares d) deals
 
 -- The HOLDING_HISTORY rows of the lot that the trade `t` opened: one row for each deal of the
 -- account and the symbol of `t`, over the completed trades `done`, that changes the quantity of the
 -- lot.
 abbrev pub changing_rows_of_lot : List Trade → Trade → List HoldingHistoryRow
-changing_rows_of_lot done t = filter row_changes_quantity (holding_history_rows_of_deals t.id [] (deals_of_position done t.account t.symbol))
+changing_rows_of_lot done t = filter has_quantity_change (lot_history_rows_per_deal t.id [] (deals_of_position done t.account t.symbol))

@@ -3,9 +3,9 @@
 ghost use Rattle.std.specs.Prelude.{◌≡◌, List, Bool, false};
 ghost use Rattle.brk_model.specs.Shares as model;
 ghost use Rattle.brk_lots.specs.declared.lot.Lot.{Lot};
-ghost use Rattle.brk_lots.specs.Against.{trade_closes_lots};
+ghost use Rattle.brk_lots.specs.Against.{is_trade_closing_lots};
 ghost use Rattle.brk_lots.specs.Books.{lot_quantity_sum};
-ghost use Rattle.brk_lots.specs.Closing.{AreLotsClosedByDeal};
+ghost use Rattle.brk_lots.specs.Closing.{IsEffectOfDealOnLots};
 ghost use Rattle.brk_lots.specs.Lots.{shares_of_lots};
 ghost use Rattle.brk_lots.specs.Position.{AreOpenedByOtherTrades, IsPositionInAnyOrder};
 ghost use Rattle.brk_lots.specs.Values.{closing_values_of_deal};
@@ -17,8 +17,8 @@ use std::alloc::Global;
 
 /// Returns true if a trade of the side closes lots of a position that holds `held` shares (HS_QTY):
 /// a purchase if `held` is below 0, a sale if it is above 0.
-pub fn trade_closes_lots(side: Side, held: i64) -> bool
-    ensures { result ≡ trade_closes_lots side held }
+pub fn is_trade_closing_lots(side: Side, held: i64) -> bool
+    ensures { result ≡ is_trade_closing_lots side held }
 {
     match side {
         Side::Buy => held < 0,
@@ -29,7 +29,7 @@ pub fn trade_closes_lots(side: Side, held: i64) -> bool
 /// Returns the effect of a trade that closes no lot: it opens a lot of all its shares
 /// (Trade-Result). The buy value and the sell value of the closed shares are 0.
 ///
-/// The caller checks with `trade_closes_lots` that the trade closes no lot. No lot of the position
+/// The caller checks with `is_trade_closing_lots` that the trade closes no lot. No lot of the position
 /// may have been opened by `trade`.
 pub fn open_lot_without_closing(
     alloc: Global,
@@ -40,8 +40,8 @@ pub fn open_lot_without_closing(
     stamp: Stamp,
 ) -> ClosedLots
     ensures closed { (ls : List Lot) (lifo : Bool) → IsPositionInAnyOrder ls → AreOpenedByOtherTrades trade ls
-        → trade_closes_lots side (lot_quantity_sum ls) ≡ false →
-        AreLotsClosedByDeal (record { trade = trade; side = side; qty = qty; price = price; stamp = stamp; is_lifo = lifo }) ls result }
+        → is_trade_closing_lots side (lot_quantity_sum ls) ≡ false →
+        IsEffectOfDealOnLots (record { trade = trade; side = side; qty = qty; price = price; stamp = stamp; is_lifo = lifo }) ls result }
     ensures bought { result.values.buy_value ≡ 0 }
     ensures sold { result.values.sell_value ≡ 0 }
 {
@@ -53,9 +53,9 @@ pub fn open_lot_without_closing(
 }
 
 /// Returns the buy value and the sell value of the closed shares of an order that closes no share:
-/// both are 0. The caller checks with `trade_closes_lots` that the order closes no lot.
+/// both are 0. The caller checks with `is_trade_closing_lots` that the order closes no lot.
 pub fn zero_closing_values() -> Values
-    ensures values { (d : model.Deal) (ls : List Lot) → IsPositionInAnyOrder ls → trade_closes_lots d.side (lot_quantity_sum ls) ≡ false
+    ensures values { (d : model.Deal) (ls : List Lot) → IsPositionInAnyOrder ls → is_trade_closing_lots d.side (lot_quantity_sum ls) ≡ false
         → result ≡ closing_values_of_deal d (shares_of_lots ls) }
     ensures bought { result.buy_value ≡ 0 }
     ensures sold { result.sell_value ≡ 0 }

@@ -5,7 +5,7 @@ ghost use Rattle.brk_model.specs.Shares.{lots_of_shares, touches_of_existing_lot
 ghost use Rattle.brk_lots.specs.declared.lot.Lot.{Lot};
 ghost use Rattle.brk_lots.specs.Lots.{abstract_lot, shares_of_lots};
 ghost use Rattle.brk_lots.specs.Position.{AreOpenedByOtherTrades};
-ghost use Rattle.brk_lots.specs.Closing.{AreLotsClosedByDeal, IsClosingOfDeal};
+ghost use Rattle.brk_lots.specs.Closing.{IsEffectOfDealOnLots, IsClosingOfDeal};
 ghost use Rattle.brk_lots.specs.Sources.{YieldsPosition, AreLotsOfFaithfulSource};
 
 use crate::lot::{Lot, Touch, signed_qty};
@@ -86,7 +86,7 @@ pub fn close_with_amounts<L: LotSource>(
     // of that position.
     ensures closed { IfOk result (λ closed. (ls : List Lot) (lifo : Bool)
         → YieldsPosition (AreLotsOfFaithfulSource (L.reads_faithfully source.new) (L.remaining source.old)) lifo ls → AreOpenedByOtherTrades trade ls →
-        AreLotsClosedByDeal (record { trade = trade; side = side; qty = qty; price = price; stamp = stamp; is_lifo = lifo }) ls closed) }
+        IsEffectOfDealOnLots (record { trade = trade; side = side; qty = qty; price = price; stamp = stamp; is_lifo = lifo }) ls closed) }
     // Both values are at most that of the quantity at the greatest price.
     ensures bought { IfOk result (λ closed. closed.values.buy_value ≤ qty * greatest_price) }
     ensures sold { IfOk result (λ closed. closed.values.sell_value ≤ qty * greatest_price) }

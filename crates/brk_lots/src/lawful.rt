@@ -9,7 +9,7 @@ use brk_money::{Id, Stamp};
 
 // Returns true if `rest` is empty, or if its first lot has the side of `lot` and a later stamp than
 // `lot`.
-fn next_lot_is_later_on_same_side(lot: &Lot, rest: &[Lot]) -> bool
+fn is_before_next_on_same_side(lot: &Lot, rest: &[Lot]) -> bool
     ensures { IsTrue result ↔ FirstLotSatisfies (PrecedesOnSameSide lot.now) rest.now }
 {
     match rest {
@@ -24,7 +24,7 @@ fn is_one_sided_and_ascending(lots: &[Lot]) -> bool
     ensures { IsTrue result ↔ IsOneSidedAndAscending lots.now }
 {
     for (i, lot) in lots.iter().enumerate() {
-        if lot.qty == 0 || !next_lot_is_later_on_same_side(lot, &lots[i + 1..]) {
+        if lot.qty == 0 || !is_before_next_on_same_side(lot, &lots[i + 1..]) {
             return false;
         }
     }
@@ -32,7 +32,7 @@ fn is_one_sided_and_ascending(lots: &[Lot]) -> bool
 }
 
 // Returns true if `rest` is empty, or if another trade than `trade` opened its first lot.
-fn next_lot_is_of_other_trade(trade: Id, rest: &[Lot]) -> bool
+fn is_not_trade_of_next_lot(trade: Id, rest: &[Lot]) -> bool
     ensures { IsTrue result ↔ FirstLotSatisfies (λ l. l.trade ≢ trade) rest.now }
 {
     match rest {
@@ -42,11 +42,11 @@ fn next_lot_is_of_other_trade(trade: Id, rest: &[Lot]) -> bool
 }
 
 // Returns true if no two neighbouring lots of the list were opened by the same trade.
-fn neighbours_differ_in_trade(lots: &[Lot]) -> bool
+fn has_no_neighbours_of_one_trade(lots: &[Lot]) -> bool
     ensures { IsTrue result ↔ NeighboursDifferInTrade lots.now }
 {
     for (i, lot) in lots.iter().enumerate() {
-        if !next_lot_is_of_other_trade(lot.trade, &lots[i + 1..]) {
+        if !is_not_trade_of_next_lot(lot.trade, &lots[i + 1..]) {
             return false;
         }
     }
@@ -81,14 +81,14 @@ pub(crate) fn is_position(lots: &mut [Lot]) -> bool
         return false;
     }
     sort_lots_by_trade(lots);
-    let distinct = neighbours_differ_in_trade(lots);
+    let distinct = has_no_neighbours_of_one_trade(lots);
     sort_lots_by_stamp(lots);
     distinct
 }
 
 // Returns true if all lots were opened by other trades than `trade`, and before `stamp`; also true
 // if there is no lot.
-pub(crate) fn all_lots_precede_trade(lots: &[Lot], trade: Id, stamp: Stamp) -> bool
+pub(crate) fn is_new_trade_after_lots(lots: &[Lot], trade: Id, stamp: Stamp) -> bool
     ensures { IsTrue result ↔ All (λ l. (l.trade ≢ trade) × (l.stamp < stamp)) lots.now }
 {
     lots.iter()

@@ -8,7 +8,7 @@ ghost use Rattle.brk_model.specs.Shares.{opened_shares, shares_after_deal, close
 ghost use Rattle.brk_lots.specs.declared.lot.Lot.{Lot};
 ghost use Rattle.brk_lots.specs.Books.{deal_quantity_sum, realised_gain_sum, lot_cost_basis, lot_quantity_sum, purchases_minus_sales};
 ghost use Rattle.brk_lots.specs.Chains.{IsLotHistory, opening_touch, changes_of_lot};
-ghost use Rattle.brk_lots.specs.Deals.{AreAscendingDeals};
+ghost use Rattle.brk_lots.specs.Deals.{AreDistinctAscendingDeals};
 ghost use Rattle.brk_lots.specs.Lots.{shares_of_lots, abstract_lot};
 ghost use Rattle.brk_lots.specs.Position.{AreOpenedByOtherTrades, IsPosition};
 
@@ -30,7 +30,7 @@ pub fn replayed_lots_match_their_deals()
 /// this trade after the deal is the quantity of the deal minus the number of shares that the deal
 /// closes, below 0 for a sale.
 pub fn lot_histories_are_chains()
-    ensures history { (deals : List Deal) (trade : ℕ) → AreAscendingDeals deals
+    ensures history { (deals : List Deal) (trade : ℕ) → AreDistinctAscendingDeals deals
         → IsLotHistory (changes_of_lot trade deals []) (lot_quantity (replay deals) trade) }
     ensures opened { (d : Deal) (ls : List Lot) → IsPosition ls → AreOpenedByOtherTrades d.trade ls →
         lot_quantity (shares_after_deal (shares_of_lots ls) d) d.trade ≡ signed_by_side d.side (d.qty - closed_share_count_of_deal d (shares_of_lots ls)) }

@@ -17,7 +17,7 @@ pub mod source;
 pub mod values;
 mod walk;
 
-pub use against::{open_lot_without_closing, trade_closes_lots, zero_closing_values};
+pub use against::{is_trade_closing_lots, open_lot_without_closing, zero_closing_values};
 pub use closing::{ClosedLots, Closing, close, close_with_amounts};
 pub use deal::Deal;
 pub use end::PositionEnd;

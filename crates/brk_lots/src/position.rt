@@ -7,7 +7,7 @@ ghost use Rattle.brk_lots.specs.Closing.{IsApplicableClosing};
 use crate::closing::Closing;
 use crate::cutting::apply_touches_to_lots;
 use crate::end::PositionEnd;
-use crate::lawful::{all_lots_precede_trade, is_position};
+use crate::lawful::{is_new_trade_after_lots, is_position};
 use crate::lot::Lot;
 use crate::source::LotSource;
 use brk_money::{Fault, Id, Stamp};
@@ -74,7 +74,7 @@ impl Position {
     pub fn accepts_trade(&self, trade: Id, stamp: Stamp) -> bool
         ensures { IsTrue result ↔ (AreOpenedByOtherTrades trade self.now × AreOpenedBeforeStamp stamp self.now) }
     {
-        all_lots_precede_trade(self.lots(), trade, stamp)
+        is_new_trade_after_lots(self.lots(), trade, stamp)
     }
 
     /// Applies `closing`, the effect on this position of a trade that the position accepts

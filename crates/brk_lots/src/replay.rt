@@ -3,7 +3,7 @@ ghost use Rattle.std.specs.Option.{option_to_list};
 ghost use Rattle.brk_model.specs.Shares.{replay};
 ghost use Rattle.brk_model.specs.Tables.{holding_history_row};
 ghost use Rattle.brk_lots.specs.Chains.{opening_touch, abstract_deal_touch, lot_changes_of_deals};
-ghost use Rattle.brk_lots.specs.Deals.{AreAscendingDeals};
+ghost use Rattle.brk_lots.specs.Deals.{AreDistinctAscendingDeals};
 ghost use Rattle.brk_lots.specs.Lots.{shares_of_lots, abstract_deal, abstract_lot, abstract_touch};
 
 use crate::closing::{Closing, close};
@@ -22,7 +22,11 @@ pub struct DealTouch {
 
 // Appends to `rows` the changes `touched` of the lots that `trade` closed or reduced, in sequence.
 // Fails with `Memory` only.
-fn append_touched_lots(rows: &mut Vec<DealTouch>, trade: Id, touched: &[Touch]) -> Result<(), Fault>
+fn append_closing_changes(
+    rows: &mut Vec<DealTouch>,
+    trade: Id,
+    touched: &[Touch],
+) -> Result<(), Fault>
     ensures added { OnOk result (map abstract_deal_touch rows.new.items
         ≡ map abstract_deal_touch rows.old.items ++ map (holding_history_row trade) (map abstract_touch touched.now)) }
     ensures fault { IfErr result (λ fault. fault ≡ Fault.Memory) }
@@ -38,7 +42,11 @@ fn append_touched_lots(rows: &mut Vec<DealTouch>, trade: Id, touched: &[Touch]) 
 
 // Appends to `rows` the change by which `trade` opened a lot, from 0 to its quantity, or nothing if
 // `opened` is `None`. Fails with `Memory` only.
-fn append_opened_lot(rows: &mut Vec<DealTouch>, trade: Id, opened: Option<Lot>) -> Result<(), Fault>
+fn append_opening_change(
+    rows: &mut Vec<DealTouch>,
+    trade: Id,
+    opened: Option<Lot>,
+) -> Result<(), Fault>
     ensures added { OnOk result (map abstract_deal_touch rows.new.items
         ≡ map abstract_deal_touch rows.old.items ++ map (holding_history_row trade) (map opening_touch (map abstract_lot (option_to_list opened)))) }
     ensures fault { IfErr result (λ fault. fault ≡ Fault.Memory) }
@@ -62,15 +70,15 @@ fn append_lot_changes(rows: &mut Vec<DealTouch>, trade: Id, closing: &Closing) -
         ++ map opening_touch (map abstract_lot (option_to_list closing.now.opened)))) }
     ensures fault { IfErr result (λ fault. fault ≡ Fault.Memory) }
 {
-    append_touched_lots(rows, trade, &closing.touched)?;
-    append_opened_lot(rows, trade, closing.opened)
+    append_closing_changes(rows, trade, &closing.touched)?;
+    append_opening_change(rows, trade, closing.opened)
 }
 
 impl Position {
     /// Returns the position after `deals`, applied in sequence from the empty position on. They
     /// must have distinct trades and strictly ascending stamps. Fails with `Memory` only.
     pub fn replay(alloc: Global, deals: &[Deal]) -> Result<Position, Fault>
-        requires { AreAscendingDeals (map abstract_deal deals.now) }
+        requires { AreDistinctAscendingDeals (map abstract_deal deals.now) }
         ensures shares { IfOk result (λ position. shares_of_lots position ≡ replay (map abstract_deal deals.now)) }
         ensures fault { IfErr result (λ fault. fault ≡ Fault.Memory) }
     {
@@ -89,7 +97,7 @@ impl Position {
         deals: &[Deal],
         rows: &mut Vec<DealTouch>,
     ) -> Result<Position, Fault>
-        requires { AreAscendingDeals (map abstract_deal deals.now) }
+        requires { AreDistinctAscendingDeals (map abstract_deal deals.now) }
         ensures shares { IfOk result (λ position. shares_of_lots position ≡ replay (map abstract_deal deals.now)) }
         ensures rows { OnOk result (map abstract_deal_touch rows.new.items
             ≡ map abstract_deal_touch rows.old.items ++ lot_changes_of_deals (map abstract_deal deals.now) []) }

@@ -20,8 +20,8 @@ status_changes_of_trade tables trade =
 
 -- The posting of a CASH_TRANSACTION row to the account of its trade; the account is 0 if the trade
 -- does not exist.
-abbrev pub posting_of_cash_row : Tables → CashRow → Posting
-posting_of_cash_row tables c = record {
+abbrev pub posting_of_cash_transaction_row : Tables → CashRow → Posting
+posting_of_cash_transaction_row tables c = record {
   account = option_map_or (λ t. t.account) (trade_row_with_id tables c.trade) 0;
   trade = Some c.trade;
   stamp = c.stamp;
@@ -30,13 +30,13 @@ posting_of_cash_row tables c = record {
 }
 
 -- The posting that a CASH_MOVE row describes: its account, trade, stamp, amount and name.
-abbrev pub posting_of_move_row : MoveRow → Posting
-posting_of_move_row r = record { account = r.account; trade = r.trade; stamp = r.stamp; amount = r.amount; name = r.name }
+abbrev pub posting_of_cash_move_row : MoveRow → Posting
+posting_of_cash_move_row r = record { account = r.account; trade = r.trade; stamp = r.stamp; amount = r.amount; name = r.name }
 
 -- The postings of all cash rows of the tables: of the rows of CASH_TRANSACTION, followed by the
 -- rows of CASH_MOVE.
 abbrev pub postings_of_tables : Tables → List Posting
-postings_of_tables tables = map (posting_of_cash_row tables) tables.cash ++ map posting_of_move_row tables.moves
+postings_of_tables tables = map (posting_of_cash_transaction_row tables) tables.cash ++ map posting_of_cash_move_row tables.moves
 
 -- True if the posting `p` belongs to the trade with the id `trade`; false if it belongs to none.
 abbrev pub is_posting_of_trade : ℕ → Posting → Bool

@@ -192,8 +192,8 @@ abbrev pub last_status_change : Trade → Option StatusChange
 last_status_change t = last_or None t.marks
 
 -- True if the last status of the trade `t` is `status`; false if it has no status.
-abbrev pub has_status : Status → Trade → Bool
-has_status status t = option_map_or (λ m. is_same_trade_status m.status status) (last_status_change t) false
+abbrev pub has_last_status : Status → Trade → Bool
+has_last_status status t = option_map_or (λ m. is_same_trade_status m.status status) (last_status_change t) false
 
 -- The stamp of the last status change of the trade `t` (T_DTS); 0 if it has no status change.
 abbrev pub last_status_stamp_of_trade : Trade → ℕ
@@ -201,7 +201,7 @@ last_status_stamp_of_trade t = option_map_or (λ m. m.stamp) (last_status_change
 
 -- True if the last status of the trade `t` is `Completed`.
 abbrev pub is_completed : Trade → Bool
-is_completed t = has_status Completed t
+is_completed t = has_last_status Completed t
 
 -- The trade `t` with one more status change at the end: to `status`, at `stamp`.
 abbrev pub trade_with_status_change : ℕ → Status → Trade → Trade

@@ -37,14 +37,14 @@ abbrev pub RowsAndEndRecord : Type 0
 RowsAndEndRecord = List Fields × Option Fields
 
 -- The split with `row` in front of its rows.
-abbrev pub with_row_in_front : Fields → RowsAndEndRecord → RowsAndEndRecord
-with_row_in_front row split = (row ∷ split.0, split.1)
+abbrev pub split_with_row_in_front : Fields → RowsAndEndRecord → RowsAndEndRecord
+split_with_row_in_front row split = (row ∷ split.0, split.1)
 
 -- The rows before the first end record, and that record; all rows and none if there is no end
 -- record.
 abbrev pub split_at_end_record : List Fields → RowsAndEndRecord
 split_at_end_record [] = ([], None)
-split_at_end_record (row ∷ rows) = if is_end_record row then ([], Some row) else with_row_in_front row (split_at_end_record rows)
+split_at_end_record (row ∷ rows) = if is_end_record row then ([], Some row) else split_with_row_in_front row (split_at_end_record rows)
 
 -- The batch name of the header of a batch: the second field of a record that has exactly two
 -- fields, the word `batch` and a well-formed name; none for any other record.
@@ -59,52 +59,52 @@ has_correct_row_count n _ = false
 
 -- The result of a batch with the answers and the base of `run` and the ending `ending`: its output
 -- is one line for each answer, without an `end` line, and each answer counts as a decided row.
-abbrev pub batch_without_end_line : {B : Type 0} → AnswersAndBase B → BatchEnding → BatchResult B
-batch_without_end_line run ending = record { text = answer_lines_from 1 run.0; base = run.1; ending = ending; rows = length run.0 }
+abbrev pub result_without_end_line : {B : Type 0} → AnswersAndBase B → BatchEnding → BatchResult B
+result_without_end_line run ending = record { text = answer_lines_from 1 run.0; base = run.1; ending = ending; rows = length run.0 }
 
 -- The result of a complete batch with the answers and the base of `run`: its output is one line for
 -- each answer and the `end` line, and each answer counts as a decided row.
-abbrev pub complete_batch : {B : Type 0} → AnswersAndBase B → BatchResult B
-complete_batch run = record { text = answer_lines_from 1 run.0 ++ batch_end_line run.0; base = run.1; ending = CorrectEnd; rows = length run.0 }
+abbrev pub result_of_complete_batch : {B : Type 0} → AnswersAndBase B → BatchResult B
+result_of_complete_batch run = record { text = answer_lines_from 1 run.0 ++ batch_end_line run.0; base = run.1; ending = CorrectEnd; rows = length run.0 }
 
 -- The result, with the ending `NoEnd`, of a batch without an end record: the answers of `run`,
 -- followed by the refusal `BadText` of the last row, which is not executed.
-abbrev pub batch_with_refused_last_row : {B : Type 0} → AnswersAndBase B → BatchResult B
-batch_with_refused_last_row run = batch_without_end_line (run.0 ++ Refused BadText ∷ [], run.1) NoEnd
+abbrev pub result_with_refused_last_row : {B : Type 0} → AnswersAndBase B → BatchResult B
+result_with_refused_last_row run = result_without_end_line (run.0 ++ Refused BadText ∷ [], run.1) NoEnd
 
 -- The result of a batch whose rows are followed by the end record `last`: complete if the record
 -- has the number of the rows, otherwise with the ending `BadEnd`.
-abbrev pub batch_with_end_record : {B C : Type 0} → (Fields → ReadResult C) → RowStep B C → Text → B → List ℕ → List Fields → Fields → BatchResult B
-batch_with_end_record form step name base moments rows last =
-    if has_correct_row_count (length rows) last then complete_batch (answers_and_base_of_rows form step name base moments rows)
-    else batch_without_end_line (answers_and_base_of_rows form step name base moments rows) BadEnd
+abbrev pub result_with_end_record : {B C : Type 0} → (Fields → ReadResult C) → RowStep B C → Text → B → List ℕ → List Fields → Fields → BatchResult B
+result_with_end_record form step name base moments rows last =
+    if has_correct_row_count (length rows) last then result_of_complete_batch (answers_and_base_of_rows form step name base moments rows)
+    else result_without_end_line (answers_and_base_of_rows form step name base moments rows) BadEnd
 
 -- The result, with the ending `NoEnd`, of a batch without an end record: its last row, if it has
 -- rows, is refused with `BadText` and not executed.
-abbrev pub batch_without_end_record : {B C : Type 0} → (Fields → ReadResult C) → RowStep B C → Text → B → List ℕ → List Fields → BatchResult B
-batch_without_end_record form step name base moments [] = batch_without_end_line (answers_and_base_of_rows form step name base moments []) NoEnd
-batch_without_end_record form step name base moments (row ∷ rows) =
-    batch_with_refused_last_row (answers_and_base_of_rows form step name base moments (take (length rows) (row ∷ rows)))
+abbrev pub result_without_end_record : {B C : Type 0} → (Fields → ReadResult C) → RowStep B C → Text → B → List ℕ → List Fields → BatchResult B
+result_without_end_record form step name base moments [] = result_without_end_line (answers_and_base_of_rows form step name base moments []) NoEnd
+result_without_end_record form step name base moments (row ∷ rows) =
+    result_with_refused_last_row (answers_and_base_of_rows form step name base moments (take (length rows) (row ∷ rows)))
 
 -- The result of the batch `name` whose header is followed by the rows of a split and, if the split
 -- has one, by its end record.
-abbrev pub batch_of_rows : {B C : Type 0} → (Fields → ReadResult C) → RowStep B C → Text → B → List ℕ → RowsAndEndRecord → BatchResult B
-batch_of_rows form step name base moments (rows, Some last) = batch_with_end_record form step name base moments rows last
-batch_of_rows form step name base moments (rows, None) = batch_without_end_record form step name base moments rows
+abbrev pub result_of_batch_rows : {B C : Type 0} → (Fields → ReadResult C) → RowStep B C → Text → B → List ℕ → RowsAndEndRecord → BatchResult B
+result_of_batch_rows form step name base moments (rows, Some last) = result_with_end_record form step name base moments rows last
+result_of_batch_rows form step name base moments (rows, None) = result_without_end_record form step name base moments rows
 
 -- The result of a batch with the records `rows` after its header; without a batch name nothing is
 -- executed and the ending is `BadHeader`.
-abbrev pub batch_with_optional_name : {B C : Type 0} → (Fields → ReadResult C) → RowStep B C → Option Text → B → List ℕ → List Fields → BatchResult B
-batch_with_optional_name form step None base moments rows = record { text = []; base = base; ending = BadHeader; rows = 0 }
-batch_with_optional_name form step (Some name) base moments rows = batch_of_rows form step name base moments (split_at_end_record rows)
+abbrev pub result_with_optional_name : {B C : Type 0} → (Fields → ReadResult C) → RowStep B C → Option Text → B → List ℕ → List Fields → BatchResult B
+result_with_optional_name form step None base moments rows = record { text = []; base = base; ending = BadHeader; rows = 0 }
+result_with_optional_name form step (Some name) base moments rows = result_of_batch_rows form step name base moments (split_at_end_record rows)
 
 -- The result of a batch with the given records. If the first is no header, or there is none,
 -- nothing is executed and the ending is `BadHeader`.
-abbrev pub batch_of_records : {B C : Type 0} → (Fields → ReadResult C) → RowStep B C → B → List ℕ → List Fields → BatchResult B
-batch_of_records form step base moments [] = batch_with_optional_name form step None base moments []
-batch_of_records form step base moments (header ∷ rows) = batch_with_optional_name form step (batch_name_of_header header) base moments rows
+abbrev pub result_of_batch_records : {B C : Type 0} → (Fields → ReadResult C) → RowStep B C → B → List ℕ → List Fields → BatchResult B
+result_of_batch_records form step base moments [] = result_with_optional_name form step None base moments []
+result_of_batch_records form step base moments (header ∷ rows) = result_with_optional_name form step (batch_name_of_header header) base moments rows
 
 -- The result of a batch with the bytes `input`, executed from `base` on with the clock readings
 -- `moments`.
-unfoldable pub batch_of_input : Base → List ℕ → Text → BatchResult Base
-batch_of_input base moments input = batch_of_records parse_row step_of_row base moments (records default_config (input_text input))
+unfoldable pub result_of_batch_input : Base → List ℕ → Text → BatchResult Base
+result_of_batch_input base moments input = result_of_batch_records parse_row step_of_row base moments (records default_config (input_text input))

@@ -14,7 +14,7 @@ use Rattle.brk_money.specs.declared.status.Status.TheVariants.{Pending}
 use Rattle.brk_model.specs.Lists.{sort_by_key, total_by}
 use Rattle.brk_model.specs.Records.{Account, Security, Trade, Movement, SettleRule}
 use Rattle.brk_model.specs.Base.{Base, completed_trades, tax_status_in_accounts, opening_balance_in_accounts, broker_id_in_accounts, is_withholding_status}
-use Rattle.brk_model.specs.Base.{has_status, last_status_stamp_of_trade, completion_price}
+use Rattle.brk_model.specs.Base.{has_last_status, last_status_stamp_of_trade, completion_price}
 use Rattle.brk_model.specs.Shares.{Share, Deal, replay, signed_by_side}
 
 -- The deal of the completed trade `t`, at its completion price and stamp; the price is 0 if the
@@ -147,4 +147,4 @@ commission_total_of_broker accounts done broker = sum_by (λ t. t.commission) (t
 
 -- The trades of the list whose last status is `Pending` (TRADE_REQUEST).
 abbrev pub pending_trades : List Trade → List Trade
-pending_trades trades = filter (has_status Pending) trades
+pending_trades trades = filter (has_last_status Pending) trades

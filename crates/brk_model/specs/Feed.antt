@@ -5,7 +5,7 @@ use Rattle.brk_money.specs.declared.trade_type.TradeType.TheVariants.{MarketBuy,
 use Rattle.brk_money.specs.declared.status.Status.TheVariants.{Pending, Submitted}
 use Rattle.brk_model.specs.Lists.{update_where}
 use Rattle.brk_model.specs.Records.{Security, Trade}
-use Rattle.brk_model.specs.Base.{Base, has_status, trade_with_status_change, base_with_updated_trades}
+use Rattle.brk_model.specs.Base.{Base, has_last_status, trade_with_status_change, base_with_updated_trades}
 use Rattle.brk_model.specs.Commands.{Tick}
 
 -- True if a market price `price` triggers a trade of this type with the bid price `bid`: at or
@@ -21,7 +21,7 @@ is_triggering_price MarketSell bid price = false
 -- True if the tick `tick` triggers the trade `t`: the trade is pending, has the symbol of the tick,
 -- and the price of the tick triggers it.
 abbrev pub is_triggered_by_tick : Tick → Trade → Bool
-is_triggered_by_tick tick t = has_status Pending t && bytes_eq t.symbol tick.symbol && is_triggering_price t.kind t.bid tick.price
+is_triggered_by_tick tick t = has_last_status Pending t && bytes_eq t.symbol tick.symbol && is_triggering_price t.kind t.bid tick.price
 
 -- The security `s` after the tick `tick`: its last price is the price of the tick, its stamp is
 -- `stamp`, and its volume is increased by the quantity of the tick.

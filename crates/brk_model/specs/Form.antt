@@ -25,7 +25,7 @@ use Rattle.brk_model.specs.Joins.{history_rows_with_trade_id, trade_row_with_id,
 use Rattle.brk_model.specs.Adopted.{base_of_tables, trade_of_row}
 use Rattle.brk_model.specs.Keys.{KeyPart, is_key_less, kept_key, broker_key, customer_key, account_key, permission_key, security_key, last_trade_key}
 use Rattle.brk_model.specs.Keys.{charge_key, band_key, tax_rate_key, customer_tax_key, trade_key, history_key, request_key, holding_key, summary_key}
-use Rattle.brk_model.specs.Keys.{holding_history_key, settlement_key, cash_key, move_key}
+use Rattle.brk_model.specs.Keys.{holding_history_key, settlement_key, cash_transaction_key, cash_move_key}
 
 -- True if `n` is an id: from 1 to the greatest id.
 abbrev pub is_id : ℕ → Bool
@@ -193,8 +193,8 @@ has_price_exactly_if is_done price = if is_done then option_map_or is_price pric
 
 -- True if the TRADE row has a price within its limits and its trade has a TRADE_HISTORY row with
 -- the status `Completed`, or it has no price and its trade has no such row.
-abbrev pub price_matches_completion : Tables → TradeRow → Bool
-price_matches_completion t row = has_price_exactly_if (list_any (λ h. is_same_trade_status h.status Completed) (history_rows_with_trade_id t row.id)) row.price
+abbrev pub has_price_matching_completion : Tables → TradeRow → Bool
+has_price_matching_completion t row = has_price_exactly_if (list_any (λ h. is_same_trade_status h.status Completed) (history_rows_with_trade_id t row.id)) row.price
 
 -- True if the numbers of a trade are within their limits in the schema `schema`: its id, its
 -- quantity, its bid, its charge, its commission and its tax.
@@ -209,14 +209,14 @@ are_trade_numbers_in_range schema id qty bid charge commission tax =
 
 -- True if the id, the quantity, the bid, the charge, the commission and the tax of a row of TRADE
 -- are within their limits, its stamp is not after the last stamp, its security and account exist,
--- and it passes `price_matches_completion`. The executor is not checked.
+-- and it passes `has_price_matching_completion`. The executor is not checked.
 abbrev pub is_well_formed_trade_row : Schema → Tables → TradeRow → Bool
 is_well_formed_trade_row schema t row =
     are_trade_numbers_in_range schema row.id row.qty row.bid row.charge row.commission row.tax
     && is_at_most_last_stamp t row.stamp
     && has_security t row.symbol
     && has_account t row.account
-    && price_matches_completion t row
+    && has_price_matching_completion t row
 
 -- True if the status is not `Completed`, or a completion with this stamp settles at the latest on
 -- the greatest day, 9999-12-31.
@@ -289,8 +289,8 @@ is_cash_row_name_of_trade t name row =
 -- True if the trade of a row of CASH_TRANSACTION exists, the name of the row is one of the two that
 -- a cash row of this trade may have (`is_cash_row_name_of_trade`), the stamp is not after the last
 -- stamp, and the amount is within its limit.
-abbrev pub is_well_formed_cash_row : Tables → CashRow → Bool
-is_well_formed_cash_row t c =
+abbrev pub is_well_formed_cash_transaction_row : Tables → CashRow → Bool
+is_well_formed_cash_transaction_row t c =
     option_map_or (is_cash_row_name_of_trade t c.name) (trade_row_with_id t c.trade) false
     && is_at_most_last_stamp t c.stamp
     && is_within_amount_limit c.amount
@@ -310,8 +310,8 @@ has_cash_row_name_of_trade t r trade = option_map_or (is_cash_row_name_of_trade 
 -- exists, and its stamp is not after the last stamp. If the row has a trade, this trade exists and
 -- the name of the row is one of the two that a cash row of this trade may have; otherwise a
 -- movement may have the name and the amount (`is_movement_name_and_amount`).
-abbrev pub is_well_formed_move_row : Tables → MoveRow → Bool
-is_well_formed_move_row t r =
+abbrev pub is_well_formed_cash_move_row : Tables → MoveRow → Bool
+is_well_formed_cash_move_row t r =
     is_cash_row_number r.id
     && has_account t r.account
     && option_map_or (has_cash_row_name_of_trade t r) r.trade (is_movement_name_and_amount r.name r.amount)
@@ -328,9 +328,9 @@ abbrev pub lacks_rows_of_later_schemas : Schema → Tables → Bool
 lacks_rows_of_later_schemas schema t = (schema.has_cash_move_table || (length t.moves == 0)) && (schema.has_settle_rule_table || is_none t.rule)
 
 -- True if no two bands of the list overlap (`bands_overlap`).
-abbrev pub bands_are_disjoint : List Band → Bool
-bands_are_disjoint [] = true
-bands_are_disjoint (b ∷ bands) = not (list_any (bands_overlap b) bands) && bands_are_disjoint bands
+abbrev pub has_disjoint_bands : List Band → Bool
+has_disjoint_bands [] = true
+has_disjoint_bands (b ∷ bands) = not (list_any (bands_overlap b) bands) && has_disjoint_bands bands
 
 -- True if the two lists are equal.
 abbrev pub are_equal_number_lists : List ℕ → List ℕ → Bool
@@ -353,8 +353,8 @@ is_sorted_by_unique_key key (a ∷ b ∷ rows) = is_key_less (key a) (key b) && 
 
 -- True if the rows of every table except DESK and SETTLE_RULE, which have at most one row, are
 -- sorted by their key, strictly ascending, so that no key occurs twice in a table.
-unfoldable pub tables_are_sorted_by_unique_key : Tables → Bool
-tables_are_sorted_by_unique_key t =
+unfoldable pub has_tables_sorted_by_unique_key : Tables → Bool
+has_tables_sorted_by_unique_key t =
     is_sorted_by_unique_key kept_key t.kept
     && is_sorted_by_unique_key broker_key t.brokers
     && is_sorted_by_unique_key customer_key t.customers
@@ -373,8 +373,8 @@ tables_are_sorted_by_unique_key t =
     && is_sorted_by_unique_key summary_key t.summaries
     && is_sorted_by_unique_key holding_history_key t.holding_history
     && is_sorted_by_unique_key settlement_key t.settlements
-    && is_sorted_by_unique_key cash_key t.cash
-    && is_sorted_by_unique_key move_key t.moves
+    && is_sorted_by_unique_key cash_transaction_key t.cash
+    && is_sorted_by_unique_key cash_move_key t.moves
 
 -- True if no two customers of the list have equal tax ids.
 abbrev pub has_distinct_tax_ids : List Customer → Bool
@@ -391,7 +391,7 @@ has_distinct_tax_ids (c ∷ customers) = not (list_any (λ d. bytes_eq d.tax_id 
 unfoldable pub satisfies_form_condition : Schema → Tables → Bool
 satisfies_form_condition schema t =
     is_last_stamp_in_calendar t.last
-    && tables_are_sorted_by_unique_key t
+    && has_tables_sorted_by_unique_key t
     && has_distinct_tax_ids t.customers
     && list_all is_well_formed_kept_row t.kept
     && list_all is_well_formed_broker_row t.brokers
@@ -401,7 +401,7 @@ satisfies_form_condition schema t =
     && list_all (is_well_formed_security_row t) t.securities
     && list_all (is_well_formed_last_trade_row t) t.last_trades
     && list_all is_well_formed_charge_row t.charges
-    && list_all (is_well_formed_band_row schema) t.bands && bands_are_disjoint t.bands
+    && list_all (is_well_formed_band_row schema) t.bands && has_disjoint_bands t.bands
     && list_all is_well_formed_tax_rate_row t.tax_rates
     && list_all (is_well_formed_customer_tax_row t) t.customer_taxes
     && list_all (is_well_formed_trade_row schema t) t.trades && are_equal_number_lists (map (λ row. row.id) t.trades) (range_with_len 1 (length t.trades))
@@ -411,8 +411,8 @@ satisfies_form_condition schema t =
     && list_all (is_well_formed_summary_row schema t) t.summaries
     && list_all (is_well_formed_holding_history_row t) t.holding_history
     && list_all (is_well_formed_settlement_row t) t.settlements
-    && list_all (is_well_formed_cash_row t) t.cash
-    && list_all (is_well_formed_move_row t) t.moves && all_distinct (trade_ids_of_cash_rows t.moves)
+    && list_all (is_well_formed_cash_transaction_row t) t.cash
+    && list_all (is_well_formed_cash_move_row t) t.moves && all_distinct (trade_ids_of_cash_rows t.moves)
     && nat_le (length (filter (λ r. is_none r.trade) t.moves)) greatest_id
     && is_settlement_day_in_calendar t.rule
     && lacks_rows_of_later_schemas schema t

@@ -29,15 +29,15 @@ answer_and_base_of_step base key command (Err refusal) = (Refused refusal, base)
 
 -- The answer to a command whose key is recorded, and the unchanged base: the stored reply if the
 -- stored row `k` has the text of the command's row, otherwise the refusal 19 (`KeyReused`).
-abbrev pub answer_to_repeated_row : Base → Command → Kept → Answer × Base
-answer_to_repeated_row base command k = (if bytes_eq k.row_text (row_text command) then Again k.line else Refused KeyReused, base)
+abbrev pub answer_and_base_of_retry : Base → Command → Kept → Answer × Base
+answer_and_base_of_retry base command k = (if bytes_eq k.row_text (row_text command) then Again k.line else Refused KeyReused, base)
 
 -- The answer to a command and the base after it: by the stored row if there is one
--- (`answer_to_repeated_row`), otherwise by the step at the clock reading `now`
+-- (`answer_and_base_of_retry`), otherwise by the step at the clock reading `now`
 -- (`answer_and_base_of_step`).
-abbrev pub answer_by_stored_row : Base → ℕ → Command → Option Key → Option Kept → Answer × Base
-answer_by_stored_row base now command key (Some k) = answer_to_repeated_row base command k
-answer_by_stored_row base now command key None = answer_and_base_of_step base key command (step base now command)
+abbrev pub answer_and_base_by_stored_row : Base → ℕ → Command → Option Key → Option Kept → Answer × Base
+answer_and_base_by_stored_row base now command key (Some k) = answer_and_base_of_retry base command k
+answer_and_base_by_stored_row base now command key None = answer_and_base_of_step base key command (step base now command)
 
 -- The first row, with its reply, that `base` stores under the key; none without a key, or if the
 -- key was not recorded.
@@ -48,4 +48,4 @@ stored_row_with_optional_key base (Some key) = stored_row_with_key base key
 -- The answer to a command with or without a key at the clock reading `now` on `base`, and the base
 -- after it: by the row stored under the key if there is one, otherwise by the step.
 unfoldable pub keyed_step : Base → ℕ → Command → Option Key → Answer × Base
-keyed_step base now command key = answer_by_stored_row base now command key (stored_row_with_optional_key base key)
+keyed_step base now command key = answer_and_base_by_stored_row base now command key (stored_row_with_optional_key base key)

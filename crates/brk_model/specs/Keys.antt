@@ -118,9 +118,9 @@ abbrev pub settlement_key : SettlementRow → List KeyPart
 settlement_key r = number r.trade ∷ []
 
 -- The primary key of a row of CASH_TRANSACTION: the trade.
-abbrev pub cash_key : CashRow → List KeyPart
-cash_key r = number r.trade ∷ []
+abbrev pub cash_transaction_key : CashRow → List KeyPart
+cash_transaction_key r = number r.trade ∷ []
 
 -- The primary key of a row of CASH_MOVE: the number.
-abbrev pub move_key : MoveRow → List KeyPart
-move_key r = number r.id ∷ []
+abbrev pub cash_move_key : MoveRow → List KeyPart
+cash_move_key r = number r.id ∷ []

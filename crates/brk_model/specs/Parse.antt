@@ -165,8 +165,8 @@ abbrev pub read_and_wrap : {A B Input : Type 0} → (A → B) → (Input → Rea
 read_and_wrap wrap read input = Ok wrap ⊛ read input
 
 -- The parsers of the row kinds for brokers, customers and accounts, each with the word of its kind.
-abbrev pub party_row_parsers : List (NamedParser Command)
-party_row_parsers =
+abbrev pub party_and_account_parsers : List (NamedParser Command)
+party_and_account_parsers =
     (codes "broker", read_and_wrap AddBroker read_broker)
     ∷ (codes "customer", read_and_wrap AddCustomer read_customer)
     ∷ (codes "account", read_and_wrap AddAccount read_account) ∷ []
@@ -184,7 +184,7 @@ other_reference_row_parsers =
 
 -- The parsers of the nine kinds of reference rows, each with the word of its kind.
 abbrev pub reference_row_parsers : List (NamedParser Command)
-reference_row_parsers = party_row_parsers ++ other_reference_row_parsers
+reference_row_parsers = party_and_account_parsers ++ other_reference_row_parsers
 
 -- The parsers of the row kinds for orders, feeds and cancels, each with the word of its kind.
 abbrev pub order_row_parsers : List (NamedParser Command)

@@ -28,14 +28,14 @@ pub record Deal : Type 0 where
 
 -- True if the side of the first share of the position `shares` differs from the side of the deal
 -- `d`; false if the position is empty.
-abbrev pub opposes_position : Deal → List Share → Bool
-opposes_position d [] = false
-opposes_position d (share ∷ shares) = not (is_same_side share.side d.side)
+abbrev pub is_opposite_to_position : Deal → List Share → Bool
+is_opposite_to_position d [] = false
+is_opposite_to_position d (share ∷ shares) = not (is_same_side share.side d.side)
 
 -- The number of shares of the position `shares` that the deal `d` closes: the smaller of the deal's
--- quantity and the number of shares of the position if `opposes_position` is true, otherwise 0.
+-- quantity and the number of shares of the position if `is_opposite_to_position` is true, otherwise 0.
 abbrev pub closed_share_count_of_deal : Deal → List Share → ℕ
-closed_share_count_of_deal d shares = if opposes_position d shares then min d.qty (length shares) else 0
+closed_share_count_of_deal d shares = if is_opposite_to_position d shares then min d.qty (length shares) else 0
 
 -- The shares of the position `shares` that the deal `d` closes: the last ones if `d.is_lifo`,
 -- otherwise the first ones.

@@ -4,7 +4,7 @@ use Rattle.brk_model.specs.Schemas.{Schema}
 use Rattle.brk_model.specs.Tables.{Tables, tables_of_base_in_schema, tables_of_base}
 use Rattle.brk_model.specs.Keys.{rows_sorted_by_key, kept_key, broker_key, customer_key, account_key, permission_key, security_key, last_trade_key, charge_key}
 use Rattle.brk_model.specs.Keys.{band_key, tax_rate_key, customer_tax_key, trade_key, history_key, request_key, holding_key, summary_key, holding_history_key}
-use Rattle.brk_model.specs.Keys.{settlement_key, cash_key, move_key}
+use Rattle.brk_model.specs.Keys.{settlement_key, cash_transaction_key, cash_move_key}
 
 -- The tables `t`, each sorted by key, ascending; the sort is stable.
 unfoldable pub tables_sorted_by_key : Tables → Tables
@@ -28,8 +28,8 @@ tables_sorted_by_key t = record {
   summaries = rows_sorted_by_key summary_key t.summaries;
   holding_history = rows_sorted_by_key holding_history_key t.holding_history;
   settlements = rows_sorted_by_key settlement_key t.settlements;
-  cash = rows_sorted_by_key cash_key t.cash;
-  moves = rows_sorted_by_key move_key t.moves;
+  cash = rows_sorted_by_key cash_transaction_key t.cash;
+  moves = rows_sorted_by_key cash_move_key t.moves;
   rule = t.rule;
 }
 

@@ -27,8 +27,8 @@ abbrev pub amount_line : Text → ℤ → Text
 amount_line word amount = left_aligned_text 10 word ++ 32 ∷ right_aligned_text 22 (cents_text amount)
 
 -- The CASH_MOVE rows of the account `account`, sorted by stamp, ascending.
-abbrev pub cash_move_rows_of_account : Tables → ℕ → List MoveRow
-cash_move_rows_of_account tables account = sort_by_key (λ row. row.stamp) (move_rows_of_account tables account)
+abbrev pub sorted_cash_rows_of_account : Tables → ℕ → List MoveRow
+sorted_cash_rows_of_account tables account = sort_by_key (λ row. row.stamp) (move_rows_of_account tables account)
 
 -- The CASH_MOVE rows of the list whose stamps are before the UTC day `from`, which is in days since
 -- 1970-01-01.
@@ -89,7 +89,7 @@ text_of_lines lines = flat_map (λ line. line ++ 10 ∷ []) lines
 -- no account.
 abbrev pub statement_or_refusal : Tables → Option AccountRow → ℕ → ℕ → Result Text Refusal
 statement_or_refusal tables None from to = Err NoAccount
-statement_or_refusal tables (Some a) from to = Ok (text_of_lines (statement_lines tables a from to (cash_move_rows_of_account tables a.id)))
+statement_or_refusal tables (Some a) from to = Ok (text_of_lines (statement_lines tables a from to (sorted_cash_rows_of_account tables a.id)))
 
 -- The statement of an account over the days `from` to `to`, both included. It is refused with
 -- `BadText` if `to` is before `from`, otherwise with `NoAccount` if the account does not exist.

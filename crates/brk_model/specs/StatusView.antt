@@ -17,8 +17,8 @@ broker_name_with_id tables id = option_map_or (λ row. row.name) (find (λ row. 
 
 -- One record with the last and the first name of the customer of the account `a` and the name of
 -- its broker; no record if the customer does not exist, and an empty name if the broker does not.
-abbrev pub account_name_records : Tables → AccountRow → View
-account_name_records tables a =
+abbrev pub customer_and_broker_names : Tables → AccountRow → View
+customer_and_broker_names tables a =
     map (λ c. c.last_name ∷ c.first_name ∷ broker_name_with_id tables a.broker ∷ []) (filter (λ c. c.id == a.customer) tables.customers)
 
 -- The record of a trade in the view `status`, with 10 fields: id, stamp, status name, type name,
@@ -36,7 +36,7 @@ record_of_trade_status tables t =
 -- trades, sorted by stamp, then by id, both descending.
 unfoldable pub trade_status_view : Tables → ℕ → View
 trade_status_view tables account =
-    flat_map (account_name_records tables) (filter (λ a. a.id == account) tables.accounts)
+    flat_map (customer_and_broker_names tables) (filter (λ a. a.id == account) tables.accounts)
     ++ map (record_of_trade_status tables) (take 50 (trade_rows_recent_first (trade_rows_of_account tables account)))
 
 -- One record (id, type, symbol, quantity, bid) for each submitted trade, sorted by id, ascending.

@@ -8,7 +8,7 @@ use Rattle.brk_model.specs.Base.{Base, trade_with_id, trade_with_status_change, 
 use Rattle.brk_model.specs.Orders.{base_after_order, reply_to_order}
 use Rattle.brk_model.specs.Feed.{base_after_ticks, triggered_trade_ids}
 use Rattle.brk_model.specs.Results.{base_after_result, completion_of_trade}
-use Rattle.brk_model.specs.Updates.{selected_ids_of_account, selected_ids_of_symbol, base_with_updated_executors, base_with_updated_cash_types}
+use Rattle.brk_model.specs.Updates.{selected_trade_ids_of_account, selected_trade_ids_of_symbol, base_with_updated_executors, base_with_updated_cash_types}
 use Rattle.brk_model.specs.Updates.{base_with_updated_cash_names}
 use Rattle.brk_model.specs.Movements.{deposit_movement, withdrawal_movement, base_after_movement, base_with_settlement_day, reply_to_movement}
 use Rattle.brk_model.specs.Tests.{stamp_of_next_command, refusal_of_command}
@@ -44,8 +44,8 @@ base_after_command_unstamped base stamp (CancelTrade id) = base_with_updated_tra
 base_after_command_unstamped base stamp (CompleteTrade id price) = base_after_result_by_id base stamp id price
 base_after_command_unstamped base stamp (ChangeExecutors ids) = base_with_updated_executors ids base
 base_after_command_unstamped base stamp (ChangeCashTypes account first last) =
-    base_with_updated_cash_types (selected_ids_of_account base account first last) base
-base_after_command_unstamped base stamp (ChangeCashNames symbol first last) = base_with_updated_cash_names (selected_ids_of_symbol base symbol first last) base
+    base_with_updated_cash_types (selected_trade_ids_of_account base account first last) base
+base_after_command_unstamped base stamp (ChangeCashNames symbol first last) = base_with_updated_cash_names (selected_trade_ids_of_symbol base symbol first last) base
 base_after_command_unstamped base stamp (DepositCash account amount) = base_after_movement base (deposit_movement stamp account amount)
 base_after_command_unstamped base stamp (WithdrawCash account amount) = base_after_movement base (withdrawal_movement stamp account amount)
 base_after_command_unstamped base stamp (SetOneDay day) = base_with_settlement_day base day
@@ -68,8 +68,8 @@ reply_to_command base stamp (CancelTrade id) = CanceledTrade stamp
 reply_to_command base stamp (CompleteTrade id price) =
     option_map_or (λ t. CompletedTrade stamp (completion_of_trade base stamp price t)) (trade_with_id base id) (Booked stamp)
 reply_to_command base stamp (ChangeExecutors ids) = Changed stamp (length ids)
-reply_to_command base stamp (ChangeCashTypes account first last) = Changed stamp (length (selected_ids_of_account base account first last))
-reply_to_command base stamp (ChangeCashNames symbol first last) = Changed stamp (length (selected_ids_of_symbol base symbol first last))
+reply_to_command base stamp (ChangeCashTypes account first last) = Changed stamp (length (selected_trade_ids_of_account base account first last))
+reply_to_command base stamp (ChangeCashNames symbol first last) = Changed stamp (length (selected_trade_ids_of_symbol base symbol first last))
 reply_to_command base stamp (DepositCash account amount) = reply_to_movement base (deposit_movement stamp account amount)
 reply_to_command base stamp (WithdrawCash account amount) = reply_to_movement base (withdrawal_movement stamp account amount)
 reply_to_command base stamp (SetOneDay day) = Booked stamp

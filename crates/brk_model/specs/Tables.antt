@@ -257,15 +257,15 @@ rows_with_lot_touch trade touch rows = if changes_lot_quantity touch then holdin
 
 -- The HOLDING_HISTORY rows of the lot `lot`: one for each deal that changes the lot's quantity. The
 -- deals are applied in sequence, from the position `shares` on.
-abbrev pub holding_history_of_lot : ℕ → List Share → List Deal → List HoldingHistoryRow
-holding_history_of_lot lot shares [] = []
-holding_history_of_lot lot shares (d ∷ deals) =
-    rows_with_lot_touch d.trade (touch_of_lot lot d shares) (holding_history_of_lot lot (shares_after_deal shares d) deals)
+abbrev pub holding_history_over_deals : ℕ → List Share → List Deal → List HoldingHistoryRow
+holding_history_over_deals lot shares [] = []
+holding_history_over_deals lot shares (d ∷ deals) =
+    rows_with_lot_touch d.trade (touch_of_lot lot d shares) (holding_history_over_deals lot (shares_after_deal shares d) deals)
 
 -- The HOLDING_HISTORY rows of the lot that the completed trade `t` opened: one for each deal of its
 -- position, among the completed trades `done`, that changes the lot's quantity.
 abbrev pub holding_history_rows_of_lot : List Trade → Trade → List HoldingHistoryRow
-holding_history_rows_of_lot done t = holding_history_of_lot t.id [] (deals_of_position done t.account t.symbol)
+holding_history_rows_of_lot done t = holding_history_over_deals t.id [] (deals_of_position done t.account t.symbol)
 
 -- The HOLDING_SUMMARY row of the account `account` in the symbol `symbol` after the completed
 -- trades `done`, as a list of one; the empty list if the quantity is 0.

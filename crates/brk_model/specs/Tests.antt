@@ -18,7 +18,7 @@ use Rattle.brk_model.specs.Limits.{greatest_amount, greatest_summary, greatest_t
 use Rattle.brk_model.specs.Records.{Band, Trade, Movement}
 use Rattle.brk_model.specs.Base.{Base, broker_with_id, customer_with_id, account_with_id, security_with_symbol, tax_rate_record_with_id, trade_with_id}
 use Rattle.brk_model.specs.Base.{charge_for_type_and_tier, commission_band_for_quantity, broker_id_of_account, tier_of_account, exchange_of_security}
-use Rattle.brk_model.specs.Base.{tax_rate_sum_of_customer, completed_trades, has_status}
+use Rattle.brk_model.specs.Base.{tax_rate_sum_of_customer, completed_trades, has_last_status}
 use Rattle.brk_model.specs.Tables.{last_status_of_trade}
 use Rattle.brk_model.specs.Derived.{due_day_of_completion_stamp, holding_summary_quantity, postings_of_base, balance_of_account, commission_total_of_broker}
 use Rattle.brk_model.specs.Orders.{may_order_for_account}
@@ -98,7 +98,7 @@ status_check right t = (not right, WrongStatus (last_status_of_trade t))
 -- base that would follow the result.
 abbrev pub checks_of_result : Base → Base → ℕ → Trade → List RefusalCheck
 checks_of_result base after stamp t =
-    status_check (has_status Submitted t) t
+    status_check (has_last_status Submitted t) t
     ∷ (is_none (commission_band_for_quantity base (tier_of_account base t.account) t.kind (exchange_of_security base t.symbol) t.qty), NoRate)
     ∷ (nat_lt greatest_summary (nat_abs (holding_summary_quantity (completed_trades after) t.account t.symbol)), Range limit.Summary)
     ∷ (t.is_cash && nat_lt greatest_amount (nat_abs (balance_of_account after.accounts (postings_of_base after) t.account)), Range limit.Balance)
@@ -143,7 +143,7 @@ checks_of_command base stamp (PlaceOrder o) = checks_of_order base o ++ (nat_le 
 checks_of_command base stamp (FeedTicks ticks) =
     (list_any (λ tick. is_none (security_with_symbol base tick.symbol)) ticks, NoSecurity)
     ∷ (list_any (λ s. nat_lt greatest_amount s.volume) (base_after_ticks stamp base ticks).securities, Range limit.Volume) ∷ []
-checks_of_command base stamp (CancelTrade id) = checks_of_existing_trade base id (λ t. status_check (has_status Pending t) t ∷ [])
+checks_of_command base stamp (CancelTrade id) = checks_of_existing_trade base id (λ t. status_check (has_last_status Pending t) t ∷ [])
 checks_of_command base stamp (CompleteTrade id price) =
     checks_of_existing_trade base id (λ t. checks_of_result base (base_after_result base stamp price t) stamp t)
 checks_of_command base stamp (ChangeExecutors ids) = (list_any (λ id. is_none (trade_with_id base id)) ids, NoTrade) ∷ []

@@ -7,10 +7,10 @@ use Rattle.brk_model.specs.Adopted.{postings_of_tables}
 
 -- The tables `t` with all cash rows in CASH_MOVE, sorted by stamp and numbered from 1, and with
 -- CASH_TRANSACTION empty.
-unfoldable pub tables_after_upgrade : Tables → Tables
-tables_after_upgrade t = record t { cash = []; moves = numbered_move_rows 1 (postings_sorted_by_stamp (postings_of_tables t)) }
+unfoldable pub tables_with_merged_cash_rows : Tables → Tables
+tables_with_merged_cash_rows t = record t { cash = []; moves = numbered_move_rows 1 (postings_sorted_by_stamp (postings_of_tables t)) }
 
 -- The tables `t` of the schema `schema` as tables of the third schema: unchanged if `schema` has
 -- the table CASH_MOVE, otherwise with all cash rows in CASH_MOVE.
 abbrev pub tables_upgraded_from_schema : Schema → Tables → Tables
-tables_upgraded_from_schema schema t = if schema.has_cash_move_table then t else tables_after_upgrade t
+tables_upgraded_from_schema schema t = if schema.has_cash_move_table then t else tables_with_merged_cash_rows t

@@ -4,7 +4,7 @@ use Rattle.brk_model.specs.Forms.{check_read_value}
 use Rattle.brk_money.specs.declared.refusal.Refusal.{Refusal}
 use Rattle.brk_money.specs.Spelling.{Text}
 use Rattle.brk_model.specs.Base.{Base}
-use Rattle.brk_model.specs.Computed.{batch_of_input}
+use Rattle.brk_model.specs.Computed.{result_of_batch_input}
 use Rattle.brk_model.specs.Queries.{View}
 use Rattle.brk_model.specs.Ask.{ask, parse_query}
 
@@ -24,12 +24,12 @@ bytes_of_batch name rows = text_with_line_ends ((codes "batch," ++ name) ∷ row
 -- The base after a batch with the name `T` and the rows `rows`, executed from `base` on with
 -- `twenty_clock_readings`.
 abbrev pub base_after_batch : Base → List Text → Base
-base_after_batch base rows = (batch_of_input base twenty_clock_readings (bytes_of_batch (codes "T") rows)).base
+base_after_batch base rows = (result_of_batch_input base twenty_clock_readings (bytes_of_batch (codes "T") rows)).base
 
 -- A batch with the name `T` and the rows `rows`, executed from `base` on with
 -- `twenty_clock_readings`, has exactly the output lines `lines`.
 abbrev pub BatchOutputsLines : Base → List Text → List Text → Type 0
-BatchOutputsLines base rows lines = (batch_of_input base twenty_clock_readings (bytes_of_batch (codes "T") rows)).text ≡ text_with_line_ends lines
+BatchOutputsLines base rows lines = (result_of_batch_input base twenty_clock_readings (bytes_of_batch (codes "T") rows)).text ≡ text_with_line_ends lines
 
 -- The base `base` without its stored rows and replies.
 abbrev pub base_without_stored_replies : Base → Base

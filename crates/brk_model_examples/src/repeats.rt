@@ -4,7 +4,7 @@
 ghost use Rattle.std.specs.Prelude.{◌≡◌, ◌∷◌, [], ℕ, map, codes};
 ghost use Rattle.brk_model.specs.Base.{empty_base};
 ghost use Rattle.brk_model.specs.Batch.{NoEnd, BadEnd, BadHeader, CorrectEnd};
-ghost use Rattle.brk_model.specs.Computed.{batch_of_input};
+ghost use Rattle.brk_model.specs.Computed.{result_of_batch_input};
 ghost use Rattle.brk_model_examples.specs.Batches.{twenty_clock_readings, bytes_of_batch, text_with_line_ends, base_after_batch, BatchOutputsLines};
 ghost use Rattle.brk_model_examples.specs.Setting.{setting_base, setting_rows};
 
@@ -146,7 +146,7 @@ pub fn retried_setting_is_answered_again()
 /// Shows that a refused row records no key: its retry is accepted after the reason for the refusal,
 /// a customer that does not exist, is removed.
 pub fn refused_row_may_be_retried()
-    ensures { (batch_of_input (batch_of_input (base_after_batch setting_base
+    ensures { (result_of_batch_input (result_of_batch_input (base_after_batch setting_base
         (codes "account,101,11,1,Side,0,0.00" ∷ [])) twenty_clock_readings (bytes_of_batch (codes "U")
         (codes "customer,11,1,T11,Kay,Kim" ∷ []))).base twenty_clock_readings
         (bytes_of_batch (codes "T") (codes "account,101,11,1,Side,0,0.00" ∷ []))).text
@@ -157,29 +157,29 @@ pub fn refused_row_may_be_retried()
 /// Shows that an input without an end record ends with `NoEnd`, also if it is a header alone, and
 /// that its last row, which may be cut, is refused with 18 and not executed.
 pub fn last_row_of_cut_input_is_refused()
-    ensures text { (batch_of_input setting_base twenty_clock_readings (codes "batch,C\nbroker,2,Cy\nbroker,3\nbroker,4,D")).text
+    ensures text { (result_of_batch_input setting_base twenty_clock_readings (codes "batch,C\nbroker,2,Cy\nbroker,3\nbroker,4,D")).text
         ≡ text_with_line_ends (codes "1,ok,1709251200016"
         ∷ codes "2,no,18"
         ∷ codes "3,no,18" ∷ []) }
-    ensures ending { (batch_of_input setting_base twenty_clock_readings (codes "batch,C\nbroker,2,Cy\nbroker,3\nbroker,4,D")).ending ≡ NoEnd }
-    ensures rows { (batch_of_input setting_base twenty_clock_readings (codes "batch,C\nbroker,2,Cy\nbroker,3\nbroker,4,D")).rows ≡ 3 }
-    ensures brokers { map {B = ℕ} (λ b. b.id) (batch_of_input setting_base twenty_clock_readings
+    ensures ending { (result_of_batch_input setting_base twenty_clock_readings (codes "batch,C\nbroker,2,Cy\nbroker,3\nbroker,4,D")).ending ≡ NoEnd }
+    ensures rows { (result_of_batch_input setting_base twenty_clock_readings (codes "batch,C\nbroker,2,Cy\nbroker,3\nbroker,4,D")).rows ≡ 3 }
+    ensures brokers { map {B = ℕ} (λ b. b.id) (result_of_batch_input setting_base twenty_clock_readings
         (codes "batch,C\nbroker,2,Cy\nbroker,3\nbroker,4,D")).base.brokers ≡ 1 ∷ 2 ∷ [] }
-    ensures header_alone { (batch_of_input setting_base twenty_clock_readings (codes "batch,C\n")).ending ≡ NoEnd }
+    ensures header_alone { (result_of_batch_input setting_base twenty_clock_readings (codes "batch,C\n")).ending ≡ NoEnd }
 {}
 
 /// Shows that a batch with a malformed header ends with `BadHeader`, and one with a wrong end
 /// record with `BadEnd`. The row before a wrong end record is executed, and records after a correct
 /// end record are ignored.
 pub fn headers_and_end_records_are_checked()
-    ensures empty_input { (batch_of_input setting_base twenty_clock_readings []).ending ≡ BadHeader }
-    ensures no_name { (batch_of_input setting_base twenty_clock_readings (codes "batch,\nend,0\n")).ending ≡ BadHeader }
-    ensures header_with_third_field { (batch_of_input setting_base twenty_clock_readings (codes "batch,A,B\nend,0\n")).ending ≡ BadHeader }
-    ensures other_count { (batch_of_input setting_base twenty_clock_readings (codes "batch,C\nbroker,2,Cy\nend,2\n")).ending ≡ BadEnd }
-    ensures leading_zero { (batch_of_input setting_base twenty_clock_readings (codes "batch,C\nend,00\n")).ending ≡ BadEnd }
-    ensures end_record_with_third_field { (batch_of_input setting_base twenty_clock_readings (codes "batch,C\nend,0,\n")).ending ≡ BadEnd }
-    ensures no_count { (batch_of_input setting_base twenty_clock_readings (codes "batch,C\nend\n")).ending ≡ BadEnd }
-    ensures row_before_wrong_end { (batch_of_input setting_base twenty_clock_readings (codes "batch,C\nbroker,2,Cy\nend,2\n")).text
+    ensures empty_input { (result_of_batch_input setting_base twenty_clock_readings []).ending ≡ BadHeader }
+    ensures no_name { (result_of_batch_input setting_base twenty_clock_readings (codes "batch,\nend,0\n")).ending ≡ BadHeader }
+    ensures header_with_third_field { (result_of_batch_input setting_base twenty_clock_readings (codes "batch,A,B\nend,0\n")).ending ≡ BadHeader }
+    ensures other_count { (result_of_batch_input setting_base twenty_clock_readings (codes "batch,C\nbroker,2,Cy\nend,2\n")).ending ≡ BadEnd }
+    ensures leading_zero { (result_of_batch_input setting_base twenty_clock_readings (codes "batch,C\nend,00\n")).ending ≡ BadEnd }
+    ensures end_record_with_third_field { (result_of_batch_input setting_base twenty_clock_readings (codes "batch,C\nend,0,\n")).ending ≡ BadEnd }
+    ensures no_count { (result_of_batch_input setting_base twenty_clock_readings (codes "batch,C\nend\n")).ending ≡ BadEnd }
+    ensures row_before_wrong_end { (result_of_batch_input setting_base twenty_clock_readings (codes "batch,C\nbroker,2,Cy\nend,2\n")).text
         ≡ text_with_line_ends (codes "1,ok,1709251200016" ∷ []) }
-    ensures records_after_end { (batch_of_input setting_base twenty_clock_readings (codes "batch,C\nbroker,2,Cy\nend,1\nbroker,3,Di\n")).ending ≡ CorrectEnd }
+    ensures records_after_end { (result_of_batch_input setting_base twenty_clock_readings (codes "batch,C\nbroker,2,Cy\nend,1\nbroker,3,Di\n")).ending ≡ CorrectEnd }
 {}

@@ -3,7 +3,7 @@
 
 ghost use Rattle.std.specs.Prelude.{◌≡◌, ◌∷◌, [], Ok, codes};
 ghost use Rattle.brk_model.specs.Tables.{tables_of_base};
-ghost use Rattle.brk_model.specs.Computed.{batch_of_input};
+ghost use Rattle.brk_model.specs.Computed.{result_of_batch_input};
 ghost use Rattle.brk_model_examples.specs.Batches.{bytes_of_batch, text_with_line_ends, base_after_batch, BatchOutputsLines, view_by_name_and_arguments};
 ghost use Rattle.brk_model_examples.specs.Setting.{setting_base};
 ghost use Rattle.brk_model_examples.specs.Trading.{base_after_first_purchase, base_after_sale_of_all};
@@ -68,7 +68,7 @@ pub fn broker_commission_limit_is_checked()
 /// Shows that a command at a clock reading before the last stamp is stamped one millisecond after
 /// the last stamp.
 pub fn stamps_continue_if_clock_goes_back()
-    ensures { (batch_of_input base_after_sale_of_all (0 ∷ []) (bytes_of_batch (codes "Y") (codes "broker,7,Cy" ∷ []))).text
+    ensures { (result_of_batch_input base_after_sale_of_all (0 ∷ []) (bytes_of_batch (codes "Y") (codes "broker,7,Cy" ∷ []))).text
         ≡ text_with_line_ends (codes "1,ok,1709251200028"
         ∷ codes "end,1,0,0" ∷ []) }
 {}
@@ -86,7 +86,7 @@ pub fn commands_at_greatest_stamp_are_refused()
 
 /// Shows that a result is refused with 21 if the due day of its trade is after 9999-12-31.
 pub fn due_day_beyond_calendar_is_refused()
-    ensures { (batch_of_input setting_base (253402300799000 ∷ 0 ∷ []) (bytes_of_batch (codes "Y")
+    ensures { (result_of_batch_input setting_base (253402300799000 ∷ 0 ∷ []) (bytes_of_batch (codes "Y")
         (codes "order,100,TMB,ABC,100,,cash,fifo,Ann,Lee,T10"
         ∷ codes "result,1,10.00" ∷ []))).text
         ≡ text_with_line_ends (codes "1,ok,253402300799000,1,SBMT,10.00,0.00,0.00,0.00,10.00,5.00,10000.00"
@@ -97,13 +97,13 @@ pub fn due_day_beyond_calendar_is_refused()
 /// Shows that 9999-12-29 is the last day for a completion that settles after two days: a completion
 /// in the last millisecond of this day is accepted, and one a millisecond later is refused with 21.
 pub fn last_day_for_two_day_settlement()
-    ensures accepted { (batch_of_input setting_base (253402127999998 ∷ 253402127999999 ∷ []) (bytes_of_batch (codes "Y")
+    ensures accepted { (result_of_batch_input setting_base (253402127999998 ∷ 253402127999999 ∷ []) (bytes_of_batch (codes "Y")
         (codes "order,100,TMB,ABC,100,,cash,fifo,Ann,Lee,T10"
         ∷ codes "result,1,10.00" ∷ []))).text
         ≡ text_with_line_ends (codes "1,ok,253402127999998,1,SBMT,10.00,0.00,0.00,0.00,10.00,5.00,10000.00"
         ∷ codes "2,ok,253402127999999,10.00,0.00,-1015.00,9999-12-31,0.00,0.00,8985.00"
         ∷ codes "end,2,0,0" ∷ []) }
-    ensures refused { (batch_of_input setting_base (253402127999999 ∷ 253402128000000 ∷ []) (bytes_of_batch (codes "Y")
+    ensures refused { (result_of_batch_input setting_base (253402127999999 ∷ 253402128000000 ∷ []) (bytes_of_batch (codes "Y")
         (codes "order,100,TMB,ABC,100,,cash,fifo,Ann,Lee,T10"
         ∷ codes "result,1,10.00" ∷ []))).text
         ≡ text_with_line_ends (codes "1,ok,253402127999999,1,SBMT,10.00,0.00,0.00,0.00,10.00,5.00,10000.00"

@@ -11,12 +11,12 @@ use Rattle.brk_model.specs.Forms.{ReadResult}
 use Rattle.brk_model.specs.Commands.{Command, Answer, Refused}
 use Rattle.brk_model.specs.Keyed.{keyed_step}
 use Rattle.brk_model.specs.Answers.{Fields}
-use Rattle.brk_model_theorems.specs.RowCalls.{RowCall, CallsHaveAnswers, answer_to_row_call, with_well_formed_row, well_formed_rows_from, calls_of_rows, answers_interleaved_with_refusals, answers_to_row_and_rest, RowsAreAnsweredByCalls}
+use Rattle.brk_model_theorems.specs.RowCalls.{RowCall, CallsHaveAnswers, result_of_row_call, prepended_if_well_formed, well_formed_rows_from, calls_of_rows, answers_interleaved_with_refusals, answers_to_row_and_rest, RowsAreAnsweredByCalls}
 use Rattle.brk_model.specs.Input.{input_text, IsBatchName, IsEndRecord, batch_header, correct_end_record}
 use Rattle.brk_model.specs.Lines.{answer_lines_from, batch_end_line, is_refused_answer, refused_answer_count}
 use Rattle.brk_model.specs.Batch.{BatchResult, BatchEnding, CorrectEnd, BadHeader, NoEnd, BadEnd, BatchRowsAreDecided, IsResultOfBatch, HasNoHeader, MatchesEnding, IsResultOfTextWithHeader, step_of_row}
-use Rattle.brk_model.specs.Computed.{complete_batch}
-use Rattle.brk_model_theorems.specs.Laws.{SomeRunLeadsTo, IsBatchWithoutRefusals, answer_to_retry}
+use Rattle.brk_model.specs.Computed.{result_of_complete_batch}
+use Rattle.brk_model_theorems.specs.Laws.{SomeRunLeadsTo, IsCompleteBatchWithoutRefusals, answer_to_retry}
 use Rattle.brk_model_theorems.proofs.KeptLaws.{Grows, grows-on, run-grows, still, remembers, answers-again}
 use Rattle.brk_model_theorems.proofs.RunLaws.{rows-run}
 use Rattle.brk_model_theorems.proofs.RowLaws.{calls-of-decided}
@@ -28,7 +28,7 @@ pub length-turned : (calls : List (RowCall Command)) (answers : List Answer) (ba
 length-turned [] [] base after r = refl
 length-turned [] (answer ∷ answers) base after r = absurd r
 length-turned (call ∷ calls) [] base after r = absurd r
-length-turned (call ∷ calls) (answer ∷ answers) base after r = ap suc (length-turned calls answers (answer_to_row_call step_of_row base call).1 after r.1)
+length-turned (call ∷ calls) (answer ∷ answers) base after r = ap suc (length-turned calls answers (result_of_row_call step_of_row base call).1 after r.1)
 
 -- No answer of the list is a refusal.
 abbrev pub NoAnswerIsRefused : List Answer → Type 0
@@ -95,7 +95,7 @@ none-woven form n (row ∷ rows) replies l h = one (form row) n (well_formed_row
   where
     one : {C : Type 0} (r : ReadResult C) (n : ℕ) (rest : List (ℕ × C)) (more : List Answer → List Answer) (replies : List Answer)
         → ((others : List Answer) → length others ≡ length rest → refused_answer_count (more others) ≡ 0 → NoAnswerIsRefused others)
-        → length replies ≡ length (with_well_formed_row r n rest) → refused_answer_count (answers_to_row_and_rest r more replies) ≡ 0 → NoAnswerIsRefused replies
+        → length replies ≡ length (prepended_if_well_formed r n rest) → refused_answer_count (answers_to_row_and_rest r more replies) ≡ 0 → NoAnswerIsRefused replies
     one (Ok command) n rest more [] each l h = tt
     one (Ok command) n rest more (reply ∷ replies) each l h =
         let k = none-first reply (more replies) h in (k.0, each replies (omega (l, arith)) k.1)
@@ -184,7 +184,7 @@ made text base ending rows = record { text = text; base = base; ending = ending;
 
 -- a batch of these answers, from its parts
 by_parts : (batch : BatchResult Base) (answers : List Answer) (base : Base) → batch.text ≡ answer_lines_from 1 answers ++ batch_end_line answers → batch.base ≡ base → batch.ending ≡ CorrectEnd
-    → batch.rows ≡ length answers → batch ≡ complete_batch {B = Base} (answers, base)
+    → batch.rows ≡ length answers → batch ≡ result_of_complete_batch {B = Base} (answers, base)
 unfolding made
 by_parts batch answers base t b e n =
     let text : Text = answer_lines_from 1 answers ++ batch_end_line answers in
@@ -235,7 +235,7 @@ no-header input name rest named e (inr begins) = begins.2 name named (first-same
 
 by_kind : (form : Fields → ReadResult Command) (base later : Base) (moments others : List ℕ) (input : Text) (answers : List Answer) (first second : BatchResult Base)
     (one : IsResultOfTextWithHeader form step_of_row base moments (Some (input_text input)) first) → one.answers ≡ answers → refused_answer_count answers ≡ 0 → HasRecords input one.name one.rows
-    → Grows first.base later → IsResultOfBatch form step_of_row later others input second → second ≡ complete_batch {B = Base} (map answer_to_retry answers, later)
+    → Grows first.base later → IsResultOfBatch form step_of_row later others input second → second ≡ result_of_complete_batch {B = Base} (map answer_to_retry answers, later)
 by_kind form base later moments others input answers first second one these none has g (inr two) = absurd (no-header input one.name _ one.settled.named has.1 two.headless)
 by_kind form base later moments others input answers first second one these none has g (inl two) =
     by_parts second (map answer_to_retry answers) later (k.4 ∙ ap (λ a. answer_lines_from 1 a ++ batch_end_line a) same) again.1 k.0 (two.counted ∙ ap length (k.3 ∙ same))
@@ -255,8 +255,8 @@ by_kind form base later moments others input answers first second one these none
     same : two.answers ≡ map answer_to_retry answers
     same = again.0 ∙ ap (map answer_to_retry) these
 
-pub comes-again : (form : Fields → ReadResult Command) (base later : Base) (moments others : List ℕ) (input : Text) (answers : List Answer) (first second : BatchResult Base) → IsBatchWithoutRefusals form base moments input answers first
-    → SomeRunLeadsTo first.base later → IsResultOfBatch form step_of_row later others input second → second ≡ complete_batch {B = Base} (map answer_to_retry answers, later)
+pub comes-again : (form : Fields → ReadResult Command) (base later : Base) (moments others : List ℕ) (input : Text) (answers : List Answer) (first second : BatchResult Base) → IsCompleteBatchWithoutRefusals form base moments input answers first
+    → SomeRunLeadsTo first.base later → IsResultOfBatch form step_of_row later others input second → second ≡ result_of_complete_batch {B = Base} (map answer_to_retry answers, later)
 comes-again form base later moments others input answers first second went leads two =
     let one : IsResultOfTextWithHeader form step_of_row base moments (Some (input_text input)) first = went.answered in
     let has = by_first input one.name one.rows one.answers one.told first.ending first.text went.ended one.ends in

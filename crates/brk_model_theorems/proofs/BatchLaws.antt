@@ -12,10 +12,10 @@ use Rattle.brk_model.specs.Forms.{ReadResult, is_batch_name}
 use Rattle.brk_model.specs.Parse.{parse_row}
 use Rattle.brk_model.specs.Commands.{Answer, Refused}
 use Rattle.brk_model.specs.Answers.{Fields, RowStep}
-use Rattle.brk_model_theorems.specs.RowCalls.{RowCall, CallsHaveAnswers, answer_to_row_call, RowsAreAnsweredByCalls, well_formed_rows_from, with_well_formed_row, calls_of_rows, answers_interleaved_with_refusals, answers_to_row_and_rest}
+use Rattle.brk_model_theorems.specs.RowCalls.{RowCall, CallsHaveAnswers, result_of_row_call, RowsAreAnsweredByCalls, well_formed_rows_from, prepended_if_well_formed, calls_of_rows, answers_interleaved_with_refusals, answers_to_row_and_rest}
 use Rattle.brk_model.specs.Input.{input_text, BeginsWithRecords, HasExactlyRecords, IsBatchName, IsEndRecord, batch_header, correct_end_record}
 use Rattle.brk_model.specs.Batch.{BatchResult, BadEnd, BatchRowsAreDecided, IsResultOfTextWithHeader, IsResultOfTextWithoutHeader, IsResultOfBatch, step_of_row}
-use Rattle.brk_model.specs.Computed.{AnswersAndBase, answers_and_base_of_rows, is_end_record, RowsAndEndRecord, with_row_in_front, split_at_end_record, batch_name_of_header, has_correct_row_count, batch_without_end_line, complete_batch, batch_with_end_record, batch_without_end_record, batch_of_rows, batch_with_optional_name, batch_of_records, batch_of_input}
+use Rattle.brk_model.specs.Computed.{AnswersAndBase, answers_and_base_of_rows, is_end_record, RowsAndEndRecord, split_with_row_in_front, split_at_end_record, batch_name_of_header, has_correct_row_count, result_without_end_line, result_of_complete_batch, result_with_end_record, result_without_end_record, result_of_batch_rows, result_with_optional_name, result_of_batch_records, result_of_batch_input}
 use Rattle.brk_model_theorems.proofs.RowLaws.{takes-first}
 
 -- ---- the calls of rows
@@ -32,7 +32,7 @@ pub formed-few : {C : Type 0} (form : Fields → ReadResult C) (n : ℕ) (rows :
 formed-few form n [] = omega arith
 formed-few form n (row ∷ rows) = one (form row) n (well_formed_rows_from form (n + 1) rows) (length rows) (formed-few form (n + 1) rows)
   where
-    one : {C : Type 0} (r : ReadResult C) (n : ℕ) (rest : List (ℕ × C)) (k : ℕ) → length rest ≤ k → length (with_well_formed_row r n rest) ≤ suc k
+    one : {C : Type 0} (r : ReadResult C) (n : ℕ) (rest : List (ℕ × C)) (k : ℕ) → length rest ≤ k → length (prepended_if_well_formed r n rest) ≤ suc k
     one (Ok command) n rest k h = omega (h, arith)
     one (Err refusal) n rest k h = omega (h, arith)
 
@@ -42,7 +42,7 @@ length-woven form n [] answers h = refl
 length-woven form n (row ∷ rows) answers h = one (form row) n (well_formed_rows_from form (n + 1) rows) (answers_interleaved_with_refusals form rows) (length rows) answers (length-woven form (n + 1) rows) h
   where
     one : {C : Type 0} (r : ReadResult C) (n : ℕ) (rest : List (ℕ × C)) (more : List Answer → List Answer) (k : ℕ) (answers : List Answer)
-        → ((others : List Answer) → length others ≡ length rest → length (more others) ≡ k) → length answers ≡ length (with_well_formed_row r n rest) → length (answers_to_row_and_rest r more answers) ≡ suc k
+        → ((others : List Answer) → length others ≡ length rest → length (more others) ≡ k) → length answers ≡ length (prepended_if_well_formed r n rest) → length (answers_to_row_and_rest r more answers) ≡ suc k
     one (Ok command) n rest more k [] each h = absurd (omega (h, arith))
     one (Ok command) n rest more k (answer ∷ answers) each h = ap suc (each answers (omega (h, arith)))
     one (Err refusal) n rest more k answers each h = ap suc (each answers h)
@@ -51,7 +51,7 @@ length-turns : {B C : Type 0} (step : RowStep B C) (base after : B) (calls : Lis
 length-turns step base after [] [] r = refl
 length-turns step base after [] (answer ∷ answers) r = absurd r
 length-turns step base after (call ∷ calls) [] r = absurd r
-length-turns step base after (call ∷ calls) (answer ∷ answers) r = ap suc (length-turns step (answer_to_row_call step base call).1 after calls answers r.1)
+length-turns step base after (call ∷ calls) (answer ∷ answers) r = ap suc (length-turns step (result_of_row_call step base call).1 after calls answers r.1)
 
 -- rows that are answered by their calls have one answer each
 pub one-each : {B C : Type 0} (form : Fields → ReadResult C) (step : RowStep B C) (name : Text) (base after : B) (moments : List ℕ) (rows : List Fields) (answers : List Answer)
@@ -95,12 +95,12 @@ abbrev pub Splits : List Fields → RowsAndEndRecord → Type 0
 Splits rows (front, Some last) = AllByRecursion (λ row. ¬ (IsEndRecord row)) front × IsEndRecord last × ((more : List Fields) × (rows ≡ front ++ last ∷ more))
 Splits rows (front, None) = AllByRecursion (λ row. ¬ (IsEndRecord row)) front × (rows ≡ front)
 
-pub with_row-Splits : (row : Fields) (rows : List Fields) (split : RowsAndEndRecord) → ¬ (IsEndRecord row) → Splits rows split → Splits (row ∷ rows) (with_row_in_front row split)
+pub with_row-Splits : (row : Fields) (rows : List Fields) (split : RowsAndEndRecord) → ¬ (IsEndRecord row) → Splits rows split → Splits (row ∷ rows) (split_with_row_in_front row split)
 with_row-Splits row rows (front, Some last) h s = ((h, s.0), s.1, (s.2.0, ap (λ rs. row ∷ rs) s.2.1))
 with_row-Splits row rows (front, None) h s = ((h, s.0), ap (λ rs. row ∷ rs) s.1)
 
 pub splits_one : (row : Fields) (rows : List Fields) (b : Bool) → is_end_record row ≡ b → Splits rows (split_at_end_record rows)
-    → Splits (row ∷ rows) (cond b ([], Some row) (with_row_in_front row (split_at_end_record rows)))
+    → Splits (row ∷ rows) (cond b ([], Some row) (split_with_row_in_front row (split_at_end_record rows)))
 splits_one row rows true h s = (tt, end_is row h, (rows, refl))
 splits_one row rows false h s = with_row-Splits row rows (split_at_end_record rows) (no_end row h) s
 
@@ -182,13 +182,13 @@ length-append_one (x ∷ xs) y zs = let h = length-append_one xs y zs in omega (
 -- the rows before an end record, right or wrong
 pub ends_with : {B C : Type 0} (form : Fields → ReadResult C) (step : RowStep B C) (name : Text) (base : B) (moments : List ℕ) (text : Text) (rows : List Fields) (last : Fields) (more : List Fields)
     → IsBatchName name → AllByRecursion (λ row. ¬ (IsEndRecord row)) rows → IsEndRecord last → records default_config text ≡ batch_header name ∷ (rows ++ last ∷ more) → length rows ≤ length moments
-    → Comes form step base moments text (batch_with_end_record form step name base moments rows last)
+    → Comes form step base moments text (result_with_end_record form step name base moments rows last)
 ends_with {B = B} form step name base moments text rows last more named only end all h = at (has_correct_row_count (length rows) last) (right_says (length rows) last end)
   where
     run : AnswersAndBase B
     run = answers_and_base_of_rows form step name base moments rows
 
-    at : (b : Bool) → IsCorrectEndRecordExactlyIf (length rows) last b → Comes form step base moments text (cond b (complete_batch run) (batch_without_end_line run BadEnd))
+    at : (b : Bool) → IsCorrectEndRecordExactlyIf (length rows) last b → Comes form step base moments text (cond b (result_of_complete_batch run) (result_without_end_line run BadEnd))
     at true k = (
       length (well_formed_rows_from form 1 rows),
       inl (record {
@@ -230,7 +230,7 @@ All-back P (x ∷ xs) ys h = All-back P xs ys h.1
 -- rows with no end record after them
 pub cuts_off : {B C : Type 0} (form : Fields → ReadResult C) (step : RowStep B C) (name : Text) (base : B) (moments : List ℕ) (text : Text) (rows : List Fields)
     → IsBatchName name → AllByRecursion (λ row. ¬ (IsEndRecord row)) rows → records default_config text ≡ batch_header name ∷ rows → length rows ≤ length moments
-    → Comes form step base moments text (batch_without_end_record form step name base moments rows)
+    → Comes form step base moments text (result_without_end_record form step name base moments rows)
 cuts_off form step name base moments text [] named only all h = (
   length (well_formed_rows_from form 1 []),
   inl (record {
@@ -277,7 +277,7 @@ cuts_off {B = B} form step name base moments text (row ∷ rows) named only all 
 -- the records after a header
 pub comes_named : {B C : Type 0} (form : Fields → ReadResult C) (step : RowStep B C) (name : Text) (base : B) (moments : List ℕ) (text : Text) (rest : List Fields) (split : RowsAndEndRecord)
     → IsBatchName name → records default_config text ≡ batch_header name ∷ rest → length rest ≤ length moments → Splits rest split
-    → Comes form step base moments text (batch_of_rows form step name base moments split)
+    → Comes form step base moments text (result_of_batch_rows form step name base moments split)
 comes_named form step name base moments text rest (rows, Some last) named all h s =
     ends_with form step name base moments text rows last s.2.0 named s.0 s.1 (all ∙ ap (λ rs. batch_header name ∷ rs) s.2.1)
     (let k = length-append_one rows last s.2.0 in let e = ap length s.2.1 in omega (k, e, h, arith))
@@ -287,27 +287,27 @@ comes_named form step name base moments text rest (rows, None) named all h s =
 -- a batch without a header
 pub comes_headless : {B C : Type 0} (form : Fields → ReadResult C) (step : RowStep B C) (base : B) (moments : List ℕ) (text : Text)
     → (HasExactlyRecords (Some text) [] ⊎ ((first : Fields) × BeginsWithRecords (Some text) (first ∷ []) × ((name : Text) → IsBatchName name → first ≡ batch_header name → ⊥)))
-    → Comes form step base moments text (batch_with_optional_name form step None base moments [])
+    → Comes form step base moments text (result_with_optional_name form step None base moments [])
 comes_headless form step base moments text h =
     (0, inr (record { headless = h; ending = refl; asked = refl; unchanged = refl; told = refl; counted = refl }))
 
 -- by the name in the header
 pub comes_headed : {B C : Type 0} (form : Fields → ReadResult C) (step : RowStep B C) (base : B) (moments : List ℕ) (text : Text) (header : Fields) (rest : List Fields) (name : Option Text)
     → records default_config text ≡ header ∷ rest → length rest ≤ length moments → HeaderHasOptionalName header name
-    → Comes form step base moments text (batch_with_optional_name form step name base moments rest)
+    → Comes form step base moments text (result_with_optional_name form step name base moments rest)
 comes_headed form step base moments text header rest (Some name) all h says =
     comes_named form step name base moments text rest (split_at_end_record rest) says.1 (all ∙ ap (λ r. r ∷ rest) says.0) h (splits rest)
 comes_headed form step base moments text header rest None all h says =
     comes_headless form step base moments text (inr (header, (rest, all), says))
 
 pub comes : {B C : Type 0} (form : Fields → ReadResult C) (step : RowStep B C) (base : B) (moments : List ℕ) (text : Text) (all : List Fields)
-    → records default_config text ≡ all → length all ≤ length moments → Comes form step base moments text (batch_of_records form step base moments all)
+    → records default_config text ≡ all → length all ≤ length moments → Comes form step base moments text (result_of_batch_records form step base moments all)
 comes form step base moments text [] e h = comes_headless form step base moments text (inl e)
 comes form step base moments text (header ∷ rest) e h =
     comes_headed form step base moments text header rest (batch_name_of_header header) e (omega (h, arith)) (header_says header)
 
 -- the function gives the batch text, and takes the first of the moments
 pub computes : (base : Base) (moments : List ℕ) (input : Text) → length (records default_config (input_text input)) ≤ length moments
-    → (n : ℕ) × IsResultOfBatch parse_row step_of_row base (take n moments) input (batch_of_input base moments input)
-unfolding batch_of_input
+    → (n : ℕ) × IsResultOfBatch parse_row step_of_row base (take n moments) input (result_of_batch_input base moments input)
+unfolding result_of_batch_input
 computes base moments input h = comes parse_row step_of_row base moments (input_text input) (records default_config (input_text input)) refl h

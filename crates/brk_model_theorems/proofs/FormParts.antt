@@ -8,8 +8,8 @@ use Rattle.brk_model.specs.Limits.{greatest_id}
 use Rattle.brk_model.specs.Lists.{all_distinct}
 use Rattle.brk_model.specs.Schemas.{Schema}
 use Rattle.brk_model.specs.Tables.{Tables}
-use Rattle.brk_model.specs.Form.{is_well_formed_kept_row, is_well_formed_broker_row, is_well_formed_customer_row, is_within_customer_limits, is_well_formed_account_row, is_well_formed_permission_row, is_well_formed_security_row, is_well_formed_last_trade_row, is_well_formed_charge_row, is_well_formed_band_row, bands_are_disjoint, is_well_formed_tax_rate_row, is_well_formed_customer_tax_row, is_well_formed_trade_row, are_equal_number_lists, is_well_formed_history_row, is_well_formed_request_row, is_well_formed_holding_row, is_well_formed_summary_row, is_well_formed_holding_history_row, is_well_formed_settlement_row, is_well_formed_cash_row, is_well_formed_move_row, trade_ids_of_cash_rows, lacks_rows_of_later_schemas, tables_are_sorted_by_unique_key, satisfies_form_condition, has_distinct_tax_ids, is_sorted_by_unique_key}
-use Rattle.brk_model.specs.Keys.{kept_key, broker_key, customer_key, account_key, permission_key, security_key, last_trade_key, charge_key, band_key, tax_rate_key, customer_tax_key, trade_key, history_key, request_key, holding_key, summary_key, holding_history_key, settlement_key, cash_key, move_key}
+use Rattle.brk_model.specs.Form.{is_well_formed_kept_row, is_well_formed_broker_row, is_well_formed_customer_row, is_within_customer_limits, is_well_formed_account_row, is_well_formed_permission_row, is_well_formed_security_row, is_well_formed_last_trade_row, is_well_formed_charge_row, is_well_formed_band_row, has_disjoint_bands, is_well_formed_tax_rate_row, is_well_formed_customer_tax_row, is_well_formed_trade_row, are_equal_number_lists, is_well_formed_history_row, is_well_formed_request_row, is_well_formed_holding_row, is_well_formed_summary_row, is_well_formed_holding_history_row, is_well_formed_settlement_row, is_well_formed_cash_transaction_row, is_well_formed_cash_move_row, trade_ids_of_cash_rows, lacks_rows_of_later_schemas, has_tables_sorted_by_unique_key, satisfies_form_condition, has_distinct_tax_ids, is_sorted_by_unique_key}
+use Rattle.brk_model.specs.Keys.{kept_key, broker_key, customer_key, account_key, permission_key, security_key, last_trade_key, charge_key, band_key, tax_rate_key, customer_tax_key, trade_key, history_key, request_key, holding_key, summary_key, holding_history_key, settlement_key, cash_transaction_key, cash_move_key}
 use Rattle.brk_model_theorems.specs.FormParts.{SatisfiesFormParts, HasSortedTables}
 use Rattle.brk_model_theorems.proofs.Conjunctions.{parts, whole}
 
@@ -18,7 +18,7 @@ use Rattle.brk_model_theorems.proofs.Conjunctions.{parts, whole}
 -- The parts of the condition `Form` after the first one, in sequence.
 abbrev forms : Schema → Tables → List Bool
 forms schema t =
-    tables_are_sorted_by_unique_key t ∷
+    has_tables_sorted_by_unique_key t ∷
     has_distinct_tax_ids t.customers ∷
     list_all is_well_formed_kept_row t.kept ∷
     list_all is_well_formed_broker_row t.brokers ∷
@@ -30,7 +30,7 @@ forms schema t =
     list_all (is_well_formed_last_trade_row t) t.last_trades ∷
     list_all is_well_formed_charge_row t.charges ∷
     list_all (is_well_formed_band_row schema) t.bands ∷
-    bands_are_disjoint t.bands ∷
+    has_disjoint_bands t.bands ∷
     list_all is_well_formed_tax_rate_row t.tax_rates ∷
     list_all (is_well_formed_customer_tax_row t) t.customer_taxes ∷
     list_all (is_well_formed_trade_row schema t) t.trades ∷
@@ -41,8 +41,8 @@ forms schema t =
     list_all (is_well_formed_summary_row schema t) t.summaries ∷
     list_all (is_well_formed_holding_history_row t) t.holding_history ∷
     list_all (is_well_formed_settlement_row t) t.settlements ∷
-    list_all (is_well_formed_cash_row t) t.cash ∷
-    list_all (is_well_formed_move_row t) t.moves ∷
+    list_all (is_well_formed_cash_transaction_row t) t.cash ∷
+    list_all (is_well_formed_cash_move_row t) t.moves ∷
     all_distinct (trade_ids_of_cash_rows t.moves) ∷
     nat_le (length (filter (λ r. is_none r.trade) t.moves)) greatest_id ∷
     option_map_or (λ day. nat_le day greatest_day) t.rule true ∷
@@ -113,11 +113,11 @@ rests t =
     is_sorted_by_unique_key summary_key t.summaries ∷
     is_sorted_by_unique_key holding_history_key t.holding_history ∷
     is_sorted_by_unique_key settlement_key t.settlements ∷
-    is_sorted_by_unique_key cash_key t.cash ∷
-    is_sorted_by_unique_key move_key t.moves ∷ []
+    is_sorted_by_unique_key cash_transaction_key t.cash ∷
+    is_sorted_by_unique_key cash_move_key t.moves ∷ []
 
-pub keys_rise : (t : Tables) → tables_are_sorted_by_unique_key t ≡ true → HasSortedTables t
-unfolding tables_are_sorted_by_unique_key
+pub keys_rise : (t : Tables) → has_tables_sorted_by_unique_key t ≡ true → HasSortedTables t
+unfolding has_tables_sorted_by_unique_key
 keys_rise t h =
     let p = parts (is_sorted_by_unique_key kept_key t.kept) (rests t) h in
     record {
@@ -143,6 +143,6 @@ keys_rise t h =
       moves = p.1.1.1.1.1.1.1.1.1.1.1.1.1.1.1.1.1.1.1.0;
     }
 
-pub keys_whole : (t : Tables) → HasSortedTables t → tables_are_sorted_by_unique_key t ≡ true
-unfolding tables_are_sorted_by_unique_key
+pub keys_whole : (t : Tables) → HasSortedTables t → has_tables_sorted_by_unique_key t ≡ true
+unfolding has_tables_sorted_by_unique_key
 keys_whole t h = whole (is_sorted_by_unique_key kept_key t.kept) (rests t) h.kept (h.brokers, (h.customers, (h.accounts, (h.permissions, (h.securities, (h.last_trades, (h.charges, (h.bands, (h.tax_rates, (h.customer_taxes, (h.trades, (h.history, (h.requests, (h.holdings, (h.summaries, (h.holding_history, (h.settlements, (h.cash, (h.moves, tt)))))))))))))))))))

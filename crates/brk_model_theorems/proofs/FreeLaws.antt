@@ -11,7 +11,7 @@ use Rattle.brk_model.specs.Base.{Base}
 use Rattle.brk_model.specs.Commands.{Command, Reply, Answer, Done, Again, Refused}
 use Rattle.brk_model.specs.Rows.{row_text}
 use Rattle.brk_model.specs.Lines.{is_refused_answer}
-use Rattle.brk_model.specs.Keyed.{stored_row_with_key, keyed_step, answer_by_stored_row, answer_and_base_of_step, base_with_stored_reply}
+use Rattle.brk_model.specs.Keyed.{stored_row_with_key, keyed_step, answer_and_base_by_stored_row, answer_and_base_of_step, base_with_stored_reply}
 use Rattle.brk_model.specs.Step.{step}
 use Rattle.brk_model.specs.Run.{Call, Do, Ask, Outcome, Did, Saw, NoView, Failed, IsOutcomeOfCall, Run}
 use Rattle.brk_model_theorems.specs.Laws.{IsAcceptedUnderKey, AcceptsNothingUnderKey}
@@ -37,7 +37,7 @@ by_row base line refusal after true e = let no : false ≡ true = ap (λ r. is_r
 by_row base line refusal after false e = sym (ap (λ r. refusal_in refusal r.0) e)
 
 by_found : (base : Base) (now : ℕ) (command : Command) (key : Key) (refusal : Refusal) (after : Base) (found : Option Kept)
-    → answer_by_stored_row base now command (Some key) found ≡ (Refused refusal, after) → ¬ (refusal ≡ KeyReused) → found ≡ None
+    → answer_and_base_by_stored_row base now command (Some key) found ≡ (Refused refusal, after) → ¬ (refusal ≡ KeyReused) → found ≡ None
 by_found base now command key refusal after None e other = refl
 by_found base now command key refusal after (Some k) e other = absurd (other (by_row base k.line refusal after (bytes_eq k.row_text (row_text command)) e))
 
@@ -51,7 +51,7 @@ was-free base now command key refusal after e other = by_found base now command 
 pub acts : (base : Base) (now : ℕ) (command : Command) (key : Key) (reply : Reply) (booked : Base) → stored_row_with_key base key ≡ None → step base now command ≡ Ok (reply, booked)
     → keyed_step base now command (Some key) ≡ (Done reply, base_with_stored_reply (Some key) command reply booked)
 unfolding keyed_step
-acts base now command key reply booked none h = ap (answer_by_stored_row base now command (Some key)) none ∙ ap (answer_and_base_of_step base (Some key) command) h
+acts base now command key reply booked none h = ap (answer_and_base_by_stored_row base now command (Some key)) none ∙ ap (answer_and_base_of_step base (Some key) command) h
 
 -- ---- calls under other keys
 

@@ -9,7 +9,7 @@ use Rattle.brk_model.specs.Records.{Key, Kept}
 use Rattle.brk_model.specs.Base.{Base}
 use Rattle.brk_model.specs.Commands.{Command, Reply, Answer, Done, Again, Refused}
 use Rattle.brk_model.specs.Rows.{row_text}
-use Rattle.brk_model.specs.Keyed.{stored_row_with_key, keyed_step, answer_by_stored_row, answer_and_base_of_step, stored_row_with_optional_key}
+use Rattle.brk_model.specs.Keyed.{stored_row_with_key, keyed_step, answer_and_base_by_stored_row, answer_and_base_of_step, stored_row_with_optional_key}
 use Rattle.brk_model.specs.Step.{step}
 use Rattle.brk_model.specs.Run.{Call, Do, Ask, Outcome, Did, Saw, NoView, Failed, IsOutcomeOfCall, Run}
 use Rattle.brk_model.specs.Lines.{is_refused_answer}
@@ -38,7 +38,7 @@ acted-grows base now (Some key) command (Ok booked) h =
     let k : Accepted base now command booked.0 booked.1 = accepted base now command booked.0 booked.1 h in
     (row_kept key command booked.0 ∷ [], ap (λ ks. ks ++ row_kept key command booked.0 ∷ []) (ap (λ b. b.kept) k.moved ∙ records-kept base _ command))
 
-keyed-grows : (base : Base) (now : ℕ) (command : Command) (key : Option Key) (found : Option Kept) → Grows base (answer_by_stored_row base now command key found).1
+keyed-grows : (base : Base) (now : ℕ) (command : Command) (key : Option Key) (found : Option Kept) → Grows base (answer_and_base_by_stored_row base now command key found).1
 keyed-grows base now command key (Some k) = same-grows base base refl
 keyed-grows base now command key None = acted-grows base now key command (step base now command) refl
 
@@ -105,7 +105,7 @@ acted-again base command key line after (Ok booked) e = let no : None ≡ Some l
 acted-again base command key line after (Err refusal) e = let no : None ≡ Some line = ap (λ r. line_in r.0) e in absurd (cc)
 
 by_kept : (base : Base) (now : ℕ) (command : Command) (key : Key) (line : Text) (after : Base) (found : Option Kept) → stored_row_with_key base key ≡ found
-    → answer_by_stored_row base now command (Some key) found ≡ (Again line, after) → Remembers after key command (Again line)
+    → answer_and_base_by_stored_row base now command (Some key) found ≡ (Again line, after) → Remembers after key command (Again line)
 by_kept base now command key line after (Some k) h e = by_again base command key k line after h (bytes_eq k.row_text (row_text command)) refl e
 by_kept base now command key line after None h e = absurd (acted-again base command key line after (step base now command) e)
 
@@ -129,4 +129,4 @@ still base after key command answer g r = record { kept = r.kept; found = stays 
 pub answers-again : (base : Base) (now : ℕ) (command : Command) (key : Key) (answer : Answer) → Remembers base key command answer → keyed_step base now command (Some key) ≡ (answer_to_retry answer, base)
 unfolding keyed_step
 answers-again base now command key answer r =
-    ap (answer_by_stored_row base now command (Some key)) r.found ∙ ap (λ b. (cond b (Again r.kept.line) (Refused KeyReused), base)) r.same ∙ ap (λ a. (a, base)) (sym r.line)
+    ap (answer_and_base_by_stored_row base now command (Some key)) r.found ∙ ap (λ b. (cond b (Again r.kept.line) (Refused KeyReused), base)) r.same ∙ ap (λ a. (a, base)) (sym r.line)

@@ -10,7 +10,7 @@ use Rattle.brk_model.specs.Records.{Key, Kept}
 use Rattle.brk_model.specs.Base.{Base}
 use Rattle.brk_model.specs.Commands.{Command, Reply, Answer, Done, Again, Refused}
 use Rattle.brk_model.specs.Rows.{row_text, line_text}
-use Rattle.brk_model.specs.Keyed.{stored_row_with_key, keyed_step, answer_by_stored_row, answer_and_base_of_step, answer_to_repeated_row, base_with_stored_reply}
+use Rattle.brk_model.specs.Keyed.{stored_row_with_key, keyed_step, answer_and_base_by_stored_row, answer_and_base_of_step, answer_and_base_of_retry, base_with_stored_reply}
 use Rattle.brk_model.specs.Step.{step}
 use Rattle.brk_model_theorems.proofs.Steps.{Accepted, accepted, records-kept}
 
@@ -78,7 +78,7 @@ by_step base now command key reply after fresh (Ok booked) h e =
           ∙ ap (λ ks. ks ++ row_kept key command booked.0 ∷ []) (records-kept base _ command) ∙ ap (λ r. base.kept ++ row_kept key command r ∷ []) told;
     }
 
-repeated-not_done : (base : Base) (command : Command) (k : Kept) (reply : Reply) (after : Base) → answer_to_repeated_row base command k ≡ (Done reply, after) → ⊥
+repeated-not_done : (base : Base) (command : Command) (k : Kept) (reply : Reply) (after : Base) → answer_and_base_of_retry base command k ≡ (Done reply, after) → ⊥
 unfolding answer_in is_done
 repeated-not_done base command k reply after e = at (bytes_eq k.row_text (row_text command)) (ap (λ a. is_done (answer_in a)) e)
   where
@@ -87,7 +87,7 @@ repeated-not_done base command k reply after e = at (bytes_eq k.row_text (row_te
     at false h = absurd (cc)
 
 by_kept : (base : Base) (now : ℕ) (command : Command) (key : Key) (reply : Reply) (after : Base) (found : Option Kept) → stored_row_with_key base key ≡ found
-    → answer_by_stored_row base now command (Some key) found ≡ (Done reply, after) → Keeps base key command reply after
+    → answer_and_base_by_stored_row base now command (Some key) found ≡ (Done reply, after) → Keeps base key command reply after
 by_kept base now command key reply after (Some k) h e = absurd (repeated-not_done base command k reply after e)
 by_kept base now command key reply after None h e = by_step base now command key reply after h (step base now command) refl e
 
@@ -107,7 +107,7 @@ pub again : (base : Base) (now later : ℕ) (command : Command) (key : Key) (rep
     → keyed_step after later command (Some key) ≡ (Again (line_text reply), after)
 unfolding keyed_step
 again base now later command key reply after e =
-    ap (answer_by_stored_row after later command (Some key)) (found_again base command key reply after (keeps base now command key reply after e))
+    ap (answer_and_base_by_stored_row after later command (Some key)) (found_again base command key reply after (keeps base now command key reply after e))
     ∙ ap (λ b. (cond b (Again (line_text reply)) (Refused KeyReused), after)) ((bytes_eq-Decides (row_text command) (row_text command)).1 refl)
 
 -- another row is refused, and leaves it
@@ -115,5 +115,5 @@ pub changed : (base : Base) (now later : ℕ) (command other : Command) (key : K
     → bytes_eq (row_text command) (row_text other) ≡ false → keyed_step after later other (Some key) ≡ (Refused KeyReused, after)
 unfolding keyed_step
 changed base now later command other key reply after e h =
-    ap (answer_by_stored_row after later other (Some key)) (found_again base command key reply after (keeps base now command key reply after e))
+    ap (answer_and_base_by_stored_row after later other (Some key)) (found_again base command key reply after (keeps base now command key reply after e))
     ∙ ap (λ b. (cond b (Again (line_text reply)) (Refused KeyReused), after)) h

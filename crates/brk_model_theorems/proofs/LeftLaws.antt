@@ -5,8 +5,8 @@ use Rattle.std.specs.Prelude.{is_none}
 use Rattle.brk_model.specs.Records.{Kept}
 use Rattle.brk_model.specs.Base.{Base}
 use Rattle.brk_model.specs.Commands.{Command, Answer, Done, Again, Refused}
-use Rattle.brk_model.specs.Keyed.{stored_row_with_key, answer_by_stored_row, keyed_step, answer_to_repeated_row}
-use Rattle.brk_model_theorems.specs.RowCalls.{RowCall, CallsHaveAnswers, answer_to_row_call}
+use Rattle.brk_model.specs.Keyed.{stored_row_with_key, answer_and_base_by_stored_row, keyed_step, answer_and_base_of_retry}
+use Rattle.brk_model_theorems.specs.RowCalls.{RowCall, CallsHaveAnswers, result_of_row_call}
 use Rattle.brk_model.specs.Batch.{step_of_row}
 use Rattle.brk_model.specs.Run.{Did}
 use Rattle.brk_model_theorems.specs.Laws.{AnswersMatchStoredReplies, AcceptedCallsAreStored, AnswerMatchesStoredReply, IsStoredIfAccepted, answers_for_new_keys, call_of_batch_row, calls_with_new_keys, accepted_answers, accepted_calls}
@@ -16,9 +16,9 @@ use Rattle.brk_model_theorems.proofs.PartLaws.{in-turn-joined}
 use Rattle.brk_model_theorems.proofs.RunLaws.{Says, keyed_step-says, rows-run}
 
 -- a call whose key is kept leaves the base
-kept-call : (base : Base) (call : RowCall Command) (k : Kept) → stored_row_with_key base call.key ≡ Some k → answer_to_row_call step_of_row base call ≡ answer_to_repeated_row base call.command k
+kept-call : (base : Base) (call : RowCall Command) (k : Kept) → stored_row_with_key base call.key ≡ Some k → result_of_row_call step_of_row base call ≡ answer_and_base_of_retry base call.command k
 unfolding keyed_step
-kept-call base call k h = ap (answer_by_stored_row base call.now call.command (Some call.key)) h
+kept-call base call k h = ap (answer_and_base_by_stored_row base call.now call.command (Some call.key)) h
 
 left : (first base after : Base) (calls : List (RowCall Command)) (answers : List Answer) → Grows first base → CallsHaveAnswers step_of_row base calls answers after
     → CallsHaveAnswers step_of_row base (calls_with_new_keys first calls) (answers_for_new_keys first calls answers) after × AnswersMatchStoredReplies first calls answers
@@ -38,11 +38,11 @@ left first base after (call ∷ calls) (answer ∷ answers) g r =
         → (o : Option Kept) → stored_row_with_key first call.key ≡ o
         → CallsHaveAnswers step_of_row base (cond (is_none o) (call ∷ L) L) (cond (is_none o) (answer ∷ A) A) after × (AnswerMatchesStoredReply base o call answer × AnswersMatchStoredReplies first calls answers)
     by_found onward None e =
-        let mid : Base = (answer_to_row_call step_of_row base call).1 in
+        let mid : Base = (result_of_row_call step_of_row base call).1 in
         let rest = onward mid (grows-on first base mid g (keyed_step-grows base call.now call.command (Some call.key))) r.1 in
         ((r.0, rest.0), (tt, rest.1))
     by_found onward (Some k) e =
-        let same : answer_to_row_call step_of_row base call ≡ answer_to_repeated_row base call.command k = kept-call base call k (stays first base call.key k g e) in
+        let same : result_of_row_call step_of_row base call ≡ answer_and_base_of_retry base call.command k = kept-call base call k (stays first base call.key k g e) in
         let rest = onward base g (subst (λ (p : Answer × Base). CallsHaveAnswers step_of_row p.1 calls answers after) same r.1) in
         (rest.0, (r.0 ∙ ap (λ (p : Answer × Base). p.0) same, rest.1))
 
@@ -64,7 +64,7 @@ done-alone base after (call ∷ calls) (answer ∷ answers) r =
     (keyed_step-says base call.now call.command (Some call.key) answer mid (ap (λ a. (a, mid)) (sym r.0))) r
   where
     mid : Base
-    mid = (answer_to_row_call step_of_row base call).1
+    mid = (result_of_row_call step_of_row base call).1
 
     by_answer : (answer : Answer) → ((b : Base) → CallsHaveAnswers step_of_row b calls answers after → CallsHaveAnswers step_of_row b (accepted_calls calls answers) (accepted_answers answers) after)
         → Says base answer mid → CallsHaveAnswers step_of_row base (call ∷ calls) (answer ∷ answers) after
@@ -86,9 +86,9 @@ done-kept base after (call ∷ calls) [] r = absurd r
 done-kept base after (call ∷ calls) (answer ∷ answers) r = (by_answer answer r.0, done-kept mid after calls answers r.1)
   where
     mid : Base
-    mid = (answer_to_row_call step_of_row base call).1
+    mid = (result_of_row_call step_of_row base call).1
 
-    by_answer : (answer : Answer) → answer ≡ (answer_to_row_call step_of_row base call).0 → IsStoredIfAccepted after call answer
+    by_answer : (answer : Answer) → answer ≡ (result_of_row_call step_of_row base call).0 → IsStoredIfAccepted after call answer
     by_answer (Done reply) e =
         let k = keeps base call.now call.command call.key reply mid (ap (λ a. (a, mid)) (sym e)) in
         stays mid after call.key (row_kept call.key call.command reply) (run-grows (map call_of_batch_row calls) (map Did answers) mid after (rows-run mid calls answers after r.1))

@@ -7,11 +7,11 @@ use Rattle.brk_model.specs.Base.{Base}
 use Rattle.brk_model.specs.Forms.{ReadResult}
 use Rattle.brk_model.specs.Commands.{Command, Answer, Refused}
 use Rattle.brk_model.specs.Answers.{Fields}
-use Rattle.brk_model_theorems.specs.RowCalls.{RowCall, CallsHaveAnswers, answer_to_row_call, with_well_formed_row, well_formed_rows_from, calls_of_rows, answers_interleaved_with_refusals, answers_to_row_and_rest, RowsAreAnsweredByCalls}
+use Rattle.brk_model_theorems.specs.RowCalls.{RowCall, CallsHaveAnswers, result_of_row_call, prepended_if_well_formed, well_formed_rows_from, calls_of_rows, answers_interleaved_with_refusals, answers_to_row_and_rest, RowsAreAnsweredByCalls}
 use Rattle.brk_model.specs.Batch.{BatchRowsAreDecided, BatchResult, IsResultOfTextWithHeader, step_of_row}
 use Rattle.brk_model.specs.Input.{BeginsWithRecords, IsEndRecord, correct_end_record, batch_header, input_text}
 use Rattle.brk_model.specs.Lines.{refused_answer_count, is_refused_answer}
-use Rattle.brk_model_theorems.specs.Laws.{SomeRunLeadsTo, IsBatchWithoutRefusals, answer_to_retry}
+use Rattle.brk_model_theorems.specs.Laws.{SomeRunLeadsTo, IsCompleteBatchWithoutRefusals, answer_to_retry}
 use Rattle.brk_model_theorems.proofs.AgainLaws.{HasRecords, by_first, first-same, length-turned, name-same, none-first, others-same, right_end, settled-again}
 use Rattle.brk_model_theorems.proofs.BatchLaws.{All-front, length-calls, length-woven}
 use Rattle.brk_model_theorems.proofs.KeptLaws.{Grows, grows-on, run-grows}
@@ -46,10 +46,10 @@ formed-joined : {C : Type 0} (form : Fields → ReadResult C) (n : ℕ) (front m
     → well_formed_rows_from form n (front ++ more) ≡ well_formed_rows_from form n front ++ well_formed_rows_from form (n + length front) more
 formed-joined form n [] more = ap (λ m. well_formed_rows_from form m more) (omega arith)
 formed-joined form n (row ∷ front) more =
-    ap (with_well_formed_row (form row) n) (formed-joined form (n + 1) front more ∙ ap (λ m. well_formed_rows_from form (n + 1) front ++ well_formed_rows_from form m more) (omega arith))
+    ap (prepended_if_well_formed (form row) n) (formed-joined form (n + 1) front more ∙ ap (λ m. well_formed_rows_from form (n + 1) front ++ well_formed_rows_from form m more) (omega arith))
     ∙ one (form row) n (well_formed_rows_from form (n + 1) front) (well_formed_rows_from form (n + length (row ∷ front)) more)
   where
-    one : {C : Type 0} (r : ReadResult C) (n : ℕ) (xs ys : List (ℕ × C)) → with_well_formed_row r n (xs ++ ys) ≡ with_well_formed_row r n xs ++ ys
+    one : {C : Type 0} (r : ReadResult C) (n : ℕ) (xs ys : List (ℕ × C)) → prepended_if_well_formed r n (xs ++ ys) ≡ prepended_if_well_formed r n xs ++ ys
     one (Ok command) n xs ys = refl
     one (Err refusal) n xs ys = refl
 
@@ -73,7 +73,7 @@ turned : (base : Base) (front more : List (RowCall Command)) (answers : List Ans
 turned base [] more answers after r = record { mid = base; first = []; rest = answers; are = refl; before = refl; then = r }
 turned base (call ∷ front) more [] after r = absurd r
 turned base (call ∷ front) more (answer ∷ answers) after r =
-    let t = turned (answer_to_row_call step_of_row base call).1 front more answers after r.1 in
+    let t = turned (result_of_row_call step_of_row base call).1 front more answers after r.1 in
     record { mid = t.mid; first = answer ∷ t.first; rest = t.rest; are = ap (λ l. answer ∷ l) t.are; before = (r.0, t.before); then = t.then }
 
 pub in-turn-joined : (base mid after : Base) (front more : List (RowCall Command)) (first rest : List Answer) → CallsHaveAnswers step_of_row base front first mid → CallsHaveAnswers step_of_row mid more rest after
@@ -81,7 +81,7 @@ pub in-turn-joined : (base mid after : Base) (front more : List (RowCall Command
 in-turn-joined base mid after [] more [] rest r s = subst (λ b. CallsHaveAnswers step_of_row b more rest after) r s
 in-turn-joined base mid after [] more (answer ∷ first) rest r s = absurd r
 in-turn-joined base mid after (call ∷ front) more [] rest r s = absurd r
-in-turn-joined base mid after (call ∷ front) more (answer ∷ first) rest r s = (r.0, in-turn-joined (answer_to_row_call step_of_row base call).1 mid after front more first rest r.1 s)
+in-turn-joined base mid after (call ∷ front) more (answer ∷ first) rest r s = (r.0, in-turn-joined (result_of_row_call step_of_row base call).1 mid after front more first rest r.1 s)
 
 woven-joined : {C : Type 0} (form : Fields → ReadResult C) (n : ℕ) (front more : List Fields) (first rest : List Answer) → length first ≡ length (well_formed_rows_from form n front)
     → answers_interleaved_with_refusals form (front ++ more) (first ++ rest) ≡ answers_interleaved_with_refusals form front first ++ answers_interleaved_with_refusals form more rest
@@ -92,7 +92,7 @@ woven-joined form n (row ∷ front) more first rest e =
   where
     one : {C : Type 0} (r : ReadResult C) (n : ℕ) (formed : List (ℕ × C)) (whole part : List Answer → List Answer) (back first rest : List Answer)
         → ((answers : List Answer) → length answers ≡ length formed → whole (answers ++ rest) ≡ part answers ++ back)
-        → length first ≡ length (with_well_formed_row r n formed) → answers_to_row_and_rest r whole (first ++ rest) ≡ answers_to_row_and_rest r part first ++ back
+        → length first ≡ length (prepended_if_well_formed r n formed) → answers_to_row_and_rest r whole (first ++ rest) ≡ answers_to_row_and_rest r part first ++ back
     one (Ok command) n formed whole part back [] rest each e = absurd (omega (e, arith))
     one (Ok command) n formed whole part back (answer ∷ first) rest each e = ap (λ l. answer ∷ l) (each first (omega (e, arith)))
     one (Err refusal) n formed whole part back first rest each e = ap (λ l. Refused refusal ∷ l) (each first e)
@@ -283,7 +283,7 @@ prefix (row ∷ rows) (other ∷ others) rest end more only h e =
 
 -- whatever rows of a batch that went through are settled again change nothing
 pub rows-again : (form : Fields → ReadResult Command) (base later last : Base) (moments others : List ℕ) (input : Text) (answers told : List Answer) (first : BatchResult Base) (name : Text) (rows : List Fields)
-    → IsBatchWithoutRefusals form base moments input answers first → SomeRunLeadsTo first.base later → BeginsWithRecords (Some (input_text input)) (batch_header name ∷ rows)
+    → IsCompleteBatchWithoutRefusals form base moments input answers first → SomeRunLeadsTo first.base later → BeginsWithRecords (Some (input_text input)) (batch_header name ∷ rows)
     → BatchRowsAreDecided form step_of_row name later others rows told last → (told ≡ map answer_to_retry (take (length rows) answers)) × (last ≡ later)
 rows-again form base later last moments others input answers told first name rows went leads begins two =
     (again.0 ∙ ap (λ l. map answer_to_retry (take (length rows) l)) went.these, again.1)

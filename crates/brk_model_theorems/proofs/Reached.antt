@@ -9,7 +9,7 @@ use Rattle.brk_model.specs.Commands.{Command, Reply}
 use Rattle.brk_model.specs.Rows.{row_text}
 use Rattle.brk_model.specs.Tests.{RefusalCheck, stamp_of_next_command, checks_of_command, refusal_of_command}
 use Rattle.brk_model.specs.Step.{base_after_accepted_command, step}
-use Rattle.brk_model.specs.Keyed.{keyed_step, answer_by_stored_row, answer_and_base_of_step, stored_row_with_optional_key, base_with_stored_reply}
+use Rattle.brk_model.specs.Keyed.{keyed_step, answer_and_base_by_stored_row, answer_and_base_of_step, stored_row_with_optional_key, base_with_stored_reply}
 use Rattle.brk_model.specs.Run.{Call, Do, Ask, Outcome, Did, Saw, NoView, Failed, IsOutcomeOfCall, Run}
 use Rattle.brk_model_theorems.specs.Laws.{IsReachableFromEmptyBase}
 use Rattle.brk_model_theorems.proofs.Steps.{Accepted, accepted}
@@ -26,7 +26,7 @@ acted-kept P k base now key command (Ok booked) h p =
     let a : Accepted base now command booked.0 booked.1 = accepted base now command booked.0 booked.1 h in
     k.rows key command booked.0 booked.1 (subst P (sym a.moved) (k.steps base now command a.passes p))
 
-keyed-kept : (P : Base → Type 0) → IsKept P → (base : Base) (now : ℕ) (command : Command) (key : Option Key) (found : Option Kept) → P base → P (answer_by_stored_row base now command key found).1
+keyed-kept : (P : Base → Type 0) → IsKept P → (base : Base) (now : ℕ) (command : Command) (key : Option Key) (found : Option Kept) → P base → P (answer_and_base_by_stored_row base now command key found).1
 keyed-kept P k base now command key None p = acted-kept P k base now key command (step base now command) refl p
 keyed-kept P k base now command key (Some row) p = at (bytes_eq row.row_text (row_text command))
   where

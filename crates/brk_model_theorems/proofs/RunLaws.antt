@@ -7,11 +7,11 @@ use Rattle.brk_model.specs.Records.{Key, Kept}
 use Rattle.brk_model.specs.Base.{Base}
 use Rattle.brk_model.specs.Commands.{Command, Reply, Answer, Done, Again, Refused}
 use Rattle.brk_model.specs.Rows.{row_text}
-use Rattle.brk_model.specs.Keyed.{keyed_step, answer_by_stored_row, answer_and_base_of_step, stored_row_with_optional_key, base_with_stored_reply}
+use Rattle.brk_model.specs.Keyed.{keyed_step, answer_and_base_by_stored_row, answer_and_base_of_step, stored_row_with_optional_key, base_with_stored_reply}
 use Rattle.brk_model.specs.Step.{step}
 use Rattle.brk_model.specs.Tests.{stamp_of_next_command}
 use Rattle.brk_model.specs.Run.{Call, Do, Ask, Outcome, Did, Saw, NoView, Failed, IsOutcomeOfCall, Run}
-use Rattle.brk_model_theorems.specs.RowCalls.{RowCall, CallsHaveAnswers, answer_to_row_call}
+use Rattle.brk_model_theorems.specs.RowCalls.{RowCall, CallsHaveAnswers, result_of_row_call}
 use Rattle.brk_model.specs.Batch.{step_of_row}
 use Rattle.brk_model_theorems.specs.Laws.{stamp_of_reply, stamps_of_outcome, accepted_stamps, StampsAscendFrom, base_after_outcome, base_after_answer, base_after_accepted_commands, call_of_batch_row}
 use Rattle.brk_model_theorems.proofs.Steps.{Accepted, accepted, reply-stamp, next-above}
@@ -37,7 +37,7 @@ acted-says base now key command (Ok booked) h =
     let s : stamp_of_reply booked.0 ≡ stamp_of_next_command base now = ap stamp_of_reply k.told ∙ reply-stamp base _ command in
     (keeping-last key command booked.0 booked.1 ∙ ap (λ b. b.last) k.moved ∙ ap Some (sym s), subst (λ n. IfSome base.last (λ l. l < n)) (sym s) (next-above base now))
 
-keyed-says : (base : Base) (now : ℕ) (command : Command) (key : Option Key) (found : Option Kept) → Says base (answer_by_stored_row base now command key found).0 (answer_by_stored_row base now command key found).1
+keyed-says : (base : Base) (now : ℕ) (command : Command) (key : Option Key) (found : Option Kept) → Says base (answer_and_base_by_stored_row base now command key found).0 (answer_and_base_by_stored_row base now command key found).1
 keyed-says base now command key None = acted-says base now key command (step base now command) refl
 keyed-says base now command key (Some k) = at (bytes_eq k.row_text (row_text command))
   where
@@ -111,4 +111,4 @@ rows-run base [] [] after r = r
 rows-run base [] (answer ∷ answers) after r = absurd r
 rows-run base (call ∷ calls) [] after r = absurd r
 rows-run base (call ∷ calls) (answer ∷ answers) after r =
-    ((answer_to_row_call step_of_row base call).1, ap (λ a. (a, (answer_to_row_call step_of_row base call).1)) (sym r.0), rows-run (answer_to_row_call step_of_row base call).1 calls answers after r.1)
+    ((result_of_row_call step_of_row base call).1, ap (λ a. (a, (result_of_row_call step_of_row base call).1)) (sym r.0), rows-run (result_of_row_call step_of_row base call).1 calls answers after r.1)

@@ -7,21 +7,21 @@ use Rattle.brk_model.specs.Schemas.{Schema}
 use Rattle.brk_model.specs.Tables.{Tables}
 use Rattle.brk_model.specs.Form.{is_well_formed_kept_row, is_well_formed_broker_row, is_well_formed_customer_row, is_within_customer_limits}
 use Rattle.brk_model.specs.Form.{is_well_formed_account_row, is_well_formed_permission_row, is_well_formed_security_row, is_well_formed_last_trade_row}
-use Rattle.brk_model.specs.Form.{is_well_formed_charge_row, is_well_formed_band_row, bands_are_disjoint, is_well_formed_tax_rate_row}
+use Rattle.brk_model.specs.Form.{is_well_formed_charge_row, is_well_formed_band_row, has_disjoint_bands, is_well_formed_tax_rate_row}
 use Rattle.brk_model.specs.Form.{is_well_formed_customer_tax_row, is_well_formed_trade_row, are_equal_number_lists, is_well_formed_history_row}
 use Rattle.brk_model.specs.Form.{is_well_formed_request_row, is_well_formed_holding_row, is_well_formed_summary_row, is_well_formed_holding_history_row}
-use Rattle.brk_model.specs.Form.{is_well_formed_settlement_row, is_well_formed_cash_row, is_well_formed_move_row, trade_ids_of_cash_rows}
-use Rattle.brk_model.specs.Form.{lacks_rows_of_later_schemas, tables_are_sorted_by_unique_key, has_distinct_tax_ids, is_sorted_by_unique_key}
+use Rattle.brk_model.specs.Form.{is_well_formed_settlement_row, is_well_formed_cash_transaction_row, is_well_formed_cash_move_row, trade_ids_of_cash_rows}
+use Rattle.brk_model.specs.Form.{lacks_rows_of_later_schemas, has_tables_sorted_by_unique_key, has_distinct_tax_ids, is_sorted_by_unique_key}
 use Rattle.brk_model.specs.Form.{is_last_stamp_in_calendar, is_settlement_day_in_calendar}
 use Rattle.brk_model.specs.Keys.{kept_key, broker_key, customer_key, account_key, permission_key, security_key, last_trade_key, charge_key, band_key}
 use Rattle.brk_model.specs.Keys.{tax_rate_key, customer_tax_key, trade_key, history_key, request_key, holding_key, summary_key, holding_history_key}
-use Rattle.brk_model.specs.Keys.{settlement_key, cash_key, move_key}
+use Rattle.brk_model.specs.Keys.{settlement_key, cash_transaction_key, cash_move_key}
 
 -- The tables `t` satisfy each part of the audit condition `Form` in the schema `schema`: each field
 -- of the record is one part.
 pub record SatisfiesFormParts (schema : Schema) (t : Tables) : Type 0 where
   pub clock : is_last_stamp_in_calendar t.last ≡ true
-  pub keys : tables_are_sorted_by_unique_key t ≡ true
+  pub keys : has_tables_sorted_by_unique_key t ≡ true
   pub tax_ids : has_distinct_tax_ids t.customers ≡ true
   pub kept : list_all is_well_formed_kept_row t.kept ≡ true
   pub brokers : list_all is_well_formed_broker_row t.brokers ≡ true
@@ -33,7 +33,7 @@ pub record SatisfiesFormParts (schema : Schema) (t : Tables) : Type 0 where
   pub last_trades : list_all (is_well_formed_last_trade_row t) t.last_trades ≡ true
   pub charges : list_all is_well_formed_charge_row t.charges ≡ true
   pub bands : list_all (is_well_formed_band_row schema) t.bands ≡ true
-  pub apart : bands_are_disjoint t.bands ≡ true
+  pub apart : has_disjoint_bands t.bands ≡ true
   pub tax_rates : list_all is_well_formed_tax_rate_row t.tax_rates ≡ true
   pub customer_taxes : list_all (is_well_formed_customer_tax_row t) t.customer_taxes ≡ true
   pub trades : list_all (is_well_formed_trade_row schema t) t.trades ≡ true
@@ -44,8 +44,8 @@ pub record SatisfiesFormParts (schema : Schema) (t : Tables) : Type 0 where
   pub summaries : list_all (is_well_formed_summary_row schema t) t.summaries ≡ true
   pub holding_history : list_all (is_well_formed_holding_history_row t) t.holding_history ≡ true
   pub settlements : list_all (is_well_formed_settlement_row t) t.settlements ≡ true
-  pub cash : list_all (is_well_formed_cash_row t) t.cash ≡ true
-  pub moves : list_all (is_well_formed_move_row t) t.moves ≡ true
+  pub cash : list_all (is_well_formed_cash_transaction_row t) t.cash ≡ true
+  pub moves : list_all (is_well_formed_cash_move_row t) t.moves ≡ true
   pub own_moves : all_distinct (trade_ids_of_cash_rows t.moves) ≡ true
   pub counted : nat_le (length (filter (λ r. is_none r.trade) t.moves)) greatest_id ≡ true
   pub rule : is_settlement_day_in_calendar t.rule ≡ true
@@ -72,5 +72,5 @@ pub record HasSortedTables (t : Tables) : Type 0 where
   pub summaries : is_sorted_by_unique_key summary_key t.summaries ≡ true
   pub holding_history : is_sorted_by_unique_key holding_history_key t.holding_history ≡ true
   pub settlements : is_sorted_by_unique_key settlement_key t.settlements ≡ true
-  pub cash : is_sorted_by_unique_key cash_key t.cash ≡ true
-  pub moves : is_sorted_by_unique_key move_key t.moves ≡ true
+  pub cash : is_sorted_by_unique_key cash_transaction_key t.cash ≡ true
+  pub moves : is_sorted_by_unique_key cash_move_key t.moves ≡ true

@@ -7,7 +7,7 @@ use Rattle.brk_model.specs.Records.{Key, Kept}
 use Rattle.brk_model.specs.Base.{Base, empty_base}
 use Rattle.brk_model.specs.Commands.{Command, Reply, Booked, Ordered, Ticked, CanceledTrade, CompletedTrade, Changed, MovedCash, Answer, Done, Again, Refused}
 use Rattle.brk_model.specs.Rows.{line_text, row_text}
-use Rattle.brk_model.specs.Keyed.{stored_row_with_key, keyed_step, answer_to_repeated_row}
+use Rattle.brk_model.specs.Keyed.{stored_row_with_key, keyed_step, answer_and_base_of_retry}
 use Rattle.brk_model.specs.Answers.{Fields}
 use Rattle.brk_model_theorems.specs.RowCalls.{RowCall}
 use Rattle.brk_model.specs.Forms.{ReadResult}
@@ -97,7 +97,7 @@ IsReachableFromEmptyBase base = SomeRunLeadsTo empty_base base
 -- The batch `batch` is the result of `input`, executed from `base` on with the clock readings
 -- `moments` and the format check `form`. The batch is complete, its rows have the answers
 -- `answers`, and no answer is a refusal.
-pub record IsBatchWithoutRefusals (form : Fields → ReadResult Command) (base : Base) (moments : List ℕ) (input : Text) (answers : List Answer)
+pub record IsCompleteBatchWithoutRefusals (form : Fields → ReadResult Command) (base : Base) (moments : List ℕ) (input : Text) (answers : List Answer)
     (batch : BatchResult Base) : Type 0 where
   pub answered : IsResultOfTextWithHeader form step_of_row base moments (Some (input_text input)) batch
   pub ended : batch.ending ≡ CorrectEnd
@@ -128,7 +128,7 @@ answers_for_new_keys base calls answers = []
 -- equal, otherwise the refusal `KeyReused`. Vacuous if there is no stored row.
 abbrev pub AnswerMatchesStoredReply : Base → Option Kept → RowCall Command → Answer → Type 0
 AnswerMatchesStoredReply base None call answer = ⊤
-AnswerMatchesStoredReply base (Some k) call answer = answer ≡ (answer_to_repeated_row base call.command k).0
+AnswerMatchesStoredReply base (Some k) call answer = answer ≡ (answer_and_base_of_retry base call.command k).0
 
 -- Each call whose key is stored in the base is answered with the stored line if the row texts are
 -- equal, and refused otherwise. Vacuous for other calls, and for calls without an answer.

@@ -15,28 +15,28 @@ pub record RowCall (C : Type 0) : Type 0 where
   pub command : C
 
 -- The answer of `step` to the call on `base`, and the base after it.
-abbrev pub answer_to_row_call : {B C : Type 0} → RowStep B C → B → RowCall C → Answer × B
-answer_to_row_call step base call = step base call.now call.command call.key
+abbrev pub result_of_row_call : {B C : Type 0} → RowStep B C → B → RowCall C → Answer × B
+result_of_row_call step base call = step base call.now call.command call.key
 
 -- The calls, executed in sequence by `step` from `base` on, have exactly the given answers, and
 -- `after` is the base after the last call. False if the two lists have different lengths.
 abbrev pub CallsHaveAnswers : {B C : Type 0} → RowStep B C → B → List (RowCall C) → List Answer → B → Type 0
 CallsHaveAnswers step base [] [] after = after ≡ base
 CallsHaveAnswers step base (call ∷ calls) (answer ∷ answers) after =
-    (answer ≡ (answer_to_row_call step base call).0) × CallsHaveAnswers step (answer_to_row_call step base call).1 calls answers after
+    (answer ≡ (result_of_row_call step base call).0) × CallsHaveAnswers step (result_of_row_call step base call).1 calls answers after
 CallsHaveAnswers step base [] (answer ∷ answers) after = ⊥
 CallsHaveAnswers step base (call ∷ calls) [] after = ⊥
 
 -- The list `rest` with the row number `n` and the command of a row in front if the row is
 -- well-formed (`Ok`), or `rest` unchanged if the row is malformed (`Err`).
-abbrev pub with_well_formed_row : {C : Type 0} → ReadResult C → ℕ → List (ℕ × C) → List (ℕ × C)
-with_well_formed_row (Ok command) n rest = (n, command) ∷ rest
-with_well_formed_row (Err refusal) n rest = rest
+abbrev pub prepended_if_well_formed : {C : Type 0} → ReadResult C → ℕ → List (ℕ × C) → List (ℕ × C)
+prepended_if_well_formed (Ok command) n rest = (n, command) ∷ rest
+prepended_if_well_formed (Err refusal) n rest = rest
 
 -- The commands of the well-formed rows, each with its row number; the first row has the number `n`.
 abbrev pub well_formed_rows_from : {C : Type 0} → (Fields → ReadResult C) → ℕ → List Fields → List (ℕ × C)
 well_formed_rows_from form n [] = []
-well_formed_rows_from form n (row ∷ rows) = with_well_formed_row (form row) n (well_formed_rows_from form (n + 1) rows)
+well_formed_rows_from form n (row ∷ rows) = prepended_if_well_formed (form row) n (well_formed_rows_from form (n + 1) rows)
 
 -- The calls of the well-formed rows of the batch `batch`, which are given as row numbers with
 -- commands; each call has the next clock reading. Surplus clock readings or rows are dropped.

@@ -11,10 +11,10 @@ ghost use Rattle.brk_model.specs.Parse.{parse_row};
 ghost use Rattle.brk_model.specs.Input.{BeginsWithRecords, batch_header, input_text};
 ghost use Rattle.brk_model.specs.Batch.{BatchRowsAreDecided, BatchResult, IsResultOfBatch, step_of_row};
 ghost use Rattle.brk_model.specs.Lines.{refused_answer_count};
-ghost use Rattle.brk_model.specs.Computed.{batch_of_input, complete_batch};
+ghost use Rattle.brk_model.specs.Computed.{result_of_batch_input, result_of_complete_batch};
 ghost use Rattle.brk_model.specs.Run.{Did, Run};
 ghost use Rattle.brk_model_theorems.specs.Laws.{AnswersMatchStoredReplies, AcceptedCallsAreStored, NextRowLeadsTo, IsCompletedByRetry, SomeRunLeadsTo};
-ghost use Rattle.brk_model_theorems.specs.Laws.{IsBaseAfterInterruption, IsBatchWithoutRefusals, answer_to_retry, answers_for_new_keys, call_of_batch_row};
+ghost use Rattle.brk_model_theorems.specs.Laws.{IsBaseAfterInterruption, IsCompleteBatchWithoutRefusals, answer_to_retry, answers_for_new_keys, call_of_batch_row};
 ghost use Rattle.brk_model_theorems.specs.Laws.{calls_with_new_keys, accepted_answers, accepted_calls};
 
 /// Proves that the rows of a batch have given answers, one for each row, if and only if
@@ -29,11 +29,11 @@ pub fn rows_are_answered_by_their_calls()
         → RowsAreAnswered form step_of_row name base moments rows answers after × (length answers ≡ length rows) }
 {}
 
-/// Proves that `batch_of_input` computes the specified result of an input with the first `n` clock
+/// Proves that `result_of_batch_input` computes the specified result of an input with the first `n` clock
 /// readings, for some `n`, if there are at least as many clock readings as the input has records.
 pub fn batch_computes_the_specified_result()
     ensures { (base : Base) (moments : List ℕ) (input : List ℕ) → length (records default_config (input_text input)) ≤ length moments
-        → (n : ℕ) × IsResultOfBatch parse_row step_of_row base (take n moments) input (batch_of_input base moments input) }
+        → (n : ℕ) × IsResultOfBatch parse_row step_of_row base (take n moments) input (result_of_batch_input base moments input) }
 {}
 
 /// Proves that calls of batch rows are a run: if the calls, executed in sequence, have the answers
@@ -51,9 +51,9 @@ pub fn batch_rows_form_a_run()
 pub fn a_retried_batch_changes_nothing()
     ensures { (form : Fields
         → ReadResult Command) (base later : Base) (moments others : List ℕ) (input : List ℕ) (answers : List Answer) (first second : BatchResult Base)
-        → IsBatchWithoutRefusals form base moments input answers first
+        → IsCompleteBatchWithoutRefusals form base moments input answers first
         → SomeRunLeadsTo first.base later → IsResultOfBatch form step_of_row later others input second
-        → second ≡ complete_batch (map answer_to_retry answers, later) }
+        → second ≡ result_of_complete_batch (map answer_to_retry answers, later) }
 {}
 
 /// Proves that the rows that a retry of a complete batch without refusals decides change nothing
@@ -62,7 +62,7 @@ pub fn a_retried_batch_changes_nothing()
 /// that a run reaches from that base.
 pub fn retried_rows_change_nothing()
     ensures { (form : Fields → ReadResult Command) (base later last : Base) (moments others : List ℕ) (input : List ℕ) (answers told : List Answer)
-        (first : BatchResult Base) (name : List ℕ) (rows : List Fields) → IsBatchWithoutRefusals form base moments input answers first
+        (first : BatchResult Base) (name : List ℕ) (rows : List Fields) → IsCompleteBatchWithoutRefusals form base moments input answers first
         → SomeRunLeadsTo first.base later → BeginsWithRecords (Some (input_text input)) (batch_header name ∷ rows)
         → BatchRowsAreDecided form step_of_row name later others rows told last
         → (told ≡ map answer_to_retry (take (length rows) answers)) × (last ≡ later) }

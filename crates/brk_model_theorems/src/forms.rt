@@ -1,7 +1,7 @@
 //! Theorems on the audit's condition `Form` and its keys: each is the conjunction of its parts.
 
 ghost use Rattle.std.specs.Prelude.{◌≡◌, true};
-ghost use Rattle.brk_model.specs.Form.{satisfies_form_condition, tables_are_sorted_by_unique_key};
+ghost use Rattle.brk_model.specs.Form.{satisfies_form_condition, has_tables_sorted_by_unique_key};
 ghost use Rattle.brk_model.specs.Schemas.{Schema};
 ghost use Rattle.brk_model.specs.Tables.{Tables};
 ghost use Rattle.brk_model_theorems.specs.FormParts.{SatisfiesFormParts, HasSortedTables};
@@ -13,9 +13,9 @@ pub fn form_condition_holds_iff_all_parts_hold()
     ensures whole { (schema : Schema) (t : Tables) → SatisfiesFormParts schema t → satisfies_form_condition schema t ≡ true }
 {}
 
-/// Proves that tables satisfy `tables_are_sorted_by_unique_key` if and only if every table that has
+/// Proves that tables satisfy `has_tables_sorted_by_unique_key` if and only if every table that has
 /// a key is sorted by it, strictly ascending.
 pub fn tables_are_sorted_iff_each_table_is_sorted()
-    ensures parts { (t : Tables) → tables_are_sorted_by_unique_key t ≡ true → HasSortedTables t }
-    ensures whole { (t : Tables) → HasSortedTables t → tables_are_sorted_by_unique_key t ≡ true }
+    ensures parts { (t : Tables) → has_tables_sorted_by_unique_key t ≡ true → HasSortedTables t }
+    ensures whole { (t : Tables) → HasSortedTables t → has_tables_sorted_by_unique_key t ≡ true }
 {}

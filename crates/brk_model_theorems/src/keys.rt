@@ -7,7 +7,7 @@ ghost use Rattle.brk_model.specs.Records.{Key};
 ghost use Rattle.brk_model.specs.Commands.{Again, Command, Refused};
 ghost use Rattle.brk_model.specs.Rows.{line_text, row_text};
 ghost use Rattle.brk_model.specs.Keyed.{keyed_step};
-ghost use Rattle.brk_model_theorems.specs.KeyedRows.{AcceptedRow, RefusedRow, IsUnusedKey, RunWithoutKeyLeadsTo, IsAcceptedIfStepAccepts};
+ghost use Rattle.brk_model_theorems.specs.KeyedRows.{AcceptedRow, RefusedRow, IsUnusedKey, RunNotAcceptingKeyLeadsTo, IsAcceptedIfStepAccepts};
 
 /// Proves that a retry of an accepted row under its key, from the base after it and at any clock
 /// reading, returns the stored line and changes nothing.
@@ -29,6 +29,6 @@ pub fn other_row_under_same_key_is_refused()
 pub fn refused_row_stores_no_key()
     ensures stores_nothing { (row : RefusedRow) → IsUnusedKey row.base row.key → (row.after ≡ row.base) × IsUnusedKey row.after row.key }
     ensures key_was_unused { (row : RefusedRow) → row.refusal ≢ KeyReused → IsUnusedKey row.base row.key }
-    ensures key_stays_unused { (base later : Base) (key : Key) → IsUnusedKey base key → RunWithoutKeyLeadsTo key base later → IsUnusedKey later key }
+    ensures key_stays_unused { (base later : Base) (key : Key) → IsUnusedKey base key → RunNotAcceptingKeyLeadsTo key base later → IsUnusedKey later key }
     ensures is_accepted_later { (base : Base) (key : Key) (now : ℕ) (command : Command) → IsUnusedKey base key → IsAcceptedIfStepAccepts base key now command }
 {}

@@ -36,7 +36,7 @@ impl TradeIds {
     pub fn new(ids: Vec<Id>) -> Result<TradeIds, Refusal>
         ensures { ParsesAs (λ trades. trades) result (one_to_twenty_distinct_ids ids.items) }
     {
-        if !are_distinct(&ids) {
+        if !has_distinct_ids(&ids) {
             return Err(Refusal::BadText);
         }
         if ids.is_empty() {
@@ -64,7 +64,7 @@ fn is_among_ids(id: Id, ids: &[Id]) -> bool
 }
 
 // Returns true if no id occurs twice in `ids`.
-fn are_distinct(ids: &[Id]) -> bool
+fn has_distinct_ids(ids: &[Id]) -> bool
     ensures { result ≡ all_distinct ids.now }
 {
     for i in 0..ids.len() {

@@ -7,7 +7,7 @@ use Rattle.std.proofs.lemmas.List.{drop_more}
 use Rattle.brk_model.specs.Limits.{greatest_amount}
 use Rattle.brk_orders.specs.declared.tick.Tick.{Tick}
 use Rattle.brk_ref.proofs.Lists.{any_mapped}
-use Rattle.brk_plans.specs.Feed.{SymbolState, states_of_quotes, state_of_quote, is_state_of_symbol, state_after_tick, states_after_tick, states_after_ticks, exceeds_volume_limit}
+use Rattle.brk_plans.specs.Feed.{SymbolState, states_of_quotes, state_of_quote, is_state_of_symbol, state_after_tick, states_after_tick, states_after_ticks, has_volume_above_limit}
 use Rattle.brk_plans.specs.declared.quote.Quote.{Quote}
 
 or_true : (a : Bool) → a || true ≡ true
@@ -20,35 +20,35 @@ or_either false b e = absurd (cc)
 
 -- a quote that is beyond it after a tick is one of all
 pub one_of_all : (stamp : ℕ) (tick : Tick) (quotes : List Quote) (i : ℕ) (q : Quote) → (i < length quotes) × (q ≡ get_or quotes i q)
-    → list_any exceeds_volume_limit (states_after_tick stamp (state_of_quote q ∷ []) tick) ≡ true → list_any exceeds_volume_limit (states_after_tick stamp (states_of_quotes quotes) tick) ≡ true
+    → list_any has_volume_above_limit (states_after_tick stamp (state_of_quote q ∷ []) tick) ≡ true → list_any has_volume_above_limit (states_after_tick stamp (states_of_quotes quotes) tick) ≡ true
 one_of_all stamp tick [] i q at h = absurd (omega (arith, at.0))
 one_of_all stamp tick (p ∷ quotes) zero q at h = let same : p ≡ q = sym at.1 in rw same (or_either _ _ h)
 one_of_all stamp tick (p ∷ quotes) (suc i) q at h = rw (one_of_all stamp tick quotes i q (omega (arith, at.0), at.1) h) (or_true _)
 
 -- what is beyond it stays so
-stays_beyond : (stamp : ℕ) (tick : Tick) (q : SymbolState) → exceeds_volume_limit q ≡ true → exceeds_volume_limit (cond (is_state_of_symbol tick.symbol q) (state_after_tick stamp tick q) q) ≡ true
+stays_beyond : (stamp : ℕ) (tick : Tick) (q : SymbolState) → has_volume_above_limit q ≡ true → has_volume_above_limit (cond (is_state_of_symbol tick.symbol q) (state_after_tick stamp tick q) q) ≡ true
 stays_beyond stamp tick q h = by_symbol (is_state_of_symbol tick.symbol q)
   where
-    by_symbol : (b : Bool) → exceeds_volume_limit (cond b (state_after_tick stamp tick q) q) ≡ true
+    by_symbol : (b : Bool) → has_volume_above_limit (cond b (state_after_tick stamp tick q) q) ≡ true
     by_symbol true = let low = ltb-true greatest_amount q.last.volume h in lt-ltb greatest_amount (q.last.volume + tick.qty) (omega (arith, low))
     by_symbol false = h
 
-stays_after_tick : (stamp : ℕ) (tick : Tick) (quotes : List SymbolState) → list_any exceeds_volume_limit quotes ≡ true → list_any exceeds_volume_limit (states_after_tick stamp quotes tick) ≡ true
+stays_after_tick : (stamp : ℕ) (tick : Tick) (quotes : List SymbolState) → list_any has_volume_above_limit quotes ≡ true → list_any has_volume_above_limit (states_after_tick stamp quotes tick) ≡ true
 stays_after_tick stamp tick [] h = absurd (cc)
-stays_after_tick stamp tick (q ∷ quotes) h = by_first (stays_after_tick stamp tick quotes) (exceeds_volume_limit q) refl
+stays_after_tick stamp tick (q ∷ quotes) h = by_first (stays_after_tick stamp tick quotes) (has_volume_above_limit q) refl
   where
-    by_first : (list_any exceeds_volume_limit quotes ≡ true → list_any exceeds_volume_limit (states_after_tick stamp quotes tick) ≡ true)
-        → (b : Bool) → exceeds_volume_limit q ≡ b → list_any exceeds_volume_limit (states_after_tick stamp (q ∷ quotes) tick) ≡ true
+    by_first : (list_any has_volume_above_limit quotes ≡ true → list_any has_volume_above_limit (states_after_tick stamp quotes tick) ≡ true)
+        → (b : Bool) → has_volume_above_limit q ≡ b → list_any has_volume_above_limit (states_after_tick stamp (q ∷ quotes) tick) ≡ true
     by_first rest true e = rw (stays_beyond stamp tick q e) refl
-    by_first rest false e = let k : list_any exceeds_volume_limit quotes ≡ true = rw e at h in rw (rest k) (or_true _)
+    by_first rest false e = let k : list_any has_volume_above_limit quotes ≡ true = rw e at h in rw (rest k) (or_true _)
 
-stays_after : (stamp : ℕ) (ticks : List Tick) (quotes : List SymbolState) → list_any exceeds_volume_limit quotes ≡ true → list_any exceeds_volume_limit (states_after_ticks stamp ticks quotes) ≡ true
+stays_after : (stamp : ℕ) (ticks : List Tick) (quotes : List SymbolState) → list_any has_volume_above_limit quotes ≡ true → list_any has_volume_above_limit (states_after_ticks stamp ticks quotes) ≡ true
 stays_after stamp [] quotes h = h
 stays_after stamp (tick ∷ ticks) quotes h = stays_after stamp ticks (states_after_tick stamp quotes tick) (stays_after_tick stamp tick quotes h)
 
 -- what is beyond it after the next tick is so after all that are left
 pub beyond_after : (stamp : ℕ) (ticks : List Tick) (i : ℕ) (tick : Tick) (quotes : List SymbolState) → i < length ticks → tick ≡ get_or ticks i tick
-    → list_any exceeds_volume_limit (states_after_tick stamp quotes tick) ≡ true → list_any exceeds_volume_limit (states_after_ticks stamp (drop i ticks) quotes) ≡ true
+    → list_any has_volume_above_limit (states_after_tick stamp quotes tick) ≡ true → list_any has_volume_above_limit (states_after_ticks stamp (drop i ticks) quotes) ≡ true
 beyond_after stamp ticks i tick quotes l e h =
     let next : drop i ticks ≡ tick ∷ drop (i + 1) ticks = drop_more ticks i tick l ∙ ap (λ (t : Tick). t ∷ drop (i + 1) ticks) (sym e) in
     rw next (stays_after stamp (drop (i + 1) ticks) (states_after_tick stamp quotes tick) h)
@@ -86,7 +86,7 @@ marks_after stamp (tick ∷ ticks) quotes =
     ∙ ap (λ (ms : List StatusChange). fold (λ (ms : List StatusChange) (tick : Tick). map (mark_after tick) ms) ms ticks) (marks_after_tick stamp tick quotes)
 
 pub at_any_stamp : (stamp other : ℕ) (ticks : List Tick) (quotes : List SymbolState) (b : Bool)
-    → list_any exceeds_volume_limit (states_after_ticks stamp ticks quotes) ≡ b → list_any exceeds_volume_limit (states_after_ticks other ticks quotes) ≡ b
+    → list_any has_volume_above_limit (states_after_ticks stamp ticks quotes) ≡ b → list_any has_volume_above_limit (states_after_ticks other ticks quotes) ≡ b
 at_any_stamp stamp other ticks quotes b e =
     let beyond : StatusChange → Bool = λ m. nat_lt greatest_amount m.1 in
     sym (any_mapped beyond mark (states_after_ticks other ticks quotes))

@@ -129,19 +129,19 @@ trades_triggered_by_ticks stamp (tick ∷ ticks) quotes =
 
 -- True if the volume of the last trade of the state `quote` exceeds the greatest volume, 10^17
 -- shares.
-abbrev pub exceeds_volume_limit : SymbolState → Bool
-exceeds_volume_limit quote = nat_lt greatest_amount quote.last.volume
+abbrev pub has_volume_above_limit : SymbolState → Bool
+has_volume_above_limit quote = nat_lt greatest_amount quote.last.volume
 
 -- True if none of the states `quotes` has the symbol of `tick`.
-abbrev pub lacks_state_of_symbol : List SymbolState → Tick → Bool
-lacks_state_of_symbol quotes tick = not (list_any (is_state_of_symbol tick.symbol) quotes)
+abbrev pub has_no_state_of_symbol : List SymbolState → Tick → Bool
+has_no_state_of_symbol quotes tick = not (list_any (is_state_of_symbol tick.symbol) quotes)
 
 -- The checks of a feed of `ticks`, in this order: each symbol has a state (`NoSecurity`), and no
 -- volume exceeds the greatest one after all ticks (`Range(Volume)`). Their result does not depend
 -- on `stamp`.
 abbrev pub feed_checks : ℕ → List Tick → List SymbolState → List RefusalCheck
 feed_checks stamp ticks quotes =
-    (list_any (lacks_state_of_symbol quotes) ticks, NoSecurity) ∷ (list_any exceeds_volume_limit (states_after_ticks stamp ticks quotes), Range limit.Volume)
+    (list_any (has_no_state_of_symbol quotes) ticks, NoSecurity) ∷ (list_any has_volume_above_limit (states_after_ticks stamp ticks quotes), Range limit.Volume)
     ∷ []
 
 -- The reply is `Ticked` with the stamp `stamp` and the triggered trades `ids`. False for any other

@@ -38,16 +38,16 @@ band_checks band found = (nat_lt band.to_qty band.from_qty, BadQty) ∷ (found.o
 -- True if the sum of a customer's tax rates plus the rate of another tax exceeds the greatest rate
 -- (hundred-thousandths). True also if the sum is `None`, which means that it exceeds the greatest
 -- rate already. A rate of `None` counts as 0.
-abbrev pub sum_exceeds_greatest_tax_rate : Option ℕ → Option ℕ → Bool
-sum_exceeds_greatest_tax_rate None rate = true
-sum_exceeds_greatest_tax_rate (Some rates) rate = nat_lt greatest_tax_rate (rates + unwrap_or rate 0)
+abbrev pub is_sum_above_greatest_tax_rate : Option ℕ → Option ℕ → Bool
+is_sum_above_greatest_tax_rate None rate = true
+is_sum_above_greatest_tax_rate (Some rates) rate = nat_lt greatest_tax_rate (rates + unwrap_or rate 0)
 
 -- The checks of a new tax of a customer against the facts `found`, in this order: the customer and
 -- the tax exist (`NoCustomer`, `NoTax`), the customer does not pay it yet (`Exists`), and the sum
 -- of the customer's rates, this tax included, does not exceed the greatest rate (`TaxSum`).
 abbrev pub customer_tax_checks : ReferenceFacts → List RefusalCheck
 customer_tax_checks found =
-    (not found.customer, NoCustomer) ∷ (is_none found.rate, NoTax) ∷ duplicate_check found.same_id ∷ (sum_exceeds_greatest_tax_rate found.rates found.rate, TaxSum)
+    (not found.customer, NoCustomer) ∷ (is_none found.rate, NoTax) ∷ duplicate_check found.same_id ∷ (is_sum_above_greatest_tax_rate found.rates found.rate, TaxSum)
     ∷ []
 
 -- The checks of a new record of reference data against the facts `found`. An account, a permission,
@@ -84,14 +84,14 @@ row_change_adding_record (reference.CustomerTax pays) = change.AddCustomerTax pa
 
 -- The first LAST_TRADE row of the security of `listing`: its first price, volume 0 and the stamp
 -- `stamp`.
-abbrev pub first_last_trade_of_listing : ℕ → Listing → LastTrade
-first_last_trade_of_listing stamp listing = record { symbol = listing.security.symbol; stamp = stamp; price = listing.price; volume = 0 }
+abbrev pub initial_last_trade_of_listing : ℕ → Listing → LastTrade
+initial_last_trade_of_listing stamp listing = record { symbol = listing.security.symbol; stamp = stamp; price = listing.price; volume = 0 }
 
 -- The row changes that add a record of reference data at `stamp`. For a listing, they add its
 -- SECURITY row and its first LAST_TRADE row; for any other record, its one row.
 abbrev pub row_changes_adding_record : ℕ → Reference → List Change
 row_changes_adding_record stamp (reference.Security listing) =
-    change.AddSecurity listing.security ∷ change.AddLastTrade (first_last_trade_of_listing stamp listing) ∷ []
+    change.AddSecurity listing.security ∷ change.AddLastTrade (initial_last_trade_of_listing stamp listing) ∷ []
 row_changes_adding_record stamp other = row_change_adding_record other ∷ []
 
 -- `plan` adds the record `reference` at the stamp of the command, where `found` are the facts in

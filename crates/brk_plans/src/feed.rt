@@ -6,9 +6,9 @@ ghost use Rattle.brk_money.specs.declared.fault.Fault.TheVariants.{Memory};
 ghost use Rattle.brk_money.specs.declared.refusal.Limit.TheVariants as limit;
 ghost use Rattle.brk_money.specs.declared.refusal.Refusal.TheVariants.{Range};
 ghost use Rattle.brk_plans.specs.Feed as spec;
-ghost use Rattle.brk_plans.specs.Feed.{IsFeedPlan, row_changes_of_tick, row_changes_of_ticks, exceeds_volume_limit, feed_checks, states_of_quotes};
+ghost use Rattle.brk_plans.specs.Feed.{IsFeedPlan, row_changes_of_tick, row_changes_of_ticks, has_volume_above_limit, feed_checks, states_of_quotes};
 ghost use Rattle.brk_plans.specs.Feed.{state_of_quote, trades_triggered_by_tick, trades_triggered_by_ticks, is_state_of_symbol};
-ghost use Rattle.brk_plans.specs.Feed.{last_trade_after_tick, lacks_state_of_symbol, states_after_ticks, states_after_tick};
+ghost use Rattle.brk_plans.specs.Feed.{last_trade_after_tick, has_no_state_of_symbol, states_after_ticks, states_after_tick};
 ghost use Rattle.brk_plans.specs.Feed.{row_changes_of_submissions, trades_triggered_at_price, requests_not_triggered_at_price};
 ghost use Rattle.brk_plans.specs.Reference.{later_stamp_check};
 ghost use Rattle.brk_changes.specs.declared.change.Change.TheVariants.{SetLastTrade};
@@ -26,7 +26,7 @@ use std::alloc::Global;
 /// Returns true if a market price of `price` cents triggers a pending trade of the type `kind` with
 /// the requested price `bid` (Market-Feed). A stop loss and a limit buy are triggered at the bid or
 /// below, a limit sell at the bid or above, and market types never.
-pub fn price_triggers_trade(kind: TradeType, bid: Price, price: Price) -> bool
+pub fn is_triggered_at_price(kind: TradeType, bid: Price, price: Price) -> bool
     ensures { result ≡ definition.is_triggering_price kind bid price }
 {
     match kind {
@@ -46,7 +46,7 @@ fn is_quote_of_symbol(quote: &Quote, symbol: &Symbol) -> bool
 
 /// Returns true if none of the quotes has the symbol of the tick.
 pub fn has_no_quote_of_symbol(quotes: &[Quote], tick: &Tick) -> bool
-    ensures { result ≡ lacks_state_of_symbol (states_of_quotes quotes.now) tick.now }
+    ensures { result ≡ has_no_state_of_symbol (states_of_quotes quotes.now) tick.now }
 {
     !quotes
         .iter()
@@ -55,7 +55,7 @@ pub fn has_no_quote_of_symbol(quotes: &[Quote], tick: &Tick) -> bool
 
 // Returns true if at least one of the ticks has a symbol that none of the quotes has.
 fn has_tick_without_quote(quotes: &[Quote], ticks: &[Tick]) -> bool
-    ensures { result ≡ list_any (lacks_state_of_symbol (states_of_quotes quotes.now)) ticks.now }
+    ensures { result ≡ list_any (has_no_state_of_symbol (states_of_quotes quotes.now)) ticks.now }
 {
     ticks
         .iter()
@@ -72,7 +72,7 @@ fn checked_last_trade_after_tick(
 ) -> Result<LastTrade, Refusal>
     ensures after { IfOk result (λ after. after ≡ spec.last_trade_after_tick stamp tick.now last) }
     ensures refusal { IfErr result (λ refusal. (refusal ≡ Range limit.Volume)
-        × (exceeds_volume_limit (record { last = spec.last_trade_after_tick stamp tick.now last; requests = [] }) ≡ true)) }
+        × (has_volume_above_limit (record { last = spec.last_trade_after_tick stamp tick.now last; requests = [] }) ≡ true)) }
 {
     let shares = last.volume.get() + u64::from(tick.qty.get());
     let Some(volume) = Volume::new(shares) else {
@@ -113,7 +113,7 @@ fn append_submission_changes(
     ensures fault { OnErr result (result ≡ Err Memory) }
 {
     for request in requests {
-        if price_triggers_trade(request.kind, request.bid, price) {
+        if is_triggered_at_price(request.kind, request.bid, price) {
             append_pending_trade_changes(request.trade, Status::Submitted, stamp, changes)?;
             ids.push(request.trade)?;
         }
@@ -133,7 +133,7 @@ fn requests_not_triggered(
 {
     let mut waiting = Vec::new(alloc);
     for request in requests {
-        if !price_triggers_trade(request.kind, request.bid, price) {
+        if !is_triggered_at_price(request.kind, request.bid, price) {
             waiting.push(request)?;
         }
     }
@@ -159,9 +159,9 @@ fn apply_tick_to_quote(
     ensures ids { IfOk result (λ taken. IfOk taken (λ _. ids.new.items ≡ ids.old.items ++ trades_triggered_by_tick tick.now (state_of_quote quote ∷ []))) }
 
     // The volume after the tick is within its limit, or the tick is refused.
-    ensures within { IfOk result (λ taken. IfOk taken (λ after. exceeds_volume_limit (state_of_quote after) ≡ false)) }
+    ensures within { IfOk result (λ taken. IfOk taken (λ after. has_volume_above_limit (state_of_quote after) ≡ false)) }
     ensures refusal { IfOk result (λ taken. IfErr taken (λ refusal. (refusal ≡ Range limit.Volume)
-        × (list_any exceeds_volume_limit (states_after_tick stamp (state_of_quote quote ∷ []) tick.now) ≡ true))) }
+        × (list_any has_volume_above_limit (states_after_tick stamp (state_of_quote quote ∷ []) tick.now) ≡ true))) }
 
     // The only fault is `Memory`.
     ensures fault { OnErr result (result ≡ Err Memory) }
@@ -200,9 +200,9 @@ fn apply_tick_to_quotes(
     ensures ids { IfOk result (λ taken. IfOk taken (λ _. ids.new.items ≡ ids.old.items ++ trades_triggered_by_tick tick.now (states_of_quotes quotes.items))) }
 
     // Each volume after the tick is within its limit, or the tick is refused.
-    ensures within { IfOk result (λ taken. IfOk taken (λ after. list_any exceeds_volume_limit (states_of_quotes after.items) ≡ false)) }
+    ensures within { IfOk result (λ taken. IfOk taken (λ after. list_any has_volume_above_limit (states_of_quotes after.items) ≡ false)) }
     ensures refusal { IfOk result (λ taken. IfErr taken (λ refusal. (refusal ≡ Range limit.Volume)
-        × (list_any exceeds_volume_limit (states_after_tick stamp (states_of_quotes quotes.items) tick.now) ≡ true))) }
+        × (list_any has_volume_above_limit (states_after_tick stamp (states_of_quotes quotes.items) tick.now) ≡ true))) }
 
     // The only fault is `Memory`.
     ensures fault { OnErr result (result ≡ Err Memory) }
@@ -220,7 +220,7 @@ fn apply_tick_to_quotes(
 // Proves that the volume in the last trade of each quote is at most the greatest volume, 10^17
 // shares. Changes nothing.
 fn prove_volumes_are_within_limit(quotes: &[Quote])
-    ensures { list_any exceeds_volume_limit (states_of_quotes quotes.now) ≡ false }
+    ensures { list_any has_volume_above_limit (states_of_quotes quotes.now) ≡ false }
 {
     for quote in quotes {
         let _volume = quote.last.volume.get();
@@ -246,10 +246,10 @@ fn apply_ticks_to_quotes(
         ≡ ids.old.items ++ trades_triggered_by_ticks stamp ticks.now (states_of_quotes quotes.items))) }
 
     // Each volume after the ticks is within its limit, or the ticks are refused.
-    ensures within { IfOk result (λ taken. OnOk taken (list_any exceeds_volume_limit (states_after_ticks stamp ticks.now (states_of_quotes quotes.items))
+    ensures within { IfOk result (λ taken. OnOk taken (list_any has_volume_above_limit (states_after_ticks stamp ticks.now (states_of_quotes quotes.items))
         ≡ false)) }
     ensures refusal { IfOk result (λ taken. IfErr taken (λ refusal. (refusal ≡ Range limit.Volume)
-        × (list_any exceeds_volume_limit (states_after_ticks stamp ticks.now (states_of_quotes quotes.items)) ≡ true))) }
+        × (list_any has_volume_above_limit (states_after_ticks stamp ticks.now (states_of_quotes quotes.items)) ≡ true))) }
 
     // The only fault is `Memory`.
     ensures fault { OnErr result (result ≡ Err Memory) }

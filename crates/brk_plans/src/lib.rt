@@ -21,7 +21,7 @@ mod wording;
 pub use cancel::plan_cancel;
 pub use corrected::{CashText, SettlementText, TextUpdate};
 pub use estimate::Estimate;
-pub use feed::{has_no_quote_of_symbol, plan_feed, price_triggers_trade};
+pub use feed::{has_no_quote_of_symbol, is_triggered_at_price, plan_feed};
 pub use movement::{MovementPlanFacts, add_within_balance_limit, plan_move};
 pub use one_day::plan_oneday;
 pub use plan::Plan;

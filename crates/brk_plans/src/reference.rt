@@ -5,7 +5,7 @@ ghost use Rattle.brk_money.specs.declared.refusal.Refusal.TheVariants.{Exists};
 ghost use Rattle.brk_plans.specs.Reference as spec;
 ghost use Rattle.brk_changes.specs.declared.change.Change.TheVariants as change;
 ghost use Rattle.brk_plans.specs.Reference.{IsReferencePlan, account_checks, band_checks, later_stamp_check, customer_tax_checks};
-ghost use Rattle.brk_plans.specs.Reference.{sum_exceeds_greatest_tax_rate, permission_checks, row_change_adding_record, row_changes_adding_record};
+ghost use Rattle.brk_plans.specs.Reference.{is_sum_above_greatest_tax_rate, permission_checks, row_change_adding_record, row_changes_adding_record};
 ghost use Rattle.brk_plans.specs.Reference.{reference_checks};
 
 use crate::plan::Plan;
@@ -135,8 +135,8 @@ fn band_refusal(band: &Band, found: ReferenceFacts) -> Option<Refusal>
 // Returns true if `rates`, the sum of a customer's tax rates, plus `rate` exceeds the greatest rate
 // (hundred-thousandths). If `rates` is `None`, the sum exceeds it already, and the function returns
 // true.
-fn sum_exceeds_greatest_tax_rate(rates: Option<TaxRate>, rate: TaxRate) -> bool
-    ensures { result ≡ spec.sum_exceeds_greatest_tax_rate rates (Some rate) }
+fn is_sum_above_greatest_tax_rate(rates: Option<TaxRate>, rate: TaxRate) -> bool
+    ensures { result ≡ spec.is_sum_above_greatest_tax_rate rates (Some rate) }
 {
     match rates {
         Some(rates) => rates.get() + rate.get() > TaxRate::GREATEST,
@@ -158,7 +158,7 @@ fn customer_tax_refusal(found: ReferenceFacts) -> Option<Refusal>
     if found.same_id {
         return Some(Refusal::Exists);
     }
-    if sum_exceeds_greatest_tax_rate(found.rates, rate) {
+    if is_sum_above_greatest_tax_rate(found.rates, rate) {
         return Some(Refusal::TaxSum);
     }
     None
@@ -184,8 +184,8 @@ fn create_record_change(reference: &Reference) -> Result<Change, AllocError>
 
 // Returns the first LAST_TRADE row of a newly listed security, with its first price, volume 0 and
 // the stamp. Fails if memory runs out.
-fn create_first_last_trade_row(listing: &Listing, stamp: Stamp) -> Result<LastTrade, AllocError>
-    ensures { IfOk result (λ row. row ≡ spec.first_last_trade_of_listing stamp listing.now) }
+fn create_initial_last_trade_row(listing: &Listing, stamp: Stamp) -> Result<LastTrade, AllocError>
+    ensures { IfOk result (λ row. row ≡ spec.initial_last_trade_of_listing stamp listing.now) }
 {
     Ok(LastTrade {
         symbol: listing.security.symbol.clone()?,
@@ -208,7 +208,7 @@ fn create_reference_changes(
     let mut changes = Vec::new(alloc);
     changes.push(create_record_change(reference)?)?;
     if let Reference::Security(listing) = reference {
-        changes.push(Change::AddLastTrade(create_first_last_trade_row(listing, stamp)?))?;
+        changes.push(Change::AddLastTrade(create_initial_last_trade_row(listing, stamp)?))?;
     }
     changes.push(Change::SetLastStamp(stamp))?;
     Ok(changes)

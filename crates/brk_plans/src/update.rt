@@ -19,7 +19,7 @@ use std::alloc::Global;
 
 // Returns the refusal of a text update whose target does not exist: `NoTrade` if it names trades,
 // `NoAccount` if it names an account, and `NoSecurity` if it names a security.
-fn refusal_if_target_is_missing(update: &Update) -> Refusal
+fn refusal_of_missing_target(update: &Update) -> Refusal
     ensures { result ≡ spec.missing_target_refusal update.now }
 {
     match update {
@@ -157,7 +157,7 @@ pub fn plan_update(
     ensures fault { OnErr result (result ≡ Err Memory) }
 {
     let Some(found) = found else {
-        return Ok(Err(refusal_if_target_is_missing(update)));
+        return Ok(Err(refusal_of_missing_target(update)));
     };
     let Some(stamp) = stamp_after(last, now) else {
         return Ok(Err(Refusal::ClockEnd));

@@ -12,7 +12,7 @@ use Rattle.brk_model.specs.Base.{account_with_id}
 use Rattle.brk_model.specs.Joins.{trade_rows_recent_first, trade_rows_of_account}
 use Rattle.brk_model.specs.Queries.{StatusOf}
 use Rattle.brk_model.specs.Records.{Customer}
-use Rattle.brk_model.specs.StatusView.{broker_name_with_id, account_name_records, record_of_trade_status, trade_status_view}
+use Rattle.brk_model.specs.StatusView.{broker_name_with_id, customer_and_broker_names, record_of_trade_status, trade_status_view}
 use Rattle.brk_model.specs.Tables as tables
 use Rattle.brk_model.specs.Tables.{AccountRow, SecurityRow, Tables, tables_of_base}
 use Rattle.brk_model.specs.Views.{view_of_tables}
@@ -103,9 +103,9 @@ no_status id t e = (λ base books sound s. refused (is_none (account_with_id bas
 
 -- one account of one customer has one head
 one_head : (t : Tables) (a : AccountRow) (c : Customer) (accounts : List AccountRow) (rest : List (List Text)) → accounts ≡ a ∷ []
-    → filter (λ c. c.id == a.customer) t.customers ≡ c ∷ [] → flat_map (account_name_records t) accounts ++ rest ≡ (c.last_name ∷ c.first_name ∷ broker_name_with_id t a.broker ∷ []) ∷ rest
+    → filter (λ c. c.id == a.customer) t.customers ≡ c ∷ [] → flat_map (customer_and_broker_names t) accounts ++ rest ≡ (c.last_name ∷ c.first_name ∷ broker_name_with_id t a.broker ∷ []) ∷ rest
 one_head t a c accounts rest e f =
-    ap (λ as'. flat_map (account_name_records t) as' ++ rest) e
+    ap (λ as'. flat_map (customer_and_broker_names t) as' ++ rest) e
     ∙ ap (λ (cs : List Customer). (map (λ c. c.last_name ∷ c.first_name ∷ broker_name_with_id t a.broker ∷ []) cs ++ []) ++ rest) f
 
 pub status_seen : (id : ℕ) (a : AccountRow) (statuses : Vec TradeStatus) (found : AccountStatus) (view : View) → view ≡ views.Status found

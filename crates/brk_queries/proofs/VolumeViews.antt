@@ -23,7 +23,7 @@ use Rattle.brk_view.specs.declared.view.View.TheVariants as views
 use Rattle.brk_view.specs.declared.volumes.BrokerVolume.{BrokerVolume}
 use Rattle.brk_view_theorems.proofs.VolumeRows.{brokers_by_name, same_volumes}
 use Rattle.brk_queries.specs.QueryResults.{AnswersQueryAsModel}
-use Rattle.brk_queries.specs.Volumes.{has_requests_in_sector, is_sector_request_of_broker, brokers_of_name_in_sector, requests_with_row_of_broker_in_sector, volumes_of_brokers_in_sector}
+use Rattle.brk_queries.specs.Volumes.{has_requests_in_sector, is_sector_request_of_broker, brokers_of_name_in_sector, requests_with_row_if_of_broker_in_sector, volumes_of_brokers_in_sector}
 use Rattle.brk_queries.proofs.Each.{first_more}
 use Rattle.brk_queries.proofs.Tested.{carried_as}
 
@@ -39,7 +39,7 @@ append_assoc (x ∷ xs) ys zs = ap (λ ws. x ∷ ws) (append_assoc xs ys zs)
 
 -- those among the first requests, and among one more
 pub request_more : (t : Tables) (sector : Text) (broker : ℕ) (rows : List read.RequestRow) (i : ℕ) (row : read.RequestRow) (old new : List read.RequestRow) → i < length rows → row ≡ get_or rows i row
-    → map abstract_request_row old ≡ filter (is_sector_request_of_broker t sector broker) (map abstract_request_row (take i rows)) → new ≡ requests_with_row_of_broker_in_sector t sector broker row old
+    → map abstract_request_row old ≡ filter (is_sector_request_of_broker t sector broker) (map abstract_request_row (take i rows)) → new ≡ requests_with_row_if_of_broker_in_sector t sector broker row old
     → map abstract_request_row new ≡ filter (is_sector_request_of_broker t sector broker) (map abstract_request_row (take (i + 1) rows))
 request_more t sector broker rows i row old new inside is e g = ap (map abstract_request_row) g ∙ by_test (is_sector_request_of_broker t sector broker (abstract_request_row row)) refl
   where

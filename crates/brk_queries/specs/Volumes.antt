@@ -20,8 +20,8 @@ is_sector_request_of_broker t sector broker r = (r.broker == broker) && is_symbo
 
 -- If the request `row` is one of the broker `broker` and its security is in the sector `sector`:
 -- the list `found` with `row` added at its end. Otherwise: the list `found`.
-abbrev pub requests_with_row_of_broker_in_sector : Tables → Text → ℕ → read.RequestRow → List read.RequestRow → List read.RequestRow
-requests_with_row_of_broker_in_sector t sector broker row found =
+abbrev pub requests_with_row_if_of_broker_in_sector : Tables → Text → ℕ → read.RequestRow → List read.RequestRow → List read.RequestRow
+requests_with_row_if_of_broker_in_sector t sector broker row found =
     if is_sector_request_of_broker t sector broker (abstract_request_row row) then found ++ row ∷ [] else found
 
 -- True if the broker `b` has at least one pending request for a security in the sector.

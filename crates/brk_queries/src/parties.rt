@@ -16,7 +16,7 @@ use sqlite::Alter;
 
 // Returns the customer with the id `id`. Changes nothing. Fails with `Memory` or `Store` only; with
 // `Store` also if there is no such customer.
-fn require_customer_party<S: Alter>(store: &mut Store<S>, id: Id) -> Result<Customer, Fault>
+fn require_customer_with_id<S: Alter>(store: &mut Store<S>, id: Id) -> Result<Customer, Fault>
     ensures read { ReadPost S.Store store.old store.new result (λ customer t. Some (abstract_customer customer) ≡ find (λ c. c.id == id) t.customers) }
     ensures fault { IfErr result IsCallFault }
 {
@@ -49,7 +49,7 @@ pub(crate) fn read_account_status<S: Alter>(
     ensures read { ReadPost S.Store store.old store.new result (IsAccountStatusWithTrades (abstract_account_row row.now) trades) }
     ensures fault { IfErr result IsCallFault }
 {
-    let customer = require_customer_party(store, row.account.customer)?;
+    let customer = require_customer_with_id(store, row.account.customer)?;
     let broker = require_broker_name(store, row.account.broker)?;
     Ok(AccountStatus {
         last_name: customer.last_name,

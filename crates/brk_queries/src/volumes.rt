@@ -4,7 +4,7 @@ ghost use Rattle.std.specs.Prelude.{◌≡◌, ◌++◌, ◌∷◌, [], IfErr, b
 ghost use Rattle.brk_changes.specs.Rows.{abstract_request_row};
 ghost use Rattle.brk_queries.specs.QueryResults.{AnswersQueryAsModel};
 ghost use Rattle.brk_queries.specs.Volumes.{is_sector_request_of_broker, is_symbol_in_sector, brokers_of_name_in_sector};
-ghost use Rattle.brk_queries.specs.Volumes.{requests_with_row_of_broker_in_sector, volumes_of_brokers_in_sector};
+ghost use Rattle.brk_queries.specs.Volumes.{requests_with_row_if_of_broker_in_sector, volumes_of_brokers_in_sector};
 ghost use Rattle.brk_model.specs.Queries.{VolumeOf};
 ghost use Rattle.brk_model.specs.Run.{IsCallFault};
 ghost use Rattle.brk_ref.specs.Records.{abstract_broker_row};
@@ -46,7 +46,7 @@ fn append_request_if_of_broker_in_sector<S: Alter>(
     found: &mut Vec<RequestRow>,
 ) -> Result<(), Fault>
     ensures read { ReadSequencePost S.Store store.old store.new result (λ _ t. found.new.items
-        ≡ requests_with_row_of_broker_in_sector t sector.now broker row.now found.old.items) }
+        ≡ requests_with_row_if_of_broker_in_sector t sector.now broker row.now found.old.items) }
     ensures fault { IfErr result IsCallFault }
 {
     if row.broker != broker {

@@ -123,7 +123,7 @@ pub fn check_band(alloc: Global, fields: &[&[u8]]) -> Planned<Band>
 }
 
 // Returns true if `qty` is within the bounds of `band`, both included.
-fn bounds_contain_quantity(band: &Band, qty: Qty) -> bool
+fn has_quantity_in_bounds(band: &Band, qty: Qty) -> bool
     ensures { result ≡ nat_le band.now.from_qty qty && nat_le qty band.now.to_qty }
 {
     band.from_qty.get() <= qty.get() && qty.get() <= band.to_qty.get()
@@ -132,7 +132,7 @@ fn bounds_contain_quantity(band: &Band, qty: Qty) -> bool
 /// Returns true if two bands overlap: their tiers, types and exchanges are equal, and the lower
 /// bound of each is at most the upper bound of the other. If neither has reversed bounds, some
 /// quantity is then within the bounds of both.
-pub fn bands_share_quantity(one: &Band, other: &Band) -> bool
+pub fn is_overlapping_band(one: &Band, other: &Band) -> bool
     ensures { result ≡ bands_overlap (abstract_band one.now) (abstract_band other.now) }
 {
     one.tier == other.tier
@@ -149,7 +149,7 @@ pub fn bands_share_quantity(one: &Band, other: &Band) -> bool
 pub fn commission_rate_for_quantity(bands: &[Band], qty: Qty) -> Option<Rate>
     ensures { result ≡ option_map (λ b. b.rate) (find (λ b. nat_le b.from_qty qty && nat_le qty b.to_qty) (map abstract_band bands.now)) }
 {
-    let Some(band) = bands.iter().find(|band| bounds_contain_quantity(band, qty)) else {
+    let Some(band) = bands.iter().find(|band| has_quantity_in_bounds(band, qty)) else {
         return None;
     };
     Some(band.rate)
@@ -157,8 +157,8 @@ pub fn commission_rate_for_quantity(bands: &[Band], qty: Qty) -> Option<Rate>
 
 /// Returns true if one of `bands` overlaps `band`: it has the tier, the type and the exchange of
 /// `band`, and the lower bound of each of the two is at most the upper bound of the other.
-pub fn overlaps_any_band(bands: &[Band], band: &Band) -> bool
+pub fn has_overlapping_band(bands: &[Band], band: &Band) -> bool
     ensures { result ≡ list_any (bands_overlap (abstract_band band.now)) (map abstract_band bands.now) }
 {
-    bands.iter().any(|other| bands_share_quantity(band, other))
+    bands.iter().any(|other| is_overlapping_band(band, other))
 }

@@ -35,7 +35,7 @@ pub use account::{Account, AccountRow, check_account};
 pub use acl::Acl;
 pub use answer::Answer;
 pub use band::{
-    Band, bands_share_quantity, check_band, commission_rate_for_quantity, overlaps_any_band,
+    Band, check_band, commission_rate_for_quantity, has_overlapping_band, is_overlapping_band,
 };
 pub use batch_name::BatchName;
 pub use broker::{Broker, BrokerRow, check_broker};

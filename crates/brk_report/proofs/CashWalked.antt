@@ -22,11 +22,11 @@ use Rattle.brk_report_lines.specs.Written.{FailsWithinFirstLines, line_with_line
 use Rattle.brk_report_lines.specs.declared.fault.LinesFault.{LinesFault}
 use Rattle.brk_report_lines.specs.declared.fault.LinesFault.TheVariants.{Desk, Write}
 use Rattle.brk_report_lines.proofs.Composed.{appends_none, lines_parts, then_all}
-use Rattle.brk_report.specs.CashWalk.{lines_of_row, lines_of_rows, progress_after_row, progress_after_rows}
+use Rattle.brk_report.specs.CashWalk.{lines_of_cash_row, lines_of_cash_rows, progress_after_cash_row, progress_after_cash_rows}
 use Rattle.brk_report.specs.Stated.{IsMemoryStoreOrWriteFault}
 use Rattle.brk_report.specs.WalkFaults.{fault_of_walk_error}
 use Rattle.brk_report.specs.declared.statements.visitors.CashProgress.{CashProgress}
-use Rattle.brk_report.proofs.CashLists.{lines_of_rows-append}
+use Rattle.brk_report.proofs.CashLists.{lines_of_cash_rows-append}
 
 -- ---- lines that may end with any line
 
@@ -62,34 +62,34 @@ first_before xs ys a b Write h = (h.0, h.1, h.2 ++ ys, h.3, sym (append_assoc h.
 module _ {S V : Type 0} (g : Ghosts S) (old new : Held S) (list : Tables → List MoveRow) (takes : V → typed.MoveRow → V → Type 0) (stops : V → typed.MoveRow → LinesFault → V → Type 0) (before after : V)
     (t : Tables) (clean : HasCleanDisk (state g new)) (holds : HoldsRows g old t) (result : Result (Unit {0}) (WalkError LinesFault)) (walked : WalkPost g old new abstract_move_row list takes stops before after result)
     (first : V → ℕ) (moved : V → CashProgress) (contents : V → Option Text)
-    (writes : (p : V) (x : typed.MoveRow) (q : V) → takes p x q → (first q ≡ first p) × (moved q ≡ progress_after_row (nat_lt x.stamp (first p)) (moved p) (abstract_move_row x))
-    × Appends (contents p) (contents q) (text_of_lines (lines_of_row (nat_lt x.stamp (first p)) (moved p) (abstract_move_row x))))
-    (breaks : (p : V) (x : typed.MoveRow) (e : LinesFault) (q : V) → stops p x e q → FailsWithinFirstLines (lines_of_row (nat_lt x.stamp (first p)) (moved p) (abstract_move_row x)) (contents p) (contents q) e) where
+    (writes : (p : V) (x : typed.MoveRow) (q : V) → takes p x q → (first q ≡ first p) × (moved q ≡ progress_after_cash_row (nat_lt x.stamp (first p)) (moved p) (abstract_move_row x))
+    × Appends (contents p) (contents q) (text_of_lines (lines_of_cash_row (nat_lt x.stamp (first p)) (moved p) (abstract_move_row x))))
+    (breaks : (p : V) (x : typed.MoveRow) (e : LinesFault) (q : V) → stops p x e q → FailsWithinFirstLines (lines_of_cash_row (nat_lt x.stamp (first p)) (moved p) (abstract_move_row x)) (contents p) (contents q) e) where
   taken : (p : V) (xs : List typed.MoveRow) (q : V) → FoldsTo takes p xs q
-      → Appends (contents p) (contents q) (text_of_lines (lines_of_rows (first p) (moved p) (map abstract_move_row xs))) × (moved q ≡ progress_after_rows (first p) (moved p) (map abstract_move_row xs)) × (first q ≡ first p)
+      → Appends (contents p) (contents q) (text_of_lines (lines_of_cash_rows (first p) (moved p) (map abstract_move_row xs))) × (moved q ≡ progress_after_cash_rows (first p) (moved p) (map abstract_move_row xs)) × (first q ≡ first p)
   taken p [] q h = (subst (λ v. Appends (contents p) (contents v) []) h (appends_none (contents p)), sym (ap moved h), sym (ap first h))
   taken p (x ∷ xs) q h =
       let one = writes p x h.0 h.1 in
       let more = taken h.0 xs q h.2 in
       let rows = map abstract_move_row xs in
       let row = abstract_move_row x in
-      let step = progress_after_row (nat_lt x.stamp (first p)) (moved p) row in
-      let rest : Appends (contents h.0) (contents q) (text_of_lines (lines_of_rows (first p) step rows)) =
-      subst (λ (ls : List Text). Appends (contents h.0) (contents q) (text_of_lines ls)) (λ i. lines_of_rows (one.0 i) (one.1 i) rows) more.0 in (
-        then_all (lines_of_row (nat_lt x.stamp (first p)) (moved p) row) (lines_of_rows (first p) step rows) _ _ _ one.2 rest,
-        more.1 ∙ (λ i. progress_after_rows (one.0 i) (one.1 i) rows),
+      let step = progress_after_cash_row (nat_lt x.stamp (first p)) (moved p) row in
+      let rest : Appends (contents h.0) (contents q) (text_of_lines (lines_of_cash_rows (first p) step rows)) =
+      subst (λ (ls : List Text). Appends (contents h.0) (contents q) (text_of_lines ls)) (λ i. lines_of_cash_rows (one.0 i) (one.1 i) rows) more.0 in (
+        then_all (lines_of_cash_row (nat_lt x.stamp (first p)) (moved p) row) (lines_of_cash_rows (first p) step rows) _ _ _ one.2 rest,
+        more.1 ∙ (λ i. progress_after_cash_rows (one.0 i) (one.1 i) rows),
         more.2 ∙ one.0,
       )
 
   pub walk_all : (u : Unit {0}) → result ≡ Ok u
-      → Appends (contents before) (contents after) (text_of_lines (lines_of_rows (first before) (moved before) (list t))) × (moved after ≡ progress_after_rows (first before) (moved before) (list t))
+      → Appends (contents before) (contents after) (text_of_lines (lines_of_cash_rows (first before) (moved before) (list t))) × (moved after ≡ progress_after_cash_rows (first before) (moved before) (list t))
   walk_all u e =
       let h = rw e at (walked.all clean) in
       let f = taken before h.0 after h.1 in
       let same : map abstract_move_row h.0 ≡ list t = h.2 t holds in
-      subst (λ (rows : List MoveRow). Appends (contents before) (contents after) (text_of_lines (lines_of_rows (first before) (moved before) rows)) × (moved after ≡ progress_after_rows (first before) (moved before) rows)) same (f.0, f.1)
+      subst (λ (rows : List MoveRow). Appends (contents before) (contents after) (text_of_lines (lines_of_cash_rows (first before) (moved before) rows)) × (moved after ≡ progress_after_cash_rows (first before) (moved before) rows)) same (f.0, f.1)
 
-  pub walk_first : (stop : WalkError LinesFault) → result ≡ Err stop → FailsWithinFirstLines (lines_of_rows (first before) (moved before) (list t)) (contents before) (contents after) (fault_of_walk_error stop)
+  pub walk_first : (stop : WalkError LinesFault) → result ≡ Err stop → FailsWithinFirstLines (lines_of_cash_rows (first before) (moved before) (list t)) (contents before) (contents after) (fault_of_walk_error stop)
   walk_first (Failed fault) e =
       let h = rw e at (walked.early clean) in
       let b = h.1.2 t holds in
@@ -97,9 +97,9 @@ module _ {S V : Type 0} (g : Ghosts S) (old new : Held S) (list : Tables → Lis
       let from = moved before in (
         h.0,
         (
-          lines_of_rows (first before) from rows,
-          lines_of_rows (first before) (progress_after_rows (first before) from rows) b.0,
-          sym (lines_of_rows-append (first before) from rows b.0) ∙ ap (lines_of_rows (first before) from) b.1,
+          lines_of_cash_rows (first before) from rows,
+          lines_of_cash_rows (first before) (progress_after_cash_rows (first before) from rows) b.0,
+          sym (lines_of_cash_rows-append (first before) from rows b.0) ∙ ap (lines_of_cash_rows (first before) from) b.1,
           (taken before h.1.0 after h.1.1).0,
         ),
       )
@@ -111,15 +111,15 @@ module _ {S V : Type 0} (g : Ghosts S) (old new : Held S) (list : Tables → Lis
       let from = moved before in
       let start = first before in
       let f = taken before h.0 h.2 h.3 in
-      let here = progress_after_rows start from rows in
-      let broke : FailsWithinFirstLines (lines_of_row (nat_lt h.1.stamp start) here row) (contents h.2) (contents after) fault =
-      subst (λ (ls : List Text). FailsWithinFirstLines ls (contents h.2) (contents after) fault) (λ i. lines_of_row (nat_lt h.1.stamp (f.2 i)) (f.1 i) row) (breaks h.2 h.1 fault after h.4) in
-      let last : FailsWithinFirstLines (lines_of_rows start here (row ∷ [])) (contents h.2) (contents after) fault =
-      first_before (lines_of_row (nat_lt h.1.stamp start) here row) [] _ _ fault broke in
-      let one = first_behind (lines_of_rows start from rows) (lines_of_rows start here (row ∷ [])) _ _ _ fault f.0 last in
-      let rest = lines_of_rows start (progress_after_rows start from (rows ++ row ∷ [])) b.0 in
-      let whole = first_before (lines_of_rows start from rows ++ lines_of_rows start here (row ∷ [])) rest _ _ fault one in
-      let same : (lines_of_rows start from rows ++ lines_of_rows start here (row ∷ [])) ++ rest ≡ lines_of_rows start from (list t) =
-      ap (λ (ls : List Text). ls ++ rest) (sym (lines_of_rows-append start from rows (row ∷ []))) ∙ sym (lines_of_rows-append start from (rows ++ row ∷ []) b.0)
-      ∙ ap (λ (rs : List MoveRow). lines_of_rows start from (rs ++ b.0)) (sym (map-append abstract_move_row h.0 (h.1 ∷ []))) ∙ ap (lines_of_rows start from) b.1 in
+      let here = progress_after_cash_rows start from rows in
+      let broke : FailsWithinFirstLines (lines_of_cash_row (nat_lt h.1.stamp start) here row) (contents h.2) (contents after) fault =
+      subst (λ (ls : List Text). FailsWithinFirstLines ls (contents h.2) (contents after) fault) (λ i. lines_of_cash_row (nat_lt h.1.stamp (f.2 i)) (f.1 i) row) (breaks h.2 h.1 fault after h.4) in
+      let last : FailsWithinFirstLines (lines_of_cash_rows start here (row ∷ [])) (contents h.2) (contents after) fault =
+      first_before (lines_of_cash_row (nat_lt h.1.stamp start) here row) [] _ _ fault broke in
+      let one = first_behind (lines_of_cash_rows start from rows) (lines_of_cash_rows start here (row ∷ [])) _ _ _ fault f.0 last in
+      let rest = lines_of_cash_rows start (progress_after_cash_rows start from (rows ++ row ∷ [])) b.0 in
+      let whole = first_before (lines_of_cash_rows start from rows ++ lines_of_cash_rows start here (row ∷ [])) rest _ _ fault one in
+      let same : (lines_of_cash_rows start from rows ++ lines_of_cash_rows start here (row ∷ [])) ++ rest ≡ lines_of_cash_rows start from (list t) =
+      ap (λ (ls : List Text). ls ++ rest) (sym (lines_of_cash_rows-append start from rows (row ∷ []))) ∙ sym (lines_of_cash_rows-append start from (rows ++ row ∷ []) b.0)
+      ∙ ap (λ (rs : List MoveRow). lines_of_cash_rows start from (rs ++ b.0)) (sym (map-append abstract_move_row h.0 (h.1 ∷ []))) ∙ ap (lines_of_cash_rows start from) b.1 in
       subst (λ (ls : List Text). FailsWithinFirstLines ls (contents before) (contents after) fault) same whole

@@ -8,14 +8,14 @@ use Rattle.brk_book_theorems.proofs.Order.{Sorted, nat_one_way, nat_splits, sort
 use Rattle.brk_money.specs.Moments.{day_of}
 use Rattle.brk_model.specs.Limits.{is_in_range}
 use Rattle.brk_model.specs.Joins.{move_rows_of_account}
-use Rattle.brk_model.specs.Statement.{cash_move_rows_before_day, cash_move_rows_of_account, cash_move_rows_within_days}
+use Rattle.brk_model.specs.Statement.{cash_move_rows_before_day, sorted_cash_rows_of_account, cash_move_rows_within_days}
 use Rattle.brk_model.specs.Tables.{MoveRow, Tables}
 use Rattle.brk_store.specs.Walked.{cash_rows_in_span}
 use Rattle.brk_report_lines.proofs.DayStamps.{within_days}
 use Rattle.brk_report.proofs.CashLists.{AreBefore, AreNotBefore}
 
-pub rows_within : (t : Tables) (account from to first last : ℕ) → first ≡ from * 86400000 → last ≡ to * 86400000 + 86399999 → cash_rows_in_span account first last t ≡ cash_move_rows_within_days from to (cash_move_rows_of_account t account)
-rows_within t account from to first last f l = (λ i. cash_rows_in_span account (f i) (l i) t) ∙ (λ i. filter (λ (row : MoveRow). within_days from to row.stamp i) (cash_move_rows_of_account t account))
+pub rows_within : (t : Tables) (account from to first last : ℕ) → first ≡ from * 86400000 → last ≡ to * 86400000 + 86399999 → cash_rows_in_span account first last t ≡ cash_move_rows_within_days from to (sorted_cash_rows_of_account t account)
+rows_within t account from to first last f l = (λ i. cash_rows_in_span account (f i) (l i) t) ∙ (λ i. filter (λ (row : MoveRow). within_days from to row.stamp i) (sorted_cash_rows_of_account t account))
 
 -- ---- the rows before a day, and those from it on
 
@@ -109,7 +109,7 @@ module _ (from to last : ℕ) (span : from ≤ to) (l : last ≡ to * 86400000 +
 -- The rows of an account up to the last stamp of a day are those before the first day, and those of
 -- the days after them.
 pub rows_up_to : (t : Tables) (account from to last : ℕ) → from ≤ to → last ≡ to * 86400000 + 86399999
-    → cash_rows_in_span account 0 last t ≡ cash_move_rows_before_day from (cash_move_rows_of_account t account) ++ cash_move_rows_within_days from to (cash_move_rows_of_account t account)
+    → cash_rows_in_span account 0 last t ≡ cash_move_rows_before_day from (sorted_cash_rows_of_account t account) ++ cash_move_rows_within_days from to (sorted_cash_rows_of_account t account)
 rows_up_to t account from to last span l =
-    split from to last span l (cash_move_rows_of_account t account)
+    split from to last span l (sorted_cash_rows_of_account t account)
     (sorted_sort (λ (x y : MoveRow). nat_lt x.stamp y.stamp) (move_rows_of_account t account) (λ x y w. nat_splits x.stamp y.stamp w.stamp) (λ x y. nat_one_way x.stamp y.stamp))

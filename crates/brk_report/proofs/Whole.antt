@@ -8,7 +8,7 @@ use Rattle.brk_money.specs.Spelling.{Text}
 use Rattle.brk_money.specs.declared.refusal.Refusal.TheVariants.{BadText, NoAccount}
 use Rattle.brk_model.specs.Joins.{account_row_with_id}
 use Rattle.brk_model.specs.PositionView.{market_value_of_account_row}
-use Rattle.brk_model.specs.Statement.{amount_line, cash_move_rows_before_day, cash_move_rows_of_account, cash_row_line, cash_row_total, cash_move_rows_within_days, text_of_lines, lot_line, holding_rows_of_account, statement, statement_lines}
+use Rattle.brk_model.specs.Statement.{amount_line, cash_move_rows_before_day, sorted_cash_rows_of_account, cash_row_line, cash_row_total, cash_move_rows_within_days, text_of_lines, lot_line, holding_rows_of_account, statement, statement_lines}
 use Rattle.brk_model.specs.Tables.{AccountRow, Tables}
 use Rattle.brk_queries.specs.declared.head.StatementHead.{StatementHead}
 use Rattle.brk_report.specs.StatementParts.{all_statement_lines, statement_header_lines}
@@ -28,11 +28,11 @@ passes_found p (y ∷ ys) x e = go (passes_found p ys x) (p y) refl
     go more false k = more (rw k at e)
 
 pub lines_whole : (t : Tables) (account : ℕ) (head : StatementHead) (from to : ℕ) (a : AccountRow) → account_row_with_id t account ≡ Some a → head.name ≡ a.name → head.opening ≡ a.opening → head.holdings ≡ market_value_of_account_row t a
-    → all_statement_lines t account head from to ≡ statement_lines t a from to (cash_move_rows_of_account t account)
+    → all_statement_lines t account head from to ≡ statement_lines t a from to (sorted_cash_rows_of_account t account)
 lines_whole t account head from to a found name opening holdings =
     let id : a.id ≡ account = eqb-true a.id account (passes_found (λ (r : AccountRow). r.id == account) t.accounts a found) in
-    let rows = cash_move_rows_within_days from to (cash_move_rows_of_account t account) in
-    let before = cash_row_total (cash_move_rows_before_day from (cash_move_rows_of_account t account)) in
+    let rows = cash_move_rows_within_days from to (sorted_cash_rows_of_account t account) in
+    let before = cash_row_total (cash_move_rows_before_day from (sorted_cash_rows_of_account t account)) in
     let parts : ℕ → Text → ℤ → ℤ → List Text =
     λ n name opening holdings.
     statement_header_lines n name from to ++ amount_line (codes "Opening") (opening +ℤ before) ∷ ((map cash_row_line rows ++ (amount_line (codes "Closing") (opening +ℤ before +ℤ cash_row_total rows) ∷ map lot_line (holding_rows_of_account t n)))
@@ -48,7 +48,7 @@ pub statement_is : (t : Tables) (account from to : ℕ) (lines : List Text) → 
 unfolding statement
 statement_is t account from to lines h =
     let id : h.1.0.id ≡ account = eqb-true h.1.0.id account (passes_found (λ (r : AccountRow). r.id == account) t.accounts h.1.0 h.1.1) in
-    rw (h.0, h.1.1, h.1.2) (ap (λ (n : ℕ). Ok (text_of_lines (statement_lines t h.1.0 from to (cash_move_rows_of_account t n)))) id)
+    rw (h.0, h.1.1, h.1.2) (ap (λ (n : ℕ). Ok (text_of_lines (statement_lines t h.1.0 from to (sorted_cash_rows_of_account t n)))) id)
 
 pub refused_days : (t : Tables) (account from to : ℕ) → nat_lt to from ≡ true → statement t account from to ≡ Err BadText
 unfolding statement

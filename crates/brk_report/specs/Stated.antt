@@ -7,7 +7,7 @@ use Rattle.sqlite.specs.State.{HasCleanDisk, Survives}
 use Rattle.brk_money.specs.Spelling.{Text}
 use Rattle.brk_model.specs.Joins.{account_row_with_id}
 use Rattle.brk_model.specs.Run.{IsCallFault}
-use Rattle.brk_model.specs.Statement.{cash_move_rows_of_account, text_of_lines, lot_line, holding_rows_of_account, statement, statement_lines}
+use Rattle.brk_model.specs.Statement.{sorted_cash_rows_of_account, text_of_lines, lot_line, holding_rows_of_account, statement, statement_lines}
 use Rattle.brk_model.specs.Tables.{AccountRow, Tables}
 use Rattle.brk_store.specs.Holds.{HoldsRows, WasOpenAndIsUnchanged}
 use Rattle.brk_report_lines.specs.Written.{FailsWithinFirstLines, WritesProperPrefixOfLines, WritesLinesAndPartOfNext}
@@ -55,7 +55,7 @@ WritesLotLines t account old new (Err e) = FailsWithinFirstLines (map lot_line (
 abbrev pub AreStatementLines : Tables → ℕ → ℕ → ℕ → List Text → Type 0
 AreStatementLines t account from to lines =
     (nat_lt to from ≡ false)
-    × ((a : AccountRow) × (account_row_with_id t account ≡ Some a) × (lines ≡ statement_lines t a from to (cash_move_rows_of_account t account)))
+    × ((a : AccountRow) × (account_row_with_id t account ≡ Some a) × (lines ≡ statement_lines t a from to (sorted_cash_rows_of_account t account)))
 
 -- The result of writing the statement of `account` from the day `from` to the day `to`. `Ok`:
 -- exactly the text of the model's statement was written. `Refused`: the model refuses the statement

@@ -2,7 +2,7 @@
 use Rattle.std.specs.Prelude.{◌≡◌, ℕ, ℤ, ◌+ℤ◌, List, [], ◌∷◌, ◌++◌, Option, Result, Ok, Err, codes, decimal, length, map}
 use Rattle.std.specs.Io.KnownBytes.{Appends}
 use Rattle.brk_money.specs.Spelling.{Text, day_text}
-use Rattle.brk_model.specs.Statement.{amount_line, cash_move_rows_before_day, cash_move_rows_of_account, cash_row_total}
+use Rattle.brk_model.specs.Statement.{amount_line, cash_move_rows_before_day, sorted_cash_rows_of_account, cash_row_total}
 use Rattle.brk_model.specs.Statement.{cash_move_rows_within_days, text_of_lines, lot_line, holding_rows_of_account}
 use Rattle.brk_model.specs.Tables.{Tables}
 use Rattle.brk_queries.specs.declared.head.StatementHead.{StatementHead}
@@ -23,8 +23,8 @@ statement_header_lines account name from to =
 abbrev pub cash_and_closing_lines : Tables → ℕ → ℕ → ℕ → ℤ → List Text
 cash_and_closing_lines t account from to opening =
     opening_and_cash_lines t account from to opening
-    ++ amount_line (codes "Closing") (opening +ℤ cash_row_total (cash_move_rows_before_day from (cash_move_rows_of_account t account))
-    +ℤ cash_row_total (cash_move_rows_within_days from to (cash_move_rows_of_account t account)))
+    ++ amount_line (codes "Closing") (opening +ℤ cash_row_total (cash_move_rows_before_day from (sorted_cash_rows_of_account t account))
+    +ℤ cash_row_total (cash_move_rows_within_days from to (sorted_cash_rows_of_account t account)))
     ∷ []
 
 -- The result of writing `cash_and_closing_lines`. `Ok`: exactly these lines were written, and
@@ -33,7 +33,7 @@ cash_and_closing_lines t account from to opening =
 abbrev pub WritesCashAndClosingLines : Tables → ℕ → ℕ → ℕ → ℤ → Option Text → Option Text → Result ℕ LinesFault → Type 0
 WritesCashAndClosingLines t account from to opening old new (Ok count) =
     Appends old new (text_of_lines (cash_and_closing_lines t account from to opening))
-    × (count ≡ length (cash_move_rows_within_days from to (cash_move_rows_of_account t account)))
+    × (count ≡ length (cash_move_rows_within_days from to (sorted_cash_rows_of_account t account)))
 WritesCashAndClosingLines t account from to opening old new (Err e) = FailsWithinLines (cash_and_closing_lines t account from to opening) old new e
 
 -- A line for each lot of `account`, the line of the market value `holdings`, in cents, and the line
@@ -48,4 +48,4 @@ lot_and_total_lines t account holdings cash =
 abbrev pub all_statement_lines : Tables → ℕ → StatementHead → ℕ → ℕ → List Text
 all_statement_lines t account head from to =
     statement_header_lines account head.name from to ++ cash_and_closing_lines t account from to head.opening
-    ++ lot_and_total_lines t account head.holdings (length (cash_move_rows_within_days from to (cash_move_rows_of_account t account)))
+    ++ lot_and_total_lines t account head.holdings (length (cash_move_rows_within_days from to (sorted_cash_rows_of_account t account)))

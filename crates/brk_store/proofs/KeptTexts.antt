@@ -6,8 +6,8 @@ use Rattle.brk_money.specs.declared.fault.Condition.{Condition}
 use Rattle.brk_money.specs.declared.fault.Condition.TheVariants as condition
 use Rattle.brk_model.specs.Adopted.{base_of_tables}
 use Rattle.brk_model.specs.Audit.{ConditionHolds, IsFirstFailingCondition}
-use Rattle.brk_model.specs.Form.{are_equal_number_lists, bands_are_disjoint, has_distinct_tax_ids, is_last_stamp_in_calendar, is_settlement_day_in_calendar, is_sorted_by_unique_key, is_well_formed_account_row, is_well_formed_band_row, is_well_formed_broker_row, is_well_formed_cash_row, is_well_formed_charge_row, is_well_formed_customer_row, is_well_formed_customer_tax_row, is_well_formed_history_row, is_well_formed_holding_history_row, is_well_formed_holding_row, is_well_formed_kept_row, is_well_formed_key, is_well_formed_last_trade_row, is_well_formed_move_row, is_well_formed_permission_row, is_well_formed_request_row, is_well_formed_security_row, is_well_formed_settlement_row, is_well_formed_summary_row, is_well_formed_tax_rate_row, is_well_formed_trade_row, is_within_customer_limits, lacks_rows_of_later_schemas, satisfies_form_condition, tables_are_sorted_by_unique_key, trade_ids_of_cash_rows}
-use Rattle.brk_model.specs.Keys.{KeyPart, number, word, is_key_less, kept_key, account_key, band_key, broker_key, cash_key, charge_key, customer_key, customer_tax_key, history_key, holding_history_key, holding_key, last_trade_key, move_key, permission_key, request_key, security_key, settlement_key, summary_key, tax_rate_key, trade_key}
+use Rattle.brk_model.specs.Form.{are_equal_number_lists, has_disjoint_bands, has_distinct_tax_ids, is_last_stamp_in_calendar, is_settlement_day_in_calendar, is_sorted_by_unique_key, is_well_formed_account_row, is_well_formed_band_row, is_well_formed_broker_row, is_well_formed_cash_transaction_row, is_well_formed_charge_row, is_well_formed_customer_row, is_well_formed_customer_tax_row, is_well_formed_history_row, is_well_formed_holding_history_row, is_well_formed_holding_row, is_well_formed_kept_row, is_well_formed_key, is_well_formed_last_trade_row, is_well_formed_cash_move_row, is_well_formed_permission_row, is_well_formed_request_row, is_well_formed_security_row, is_well_formed_settlement_row, is_well_formed_summary_row, is_well_formed_tax_rate_row, is_well_formed_trade_row, is_within_customer_limits, lacks_rows_of_later_schemas, satisfies_form_condition, has_tables_sorted_by_unique_key, trade_ids_of_cash_rows}
+use Rattle.brk_model.specs.Keys.{KeyPart, number, word, is_key_less, kept_key, account_key, band_key, broker_key, cash_transaction_key, charge_key, customer_key, customer_tax_key, history_key, holding_history_key, holding_key, last_trade_key, cash_move_key, permission_key, request_key, security_key, settlement_key, summary_key, tax_rate_key, trade_key}
 use Rattle.brk_model.specs.Limits.{greatest_id}
 use Rattle.brk_model.specs.Lists.{all_distinct}
 use Rattle.brk_model.specs.Records.{Key, Kept}
@@ -51,8 +51,8 @@ sorted_with t sorted =
     && is_sorted_by_unique_key summary_key t.summaries
     && is_sorted_by_unique_key holding_history_key t.holding_history
     && is_sorted_by_unique_key settlement_key t.settlements
-    && is_sorted_by_unique_key cash_key t.cash
-    && is_sorted_by_unique_key move_key t.moves
+    && is_sorted_by_unique_key cash_transaction_key t.cash
+    && is_sorted_by_unique_key cash_move_key t.moves
 
 abbrev formed_with : Schema → Tables → Bool → Bool → Bool
 formed_with schema t sorted formed =
@@ -67,7 +67,7 @@ formed_with schema t sorted formed =
     && list_all (is_well_formed_security_row t) t.securities
     && list_all (is_well_formed_last_trade_row t) t.last_trades
     && list_all is_well_formed_charge_row t.charges
-    && list_all (is_well_formed_band_row schema) t.bands && bands_are_disjoint t.bands
+    && list_all (is_well_formed_band_row schema) t.bands && has_disjoint_bands t.bands
     && list_all is_well_formed_tax_rate_row t.tax_rates
     && list_all (is_well_formed_customer_tax_row t) t.customer_taxes
     && list_all (is_well_formed_trade_row schema t) t.trades && are_equal_number_lists (map (λ row. row.id) t.trades) (range_with_len 1 (length t.trades))
@@ -77,15 +77,15 @@ formed_with schema t sorted formed =
     && list_all (is_well_formed_summary_row schema t) t.summaries
     && list_all (is_well_formed_holding_history_row t) t.holding_history
     && list_all (is_well_formed_settlement_row t) t.settlements
-    && list_all (is_well_formed_cash_row t) t.cash
-    && list_all (is_well_formed_move_row t) t.moves && all_distinct (trade_ids_of_cash_rows t.moves)
+    && list_all (is_well_formed_cash_transaction_row t) t.cash
+    && list_all (is_well_formed_cash_move_row t) t.moves && all_distinct (trade_ids_of_cash_rows t.moves)
     && nat_le (length (filter (λ r. is_none r.trade) t.moves)) greatest_id
     && is_settlement_day_in_calendar t.rule
     && lacks_rows_of_later_schemas schema t
 
 module _ (schema : Schema) (t : Tables) (ks ls : List Kept) (same : map (λ k. k.key) ks ≡ map (λ k. k.key) ls) where
-  sorted_alike : tables_are_sorted_by_unique_key (record t { kept = ks }) ≡ tables_are_sorted_by_unique_key (record t { kept = ls })
-  unfolding tables_are_sorted_by_unique_key
+  sorted_alike : has_tables_sorted_by_unique_key (record t { kept = ks }) ≡ has_tables_sorted_by_unique_key (record t { kept = ls })
+  unfolding has_tables_sorted_by_unique_key
   sorted_alike = ap (sorted_with t) (sorted_by_keys ks ∙ ap (is_sorted_by_unique_key parts) same ∙ sym (sorted_by_keys ls))
 
   formed_alike : list_all is_well_formed_kept_row ks ≡ list_all is_well_formed_kept_row ls
@@ -95,7 +95,7 @@ module _ (schema : Schema) (t : Tables) (ks ls : List Kept) (same : map (λ k. k
   unfolding satisfies_form_condition base_of_tables
   form_alike =
       ap (λ sorted. formed_with schema t sorted (list_all is_well_formed_kept_row ks)) sorted_alike
-      ∙ ap (formed_with schema t (tables_are_sorted_by_unique_key (record t { kept = ls }))) formed_alike
+      ∙ ap (formed_with schema t (has_tables_sorted_by_unique_key (record t { kept = ls }))) formed_alike
 
   holds_alike : (c : Condition) → ConditionHolds schema c (record t { kept = ks }) → ConditionHolds schema c (record t { kept = ls })
   unfolding ConditionHolds satisfies_status_condition base_of_tables tables_sorted_by_key tables_of_base_in_schema

@@ -5,10 +5,10 @@ use Rattle.std.specs.Str.{is_utf8}
 use Rattle.std.specs.Prelude.{String, nat_lt, string_bytes}
 use Rattle.std.proofs.lemmas.Str.{IsUtf8-string_bytes, is_utf8-from_IsUtf8}
 use Rattle.brk_book_theorems.proofs.LotReading.{All-sort}
-use Rattle.brk_model.specs.Adopted.{posting_of_cash_row, posting_of_move_row, postings_of_tables}
+use Rattle.brk_model.specs.Adopted.{posting_of_cash_transaction_row, posting_of_cash_move_row, postings_of_tables}
 use Rattle.brk_model.specs.Derived.{Posting, postings_sorted_by_stamp}
 use Rattle.brk_model.specs.Form.{has_utf8_texts}
-use Rattle.brk_model.specs.Upgraded.{tables_after_upgrade}
+use Rattle.brk_model.specs.Upgraded.{tables_with_merged_cash_rows}
 use Rattle.brk_model.specs.Tables.{CashRow, MoveRow, Tables, numbered_move_rows}
 use Rattle.brk_ref.specs.declared.key.Kept as kept
 use Rattle.brk_ref.specs.Records.{abstract_kept_row}
@@ -74,14 +74,14 @@ numbered_texts : (n : ℕ) (ps : List Posting) → AllByRecursion HasUtf8Name ps
 numbered_texts n [] h = refl
 numbered_texts n (p ∷ ps) h = and_both _ _ h.0 (numbered_texts (n + 1) ps h.1)
 
-pub upgraded_texts : (t : Tables) → IsTrue (has_utf8_texts t) → IsTrue (has_utf8_texts (tables_after_upgrade t))
-unfolding tables_after_upgrade
+pub upgraded_texts : (t : Tables) → IsTrue (has_utf8_texts t) → IsTrue (has_utf8_texts (tables_with_merged_cash_rows t))
+unfolding tables_with_merged_cash_rows
 upgraded_texts t h =
     let upper = and_parts _ (list_all (λ (r : MoveRow). is_utf8 r.name) t.moves) h in
     let lower = and_parts _ (list_all (λ (r : CashRow). is_utf8 r.name) t.cash) upper.0 in
     and_both _ _ (and_both _ _ lower.0 refl)
     (numbered_texts 1 (postings_sorted_by_stamp (postings_of_tables t))
     (All-sort HasUtf8Name (λ (a b : Posting). nat_lt a.stamp b.stamp) (postings_of_tables t)
-    (joined HasUtf8Name (map (posting_of_cash_row t) t.cash) (map posting_of_move_row t.moves)
-    (mapped (posting_of_cash_row t) (λ (r : CashRow). is_utf8 r.name ≡ true) HasUtf8Name (λ x k. k) t.cash (all_of (λ (r : CashRow). is_utf8 r.name) t.cash lower.1))
-    (mapped posting_of_move_row (λ (r : MoveRow). is_utf8 r.name ≡ true) HasUtf8Name (λ x k. k) t.moves (all_of (λ (r : MoveRow). is_utf8 r.name) t.moves upper.1)))))
+    (joined HasUtf8Name (map (posting_of_cash_transaction_row t) t.cash) (map posting_of_cash_move_row t.moves)
+    (mapped (posting_of_cash_transaction_row t) (λ (r : CashRow). is_utf8 r.name ≡ true) HasUtf8Name (λ x k. k) t.cash (all_of (λ (r : CashRow). is_utf8 r.name) t.cash lower.1))
+    (mapped posting_of_cash_move_row (λ (r : MoveRow). is_utf8 r.name ≡ true) HasUtf8Name (λ x k. k) t.moves (all_of (λ (r : MoveRow). is_utf8 r.name) t.moves upper.1)))))

@@ -30,7 +30,7 @@ use Rattle.brk_tables_schema.specs.Made.{HasDeskTables}
 use Rattle.brk_book_theorems.proofs.Bools.{same_text, texts_back}
 use Rattle.brk_book_theorems.proofs.LotReading.{All-sort}
 use Rattle.brk_book_theorems.proofs.Order.{by_key-filter, key_total, nat_one_way, nat_splits, sort_filter}
-use Rattle.brk_tables_walks.specs.Lists.{cash_rows_between, completed_trades_by_stamp_and_id, lots_by_symbol, cash_sort_key, lot_sort_key, stamp_and_id_key}
+use Rattle.brk_tables_walks.specs.Lists.{account_cash_rows_between, completed_trades_by_stamp_and_id, account_lots_by_symbol, cash_sort_key, lot_sort_key, stamp_and_id_key}
 use Rattle.brk_tables_walks.specs.Walks.{TableWalkPost}
 use Rattle.brk_tables_walks.specs.declared.walking.WalkError.{WalkError}
 use Rattle.brk_store.specs.Walked.{WalkPost, cash_rows_in_span, completed_trades_by_stamp}
@@ -105,7 +105,7 @@ unlike s t a = go (bytes_eq s t) refl
 not_above : (m n : ℕ) → nat_lt m n ≡ true → nat_lt n m ≡ false
 not_above m n h = grind (arith, nat_tests)
 
-pub lots_same : (account : ℕ) (t : Tables) → IsStrictlyAscendingBy (λ r. r.trade) t.holdings → lots_by_symbol account t ≡ holding_rows_of_account t account
+pub lots_same : (account : ℕ) (t : Tables) → IsStrictlyAscendingBy (λ r. r.trade) t.holdings → account_lots_by_symbol account t ≡ holding_rows_of_account t account
 lots_same account t climb =
     sort_same (λ (r : HoldingRow). r.trade) (is_row_key_less lot_sort_key) (λ a b. is_text_less a.symbol b.symbol || (bytes_eq a.symbol b.symbol && nat_lt a.stamp b.stamp))
     (filter (λ (r : HoldingRow). r.account == account) t.holdings)
@@ -129,7 +129,7 @@ cash_tie true b p q k = refl
 cash_tie false true p q k = refl
 cash_tie false false p q k = rw k (alone false q)
 
-pub cash_same : (account from to : ℕ) (t : Tables) → IsStrictlyAscendingBy (λ r. r.id) t.moves → cash_rows_between account from to t ≡ cash_rows_in_span account from to t
+pub cash_same : (account from to : ℕ) (t : Tables) → IsStrictlyAscendingBy (λ r. r.id) t.moves → account_cash_rows_between account from to t ≡ cash_rows_in_span account from to t
 cash_same account from to t climb =
     let mine = λ (r : MoveRow). r.account == account in
     let within = λ (r : MoveRow). nat_le from r.stamp && nat_le r.stamp to in
@@ -197,14 +197,14 @@ accounts_climb t db has = climbs (λ (r : AccountRow). r.id) (ordering_by_primar
 -- ---- walks of a store
 
 pub lots_walked : {S V E : Type 0} (g : Ghosts S) (old new : Held S) (account : ℕ) (takes : V → holding.HoldingRow → V → Type 0) (stops : V → holding.HoldingRow → E → V → Type 0) (before after : V) (result : Result (Unit {0}) (WalkError E))
-    → TableWalkPost g old new abstract_holding_row (lots_by_symbol account) takes stops before after result → WalkPost g old new abstract_holding_row (λ t. holding_rows_of_account t account) takes stops before after result
+    → TableWalkPost g old new abstract_holding_row (account_lots_by_symbol account) takes stops before after result → WalkPost g old new abstract_holding_row (λ t. holding_rows_of_account t account) takes stops before after result
 lots_walked g old new account takes stops before after result w =
-    is_walked g old new abstract_holding_row (lots_by_symbol account) (λ t. holding_rows_of_account t account) takes stops before after (λ t has. lots_same account t (holdings_climb t (state g old).now has)) result w
+    is_walked g old new abstract_holding_row (account_lots_by_symbol account) (λ t. holding_rows_of_account t account) takes stops before after (λ t has. lots_same account t (holdings_climb t (state g old).now has)) result w
 
 pub cash_walked : {S V E : Type 0} (g : Ghosts S) (old new : Held S) (account from to : ℕ) (takes : V → row.MoveRow → V → Type 0) (stops : V → row.MoveRow → E → V → Type 0) (before after : V) (result : Result (Unit {0}) (WalkError E))
-    → TableWalkPost g old new abstract_move_row (cash_rows_between account from to) takes stops before after result → WalkPost g old new abstract_move_row (cash_rows_in_span account from to) takes stops before after result
+    → TableWalkPost g old new abstract_move_row (account_cash_rows_between account from to) takes stops before after result → WalkPost g old new abstract_move_row (cash_rows_in_span account from to) takes stops before after result
 cash_walked g old new account from to takes stops before after result w =
-    is_walked g old new abstract_move_row (cash_rows_between account from to) (cash_rows_in_span account from to) takes stops before after (λ t has. cash_same account from to t (moves_climb t (state g old).now has)) result w
+    is_walked g old new abstract_move_row (account_cash_rows_between account from to) (cash_rows_in_span account from to) takes stops before after (λ t has. cash_same account from to t (moves_climb t (state g old).now has)) result w
 
 pub completed_walked : {S V E : Type 0} (g : Ghosts S) (old new : Held S) (takes : V → trade.TradeRow → V → Type 0) (stops : V → trade.TradeRow → E → V → Type 0) (before after : V) (result : Result (Unit {0}) (WalkError E))
     → TableWalkPost g old new abstract_trade_row completed_trades_by_stamp_and_id takes stops before after result → WalkPost g old new abstract_trade_row completed_trades_by_stamp takes stops before after result

@@ -35,12 +35,12 @@ impl<S: Alter> Store<S> {
         ensures fault { IfErr result IsCallFault }
     {
         let mut tx = begin_transaction(&mut self.conn);
-        brk_tables_views::requests_by_trade(&mut tx, alloc)
+        brk_tables_views::all_requests(&mut tx, alloc)
     }
 
     /// Returns the ids of the accounts of a broker, ascending. If the database is still open, it is
     /// unchanged. Fails with `Memory` or `Store`.
-    pub fn accounts_of_broker(&mut self, alloc: Global, broker: Id) -> Result<Vec<Id>, Fault>
+    pub fn broker_account_ids(&mut self, alloc: Global, broker: Id) -> Result<Vec<Id>, Fault>
         ensures read { ReadPost S.Store self.old self.new result (λ all t. all.items ≡ map (λ r. r.id) (filter (λ r. r.broker == broker) t.accounts)) }
         ensures fault { IfErr result IsCallFault }
     {

@@ -85,7 +85,7 @@ impl<S: Alter> Store<S> {
     /// (1,000,000,000,000) deposits and withdrawals together, so that no further movement may be
     /// booked. If the database is still open, it is unchanged. Fails with `Store` only, also if the
     /// greatest `MoveId` is in use.
-    pub fn next_movement_number(&mut self) -> Result<(MoveId, bool), Fault>
+    pub fn next_movement_number_and_limit(&mut self) -> Result<(MoveId, bool), Fault>
         ensures read { ReadPost S.Store self.old self.new result (λ number t. (number.0 ≡ last_cash_row_number_or_zero t + 1)
             × (number.1 ≡ nat_le greatest_id (length (filter (λ r. is_none r.trade) t.moves)))) }
         ensures fault { OnErr result (result ≡ Err fault.Store) }

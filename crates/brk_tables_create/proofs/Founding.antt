@@ -16,7 +16,7 @@ use Rattle.brk_sql.proofs.Texts.{read}
 use Rattle.brk_sql.proofs.Values.{cast_int, cast_null}
 use Rattle.brk_sql.proofs.Writes.{inserts_alone, inserts_as}
 use Rattle.brk_tables_schema.specs.Shapes.{desk_row_table}
-use Rattle.brk_tables_schema.specs.Desk.{TheDesk, all_tables, desk_rows, table_definition_at}
+use Rattle.brk_tables_schema.specs.Desk.{TheDesk, all_tables, desk_rows, table_definition_at_tree}
 use Rattle.brk_tables_create.specs.Made.{CreatesDeskTables}
 use Rattle.brk_tables_schema.proofs.Which.{split}
 use Rattle.brk_tables_schema.proofs.Wide.{wide, narrowed}
@@ -26,8 +26,8 @@ use Rattle.brk_tables_create.proofs.Makes.{all_made, none_held, bare}
 
 -- ---- all of them
 
-pub founds_bare : (old new : Database) → CreatesEachTable (map table_definition_at all_tables) old new → CreatesTablesWithRecords wide bare old new
-founds_bare old new made = founded wide _ old new (part_each wide split all_tables (λ _. ⊥) old old new (part_none wide old) made) (first_sound desk_row_table (drop 1 (map table_definition_at all_tables)) old new made) all_made bare none_held
+pub founds_bare : (old new : Database) → CreatesEachTable (map table_definition_at_tree all_tables) old new → CreatesTablesWithRecords wide bare old new
+founds_bare old new made = founded wide _ old new (part_each wide split all_tables (λ _. ⊥) old old new (part_none wide old) made) (first_sound desk_row_table (drop 1 (map table_definition_at_tree all_tables)) old new made) all_made bare none_held
 
 -- the row of DESK comes last
 kept_by : (a b c : Trees) (n : ℕ) (tables : List Table) → AllByRecursion (λ t. t.tree ≢ n) tables → AllByRecursion (λ t. b t.tree ≡ a t.tree) tables → AllByRecursion (λ t. t.tree ≢ n → c t.tree ≡ b t.tree) tables

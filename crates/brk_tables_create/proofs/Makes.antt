@@ -8,7 +8,7 @@ use Rattle.brk_sql.proofs.Created.{makes}
 use Rattle.brk_sql.proofs.Founded.{Among}
 use Rattle.brk_model.specs.Tables.{tables_without_rows}
 use Rattle.brk_tables_schema.specs.Shapes.{desk_row_table, kept_table, broker_table, customer_table, account_table, permission_table, security_table, last_trade_table, charge_table, band_table, tax_rate_table, customer_tax_table, trade_table, history_table, request_table, holding_table, summary_table, holding_history_table, settlement_table, cash_table, move_table, rule_table}
-use Rattle.brk_tables_schema.specs.Desk.{DeskTable, TheDesk, KeptRows, Brokers, Customers, Accounts, Permissions, Securities, LastTrades, Charges, Bands, TaxRates, CustomerTaxes, Trades, TradeHistory, Requests, Holdings, Summaries, HoldingHistory, Settlements, CashRows, CashMoves, SettleRules, table_definition_at, all_tables}
+use Rattle.brk_tables_schema.specs.Desk.{DeskTable, TheDesk, KeptRows, Brokers, Customers, Accounts, Permissions, Securities, LastTrades, Charges, Bands, TaxRates, CustomerTaxes, Trades, TradeHistory, Requests, Holdings, Summaries, HoldingHistory, Settlements, CashRows, CashMoves, SettleRules, table_definition_at_tree, all_tables}
 use Rattle.brk_tables_schema.proofs.Wide.{Wide, wide, wide_list}
 use Rattle.brk_tables_create.specs.Texts.{create_table_text}
 
@@ -170,7 +170,7 @@ makes_rule : (old new : State) (count : ℕ) → Executes rule_text [] old new (
 unfolding everything
 makes_rule = makes rule_text rule_table refl (λ tree. refl) (λ tree. refl) refl (read rule_text) _ refl refl refl refl refl refl refl refl
 
-pub makes_of : (w : DeskTable) (old new : State) (count : ℕ) → Executes (create_table_text w) [] old new (Ok count) → CreatesTableOfShape old.now new.now (table_definition_at w)
+pub makes_of : (w : DeskTable) (old new : State) (count : ℕ) → Executes (create_table_text w) [] old new (Ok count) → CreatesTableOfShape old.now new.now (table_definition_at_tree w)
 makes_of TheDesk = makes_desk_row
 makes_of KeptRows = makes_kept
 makes_of Brokers = makes_broker

@@ -5,7 +5,7 @@ ghost use Rattle.brk_money.specs.declared.fault.Fault.TheVariants.{Store};
 ghost use Rattle.brk_changes.specs.Schemas.{abstract_schema};
 ghost use Rattle.brk_sql.specs.Desk.{CreatesTableOfShape, CreatesEachTable};
 ghost use Rattle.brk_sql.specs.Model.{ExecutesStatement, IsConnectionStep};
-ghost use Rattle.brk_tables_schema.specs.Desk.{table_definition_at};
+ghost use Rattle.brk_tables_schema.specs.Desk.{table_definition_at_tree};
 ghost use Rattle.brk_tables_create.specs.Made.{CreatesDeskTables, insert_desk_row_text, tables_of_later_schemas};
 ghost use Rattle.brk_tables_create.specs.Texts.{specified_table};
 
@@ -19,7 +19,7 @@ use sqlite::{Alter, Transaction};
 // Fails with `Store` only, also if a table with its name exists.
 fn create_desk_table<S: Alter>(tx: &mut Transaction<'_, S>, table: Table) -> Result<(), Fault>
     ensures same_reference { tx.new.conn.ghost_name ≡ tx.old.conn.ghost_name }
-    ensures step { IsConnectionStep S.Store tx.old tx.new result (λ _ a b. CreatesTableOfShape a.now b.now (table_definition_at (specified_table table))) }
+    ensures step { IsConnectionStep S.Store tx.old tx.new result (λ _ a b. CreatesTableOfShape a.now b.now (table_definition_at_tree (specified_table table))) }
     ensures fault { OnErr result (result ≡ Err Store) }
 {
     execute_statement(tx, table.create_table_text(), &[])
@@ -30,7 +30,7 @@ fn create_desk_table<S: Alter>(tx: &mut Transaction<'_, S>, table: Table) -> Res
 fn create_each_table<S: Alter>(tx: &mut Transaction<'_, S>, tables: &[Table]) -> Result<(), Fault>
     ensures same_reference { tx.new.conn.ghost_name ≡ tx.old.conn.ghost_name }
     ensures step { IsConnectionStep S.Store tx.old tx.new result
-        (λ _ a b. CreatesEachTable (map (λ table. table_definition_at (specified_table table)) tables.now) a.now b.now) }
+        (λ _ a b. CreatesEachTable (map (λ table. table_definition_at_tree (specified_table table)) tables.now) a.now b.now) }
     ensures fault { OnErr result (result ≡ Err Store) }
 {
     for table in tables {
@@ -74,7 +74,7 @@ pub fn create_tables_of_later_schemas<S: Alter>(
 ) -> Result<(), Fault>
     ensures same_reference { tx.new.conn.ghost_name ≡ tx.old.conn.ghost_name }
     ensures step { IsConnectionStep S.Store tx.old tx.new result
-        (λ _ a b. CreatesEachTable (map table_definition_at (tables_of_later_schemas (abstract_schema schema))) a.now b.now) }
+        (λ _ a b. CreatesEachTable (map table_definition_at_tree (tables_of_later_schemas (abstract_schema schema))) a.now b.now) }
     ensures fault { OnErr result (result ≡ Err Store) }
 {
     match schema {

@@ -75,7 +75,7 @@ pub fn has_some_desk_table<S: Alter>(tx: &mut Transaction<'_, S>) -> Result<bool
 
 // Returns true if a table with the name of each table of `there` exists, and none with the name of
 // a table of `absent`. Changes nothing. Fails with `Store` only.
-fn has_exactly_tables<S: Alter>(
+fn has_tables_and_lacks_absent<S: Alter>(
     tx: &mut Transaction<'_, S>,
     there: &[Table],
     absent: &[Table],
@@ -105,9 +105,17 @@ fn has_exactly_tables_of_schema<S: Alter>(
     ensures fault { OnErr result (result ≡ Err Store) }
 {
     match schema {
-        Schema::First => has_exactly_tables(tx, &TABLES_OF_FIRST_SCHEMA, &ADDED_AFTER_FIRST),
-        Schema::Second => has_exactly_tables(tx, &TABLES_OF_SECOND_SCHEMA, &ADDED_AFTER_SECOND),
-        Schema::Third => has_exactly_tables(tx, &TABLES_OF_THIRD_SCHEMA, &[]),
+        Schema::First => has_tables_and_lacks_absent(
+            tx,
+            &TABLES_OF_FIRST_SCHEMA,
+            &ADDED_AFTER_FIRST,
+        ),
+        Schema::Second => has_tables_and_lacks_absent(
+            tx,
+            &TABLES_OF_SECOND_SCHEMA,
+            &ADDED_AFTER_SECOND,
+        ),
+        Schema::Third => has_tables_and_lacks_absent(tx, &TABLES_OF_THIRD_SCHEMA, &[]),
     }
 }
 

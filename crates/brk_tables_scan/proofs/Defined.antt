@@ -16,7 +16,7 @@ use Rattle.brk_sql.proofs.Order.{has_permuted}
 use Rattle.brk_sql.specs.Desk.{HasNoWritingForeignKeysAt, IsTableAt}
 use Rattle.brk_sql.specs.Rows.{cells_in_column_order}
 use Rattle.brk_tables_schema.specs.Cells.{optional_natural_as_value, natural_as_value}
-use Rattle.brk_tables_schema.specs.Desk.{DeskTable, TheDesk, all_tables, schema_has_table, table_name, table_definition_has_tree, table_definition_at, tables_in_schema}
+use Rattle.brk_tables_schema.specs.Desk.{DeskTable, TheDesk, all_tables, schema_has_table, table_name, table_definition_has_tree, table_definition_at_tree, tables_in_schema}
 use Rattle.brk_tables_schema.specs.Made.{HasDeskTablesInSchema, IsTableOfSchema}
 use Rattle.brk_tables_schema.specs.Shapes.{desk_row_table}
 use Rattle.brk_tables_create.specs.Made.{tables_of_later_schemas}
@@ -43,24 +43,24 @@ module _ (desk : Schema) (t : Tables) (db : Database) (has : HasDeskTablesInSche
   abbrev tree : DeskTable → ℕ
   tree = has.0
 
-  stands : (w : DeskTable) → IsTableOfSchema desk w → IsTableAt db.schema (table_definition_at w (tree w)) (has.1.place w)
+  stands : (w : DeskTable) → IsTableOfSchema desk w → IsTableAt db.schema (table_definition_at_tree w (tree w)) (has.1.place w)
   stands w of = has.1.stands w of
 
   -- whatever is found by its name is the desk's
-  found_table : (w : DeskTable) → IsTableOfSchema desk w → (at : ℕ) (table : Table) → table_named db.schema (table_name w) ≡ Some at → slice_get db.schema.tables at ≡ Some table → table ≡ table_definition_at w (tree w)
+  found_table : (w : DeskTable) → IsTableOfSchema desk w → (at : ℕ) (table : Table) → table_named db.schema (table_name w) ≡ Some at → slice_get db.schema.tables at ≡ Some table → table ≡ table_definition_at_tree w (tree w)
   found_table w of at table named found =
       let e : at ≡ has.1.place w = some_same at (has.1.place w) (sym named ∙ ap (λ n. table_named db.schema n.name) (names_alike w 0 (tree w)) ∙ (stands w of).named) in
-      some_same table (table_definition_at w (tree w)) (sym found ∙ ap (slice_get db.schema.tables) e ∙ (stands w of).found)
+      some_same table (table_definition_at_tree w (tree w)) (sym found ∙ ap (slice_get db.schema.tables) e ∙ (stands w of).found)
 
-  at_its_tree : (w : DeskTable) → IsTableOfSchema desk w → (at n : ℕ) → IsTableAt db.schema (table_definition_at w n) at → n ≡ tree w
+  at_its_tree : (w : DeskTable) → IsTableOfSchema desk w → (at n : ℕ) → IsTableAt db.schema (table_definition_at_tree w n) at → n ≡ tree w
   at_its_tree w of at n s =
-      let e : table_definition_at w n ≡ table_definition_at w (tree w) = found_table w of at (table_definition_at w n) (ap (λ n. table_named db.schema n.name) (names_alike w 0 n) ∙ s.named) s.found in
+      let e : table_definition_at_tree w n ≡ table_definition_at_tree w (tree w) = found_table w of at (table_definition_at_tree w n) (ap (λ n. table_named db.schema n.name) (names_alike w 0 n) ∙ s.named) s.found in
       sym (table_definition_has_tree w n) ∙ ap (λ (table : Table). table.tree) e ∙ table_definition_has_tree w (tree w)
 
-  there : (w : DeskTable) → IsTableOfSchema desk w → HasTableWithNames db.schema (table_and_column_names (table_definition_at w 0))
+  there : (w : DeskTable) → IsTableOfSchema desk w → HasTableWithNames db.schema (table_and_column_names (table_definition_at_tree w 0))
   there w of = (
     has.1.place w,
-    table_definition_at w (tree w),
+    table_definition_at_tree w (tree w),
     record {
       named = ap (λ n. table_named db.schema n.name) (names_alike w 0 (tree w)) ∙ (stands w of).named;
       found = (stands w of).found;
@@ -82,7 +82,7 @@ module _ (desk : Schema) (t : Tables) (db : Database) (has : HasDeskTablesInSche
 
   pub desk_is_there : DatabaseHasSchema desk db
   desk_is_there = record {
-    tables = all_from (λ w. HasTableWithNames db.schema (table_and_column_names (table_definition_at w 0))) (tables_in_schema desk) (λ w listed. there w (has_filtered (schema_has_table desk) all_tables w listed).1);
+    tables = all_from (λ w. HasTableWithNames db.schema (table_and_column_names (table_definition_at_tree w 0))) (tables_in_schema desk) (λ w listed. there w (has_filtered (schema_has_table desk) all_tables w listed).1);
     later = all_from (λ w. table_named db.schema (table_name w) ≡ None) (tables_of_later_schemas desk) (λ w listed. (has.2 w (not_not (schema_has_table desk w) (has_filtered (λ w. not (schema_has_table desk w)) all_tables w listed).1)).0);
     row = the_row;
   }
@@ -91,9 +91,9 @@ module _ (desk : Schema) (t : Tables) (db : Database) (has : HasDeskTablesInSche
   desk_is_defined _ = record {
     sound = has.1.sound;
     shaped = λ w of at table named found.
-        let e : table ≡ table_definition_at w (tree w) = found_table w of at table named found in
+        let e : table ≡ table_definition_at_tree w (tree w) = found_table w of at table named found in
         let n : tree w ≡ table.tree = sym (ap (λ (u : Table). u.tree) e ∙ table_definition_has_tree w (tree w)) in
-        e ∙ ap (table_definition_at w) n;
+        e ∙ ap (table_definition_at_tree w) n;
     apart = λ v w a b i j n p q. has.1.apart v w a b (sym (at_its_tree v a i n p) ∙ at_its_tree w b j n q);
     calm = λ w of at n s. subst (HasNoWritingForeignKeysAt db.schema) (sym (at_its_tree w of at n s)) (has.1.calm w of);
     keyed = λ w of at n s. let rows = has.1.rows w of in subst (λ k. HasDistinctRowids (db.trees k)) (sym (at_its_tree w of at n s)) (record { keyed = rows.keyed; apart = rows.apart });

@@ -10,14 +10,14 @@ use Rattle.brk_money.specs.Moments.{greatest_day, greatest_stamp}
 use Rattle.brk_model.specs.Limits.{greatest_tax_rate, greatest_charge, greatest_amount}
 use Rattle.brk_model.specs.Forms.{is_name, is_tax_id, is_symbol, is_exchange, is_batch_name, is_acl}
 use Rattle.brk_model.specs.Joins.{trade_row_with_id}
-use Rattle.brk_model.specs.Form.{is_id, is_tier, is_price, is_cash_type_of_trade, is_cash_row_name_of_trade, satisfies_form_condition, is_well_formed_kept_row, is_well_formed_broker_row, is_well_formed_customer_row, is_well_formed_account_row, is_well_formed_permission_row, is_well_formed_security_row, is_well_formed_last_trade_row, is_well_formed_charge_row, is_well_formed_band_row, is_well_formed_tax_rate_row, is_well_formed_customer_tax_row, is_well_formed_trade_row, is_well_formed_history_row, is_well_formed_request_row, is_well_formed_holding_row, is_well_formed_summary_row, is_well_formed_holding_history_row, is_well_formed_settlement_row, is_well_formed_cash_row, is_well_formed_move_row, has_cash_row_name_of_trade, is_movement_name_and_amount, is_cash_row_number, has_account, is_at_most_last_stamp, has_utf8_texts, has_customer, has_broker, is_quantity_in_schema, has_security, price_matches_completion}
+use Rattle.brk_model.specs.Form.{is_id, is_tier, is_price, is_cash_type_of_trade, is_cash_row_name_of_trade, satisfies_form_condition, is_well_formed_kept_row, is_well_formed_broker_row, is_well_formed_customer_row, is_well_formed_account_row, is_well_formed_permission_row, is_well_formed_security_row, is_well_formed_last_trade_row, is_well_formed_charge_row, is_well_formed_band_row, is_well_formed_tax_rate_row, is_well_formed_customer_tax_row, is_well_formed_trade_row, is_well_formed_history_row, is_well_formed_request_row, is_well_formed_holding_row, is_well_formed_summary_row, is_well_formed_holding_history_row, is_well_formed_settlement_row, is_well_formed_cash_transaction_row, is_well_formed_cash_move_row, has_cash_row_name_of_trade, is_movement_name_and_amount, is_cash_row_number, has_account, is_at_most_last_stamp, has_utf8_texts, has_customer, has_broker, is_quantity_in_schema, has_security, has_price_matching_completion}
 use Rattle.brk_model.specs.Schemas.{Schema, third_schema}
 use Rattle.brk_model.specs.Tables.{Tables, MoveRow}
 use Rattle.brk_model_theorems.specs.FormParts.{SatisfiesFormParts}
 use Rattle.brk_model_theorems.proofs.Conjunctions.{parts3, parts4, parts5, parts6, parts10}
 use Rattle.brk_model_theorems.proofs.FormParts.{form_parts}
 use Rattle.brk_tables_schema.specs.Cells.{flag_as_value, optional_natural_as_value, desk_row_cells, kept_cells, broker_cells, customer_cells, account_cells, permission_cells, security_cells, last_trade_cells, charge_cells, band_cells, tax_rate_cells, customer_tax_cells, trade_cells, history_cells, request_cells, holding_cells, summary_cells, holding_history_cells, settlement_cells, cash_cells, move_cells, rule_cells}
-use Rattle.brk_tables_schema.specs.Desk.{DeskTable, TheDesk, KeptRows, Brokers, Customers, Accounts, Permissions, Securities, LastTrades, Charges, Bands, TaxRates, CustomerTaxes, Trades, TradeHistory, Requests, Holdings, Summaries, HoldingHistory, Settlements, CashRows, CashMoves, SettleRules, desk_rows, rule_rows, encoded_row, rows_in_schema}
+use Rattle.brk_tables_schema.specs.Desk.{DeskTable, TheDesk, KeptRows, Brokers, Customers, Accounts, Permissions, Securities, LastTrades, Charges, Bands, TaxRates, CustomerTaxes, Trades, TradeHistory, Requests, Holdings, Summaries, HoldingHistory, Settlements, CashRows, CashMoves, SettleRules, desk_rows, rule_rows, encoded_row, rows_of_table_in_schema}
 use Rattle.brk_tables_schema.specs.Formed.{passes_all_cell_checks, has_one_valid_desk_row, is_flag_cell, is_null_or_natural_cell, kept_column_cell_checks, broker_column_cell_checks, customer_column_cell_checks, account_column_cell_checks, permission_column_cell_checks, security_column_cell_checks, last_trade_column_cell_checks, charge_column_cell_checks, band_column_cell_checks, tax_rate_column_cell_checks, customer_tax_column_cell_checks, trade_column_cell_checks, history_column_cell_checks, request_column_cell_checks, holding_column_cell_checks, summary_column_cell_checks, holding_history_column_cell_checks, settlement_column_cell_checks, cash_column_cell_checks, move_column_cell_checks, has_at_most_one_valid_rule_row}
 use Rattle.brk_tables_scan.specs.Raw.{RawSheets, raw_rows_of_table}
 use Rattle.brk_tables_scan.specs.Decoded.{are_raw_sheets_well_formed}
@@ -89,7 +89,7 @@ module _ (schema : Schema) (narrow : schema.greatest_qty ≤ third_schema.greate
       (λ r h.
       let both_parts = and_parts (is_well_formed_trade_row schema t r) _ h in
       let q = parts10 (is_id r.id) (is_quantity_in_schema schema r.qty) (is_price r.bid) (nat_le r.charge greatest_charge) (nat_le r.commission greatest_amount) (nat_le r.tax greatest_amount)
-      (is_at_most_last_stamp t r.stamp) (has_security t r.symbol) (has_account t r.account) (price_matches_completion t r) both_parts.0 in
+      (is_at_most_last_stamp t r.stamp) (has_security t r.symbol) (has_account t r.account) (has_price_matching_completion t r) both_parts.0 in
       both q.0 (both (stamp_of schema t p r.stamp q.6) (both (status_formed r.status) (both (type_formed r.kind) (both (flag_formed r.is_cash) (both (symbol_of schema t p r.symbol q.7) (both (wider schema narrow r.qty q.1) (both q.2 (both (account_id schema t p r.account q.8)
       (both both_parts.1 (both (price_formed _ r.price q.9) (both q.3 (both q.4 (both q.5 (both (flag_formed r.is_lifo) refl)))))))))))))))
       t.trades (all_both (is_well_formed_trade_row schema t) _ t.trades p.trades texts)
@@ -117,21 +117,21 @@ module _ (schema : Schema) (narrow : schema.greatest_qty ≤ third_schema.greate
       both (trade_id schema t p r.trade (ap is_some s.1)) (both (cash_word_formed s.0.is_cash r.cash_type s.2) (both q.1 (both q.2 refl)))) t.settlements p.settlements
 
   cash_formed : list_all (λ r. is_utf8 r.name) t.cash ≡ true → list_all (passes_all_cell_checks cash_column_cell_checks) (map cash_cells t.cash) ≡ true
-  cash_formed texts = each_formed cash_column_cell_checks cash_cells (λ r. is_well_formed_cash_row t r && is_utf8 r.name)
-      (λ r h. let a = and_parts (is_well_formed_cash_row t r) _ h in let q = parts3 _ _ _ a.0 in let s = some_of (trade_row_with_id t r.trade) (is_cash_row_name_of_trade t r.name) q.0 in
-      both (trade_id schema t p r.trade (ap is_some s.1)) (both (stamp_of schema t p r.stamp q.1) (both q.2 (both a.1 refl)))) t.cash (all_both (is_well_formed_cash_row t) _ t.cash p.cash texts)
+  cash_formed texts = each_formed cash_column_cell_checks cash_cells (λ r. is_well_formed_cash_transaction_row t r && is_utf8 r.name)
+      (λ r h. let a = and_parts (is_well_formed_cash_transaction_row t r) _ h in let q = parts3 _ _ _ a.0 in let s = some_of (trade_row_with_id t r.trade) (is_cash_row_name_of_trade t r.name) q.0 in
+      both (trade_id schema t p r.trade (ap is_some s.1)) (both (stamp_of schema t p r.stamp q.1) (both q.2 (both a.1 refl)))) t.cash (all_both (is_well_formed_cash_transaction_row t) _ t.cash p.cash texts)
 
   cash_of_formed : (r : MoveRow) (trade : Option ℕ) → option_map_or (has_cash_row_name_of_trade t r) trade (is_movement_name_and_amount r.name r.amount) ≡ true → is_null_or_natural_cell is_id (optional_natural_as_value trade) ≡ true
   cash_of_formed r None h = refl
   cash_of_formed r (Some id) h = let s = some_of (trade_row_with_id t id) (is_cash_row_name_of_trade t r.name) h in trade_id schema t p id (ap is_some s.1)
 
   moves_formed : list_all (λ r. is_utf8 r.name) t.moves ≡ true → list_all (passes_all_cell_checks move_column_cell_checks) (map move_cells t.moves) ≡ true
-  moves_formed texts = each_formed move_column_cell_checks move_cells (λ r. is_well_formed_move_row t r && is_utf8 r.name)
-      (λ r h. let a = and_parts (is_well_formed_move_row t r) _ h in
+  moves_formed texts = each_formed move_column_cell_checks move_cells (λ r. is_well_formed_cash_move_row t r && is_utf8 r.name)
+      (λ r h. let a = and_parts (is_well_formed_cash_move_row t r) _ h in
       let q = parts5 (is_cash_row_number r.id) (has_account t r.account) (option_map_or (has_cash_row_name_of_trade t r) r.trade (is_movement_name_and_amount r.name r.amount)) (is_at_most_last_stamp t r.stamp) (is_within_amount_limit r.amount) a.0 in
-      both q.0 (both (account_id schema t p r.account q.1) (both (cash_of_formed r r.trade q.2) (both (stamp_of schema t p r.stamp q.3) (both q.4 (both a.1 refl)))))) t.moves (all_both (is_well_formed_move_row t) _ t.moves p.moves texts)
+      both q.0 (both (account_id schema t p r.account q.1) (both (cash_of_formed r r.trade q.2) (both (stamp_of schema t p r.stamp q.3) (both q.4 (both a.1 refl)))))) t.moves (all_both (is_well_formed_cash_move_row t) _ t.moves p.moves texts)
 
-pub tables_formed : (schema : Schema) → schema.greatest_qty ≤ third_schema.greatest_qty → (t : Tables) (raw : RawSheets) → ((w : DeskTable) → raw_rows_of_table raw w ≡ map (encoded_row w) (rows_in_schema schema w t)) → satisfies_form_condition schema t ≡ true → has_utf8_texts t ≡ true → are_raw_sheets_well_formed schema raw ≡ true
+pub tables_formed : (schema : Schema) → schema.greatest_qty ≤ third_schema.greatest_qty → (t : Tables) (raw : RawSheets) → ((w : DeskTable) → raw_rows_of_table raw w ≡ map (encoded_row w) (rows_of_table_in_schema schema w t)) → satisfies_form_condition schema t ≡ true → has_utf8_texts t ≡ true → are_raw_sheets_well_formed schema raw ≡ true
 tables_formed schema narrow t raw same form texts =
     let p = form_parts schema t form in
     let q = parts4 _ _ _ _ texts in

@@ -18,7 +18,7 @@ use Rattle.brk_model.specs.Schemas.{Schema as Desk}
 use Rattle.brk_changes.specs.declared.schema.Schema as known
 use Rattle.brk_changes.specs.declared.schema.Schema.TheVariants.{First, Second, Third}
 use Rattle.brk_changes.specs.Schemas.{abstract_schema}
-use Rattle.brk_tables_schema.specs.Desk.{DeskTable, all_tables, table_name, table_definition_at, tables_in_schema}
+use Rattle.brk_tables_schema.specs.Desk.{DeskTable, all_tables, table_name, table_definition_at_tree, tables_in_schema}
 use Rattle.brk_tables_create.specs.Made.{tables_of_later_schemas}
 use Rattle.brk_tables_create.specs.Present.{has_exact_table_names, has_table_named}
 use Rattle.brk_tables_scan.specs.Headings.{MatchesEachHeading, heading_of_borrowed_texts, heading_of_table, select_all_text}
@@ -74,28 +74,28 @@ module _ (schema : Schema) where
   ]
 
   -- one that shows its columns has them
-  table_there : (w : DeskTable) → has_table_named schema w ≡ true → MatchesResultColumns (select_all_text w) (table_and_column_names (table_definition_at w 0)).columns true schema → HasTableWithNames schema (table_and_column_names (table_definition_at w 0))
+  table_there : (w : DeskTable) → has_table_named schema w ≡ true → MatchesResultColumns (select_all_text w) (table_and_column_names (table_definition_at_tree w 0)).columns true schema → HasTableWithNames schema (table_and_column_names (table_definition_at_tree w 0))
   table_there w there shows = go (table_named schema (table_name w)) refl
     where
-      go : (r : Option ℕ) → table_named schema (table_name w) ≡ r → HasTableWithNames schema (table_and_column_names (table_definition_at w 0))
+      go : (r : Option ℕ) → table_named schema (table_name w) ≡ r → HasTableWithNames schema (table_and_column_names (table_definition_at_tree w 0))
       go None none = absurd (let f = sym there ∙ ap is_some none in cc)
       go (Some at) named =
           let t = found_at (table_name w) at named in
           (at, t.0, record { named = named; found = t.1; columns = sym (columns_told w schema at t.0 named t.1 shows.0 shows.1) ∙ shows.2.0 refl })
 
   -- and one that has them shows them
-  columns_shown : (w : DeskTable) → HasTableWithNames schema (table_and_column_names (table_definition_at w 0)) → MatchesResultColumns (select_all_text w) (table_and_column_names (table_definition_at w 0)).columns false schema → ⊥
+  columns_shown : (w : DeskTable) → HasTableWithNames schema (table_and_column_names (table_definition_at_tree w 0)) → MatchesResultColumns (select_all_text w) (table_and_column_names (table_definition_at_tree w 0)).columns false schema → ⊥
   columns_shown w has shows =
       let e : false ≡ true = shows.2.1 (columns_told w schema has.0 has.1 has.2.named has.2.found shows.0 shows.1 ∙ has.2.columns) in
       cc
 
-  told_by : (ws : List DeskTable) → list_all (has_table_named schema) ws ≡ true → (has : Bool) → MatchesEachHeading (map heading_of_table ws) has schema → IsTrue has ↔ AllByRecursion (λ w. HasTableWithNames schema (table_and_column_names (table_definition_at w 0))) ws
+  told_by : (ws : List DeskTable) → list_all (has_table_named schema) ws ≡ true → (has : Bool) → MatchesEachHeading (map heading_of_table ws) has schema → IsTrue has ↔ AllByRecursion (λ w. HasTableWithNames schema (table_and_column_names (table_definition_at_tree w 0))) ws
   told_by [] there has e = ((λ _. tt), (λ _. e))
-  told_by (w ∷ ws) there has (inl (wrong, e)) = ((λ sure. absurd (let f = sym e ∙ sure in cc)), (λ (all : AllByRecursion (λ w. HasTableWithNames schema (table_and_column_names (table_definition_at w 0))) (w ∷ ws)). absurd (columns_shown w all.0 wrong)))
+  told_by (w ∷ ws) there has (inl (wrong, e)) = ((λ sure. absurd (let f = sym e ∙ sure in cc)), (λ (all : AllByRecursion (λ w. HasTableWithNames schema (table_and_column_names (table_definition_at_tree w 0))) (w ∷ ws)). absurd (columns_shown w all.0 wrong)))
   told_by (w ∷ ws) there has (inr (right, rest)) =
       let p = and_parts (has_table_named schema w) (list_all (has_table_named schema) ws) there in
       let more = told_by ws p.1 has rest in
-      ((λ sure. (table_there w p.0 right, more.0 sure)), (λ (all : AllByRecursion (λ w. HasTableWithNames schema (table_and_column_names (table_definition_at w 0))) (w ∷ ws)). more.1 all.1))
+      ((λ sure. (table_there w p.0 right, more.0 sure)), (λ (all : AllByRecursion (λ w. HasTableWithNames schema (table_and_column_names (table_definition_at_tree w 0))) (w ∷ ws)). more.1 all.1))
 
   -- a name that no table has
   unnamed : (o : Option ℕ) → is_some o ≡ false → o ≡ None
@@ -115,7 +115,7 @@ module _ (schema : Schema) where
   named_none (w ∷ ws) all = rw (all.0) (named_none ws all.1)
 
   -- tables that are there have their names
-  all_named : (ws : List DeskTable) → AllByRecursion (λ w. HasTableWithNames schema (table_and_column_names (table_definition_at w 0))) ws → list_all (has_table_named schema) ws ≡ true
+  all_named : (ws : List DeskTable) → AllByRecursion (λ w. HasTableWithNames schema (table_and_column_names (table_definition_at_tree w 0))) ws → list_all (has_table_named schema) ws ≡ true
   all_named [] all = refl
   all_named (w ∷ ws) all = rw (all.0.2.named) (all_named ws all.1)
 

@@ -5,13 +5,13 @@ use Rattle.sqlite_value.specs.Order.{column}
 use Rattle.sqlite_value.proofs.OrderLemmas.{then-Equal}
 use Rattle.brk_model.specs.Keys.{history_key, summary_key, holding_history_key}
 use Rattle.brk_sql.proofs.Writes.{IsRowidKey, IsUniqueKey}
-use Rattle.brk_tables_schema.specs.Desk.{DeskTable, TheDesk, KeptRows, Brokers, Customers, Accounts, Permissions, Securities, LastTrades, Charges, Bands, TaxRates, CustomerTaxes, Trades, TradeHistory, Requests, Holdings, Summaries, HoldingHistory, Settlements, CashRows, CashMoves, SettleRules, table_definition_at, encoded_row, ordering_by_primary_key}
+use Rattle.brk_tables_schema.specs.Desk.{DeskTable, TheDesk, KeptRows, Brokers, Customers, Accounts, Permissions, Securities, LastTrades, Charges, Bands, TaxRates, CustomerTaxes, Trades, TradeHistory, Requests, Holdings, Summaries, HoldingHistory, Settlements, CashRows, CashMoves, SettleRules, table_definition_at_tree, encoded_row, ordering_by_primary_key}
 use Rattle.brk_tables_schema.proofs.Places.{desk_keyed, broker_keyed, customer_keyed, account_keyed, tax_rate_keyed}
 use Rattle.brk_tables_schema.proofs.Unique.{same_key, kept_keyed, permission_keyed, security_keyed, last_trade_keyed, charge_keyed, band_keyed, customer_tax_keyed}
 
 -- the key is the rowid, or what a UNIQUE names
 abbrev pub IsOnce : DeskTable → Type 0
-IsOnce w = IsRowidKey (table_definition_at w) (encoded_row w) (ordering_by_primary_key w) ⊎ IsUniqueKey (table_definition_at w) (encoded_row w) (ordering_by_primary_key w)
+IsOnce w = IsRowidKey (table_definition_at_tree w) (encoded_row w) (ordering_by_primary_key w) ⊎ IsUniqueKey (table_definition_at_tree w) (encoded_row w) (ordering_by_primary_key w)
 
 pub desk_row_once : IsOnce TheDesk
 desk_row_once = inl desk_keyed

@@ -1,9 +1,9 @@
 -- Written by tools/tables.py: the names of a table and of its columns do not depend on its tree.
 use Rattle.std.proofs.Common.{◌≡◌, ℕ, refl}
-use Rattle.brk_tables_schema.specs.Desk.{DeskTable, TheDesk, KeptRows, Brokers, Customers, Accounts, Permissions, Securities, LastTrades, Charges, Bands, TaxRates, CustomerTaxes, Trades, TradeHistory, Requests, Holdings, Summaries, HoldingHistory, Settlements, CashRows, CashMoves, SettleRules, table_definition_at}
+use Rattle.brk_tables_schema.specs.Desk.{DeskTable, TheDesk, KeptRows, Brokers, Customers, Accounts, Permissions, Securities, LastTrades, Charges, Bands, TaxRates, CustomerTaxes, Trades, TradeHistory, Requests, Holdings, Summaries, HoldingHistory, Settlements, CashRows, CashMoves, SettleRules, table_definition_at_tree}
 use Rattle.brk_tables_scan.specs.Schemas.{table_and_column_names}
 
-pub same_name_at : (w : DeskTable) (i j : ℕ) → (table_definition_at w i).name ≡ (table_definition_at w j).name
+pub same_name_at : (w : DeskTable) (i j : ℕ) → (table_definition_at_tree w i).name ≡ (table_definition_at_tree w j).name
 same_name_at TheDesk i j = refl
 same_name_at KeptRows i j = refl
 same_name_at Brokers i j = refl
@@ -27,7 +27,7 @@ same_name_at CashRows i j = refl
 same_name_at CashMoves i j = refl
 same_name_at SettleRules i j = refl
 
-pub names_alike : (w : DeskTable) (m n : ℕ) → table_and_column_names (table_definition_at w m) ≡ table_and_column_names (table_definition_at w n)
+pub names_alike : (w : DeskTable) (m n : ℕ) → table_and_column_names (table_definition_at_tree w m) ≡ table_and_column_names (table_definition_at_tree w n)
 names_alike TheDesk m n = refl
 names_alike KeptRows m n = refl
 names_alike Brokers m n = refl

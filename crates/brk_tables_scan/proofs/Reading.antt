@@ -14,7 +14,7 @@ use Rattle.brk_sql.specs.Desk.{IsTableAt}
 use Rattle.brk_changes.specs.declared.schema.Schema as known
 use Rattle.brk_changes.specs.declared.schema.Schema.TheVariants.{First, Second, Third}
 use Rattle.brk_changes.specs.Schemas.{abstract_schema}
-use Rattle.brk_tables_schema.specs.Desk.{DeskTable, all_tables, encoded_row, schema_has_table, rows_in_schema, table_definition_at, tables_in_schema, table_name}
+use Rattle.brk_tables_schema.specs.Desk.{DeskTable, all_tables, encoded_row, schema_has_table, rows_of_table_in_schema, table_definition_at_tree, tables_in_schema, table_name}
 use Rattle.brk_tables_schema.specs.Made.{HasDeskTablesInSchema, IsTableOfSchema}
 use Rattle.brk_tables_schema.proofs.Which.{all_listed}
 use Rattle.brk_tables_create.specs.Made.{tables_of_later_schemas}
@@ -31,8 +31,8 @@ unshown f [] e = refl
 unshown f (x ∷ xs) e = absurd (let g = e in cc)
 
 module _ (desk : Schema) (db : Database) (has : DatabaseHasSchema desk db) (defined : TablesWithSchemaNamesAreDeskTables desk db) where
-  pub table_of : (w : DeskTable) → IsTableOfSchema desk w → HasTableWithNames db.schema (table_and_column_names (table_definition_at w 0))
-  table_of w of = all_has (λ w. HasTableWithNames db.schema (table_and_column_names (table_definition_at w 0))) (tables_in_schema desk) w has.tables (has_kept (schema_has_table desk) all_tables w (all_listed w) of)
+  pub table_of : (w : DeskTable) → IsTableOfSchema desk w → HasTableWithNames db.schema (table_and_column_names (table_definition_at_tree w 0))
+  table_of w of = all_has (λ w. HasTableWithNames db.schema (table_and_column_names (table_definition_at_tree w 0))) (tables_in_schema desk) w has.tables (has_kept (schema_has_table desk) all_tables w (all_listed w) of)
 
   alike : HasDeskDefinitions desk db
   alike = defined has.tables
@@ -52,7 +52,7 @@ module _ (desk : Schema) (db : Database) (has : DatabaseHasSchema desk db) (defi
   abbrev pub place : DeskTable → ℕ
   place w = place_if w (schema_has_table desk w) refl
 
-  stood : (w : DeskTable) (b : Bool) (e : schema_has_table desk w ≡ b) → b ≡ true → IsTableAt db.schema (table_definition_at w (tree_if w b e)) (place_if w b e)
+  stood : (w : DeskTable) (b : Bool) (e : schema_has_table desk w ≡ b) → b ≡ true → IsTableAt db.schema (table_definition_at_tree w (tree_if w b e)) (place_if w b e)
   stood w true of sure =
       let t = table_of w of in
       record {
@@ -61,33 +61,33 @@ module _ (desk : Schema) (db : Database) (has : DatabaseHasSchema desk db) (defi
       }
   stood w false lacks sure = absurd (let f = sure in cc)
 
-  pub stands : (w : DeskTable) → IsTableOfSchema desk w → IsTableAt db.schema (table_definition_at w (tree w)) (place w)
+  pub stands : (w : DeskTable) → IsTableOfSchema desk w → IsTableAt db.schema (table_definition_at_tree w (tree w)) (place w)
   stands w of = stood w (schema_has_table desk w) refl of
 
   -- what was read is what the tables hold
-  pub rows_read : (raw : RawSheets) → ((w : DeskTable) → ShowsRowsIfPresent desk w (raw_rows_of_table raw w) db) → (t : Tables) → ((w : DeskTable) → map (encoded_row w) (rows_in_schema desk w t) ≡ raw_rows_of_table raw w) → HasDeskTablesInSchema desk t db
+  pub rows_read : (raw : RawSheets) → ((w : DeskTable) → ShowsRowsIfPresent desk w (raw_rows_of_table raw w) db) → (t : Tables) → ((w : DeskTable) → map (encoded_row w) (rows_of_table_in_schema desk w t) ≡ raw_rows_of_table raw w) → HasDeskTablesInSchema desk t db
   rows_read raw shown t are = (
     tree,
     record {
       place = place;
       stands = stands;
-      apart = λ v w a b same. alike.apart v w a b (place v) (place w) (tree v) (stands v a) (subst (λ n. IsTableAt db.schema (table_definition_at w n) (place w)) (sym same) (stands w b));
+      apart = λ v w a b same. alike.apart v w a b (place v) (place w) (tree v) (stands v a) (subst (λ n. IsTableAt db.schema (table_definition_at_tree w n) (place w)) (sym same) (stands w b));
       calm = λ w of. alike.calm w of (place w) (tree w) (stands w of);
       sound = alike.sound;
-      rows = λ w of. ((shown w).0 of (place w) (tree w) (stands w of)).table_holds_records (rows_in_schema desk w t) alike.sound (alike.keyed w of (place w) (tree w) (stands w of)) (are w);
+      rows = λ w of. ((shown w).0 of (place w) (tree w) (stands w of)).table_holds_records (rows_of_table_in_schema desk w t) alike.sound (alike.keyed w of (place w) (tree w) (stands w of)) (are w);
     },
     λ w lacks. (
       all_has (λ w. table_named db.schema (table_name w) ≡ None) (tables_of_later_schemas desk) w has.later (has_kept (λ w. not (schema_has_table desk w)) all_tables w (all_listed w) (ap not lacks)),
-      unshown (encoded_row w) (rows_in_schema desk w t) (are w ∙ (shown w).1 lacks),
+      unshown (encoded_row w) (rows_of_table_in_schema desk w t) (are w ∙ (shown w).1 lacks),
     ),
   )
 
 -- the rows of tables are those that are shown, also where the schema lacks the table
-rows_shown : (desk : Schema) (db : Database) (raw : RawSheets) → ((w : DeskTable) → ShowsRowsIfPresent desk w (raw_rows_of_table raw w) db) → (t : Tables) → HasDeskTablesInSchema desk t db → (w : DeskTable) → raw_rows_of_table raw w ≡ map (encoded_row w) (rows_in_schema desk w t)
+rows_shown : (desk : Schema) (db : Database) (raw : RawSheets) → ((w : DeskTable) → ShowsRowsIfPresent desk w (raw_rows_of_table raw w) db) → (t : Tables) → HasDeskTablesInSchema desk t db → (w : DeskTable) → raw_rows_of_table raw w ≡ map (encoded_row w) (rows_of_table_in_schema desk w t)
 rows_shown desk db raw shown t h w = by_test (schema_has_table desk w) refl
   where
-    by_test : (b : Bool) → schema_has_table desk w ≡ b → raw_rows_of_table raw w ≡ map (encoded_row w) (rows_in_schema desk w t)
-    by_test true of = ((shown w).0 of (h.1.place w) (h.0 w) (h.1.stands w of)).rows_encode_records (rows_in_schema desk w t) (h.1.rows w of)
+    by_test : (b : Bool) → schema_has_table desk w ≡ b → raw_rows_of_table raw w ≡ map (encoded_row w) (rows_of_table_in_schema desk w t)
+    by_test true of = ((shown w).0 of (h.1.place w) (h.0 w) (h.1.stands w of)).rows_encode_records (rows_of_table_in_schema desk w t) (h.1.rows w of)
     by_test false lacks = (shown w).1 lacks ∙ sym (ap (map (encoded_row w)) (h.2 w lacks).1)
 
 -- no tables in form have rows of which one has no form

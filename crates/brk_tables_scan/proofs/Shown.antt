@@ -4,7 +4,7 @@ use Rattle.sqlite_value.specs.declared.value.Value.TheVariants.{Text as Words}
 use Rattle.sqlite_value.specs.Order.{Row, column}
 use Rattle.sqlite.specs.State.{State, Shown}
 use Rattle.brk_money.specs.Kinds.{trade_type_code, trade_status_code}
-use Rattle.brk_model.specs.Keys.{kept_key, broker_key, customer_key, account_key, permission_key, security_key, last_trade_key, charge_key, band_key, tax_rate_key, customer_tax_key, trade_key, history_key, request_key, holding_key, summary_key, holding_history_key, settlement_key, cash_key, move_key}
+use Rattle.brk_model.specs.Keys.{kept_key, broker_key, customer_key, account_key, permission_key, security_key, last_trade_key, charge_key, band_key, tax_rate_key, customer_tax_key, trade_key, history_key, request_key, holding_key, summary_key, holding_history_key, settlement_key, cash_transaction_key, cash_move_key}
 use Rattle.brk_sql.proofs.Texts.{read}
 use Rattle.brk_tables_schema.specs.Cells.{natural_as_value}
 use Rattle.brk_tables_schema.specs.Desk.{TheDesk, KeptRows, Brokers, Customers, Accounts, Permissions, Securities, LastTrades, Charges, Bands, TaxRates, CustomerTaxes, Trades, TradeHistory, Requests, Holdings, Summaries, HoldingHistory, Settlements, CashRows, CashMoves, SettleRules, desk_key, rule_key}
@@ -132,12 +132,12 @@ settlement_shown old new rows shown =
 
 pub cash_shown : (old new : State) (rows : List Row) → Shown AllCashRows.statement [] old new rows → ShowsAllRows CashRows rows old.now
 cash_shown old new rows shown =
-    shows_all CashRows (key_total cash_key) cash_once AllCashRows.statement (read AllCashRows.statement) AllCashRows.project AllCashRows.order AllCashRows.names AllCashRows.understood_as (λ tree r. refl)
+    shows_all CashRows (key_total cash_transaction_key) cash_once AllCashRows.statement (read AllCashRows.statement) AllCashRows.project AllCashRows.order AllCashRows.names AllCashRows.understood_as (λ tree r. refl)
     (λ tree a b x y e f. let p0 : column a 0 ≡ natural_as_value x.trade = cc in let q0 : column b 0 ≡ natural_as_value y.trade = cc in rw (p0, q0) refl) old new rows shown
 
 pub move_shown : (old new : State) (rows : List Row) → Shown AllCashMoves.statement [] old new rows → ShowsAllRows CashMoves rows old.now
 move_shown old new rows shown =
-    shows_all CashMoves (key_total move_key) move_once AllCashMoves.statement (read AllCashMoves.statement) AllCashMoves.project AllCashMoves.order AllCashMoves.names AllCashMoves.understood_as (λ tree r. refl)
+    shows_all CashMoves (key_total cash_move_key) move_once AllCashMoves.statement (read AllCashMoves.statement) AllCashMoves.project AllCashMoves.order AllCashMoves.names AllCashMoves.understood_as (λ tree r. refl)
     (λ tree a b x y e f. let p0 : column a 0 ≡ natural_as_value x.id = cc in let q0 : column b 0 ≡ natural_as_value y.id = cc in rw (p0, q0) refl) old new rows shown
 
 pub rule_shown : (old new : State) (rows : List Row) → Shown AllSettleRules.statement [] old new rows → ShowsAllRows SettleRules rows old.now

@@ -9,10 +9,10 @@ use Rattle.sqlite.specs.Steps.{column_names}
 use Rattle.sqlite_tied.specs.Compute.{everything}
 use Rattle.brk_sql.proofs.Stars.{shown_columns}
 use Rattle.brk_sql.proofs.Texts.{read}
-use Rattle.brk_tables_schema.specs.Desk.{DeskTable, TheDesk, KeptRows, Brokers, Customers, Accounts, Permissions, Securities, LastTrades, Charges, Bands, TaxRates, CustomerTaxes, Trades, TradeHistory, Requests, Holdings, Summaries, HoldingHistory, Settlements, CashRows, CashMoves, SettleRules, table_definition_at}
+use Rattle.brk_tables_schema.specs.Desk.{DeskTable, TheDesk, KeptRows, Brokers, Customers, Accounts, Permissions, Securities, LastTrades, Charges, Bands, TaxRates, CustomerTaxes, Trades, TradeHistory, Requests, Holdings, Summaries, HoldingHistory, Settlements, CashRows, CashMoves, SettleRules, table_definition_at_tree}
 use Rattle.brk_tables_scan.specs.Headings.{select_all_text}
 
-pub columns_told : (w : DeskTable) (schema : Schema) (at : ℕ) (table : Table) → table_named schema (table_definition_at w 0).name ≡ Some at → slice_get schema.tables at ≡ Some table
+pub columns_told : (w : DeskTable) (schema : Schema) (at : ℕ) (table : Table) → table_named schema (table_definition_at_tree w 0).name ≡ Some at → slice_get schema.tables at ≡ Some table
     → (c : Compiled) → understood schema (select_all_text w) ≡ Ok c → column_names c ≡ map (λ c. c.name) table.columns
 unfolding everything listing_schema
 columns_told TheDesk = shown_columns (select_all_text TheDesk) (read (select_all_text TheDesk)) (codes "DESK") refl refl refl refl

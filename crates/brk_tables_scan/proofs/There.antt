@@ -12,7 +12,7 @@ use Rattle.brk_model.specs.Schemas.{Schema}
 use Rattle.brk_sql.specs.Desk.{IsTableAt}
 use Rattle.brk_sql.specs.Rows.{cells_in_column_order}
 use Rattle.brk_tables_schema.specs.Cells.{natural_as_value}
-use Rattle.brk_tables_schema.specs.Desk.{TheDesk, table_definition_at}
+use Rattle.brk_tables_schema.specs.Desk.{TheDesk, table_definition_at_tree}
 use Rattle.brk_tables_schema.specs.Shapes.{desk_row_table}
 use Rattle.brk_tables_scan.specs.Schemas.{DatabaseHasSchema, HasTablesOfSchema, TablesWithSchemaNamesAreDeskTables, LacksTablesOfLaterSchemas, IsOneDeskRowOfSchema}
 use Rattle.brk_tables_scan.specs.Whole.{ShowsAllRows}
@@ -42,8 +42,8 @@ module _ (desk : Schema) (db : Database) where
       says_so : DatabaseHasSchema desk db → IsOneDeskRowOfSchema desk rows
       says_so has =
           let t = has.tables.0 in
-          let same : t.1 ≡ table_definition_at TheDesk t.1.tree = (defined has.tables).shaped TheDesk refl t.0 t.1 t.2.named t.2.found in
-          let s : IsTableAt db.schema (table_definition_at TheDesk t.1.tree) t.0 = record { named = subst (λ name. table_named db.schema name ≡ Some t.0) (same_name_at TheDesk 0 t.1.tree) t.2.named; found = t.2.found ∙ ap Some same } in
+          let same : t.1 ≡ table_definition_at_tree TheDesk t.1.tree = (defined has.tables).shaped TheDesk refl t.0 t.1 t.2.named t.2.found in
+          let s : IsTableAt db.schema (table_definition_at_tree TheDesk t.1.tree) t.0 = record { named = subst (λ name. table_named db.schema name ≡ Some t.0) (same_name_at TheDesk 0 t.1.tree) t.2.named; found = t.2.found ∙ ap Some same } in
           let r = has.row t.0 t.1.tree s in
           let x : Row = natural_as_value 1 ∷ natural_as_value desk.number ∷ r.0 ∷ [] in
           (r.0, one_row x rows (subst (λ l. IsPermutation l rows) r.1 (shown t.0 t.1.tree s).all))

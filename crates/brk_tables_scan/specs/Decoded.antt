@@ -15,7 +15,7 @@ use Rattle.brk_tables_schema.specs.Cells.{desk_row_cells, broker_cells, customer
 use Rattle.brk_tables_schema.specs.Cells.{last_trade_cells, charge_cells, band_cells, tax_rate_cells, customer_tax_cells, trade_cells, history_cells}
 use Rattle.brk_tables_schema.specs.Cells.{request_cells, holding_cells, summary_cells, holding_history_cells, settlement_cells, cash_cells}
 use Rattle.brk_tables_schema.specs.Cells.{move_cells, rule_cells}
-use Rattle.brk_tables_schema.specs.Desk.{DeskTable, desk_rows, rule_rows, encoded_row, rows_in_schema}
+use Rattle.brk_tables_schema.specs.Desk.{DeskTable, desk_rows, rule_rows, encoded_row, rows_of_table_in_schema}
 use Rattle.brk_tables_schema.specs.Formed.{passes_all_cell_checks, has_one_valid_desk_row, kept_column_cell_checks, broker_column_cell_checks}
 use Rattle.brk_tables_schema.specs.Formed.{customer_column_cell_checks, account_column_cell_checks, permission_column_cell_checks}
 use Rattle.brk_tables_schema.specs.Formed.{security_column_cell_checks, last_trade_column_cell_checks, charge_column_cell_checks}
@@ -144,7 +144,7 @@ are_raw_sheets_well_formed desk raw =
 pub record DecodesSheets (desk : Schema) (sheets : Sheets) (raw : RawSheets) : Type 0 where
   pub whole : List typed.Kept
   pub keys : keys_of_kept_rows whole ≡ map abstract_key sheets.kept.items
-  pub encoded : (w : DeskTable) → map (encoded_row w) (rows_in_schema desk w (tables_with_whole_kept_rows whole sheets)) ≡ raw_rows_of_table raw w
+  pub encoded : (w : DeskTable) → map (encoded_row w) (rows_of_table_in_schema desk w (tables_with_whole_kept_rows whole sheets)) ≡ raw_rows_of_table raw w
 
 -- A step of a decoding of raw rows. A flag, `old` before the step and `new` after it, is true only
 -- if all raw rows so far are well-formed. `are_well_formed` is true if the raw rows of this step

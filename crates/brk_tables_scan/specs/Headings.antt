@@ -3,7 +3,7 @@ use Rattle.std.specs.Prelude.{◌≡◌, ◌⊎◌, ℕ, List, [], ◌∷◌, �
 use Rattle.std.specs.Borrow.{Bor}
 use Rattle.sqlite_schema.specs.declared.schema.Schema.{Schema}
 use Rattle.brk_sql.specs.Desk.{MatchesResultColumns}
-use Rattle.brk_tables_schema.specs.Desk.{DeskTable, table_name, table_definition_at}
+use Rattle.brk_tables_schema.specs.Desk.{DeskTable, table_name, table_definition_at_tree}
 use Rattle.brk_tables_scan.specs.Schemas.{table_and_column_names}
 
 -- A statement and the column names that its result is expected to have, in order.
@@ -22,7 +22,7 @@ select_all_text w = codes "SELECT * FROM " ++ table_name w
 -- The statement that selects all columns of the table `w`, and the names of these columns, in
 -- order.
 abbrev pub heading_of_table : DeskTable → Heading
-heading_of_table w = (select_all_text w, (table_and_column_names (table_definition_at w 0)).columns)
+heading_of_table w = (select_all_text w, (table_and_column_names (table_definition_at_tree w 0)).columns)
 
 -- If `has` is true, as it is for an empty list, the result of each statement has exactly the column
 -- names of its heading, in order. If `has` is false, the result of some statement does not have

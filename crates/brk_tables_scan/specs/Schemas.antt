@@ -18,7 +18,7 @@ use Rattle.brk_sql.specs.Rows.{cells_in_column_order, has_same_rowid}
 use Rattle.brk_sql.specs.Desk.{IsTableAt, HasNoWritingForeignKeysAt}
 use Rattle.brk_tables_schema.specs.Cells.{natural_as_value}
 use Rattle.brk_tables_schema.specs.Shapes.{desk_row_table}
-use Rattle.brk_tables_schema.specs.Desk.{DeskTable, table_name, table_definition_at, tables_in_schema}
+use Rattle.brk_tables_schema.specs.Desk.{DeskTable, table_name, table_definition_at_tree, tables_in_schema}
 use Rattle.brk_tables_schema.specs.Made.{IsTableOfSchema}
 use Rattle.brk_tables_create.specs.Made.{tables_of_later_schemas}
 
@@ -45,7 +45,7 @@ HasTableWithNames schema names = (at : ℕ) × (table : Table) × IsTableWithNam
 -- For each table of the schema `desk`, the database has a table with its name and exactly its
 -- column names, in order.
 abbrev pub HasTablesOfSchema : Schema → database.Schema → Type 0
-HasTablesOfSchema desk schema = AllByRecursion (λ w. HasTableWithNames schema (table_and_column_names (table_definition_at w 0))) (tables_in_schema desk)
+HasTablesOfSchema desk schema = AllByRecursion (λ w. HasTableWithNames schema (table_and_column_names (table_definition_at_tree w 0))) (tables_in_schema desk)
 
 -- The database has no table with the name of one that the schema `desk` does not have and a later
 -- schema adds.
@@ -85,14 +85,14 @@ pub record HasDeskDefinitions (desk : Schema) (db : Database) : Type 0 where
   pub sound : IsDatabase db
   -- The column types, keys and foreign keys equal those that the desk defines for this name.
   pub shaped : (w : DeskTable) → IsTableOfSchema desk w → (at : ℕ) (table : Table) → table_named db.schema (table_name w) ≡ Some at
-      → slice_get db.schema.tables at ≡ Some table → table ≡ table_definition_at w table.tree
+      → slice_get db.schema.tables at ≡ Some table → table ≡ table_definition_at_tree w table.tree
   -- No two of these tables share a tree.
-  pub apart : (v w : DeskTable) → IsTableOfSchema desk v → IsTableOfSchema desk w → (i j tree : ℕ) → IsTableAt db.schema (table_definition_at v tree) i
-      → IsTableAt db.schema (table_definition_at w tree) j → v ≡ w
+  pub apart : (v w : DeskTable) → IsTableOfSchema desk v → IsTableOfSchema desk w → (i j tree : ℕ) → IsTableAt db.schema (table_definition_at_tree v tree) i
+      → IsTableAt db.schema (table_definition_at_tree w tree) j → v ≡ w
   -- No foreign key of a table at their trees changes or deletes rows.
-  pub calm : (w : DeskTable) → IsTableOfSchema desk w → (at tree : ℕ) → IsTableAt db.schema (table_definition_at w tree) at
+  pub calm : (w : DeskTable) → IsTableOfSchema desk w → (at tree : ℕ) → IsTableAt db.schema (table_definition_at_tree w tree) at
       → HasNoWritingForeignKeysAt db.schema tree
-  pub keyed : (w : DeskTable) → IsTableOfSchema desk w → (at tree : ℕ) → IsTableAt db.schema (table_definition_at w tree) at → HasDistinctRowids (db.trees tree)
+  pub keyed : (w : DeskTable) → IsTableOfSchema desk w → (at tree : ℕ) → IsTableAt db.schema (table_definition_at_tree w tree) at → HasDistinctRowids (db.trees tree)
 
 -- If the database has each table of the schema `desk`, by its name and with exactly its column
 -- names, these tables are defined as a desk defines them (`HasDeskDefinitions`). Vacuous if one of

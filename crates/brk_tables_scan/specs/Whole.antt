@@ -15,7 +15,7 @@ use Rattle.brk_ref.specs.Records.{abstract_key}
 use Rattle.brk_sql.specs.Rows.{cells_in_column_order, TreeHoldsRecords}
 use Rattle.brk_sql.specs.Desk.{IsTableAt}
 use Rattle.brk_sql.specs.Model.{IsConnectionStep}
-use Rattle.brk_tables_schema.specs.Desk.{DeskTable, RecordOfTable, table_definition_at, encoded_row, ordering_by_primary_key, schema_has_table}
+use Rattle.brk_tables_schema.specs.Desk.{DeskTable, RecordOfTable, table_definition_at_tree, encoded_row, ordering_by_primary_key, schema_has_table}
 use Rattle.brk_tables_schema.specs.Made.{HasDeskTablesInSchema, IsTableOfSchema}
 use Rattle.brk_tables_scan.specs.KeptKeys.{keys_of_kept_rows, tables_with_whole_kept_rows}
 use Rattle.brk_tables_scan.specs.Schemas.{HasDistinctRowids}
@@ -26,18 +26,18 @@ use Rattle.brk_tables_scan.specs.Schemas.{HasDistinctRowids}
 -- table contains these records.
 pub record AreTableRows (w : DeskTable) (rows : List Row) (db : Database) (tree : ℕ) : Type 0 where
   -- The rows are all rows of the tree, each as often as it occurs there.
-  pub all : IsPermutation (map (cells_in_column_order (table_definition_at w tree)) (db.trees tree)) rows
+  pub all : IsPermutation (map (cells_in_column_order (table_definition_at_tree w tree)) (db.trees tree)) rows
   -- If the table contains records, the rows are their encodings, in order.
   pub rows_encode_records : (xs : List (RecordOfTable w))
-      → TreeHoldsRecords (table_definition_at w tree) (encoded_row w) (ordering_by_primary_key w) xs (db.trees tree) → rows ≡ map (encoded_row w) xs
+      → TreeHoldsRecords (table_definition_at_tree w tree) (encoded_row w) (ordering_by_primary_key w) xs (db.trees tree) → rows ≡ map (encoded_row w) xs
   -- If the rows are the encodings of records, the table contains these records.
   pub table_holds_records : (xs : List (RecordOfTable w)) → IsDatabase db → HasDistinctRowids (db.trees tree) → map (encoded_row w) xs ≡ rows
-      → TreeHoldsRecords (table_definition_at w tree) (encoded_row w) (ordering_by_primary_key w) xs (db.trees tree)
+      → TreeHoldsRecords (table_definition_at_tree w tree) (encoded_row w) (ordering_by_primary_key w) xs (db.trees tree)
 
 -- The list `rows` has all rows of the table `w`, sorted by key (`AreTableRows`). Vacuous if no
 -- table of the database is defined as a desk defines `w`.
 abbrev pub ShowsAllRows : DeskTable → List Row → Database → Type 0
-ShowsAllRows w rows db = (at tree : ℕ) → IsTableAt db.schema (table_definition_at w tree) at → AreTableRows w rows db tree
+ShowsAllRows w rows db = (at tree : ℕ) → IsTableAt db.schema (table_definition_at_tree w tree) at → AreTableRows w rows db tree
 
 -- If the call succeeds, it changes nothing and returns all rows of the table `w`, sorted by key
 -- (`ShowsAllRows`). Nothing is said of the rows if the disk assumption fails, outside a

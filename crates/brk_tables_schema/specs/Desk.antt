@@ -9,7 +9,7 @@ use Rattle.brk_model.specs.Tables.{Tables, BrokerRow, AccountRow, SecurityRow, L
 use Rattle.brk_model.specs.Tables.{HoldingHistoryRow, SettlementRow, CashRow, MoveRow}
 use Rattle.brk_model.specs.Keys.{KeyPart, number, kept_key, broker_key, customer_key, account_key, permission_key, security_key, last_trade_key}
 use Rattle.brk_model.specs.Keys.{charge_key, band_key, tax_rate_key, customer_tax_key, trade_key, history_key, request_key, holding_key, summary_key}
-use Rattle.brk_model.specs.Keys.{holding_history_key, settlement_key, cash_key, move_key}
+use Rattle.brk_model.specs.Keys.{holding_history_key, settlement_key, cash_transaction_key, cash_move_key}
 use Rattle.brk_sql.specs.Desk.{ProgramTables}
 use Rattle.brk_tables_schema.specs.Shapes.{desk_row_table, kept_table, broker_table, customer_table, account_table, permission_table, security_table}
 use Rattle.brk_tables_schema.specs.Shapes.{last_trade_table, charge_table, band_table, tax_rate_table, customer_tax_table, trade_table, history_table}
@@ -73,32 +73,32 @@ schema_has_table schema w = true
 
 -- The definition of the table `w` of a desk, with its rows at the given tree: its SQL name,
 -- columns, keys and foreign keys.
-abbrev pub table_definition_at : DeskTable → ℕ → Table
-table_definition_at TheDesk = desk_row_table
-table_definition_at KeptRows = kept_table
-table_definition_at Brokers = broker_table
-table_definition_at Customers = customer_table
-table_definition_at Accounts = account_table
-table_definition_at Permissions = permission_table
-table_definition_at Securities = security_table
-table_definition_at LastTrades = last_trade_table
-table_definition_at Charges = charge_table
-table_definition_at Bands = band_table
-table_definition_at TaxRates = tax_rate_table
-table_definition_at CustomerTaxes = customer_tax_table
-table_definition_at Trades = trade_table
-table_definition_at TradeHistory = history_table
-table_definition_at Requests = request_table
-table_definition_at Holdings = holding_table
-table_definition_at Summaries = summary_table
-table_definition_at HoldingHistory = holding_history_table
-table_definition_at Settlements = settlement_table
-table_definition_at CashRows = cash_table
-table_definition_at CashMoves = move_table
-table_definition_at SettleRules = rule_table
+abbrev pub table_definition_at_tree : DeskTable → ℕ → Table
+table_definition_at_tree TheDesk = desk_row_table
+table_definition_at_tree KeptRows = kept_table
+table_definition_at_tree Brokers = broker_table
+table_definition_at_tree Customers = customer_table
+table_definition_at_tree Accounts = account_table
+table_definition_at_tree Permissions = permission_table
+table_definition_at_tree Securities = security_table
+table_definition_at_tree LastTrades = last_trade_table
+table_definition_at_tree Charges = charge_table
+table_definition_at_tree Bands = band_table
+table_definition_at_tree TaxRates = tax_rate_table
+table_definition_at_tree CustomerTaxes = customer_tax_table
+table_definition_at_tree Trades = trade_table
+table_definition_at_tree TradeHistory = history_table
+table_definition_at_tree Requests = request_table
+table_definition_at_tree Holdings = holding_table
+table_definition_at_tree Summaries = summary_table
+table_definition_at_tree HoldingHistory = holding_history_table
+table_definition_at_tree Settlements = settlement_table
+table_definition_at_tree CashRows = cash_table
+table_definition_at_tree CashMoves = move_table
+table_definition_at_tree SettleRules = rule_table
 
 -- The definition of the table `w` with its rows at the tree `tree` has this tree.
-abbrev pub table_definition_has_tree : (w : DeskTable) (tree : ℕ) → (table_definition_at w tree).tree ≡ tree
+abbrev pub table_definition_has_tree : (w : DeskTable) (tree : ℕ) → (table_definition_at_tree w tree).tree ≡ tree
 table_definition_has_tree TheDesk tree = refl
 table_definition_has_tree KeptRows tree = refl
 table_definition_has_tree Brokers tree = refl
@@ -193,8 +193,8 @@ primary_key_of_record Holdings = holding_key
 primary_key_of_record Summaries = summary_key
 primary_key_of_record HoldingHistory = holding_history_key
 primary_key_of_record Settlements = settlement_key
-primary_key_of_record CashRows = cash_key
-primary_key_of_record CashMoves = move_key
+primary_key_of_record CashRows = cash_transaction_key
+primary_key_of_record CashMoves = cash_move_key
 primary_key_of_record SettleRules = rule_key
 
 -- The ordering of two records of the table `w` by their primary keys.
@@ -203,44 +203,44 @@ ordering_by_primary_key w = ordering_by_key (primary_key_of_record w)
 
 -- The records of the table `w` of a desk with the tables `t`. Only the record of DESK depends on
 -- the schema.
-abbrev pub rows_in_schema : Schema → (w : DeskTable) → Tables → List (RecordOfTable w)
-rows_in_schema schema TheDesk t = desk_rows schema t.last
-rows_in_schema schema KeptRows t = t.kept
-rows_in_schema schema Brokers t = t.brokers
-rows_in_schema schema Customers t = t.customers
-rows_in_schema schema Accounts t = t.accounts
-rows_in_schema schema Permissions t = t.permissions
-rows_in_schema schema Securities t = t.securities
-rows_in_schema schema LastTrades t = t.last_trades
-rows_in_schema schema Charges t = t.charges
-rows_in_schema schema Bands t = t.bands
-rows_in_schema schema TaxRates t = t.tax_rates
-rows_in_schema schema CustomerTaxes t = t.customer_taxes
-rows_in_schema schema Trades t = t.trades
-rows_in_schema schema TradeHistory t = t.history
-rows_in_schema schema Requests t = t.requests
-rows_in_schema schema Holdings t = t.holdings
-rows_in_schema schema Summaries t = t.summaries
-rows_in_schema schema HoldingHistory t = t.holding_history
-rows_in_schema schema Settlements t = t.settlements
-rows_in_schema schema CashRows t = t.cash
-rows_in_schema schema CashMoves t = t.moves
-rows_in_schema schema SettleRules t = rule_rows t.rule
+abbrev pub rows_of_table_in_schema : Schema → (w : DeskTable) → Tables → List (RecordOfTable w)
+rows_of_table_in_schema schema TheDesk t = desk_rows schema t.last
+rows_of_table_in_schema schema KeptRows t = t.kept
+rows_of_table_in_schema schema Brokers t = t.brokers
+rows_of_table_in_schema schema Customers t = t.customers
+rows_of_table_in_schema schema Accounts t = t.accounts
+rows_of_table_in_schema schema Permissions t = t.permissions
+rows_of_table_in_schema schema Securities t = t.securities
+rows_of_table_in_schema schema LastTrades t = t.last_trades
+rows_of_table_in_schema schema Charges t = t.charges
+rows_of_table_in_schema schema Bands t = t.bands
+rows_of_table_in_schema schema TaxRates t = t.tax_rates
+rows_of_table_in_schema schema CustomerTaxes t = t.customer_taxes
+rows_of_table_in_schema schema Trades t = t.trades
+rows_of_table_in_schema schema TradeHistory t = t.history
+rows_of_table_in_schema schema Requests t = t.requests
+rows_of_table_in_schema schema Holdings t = t.holdings
+rows_of_table_in_schema schema Summaries t = t.summaries
+rows_of_table_in_schema schema HoldingHistory t = t.holding_history
+rows_of_table_in_schema schema Settlements t = t.settlements
+rows_of_table_in_schema schema CashRows t = t.cash
+rows_of_table_in_schema schema CashMoves t = t.moves
+rows_of_table_in_schema schema SettleRules t = rule_rows t.rule
 
 -- The records of the table `w` of a desk in schema 3 with the tables `t`.
 abbrev pub rows_of_table : (w : DeskTable) → Tables → List (RecordOfTable w)
-rows_of_table = rows_in_schema third_schema
+rows_of_table = rows_of_table_in_schema third_schema
 
 -- All tables of a desk, also those that `schema` lacks, as the tables of a program: their
 -- definitions, records, encodings and orders. The row of DESK has the number of `schema`.
 abbrev pub desk_tables_of_schema : Schema → ProgramTables DeskTable Tables
 desk_tables_of_schema schema = record {
-  shape = table_definition_at;
+  shape = table_definition_at_tree;
   placed = table_definition_has_tree;
   Item = RecordOfTable;
   encode = encoded_row;
   order = ordering_by_primary_key;
-  list = rows_in_schema schema;
+  list = rows_of_table_in_schema schema;
 }
 
 -- All tables of a desk in schema 3 as the tables of a program: their definitions, records,
@@ -260,7 +260,7 @@ tables_in_schema schema = filter (schema_has_table schema) all_tables
 
 -- The SQL name of the table `w`, in ASCII.
 abbrev pub table_name : DeskTable → List ℕ
-table_name w = (table_definition_at w 0).name
+table_name w = (table_definition_at_tree w 0).name
 
 -- The SQL names of all tables of a desk.
 abbrev pub all_table_names : List (List ℕ)

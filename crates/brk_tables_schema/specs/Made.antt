@@ -5,7 +5,7 @@ use Rattle.sqlite.specs.Effect.{Database}
 use Rattle.brk_model.specs.Schemas.{Schema}
 use Rattle.brk_model.specs.Tables.{Tables}
 use Rattle.brk_sql.specs.Desk.{HasTables, HasSelectedTables}
-use Rattle.brk_tables_schema.specs.Desk.{DeskTable, desk_tables, desk_tables_of_schema, schema_has_table, rows_in_schema, table_name}
+use Rattle.brk_tables_schema.specs.Desk.{DeskTable, desk_tables, desk_tables_of_schema, schema_has_table, rows_of_table_in_schema, table_name}
 
 -- The database contains all tables of a desk in schema 3, with exactly the rows `t`, at some trees.
 -- It may contain other tables.
@@ -20,7 +20,7 @@ IsTableOfSchema schema w = IsTrue (schema_has_table schema w)
 -- database, and `t` has no rows for it.
 abbrev pub LacksOtherDeskTables : Schema → Tables → Database → Type 0
 LacksOtherDeskTables schema t db =
-    (w : DeskTable) → schema_has_table schema w ≡ false → (table_named db.schema (table_name w) ≡ None) × (rows_in_schema schema w t ≡ [])
+    (w : DeskTable) → schema_has_table schema w ≡ false → (table_named db.schema (table_name w) ≡ None) × (rows_of_table_in_schema schema w t ≡ [])
 
 -- The database contains the tables that `schema` has, with exactly the rows `t`, at some trees. It
 -- has no table with the name of a desk's table that `schema` lacks, and `t` has no rows for these.

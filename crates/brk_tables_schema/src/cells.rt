@@ -102,7 +102,10 @@ pub fn text_in_column(row: &Row, at: usize) -> Result<String, DecodeError>
 /// Reads a text of the format `F` from the column `at`. Fails with `Form`, only if the column is
 /// missing or malformed, or with `Memory`.
 #[tactic(auto, using(crate::proofs::Unformed::no_formed_text))]
-pub fn formatted_text_in_column<F: Form>(row: &Row, at: usize) -> Result<FormedText<F>, DecodeError>
+pub fn well_formed_text_in_column<F: Form>(
+    row: &Row,
+    at: usize,
+) -> Result<FormedText<F>, DecodeError>
     ensures value { IfOk result (λ text. column row.now at ≡ Text text) }
     ensures form { result ≡ Err Formless → at < length row.now → is_text_cell F.form (column row.now at) ≡ false }
 {

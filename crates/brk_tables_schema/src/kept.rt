@@ -9,7 +9,7 @@ ghost use Rattle.brk_tables_schema.specs.Statements.{ReadsFirstMatch, WritesDesk
 
 use crate::calls::{execute_statement, select_rows};
 use crate::cells::{
-    check_column_count, formatted_text_in_column, row_number_in_column, text_in_column,
+    check_column_count, row_number_in_column, text_in_column, well_formed_text_in_column,
 };
 use crate::decode_error::DecodeError;
 use crate::record::{Record, decode_first_row};
@@ -47,7 +47,7 @@ impl Record for Kept {
     fn from_row(row: &Row) -> Result<Kept, DecodeError> {
         check_column_count(row, 4)?;
         let key = Key {
-            batch: formatted_text_in_column(row, 0)?,
+            batch: well_formed_text_in_column(row, 0)?,
             row: row_number_in_column(row, 1)?,
         };
         Ok(Kept {

@@ -10,9 +10,8 @@ ghost use Rattle.brk_tables_schema.specs.Formed.{permission_column_cell_checks, 
 
 use crate::cells::{
     cents_in_column, charge_amount_in_column, check_column_count, commission_rate_in_column,
-    formatted_text_in_column, id_in_column, integer_in_column, natural_in_column,
-    quantity_in_column, tax_rate_in_column, tax_status_in_column, tier_in_column,
-    trade_type_in_column,
+    id_in_column, integer_in_column, natural_in_column, quantity_in_column, tax_rate_in_column,
+    tax_status_in_column, tier_in_column, trade_type_in_column, well_formed_text_in_column,
 };
 use crate::decode_error::DecodeError;
 use crate::record::Record;
@@ -36,7 +35,7 @@ impl Record for AccountRow {
                 id: id_in_column(row, 0)?,
                 customer: id_in_column(row, 1)?,
                 broker: id_in_column(row, 2)?,
-                name: formatted_text_in_column(row, 3)?,
+                name: well_formed_text_in_column(row, 3)?,
                 tax_status: tax_status_in_column(row, 4)?,
                 opening: cents_in_column(row, 5)?,
             },
@@ -57,7 +56,7 @@ impl Record for Band {
         Ok(Band {
             tier: tier_in_column(row, 0)?,
             kind: trade_type_in_column(row, 1)?,
-            exchange: formatted_text_in_column(row, 2)?,
+            exchange: well_formed_text_in_column(row, 2)?,
             from_qty: quantity_in_column(row, 3)?,
             to_qty: quantity_in_column(row, 4)?,
             rate: commission_rate_in_column(row, 5)?,
@@ -77,7 +76,7 @@ impl Record for BrokerRow {
         Ok(BrokerRow {
             broker: Broker {
                 id: id_in_column(row, 0)?,
-                name: formatted_text_in_column(row, 1)?,
+                name: well_formed_text_in_column(row, 1)?,
             },
             trades: integer_in_column(row, 2)?,
             commissions: natural_in_column(row, 3)?,
@@ -114,9 +113,9 @@ impl Record for Customer {
         Ok(Customer {
             id: id_in_column(row, 0)?,
             tier: tier_in_column(row, 1)?,
-            tax_id: formatted_text_in_column(row, 2)?,
-            last_name: formatted_text_in_column(row, 3)?,
-            first_name: formatted_text_in_column(row, 4)?,
+            tax_id: well_formed_text_in_column(row, 2)?,
+            last_name: well_formed_text_in_column(row, 3)?,
+            first_name: well_formed_text_in_column(row, 4)?,
         })
     }
 }
@@ -132,10 +131,10 @@ impl Record for Permission {
         check_column_count(row, 5)?;
         Ok(Permission {
             account: id_in_column(row, 0)?,
-            tax_id: formatted_text_in_column(row, 1)?,
-            acl: formatted_text_in_column(row, 2)?,
-            last_name: formatted_text_in_column(row, 3)?,
-            first_name: formatted_text_in_column(row, 4)?,
+            tax_id: well_formed_text_in_column(row, 1)?,
+            acl: well_formed_text_in_column(row, 2)?,
+            last_name: well_formed_text_in_column(row, 3)?,
+            first_name: well_formed_text_in_column(row, 4)?,
         })
     }
 }
@@ -150,10 +149,10 @@ impl Record for Security {
     fn from_row(row: &Row) -> Result<Security, DecodeError> {
         check_column_count(row, 4)?;
         Ok(Security {
-            symbol: formatted_text_in_column(row, 0)?,
-            name: formatted_text_in_column(row, 1)?,
-            exchange: formatted_text_in_column(row, 2)?,
-            sector: formatted_text_in_column(row, 3)?,
+            symbol: well_formed_text_in_column(row, 0)?,
+            name: well_formed_text_in_column(row, 1)?,
+            exchange: well_formed_text_in_column(row, 2)?,
+            sector: well_formed_text_in_column(row, 3)?,
         })
     }
 }
@@ -169,7 +168,7 @@ impl Record for Tax {
         check_column_count(row, 3)?;
         Ok(Tax {
             id: id_in_column(row, 0)?,
-            name: formatted_text_in_column(row, 1)?,
+            name: well_formed_text_in_column(row, 1)?,
             rate: tax_rate_in_column(row, 2)?,
         })
     }

@@ -13,10 +13,10 @@ ghost use Rattle.brk_tables_schema.specs.Formed.{summary_column_cell_checks, tra
 
 use crate::cells::{
     amount_in_column, cash_row_id_in_column, cash_type_in_column, cents_in_column,
-    charge_amount_in_column, check_column_count, day_in_column, flag_in_column,
-    formatted_text_in_column, id_in_column, integer_in_column, optional_id_in_column,
-    optional_price_in_column, price_in_column, quantity_in_column, stamp_in_column,
-    status_in_column, text_in_column, trade_type_in_column, volume_in_column,
+    charge_amount_in_column, check_column_count, day_in_column, flag_in_column, id_in_column,
+    integer_in_column, optional_id_in_column, optional_price_in_column, price_in_column,
+    quantity_in_column, stamp_in_column, status_in_column, text_in_column, trade_type_in_column,
+    volume_in_column, well_formed_text_in_column,
 };
 use crate::decode_error::DecodeError;
 use crate::record::Record;
@@ -40,7 +40,7 @@ impl Record for HoldingRow {
         Ok(HoldingRow {
             trade: id_in_column(row, 0)?,
             account: id_in_column(row, 1)?,
-            symbol: formatted_text_in_column(row, 2)?,
+            symbol: well_formed_text_in_column(row, 2)?,
             stamp: stamp_in_column(row, 3)?,
             price: price_in_column(row, 4)?,
             qty: integer_in_column(row, 5)?,
@@ -59,7 +59,7 @@ impl Record for SummaryRow {
         check_column_count(row, 3)?;
         Ok(SummaryRow {
             account: id_in_column(row, 0)?,
-            symbol: formatted_text_in_column(row, 1)?,
+            symbol: well_formed_text_in_column(row, 1)?,
             qty: integer_in_column(row, 2)?,
         })
     }
@@ -75,7 +75,7 @@ impl Record for LastTrade {
     fn from_row(row: &Row) -> Result<LastTrade, DecodeError> {
         check_column_count(row, 4)?;
         Ok(LastTrade {
-            symbol: formatted_text_in_column(row, 0)?,
+            symbol: well_formed_text_in_column(row, 0)?,
             stamp: stamp_in_column(row, 1)?,
             price: price_in_column(row, 2)?,
             volume: volume_in_column(row, 3)?,
@@ -95,7 +95,7 @@ impl Record for RequestRow {
         Ok(RequestRow {
             trade: id_in_column(row, 0)?,
             kind: trade_type_in_column(row, 1)?,
-            symbol: formatted_text_in_column(row, 2)?,
+            symbol: well_formed_text_in_column(row, 2)?,
             qty: quantity_in_column(row, 3)?,
             bid: price_in_column(row, 4)?,
             broker: id_in_column(row, 5)?,
@@ -118,7 +118,7 @@ impl Record for TradeRow {
             status: status_in_column(row, 2)?,
             kind: trade_type_in_column(row, 3)?,
             is_cash: flag_in_column(row, 4)?,
-            symbol: formatted_text_in_column(row, 5)?,
+            symbol: well_formed_text_in_column(row, 5)?,
             qty: quantity_in_column(row, 6)?,
             bid: price_in_column(row, 7)?,
             account: id_in_column(row, 8)?,

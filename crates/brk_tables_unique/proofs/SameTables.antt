@@ -2,10 +2,10 @@
 use Rattle.std.proofs.Common.{◌≡◌}
 use Rattle.brk_model.specs.Schemas.{Schema}
 use Rattle.brk_model.specs.Tables.{Tables}
-use Rattle.brk_tables_schema.specs.Desk.{DeskTable, rows_in_schema, TheDesk, KeptRows, Brokers, Customers, Accounts, Permissions, Securities, LastTrades, Charges, Bands, TaxRates, CustomerTaxes, Trades, TradeHistory, Requests, Holdings, Summaries, HoldingHistory, Settlements, CashRows, CashMoves, SettleRules}
+use Rattle.brk_tables_schema.specs.Desk.{DeskTable, rows_of_table_in_schema, TheDesk, KeptRows, Brokers, Customers, Accounts, Permissions, Securities, LastTrades, Charges, Bands, TaxRates, CustomerTaxes, Trades, TradeHistory, Requests, Holdings, Summaries, HoldingHistory, Settlements, CashRows, CashMoves, SettleRules}
 use Rattle.brk_tables_unique.proofs.Values.{last_alike, rule_alike}
 
-pub same_tables : (s : Schema) (t u : Tables) → ((w : DeskTable) → rows_in_schema s w t ≡ rows_in_schema s w u) → t ≡ u
+pub same_tables : (s : Schema) (t u : Tables) → ((w : DeskTable) → rows_of_table_in_schema s w t ≡ rows_of_table_in_schema s w u) → t ≡ u
 same_tables s t u each = λ i. record {
   last = last_alike s s t u (each TheDesk) i;
   kept = each KeptRows i;

@@ -3,7 +3,7 @@ use Rattle.std.proofs.Common.{◌≡◌, ℕ, List, [], ◌∷◌, Option, Some,
 use Rattle.brk_model.specs.Schemas.{Schema}
 use Rattle.brk_model.specs.Tables.{Tables}
 use Rattle.brk_tables_schema.specs.Cells.{DeskRow, RuleRow}
-use Rattle.brk_tables_schema.specs.Desk.{TheDesk, SettleRules, rows_in_schema, rule_rows}
+use Rattle.brk_tables_schema.specs.Desk.{TheDesk, SettleRules, rows_of_table_in_schema, rule_rows}
 
 last_of : List DeskRow → Option ℕ
 last_of [] = None
@@ -22,13 +22,13 @@ unfolding rule_of
 rule_back None = refl
 rule_back (Some day) = refl
 
-pub last_alike : (s r : Schema) (t u : Tables) → rows_in_schema s TheDesk t ≡ rows_in_schema r TheDesk u → t.last ≡ u.last
+pub last_alike : (s r : Schema) (t u : Tables) → rows_of_table_in_schema s TheDesk t ≡ rows_of_table_in_schema r TheDesk u → t.last ≡ u.last
 unfolding last_of
 last_alike s r t u e = ap last_of e
 
-pub number_alike : (s r : Schema) (t u : Tables) → rows_in_schema s TheDesk t ≡ rows_in_schema r TheDesk u → s.number ≡ r.number
+pub number_alike : (s r : Schema) (t u : Tables) → rows_of_table_in_schema s TheDesk t ≡ rows_of_table_in_schema r TheDesk u → s.number ≡ r.number
 unfolding number_of
 number_alike s r t u e = ap number_of e
 
-pub rule_alike : (s r : Schema) (t u : Tables) → rows_in_schema s SettleRules t ≡ rows_in_schema r SettleRules u → t.rule ≡ u.rule
+pub rule_alike : (s r : Schema) (t u : Tables) → rows_of_table_in_schema s SettleRules t ≡ rows_of_table_in_schema r SettleRules u → t.rule ≡ u.rule
 rule_alike s r t u e = sym (rule_back t.rule) ∙ ap rule_of e ∙ rule_back u.rule

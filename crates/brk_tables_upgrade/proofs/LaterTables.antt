@@ -11,14 +11,14 @@ use Rattle.brk_model.specs.Tables.{Tables}
 use Rattle.brk_sql.specs.Desk.{HasTables, HasSelectedTables, HasNoWritingForeignKeysAt, CreatesEachTable, PreservesUnrelatedTables, ChangesTablesBy}
 use Rattle.brk_sql.proofs.Founded.{Among, OrIn, all_left}
 use Rattle.brk_sql.proofs.Grown.{Grown, grown_each, all_there}
-use Rattle.brk_tables_schema.specs.Desk.{DeskTable, CashMoves, all_tables, desk_tables, desk_tables_of_schema, schema_has_table, rows_in_schema, table_definition_at}
+use Rattle.brk_tables_schema.specs.Desk.{DeskTable, CashMoves, all_tables, desk_tables, desk_tables_of_schema, schema_has_table, rows_of_table_in_schema, table_definition_at_tree}
 use Rattle.brk_tables_schema.specs.Made.{IsTableOfSchema, LacksOtherDeskTables}
 use Rattle.brk_tables_schema.proofs.Which.{all_listed, split}
 use Rattle.brk_tables_create.specs.Made.{tables_of_later_schemas}
 use Rattle.brk_tables_cash.specs.Upgrade.{SetsSchemaNumberToThree}
 use Rattle.brk_tables_upgrade.specs.Upgrade.{AddsTablesOfLaterSchemas, PreservesTablesOutside, UpgradesTables, HasUpgradedTables, tables_with_cash_transactions_moved}
 use Rattle.brk_tables_upgrade.proofs.Numbered.{upgraded_is}
-use Rattle.brk_model.specs.Upgraded.{tables_after_upgrade, tables_upgraded_from_schema}
+use Rattle.brk_model.specs.Upgraded.{tables_with_merged_cash_rows, tables_upgraded_from_schema}
 
 -- ---- each table is of a schema, or of a later one
 
@@ -46,10 +46,10 @@ module _ (desk : Schema) where
       go true of = among_in (tables_of_later_schemas desk) (IsTableOfSchema desk) w of
       go false off = among_has (tables_of_later_schemas desk) (IsTableOfSchema desk) w (lacked w off)
 
-  pub raised : (a b c : Database) → CreatesEachTable (map table_definition_at (tables_of_later_schemas desk)) a b → SetsSchemaNumberToThree b c → AddsTablesOfLaterSchemas desk a c
+  pub raised : (a b c : Database) → CreatesEachTable (map table_definition_at_tree (tables_of_later_schemas desk)) a b → SetsSchemaNumberToThree b c → AddsTablesOfLaterSchemas desk a c
   raised a b c made raises = λ t tree h lacks.
-      let none : AllByRecursion (λ w. rows_in_schema desk w t ≡ []) (tables_of_later_schemas desk) =
-      all_from (λ w. rows_in_schema desk w t ≡ []) (tables_of_later_schemas desk) (λ w listed. (lacks w (not_not (schema_has_table desk w) (has_filtered (λ w. not (schema_has_table desk w)) all_tables w listed).1)).1) in
+      let none : AllByRecursion (λ w. rows_of_table_in_schema desk w t ≡ []) (tables_of_later_schemas desk) =
+      all_from (λ w. rows_of_table_in_schema desk w t ≡ []) (tables_of_later_schemas desk) (λ w listed. (lacks w (not_not (schema_has_table desk w) (has_filtered (λ w. not (schema_has_table desk w)) all_tables w listed).1)).1) in
       let g = grown_each (desk_tables_of_schema desk) t split (tables_of_later_schemas desk) (IsTableOfSchema desk) tree a b h none made in
       let up = raises desk t g.to (all_there (desk_tables_of_schema desk) t (Among (desk_tables_of_schema desk) (tables_of_later_schemas desk) (IsTableOfSchema desk)) g.to b each g.has) in
       let away : (k : Table) → Has a.schema.tables k → ((w : DeskTable) → IsTableOfSchema desk w → k.tree ≢ tree w) → (w : DeskTable) → k.tree ≢ g.to w =

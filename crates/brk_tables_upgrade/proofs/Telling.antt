@@ -4,7 +4,7 @@ use Rattle.sqlite_value.specs.Order.{Row, column}
 use Rattle.sqlite_tied.proofs.RuleLemmas.{and_true}
 use Rattle.sqlite.specs.State.{State, Shown}
 use Rattle.brk_model.specs.Tables.{TradeRow}
-use Rattle.brk_model.specs.Keys.{cash_key, trade_key}
+use Rattle.brk_model.specs.Keys.{cash_transaction_key, trade_key}
 use Rattle.brk_sql.specs.Desk.{TablesSatisfy}
 use Rattle.brk_sql.proofs.Decode.{filter_true}
 use Rattle.brk_sql.proofs.Looks.{tells_rising}
@@ -20,7 +20,7 @@ use Rattle.brk_tables_upgrade.proofs.CashByTrade
 pub tells_cash : (old new : State) (rows : List Row) → Shown CashByTrade.statement [] old new rows → TablesSatisfy desk_tables (λ t. rows ≡ map cash_cells t.cash) old.now
 tells_cash old new rows shown = λ t tree h.
     tells_rising desk_tables CashRows CashByTrade.statement [] (read CashByTrade.statement) CashByTrade.terms CashByTrade.project CashByTrade.order CashByTrade.paging CashByTrade.names CashByTrade.understood_as
-    (λ _. true) (λ tree r x e. refl) cash_cells (λ tree r x e. e) (ordering_by_primary_key CashRows) (key_total cash_key)
+    (λ _. true) (λ tree r x e. refl) cash_cells (λ tree r x e. e) (ordering_by_primary_key CashRows) (key_total cash_transaction_key)
     (λ tree a b x y e f. let p : column a 0 ≡ natural_as_value x.trade = ap (λ row. column row 0) e in let q : column b 0 ≡ natural_as_value y.trade = ap (λ row. column row 0) f in rw (p, q) refl) old new rows shown (λ x y. refl) t tree h
     ∙ ap (map cash_cells) (filter_true t.cash)
 

@@ -6,7 +6,7 @@ use Rattle.sqlite.specs.Effect.{Database}
 use Rattle.sqlite.specs.State.{State}
 use Rattle.brk_money.specs.declared.fault.Fault.{Fault}
 use Rattle.brk_sql.specs.Model.{IsTransactionStep}
-use Rattle.brk_model.specs.Adopted.{posting_of_cash_row}
+use Rattle.brk_model.specs.Adopted.{posting_of_cash_transaction_row}
 use Rattle.brk_model.specs.Joins.{trade_row_with_id}
 use Rattle.brk_model.specs.Tables.{Tables, CashRow, MoveRow, TradeRow, cash_move_row}
 use Rattle.brk_changes.specs.Changes.{tables_with_cash_row}

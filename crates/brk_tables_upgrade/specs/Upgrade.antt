@@ -4,7 +4,7 @@ use Rattle.std.specs.List.{AllByRecursion}
 use Rattle.sqlite_schema.specs.declared.schema.Table.{Table}
 use Rattle.sqlite.specs.Effect.{Database}
 use Rattle.brk_model.specs.Lists.{sort_by_key}
-use Rattle.brk_model.specs.Adopted.{posting_of_cash_row}
+use Rattle.brk_model.specs.Adopted.{posting_of_cash_transaction_row}
 use Rattle.brk_model.specs.Upgraded.{tables_upgraded_from_schema}
 use Rattle.brk_model.specs.Schemas.{Schema}
 use Rattle.brk_model.specs.Tables.{Tables, CashRow, cash_move_row}
@@ -22,7 +22,7 @@ cash_transactions_by_stamp t = sort_by_key (λ r. r.stamp) t.cash
 -- The tables `t` with the row `c` of CASH_TRANSACTION inserted into CASH_MOVE under the number
 -- `id`, with the account of its trade (0 if the trade does not exist).
 abbrev pub tables_with_numbered_cash_row : ℕ → CashRow → Tables → Tables
-tables_with_numbered_cash_row id c t = tables_with_cash_row (cash_move_row id (posting_of_cash_row t c)) t
+tables_with_numbered_cash_row id c t = tables_with_cash_row (cash_move_row id (posting_of_cash_transaction_row t c)) t
 
 -- The tables `t` with the given rows of CASH_TRANSACTION inserted into CASH_MOVE, in order, under
 -- the numbers `n`, `n + 1` and so on.

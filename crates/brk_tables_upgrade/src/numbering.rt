@@ -6,7 +6,7 @@ ghost use Rattle.brk_changes.specs.Rows.{abstract_cash_row};
 ghost use Rattle.brk_tables_schema.specs.Statements.{WritesDeskTables};
 ghost use Rattle.brk_tables_upgrade.specs.Upgrade.{tables_with_cash_rows_numbered_from, tables_with_numbered_cash_row};
 
-use crate::reading::account_of_trade;
+use crate::reading::account_id_of_trade;
 use brk_changes::{CashRow, MoveRow};
 use brk_money::{Fault, MoveId};
 use brk_tables_cash::add_cash_row;
@@ -24,7 +24,7 @@ fn add_numbered_cash_row<S: Alter>(
     ensures step { WritesDeskTables S.Store tx.old tx.new result (tables_with_numbered_cash_row id (abstract_cash_row row.now)) }
     ensures fault { IfErr result IsCallFault }
 {
-    let Some(account) = account_of_trade(tx, row.trade)? else {
+    let Some(account) = account_id_of_trade(tx, row.trade)? else {
         return Err(Fault::Store);
     };
     let numbered = MoveRow {

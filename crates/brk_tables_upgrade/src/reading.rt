@@ -17,7 +17,7 @@ use std::alloc::Global;
 
 /// Returns all rows of CASH_TRANSACTION, sorted by trade, ascending. Changes nothing. Fails with
 /// `Memory` or `Store`.
-pub fn cash_transactions_by_trade<S: Alter>(
+pub fn all_cash_transactions<S: Alter>(
     tx: &mut Transaction<'_, S>,
     alloc: Global,
 ) -> Result<Vec<CashRow>, Fault>
@@ -35,7 +35,7 @@ pub fn cash_transactions_by_trade<S: Alter>(
 
 /// Returns the id of the account of a trade, or `None` if the trade does not exist. Changes
 /// nothing. Fails with `Store` only.
-pub fn account_of_trade<S: Alter>(
+pub fn account_id_of_trade<S: Alter>(
     tx: &mut Transaction<'_, S>,
     trade: Id,
 ) -> Result<Option<Id>, Fault>

@@ -9,7 +9,7 @@ ghost use Rattle.brk_tables_upgrade.specs.Upgrade.{AddsTablesOfLaterSchemas, Upg
 
 use crate::numbering::add_numbered_cash_rows;
 use crate::ordering::sort_cash_rows_by_stamp;
-use crate::reading::cash_transactions_by_trade;
+use crate::reading::all_cash_transactions;
 use brk_changes::Schema;
 use brk_money::Fault;
 use brk_tables_cash::{remove_cash_transactions, set_schema_number_to_three};
@@ -45,7 +45,7 @@ fn move_cash_transactions_to_cash_moves<S: Alter>(
     ensures step { WritesDeskTables S.Store tx.old tx.new result tables_with_cash_transactions_moved }
     ensures fault { IfErr result IsCallFault }
 {
-    let found = cash_transactions_by_trade(tx, alloc)?;
+    let found = all_cash_transactions(tx, alloc)?;
     let rows = sort_cash_rows_by_stamp(found)?;
     add_numbered_cash_rows(tx, &rows)?;
     remove_cash_transactions(tx)

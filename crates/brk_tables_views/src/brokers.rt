@@ -37,7 +37,7 @@ pub fn brokers_with_name<S: Alter>(
 
 /// Returns all requests of pending trades (TRADE_REQUEST), sorted by trade, ascending. Changes
 /// nothing. Fails with `Memory` or `Store`.
-pub fn requests_by_trade<S: Alter>(
+pub fn all_requests<S: Alter>(
     tx: &mut Transaction<'_, S>,
     alloc: Global,
 ) -> Result<Vec<RequestRow>, Fault>

@@ -11,7 +11,7 @@ pub mod holdings;
 pub mod lot_changes;
 pub mod moments;
 
-pub use brokers::{account_ids_of_broker, brokers_with_name, requests_by_trade};
+pub use brokers::{account_ids_of_broker, all_requests, brokers_with_name};
 pub use holdings::completed_trade_ids_of_holding;
 pub use lot_changes::{lot_changes_by_trade, lot_changes_of_lot};
 pub use moments::{

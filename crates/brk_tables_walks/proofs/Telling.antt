@@ -17,7 +17,7 @@ use Rattle.brk_tables_schema.specs.Desk.{Holdings, desk_tables}
 use Rattle.brk_tables_schema.specs.Order.{ordering_by_key}
 use Rattle.brk_tables_schema.proofs.Order.{key_total, inserted}
 use Rattle.brk_tables_schema.proofs.Tests.{same_number}
-use Rattle.brk_tables_walks.specs.Lists.{lot_sort_key, lots_by_symbol}
+use Rattle.brk_tables_walks.specs.Lists.{lot_sort_key, account_lots_by_symbol}
 use Rattle.brk_tables_walks.proofs.LotsBySymbol
 
 -- the order of the model and that of the database are one
@@ -32,7 +32,7 @@ second Equal b h = h
 second Greater b h = absurd (let f = h in cc)
 
 pub tells_lots_by_symbol : (old new : State) (account : ℕ) (rows : List Row) → Shown LotsBySymbol.statement (natural_as_value account ∷ []) old new rows
-    → TablesSatisfy desk_tables (λ t. rows ≡ map holding_cells (lots_by_symbol account t)) old.now
+    → TablesSatisfy desk_tables (λ t. rows ≡ map holding_cells (account_lots_by_symbol account t)) old.now
 tells_lots_by_symbol old new account rows shown = λ t tree h.
     tells_sorted desk_tables Holdings LotsBySymbol.statement (natural_as_value account ∷ []) (read LotsBySymbol.statement) LotsBySymbol.terms LotsBySymbol.project LotsBySymbol.order LotsBySymbol.paging LotsBySymbol.names LotsBySymbol.understood_as
     (λ (r : HoldingRow). r.account == account)
@@ -50,7 +50,7 @@ tells_lots_by_symbol old new account rows shown = λ t tree h.
     ∙ ap (map holding_cells) (sym (sorted lot_sort_key (filter (λ (r : HoldingRow). r.account == account) t.holdings)))
 
 pub lots_start : (s : State) (account : ℕ) (rows : List Row) → IsTrue s.is_open → Begins LotsBySymbol.statement (natural_as_value account ∷ []) s rows
-    → TablesSatisfy desk_tables (λ t. (tail : List Row) × (rows ++ tail ≡ map holding_cells (lots_by_symbol account t))) s.now
+    → TablesSatisfy desk_tables (λ t. (tail : List Row) × (rows ++ tail ≡ map holding_cells (account_lots_by_symbol account t))) s.now
 lots_start s account rows up begins =
     tells_start desk_tables Holdings LotsBySymbol.statement (natural_as_value account ∷ []) (read LotsBySymbol.statement) LotsBySymbol.terms LotsBySymbol.project LotsBySymbol.order LotsBySymbol.paging LotsBySymbol.names LotsBySymbol.understood_as s rows begins up
-    (λ t all. all ≡ map holding_cells (lots_by_symbol account t)) (λ all. tells_lots_by_symbol s s account all)
+    (λ t all. all ≡ map holding_cells (account_lots_by_symbol account t)) (λ all. tells_lots_by_symbol s s account all)

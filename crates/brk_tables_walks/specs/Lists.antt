@@ -13,21 +13,21 @@ lot_sort_key r = word r.symbol ∷ number r.stamp ∷ number r.trade ∷ []
 
 -- The lots of `account`, sorted by symbol, then by the stamp of their opening, then by trade,
 -- ascending.
-abbrev pub lots_by_symbol : ℕ → Tables → List HoldingRow
-lots_by_symbol account t = rows_sorted_by_key lot_sort_key (filter (λ row. row.account == account) t.holdings)
+abbrev pub account_lots_by_symbol : ℕ → Tables → List HoldingRow
+account_lots_by_symbol account t = rows_sorted_by_key lot_sort_key (filter (λ row. row.account == account) t.holdings)
 
 -- The sort key of a cash row: its stamp, then its number.
 abbrev pub cash_sort_key : MoveRow → List KeyPart
 cash_sort_key r = number r.stamp ∷ number r.id ∷ []
 
 -- True if the cash row belongs to `account` and its stamp is from `from` to `to`, both included.
-abbrev pub is_cash_row_between : ℕ → ℕ → ℕ → MoveRow → Bool
-is_cash_row_between account from to row = (row.account == account) && is_in_range from to row.stamp
+abbrev pub is_account_cash_row_between : ℕ → ℕ → ℕ → MoveRow → Bool
+is_account_cash_row_between account from to row = (row.account == account) && is_in_range from to row.stamp
 
 -- The cash rows of `account` with stamps from `from` to `to`, both included, sorted by stamp and
 -- then by number, ascending.
-abbrev pub cash_rows_between : ℕ → ℕ → ℕ → Tables → List MoveRow
-cash_rows_between account from to t = rows_sorted_by_key cash_sort_key (filter (is_cash_row_between account from to) t.moves)
+abbrev pub account_cash_rows_between : ℕ → ℕ → ℕ → Tables → List MoveRow
+account_cash_rows_between account from to t = rows_sorted_by_key cash_sort_key (filter (is_account_cash_row_between account from to) t.moves)
 
 -- The sort key of a trade: the stamp of its last status change, which is the stamp of completion
 -- for a completed trade, then its id.

@@ -2,7 +2,7 @@
 
 ghost use Rattle.std.specs.Prelude.{◌≡◌, false};
 ghost use Rattle.brk_changes.specs.Rows.{abstract_move_row};
-ghost use Rattle.brk_tables_walks.specs.Lists.{cash_rows_between};
+ghost use Rattle.brk_tables_walks.specs.Lists.{account_cash_rows_between};
 ghost use Rattle.brk_tables_walks.specs.Walks.{TableWalkPost};
 
 use crate::visitor::Visitor;
@@ -39,7 +39,7 @@ pub fn walk_cash_rows_of_account<S: Alter, E, V: Visitor<MoveRow, E>>(
 
     // The visitor took the records in sequence, all of them at `Ok`; nothing was written.
     ensures walked { TableWalkPost S.Store conn.old conn.new abstract_move_row
-        (cash_rows_between account from to) V.takes V.stops visitor.old visitor.new result }
+        (account_cash_rows_between account from to) V.takes V.stops visitor.old visitor.new result }
 {
     // The value is not needed: the call shows that an open database outside a transaction is in its
     // committed state.

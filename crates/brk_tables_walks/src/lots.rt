@@ -2,7 +2,7 @@
 
 ghost use Rattle.std.specs.Prelude.{◌≡◌, false};
 ghost use Rattle.brk_changes.specs.Rows.{abstract_holding_row};
-ghost use Rattle.brk_tables_walks.specs.Lists.{lots_by_symbol};
+ghost use Rattle.brk_tables_walks.specs.Lists.{account_lots_by_symbol};
 ghost use Rattle.brk_tables_walks.specs.Walks.{TableWalkPost};
 
 use crate::visitor::Visitor;
@@ -36,7 +36,7 @@ pub fn walk_lots<S: Alter, E, V: Visitor<HoldingRow, E>>(
     ensures leads { V.leads visitor.old visitor.new }
 
     // The visitor took the records in sequence, all of them at `Ok`; nothing was written.
-    ensures walked { TableWalkPost S.Store conn.old conn.new abstract_holding_row (lots_by_symbol account) V.takes V.stops visitor.old visitor.new result }
+    ensures walked { TableWalkPost S.Store conn.old conn.new abstract_holding_row (account_lots_by_symbol account) V.takes V.stops visitor.old visitor.new result }
 {
     // The value is not needed: the call shows that an open database outside a transaction is in its
     // committed state.

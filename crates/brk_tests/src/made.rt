@@ -56,7 +56,9 @@ fn count_rows_of_first<S: Alter>(conn: &mut Connection<S>) -> Result<i64, Fail> 
 // database of a connection. Returns the number of rows of FIRST whose column B is 1 after the
 // creation. Fails without a connection, if the tables cannot be created, and if the rows cannot be
 // counted.
-fn rows_of_first_after_creation<S: Alter + Drop>(conn: Option<Connection<S>>) -> Result<i64, Fail> {
+fn row_count_of_first_after_creation<S: Alter + Drop>(
+    conn: Option<Connection<S>>,
+) -> Result<i64, Fail> {
     let mut conn = expect_connection(conn)?;
     conn.execute_batch(
         "CREATE TABLE FIRST (A TEXT UNIQUE, B INTEGER); INSERT INTO FIRST VALUES ('x', 1); CREATE VIEW SEEN AS SELECT A FROM FIRST",
@@ -68,7 +70,7 @@ fn rows_of_first_after_creation<S: Alter + Drop>(conn: Option<Connection<S>>) ->
 // Checks that creating a store does not change another table of the database.
 #[test]
 fn creation_preserves_other_tables(rt: HostRuntime) -> Result<(), Fail> {
-    let count = rows_of_first_after_creation(open_in_memory(rt.alloc()))?;
+    let count = row_count_of_first_after_creation(open_in_memory(rt.alloc()))?;
     assert_eq!(rt; count, 1);
     Ok(())
 }

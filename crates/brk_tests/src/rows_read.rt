@@ -22,7 +22,7 @@ const LOTS: u64 = 40;
 
 // Returns the text of a batch with the orders and the results of `LOTS` purchases of one share of
 // ABC each for account 100. Fails only if memory runs out.
-fn batch_of_one_share_purchases(alloc: Global) -> Result<String, Fail> {
+fn batch_of_purchases_of_one_share(alloc: Global) -> Result<String, Fail> {
     let mut batch = String::from_str(alloc, "batch,P\n")?;
     for n in 1..=LOTS {
         append_purchase(&mut batch, 100, 1, n)?;
@@ -38,7 +38,7 @@ fn store_with_forty_lots<S: Alter + Drop>(
     alloc: Global,
     conn: Option<Connection<S>>,
 ) -> Result<Store<S>, Fail> {
-    let batch = batch_of_one_share_purchases(alloc)?;
+    let batch = batch_of_purchases_of_one_share(alloc)?;
     let mut desk = desk_with_reference_data(alloc, conn)?;
     let (_, ended) = run_batch_at_desk(alloc, &mut desk, batch.as_bytes());
     match ended {
@@ -102,7 +102,7 @@ fn expect_rows_read_by_sales<S: Alter>(
 // Checks, in a store in the database of a connection, that each sale of `SALES` touches the wanted
 // number of lots and reads the wanted number of rows, with the first and with the last lots first.
 // Fails without a connection.
-fn expect_rows_read_in<S: Alter + Drop>(
+fn expect_rows_read_in_database<S: Alter + Drop>(
     rt: &impl Abort,
     alloc: Global,
     conn: Option<Connection<S>>,
@@ -116,7 +116,7 @@ fn expect_rows_read_in<S: Alter + Drop>(
 // it closes the first or the last lots first.
 #[test]
 fn a_sale_reads_only_the_pages_it_needs(rt: HostRuntime) -> Result<(), Fail> {
-    expect_rows_read_in(&rt, rt.alloc(), open_in_memory(rt.alloc()))
+    expect_rows_read_in_database(&rt, rt.alloc(), open_in_memory(rt.alloc()))
 }
 
 // The number of lots of account 100.
@@ -124,7 +124,7 @@ const LOTS_AT_DESK: u64 = 100;
 
 // Returns the text of a batch that adds account 101, and buys two shares `LOTS_AT_DESK` times for
 // account 100 and once for account 101. Fails only if memory runs out.
-fn batch_of_two_share_purchases(alloc: Global) -> Result<String, Fail> {
+fn batch_of_purchases_of_two_shares(alloc: Global) -> Result<String, Fail> {
     let mut batch = String::from_str(alloc, "batch,P\naccount,101,10,1,Side,1,10000.00\n")?;
     for n in 1..=LOTS_AT_DESK {
         append_purchase(&mut batch, 100, 2, n)?;
@@ -138,7 +138,7 @@ fn batch_of_two_share_purchases(alloc: Global) -> Result<String, Fail> {
 // account 101 has one. Fails if a row of the purchases is not accepted or memory runs out.
 fn files_with_hundred_lots(alloc: Global) -> Result<Held, Fail> {
     let set = files_with_reference_data(alloc)?;
-    let batch = batch_of_two_share_purchases(alloc)?;
+    let batch = batch_of_purchases_of_two_shares(alloc)?;
     let Sent { seen, held, .. } = run_batch_until_crash(
         alloc,
         &set,
@@ -163,7 +163,7 @@ fn batch_of_one_sale(alloc: Global, account: u64, shares: u64) -> Result<String,
 // Returns true if a desk in the files `held` completes the sale of `shares` shares of an account if
 // its database file accepts `calls` calls and fails at each later call. The desk caches one page of
 // the file, and reads each other page from the file. Fails if memory runs out.
-fn sale_completes_within_calls(
+fn is_sale_complete_within_calls(
     alloc: Global,
     held: &Held,
     account: u64,
@@ -188,7 +188,7 @@ fn least_calls_of_sale(alloc: Global, held: &Held, account: u64) -> Result<u64, 
     let mut most = 0u64;
     for bit in [4_096, 2_048, 1_024, 512, 256, 128, 64, 32, 16, 8, 4, 2, 1] {
         let more = most.saturating_add(bit);
-        if !sale_completes_within_calls(alloc, held, account, 1, more)? {
+        if !is_sale_complete_within_calls(alloc, held, account, 1, more)? {
             most = more;
         }
     }
@@ -203,15 +203,15 @@ fn calls_of_a_sale_do_not_grow_with_lots(rt: HostRuntime) -> Result<(), Fail> {
     let held = files_with_hundred_lots(alloc)?;
     let calls = least_calls_of_sale(alloc, &held, 101)?;
     assert!(rt;
-        sale_completes_within_calls(alloc, &held, 101, 1, calls)?,
+        is_sale_complete_within_calls(alloc, &held, 101, 1, calls)?,
         "{calls}"
     );
     assert!(rt;
-        sale_completes_within_calls(alloc, &held, 100, 1, calls)?,
+        is_sale_complete_within_calls(alloc, &held, 100, 1, calls)?,
         "{calls}"
     );
     assert!(rt;
-        !sale_completes_within_calls(alloc, &held, 100, 33, calls)?,
+        !is_sale_complete_within_calls(alloc, &held, 100, 33, calls)?,
         "{calls}"
     );
     Ok(())

@@ -147,7 +147,7 @@ fn expect_statement_write_fault<S: Alter>(
 // the database of a connection, with a writer that has room for this number, writes exactly its
 // first bytes and fails with `Write`, or completes if all are written
 // (`expect_statement_write_fault`). Fails without a connection.
-fn expect_statement_write_faults_in<S: Alter + Drop>(
+fn expect_each_statement_write_fault<S: Alter + Drop>(
     rt: &impl Abort,
     alloc: Global,
     conn: Option<Connection<S>>,
@@ -165,7 +165,7 @@ fn expect_statement_write_faults_in<S: Alter + Drop>(
 // that the statement completes with room for all bytes.
 #[test]
 fn statement_writers_failing_at_each_byte(rt: HostRuntime) -> Result<(), Fail> {
-    expect_statement_write_faults_in(&rt, rt.alloc(), open_in_memory(rt.alloc()))
+    expect_each_statement_write_fault(&rt, rt.alloc(), open_in_memory(rt.alloc()))
 }
 
 // Two purchases, a sale that closes the last lot first, a short sale on margin of another symbol,
@@ -220,7 +220,7 @@ struct Seen {
 
 // Subtracts 1 from the number of rows that the walk may still pass. If this number is 0, fails with
 // `At` and the trade `trade` (0 for a movement), which stops the walk.
-fn count_row(seen: &mut Seen, trade: u64) -> Result<(), Ended> {
+fn count_row_or_stop(seen: &mut Seen, trade: u64) -> Result<(), Ended> {
     if seen.left == 0 {
         return Err(Ended::At(trade));
     }
@@ -228,12 +228,12 @@ fn count_row(seen: &mut Seen, trade: u64) -> Result<(), Ended> {
     Ok(())
 }
 
-// Counts a cash row (`count_row`) and appends its number, trade (0 for a movement), stamp, amount
+// Counts a cash row (`count_row_or_stop`) and appends its number, trade (0 for a movement), stamp, amount
 // in cents and text to the rows as a line. Fails with `At` if no more rows may be passed, and with
 // `Memory` if memory runs out.
 fn record_cash_row(seen: &mut Seen, row: &MoveRow) -> Result<(), Ended> {
     let trade = row.trade.map_or(0, Id::get);
-    count_row(seen, trade)?;
+    count_row_or_stop(seen, trade)?;
     let (place, stamp, amount) = (row.id.get(), row.stamp.get(), row.amount.get());
     match writeln!(seen.rows, "{place} {trade} {stamp} {amount} {}", row.name) {
         Ok(()) => Ok(()),
@@ -244,7 +244,7 @@ fn record_cash_row(seen: &mut Seen, row: &MoveRow) -> Result<(), Ended> {
 // Counts a lot and appends its trade, stamp, quantity, symbol and price in cents to the rows as a
 // line. Fails with `At` if no more rows may be passed, and with `Memory` if memory runs out.
 fn record_lot(seen: &mut Seen, symbol: &str, lot: &Lot) -> Result<(), Ended> {
-    count_row(seen, lot.trade.get())?;
+    count_row_or_stop(seen, lot.trade.get())?;
     let (trade, stamp, price) = (lot.trade.get(), lot.stamp.get(), lot.price.get());
     match writeln!(seen.rows, "{trade} {stamp} {} {symbol} {price}", lot.qty) {
         Ok(()) => Ok(()),
@@ -345,7 +345,7 @@ fn record_cash_rows<S: Alter>(
 
 // Checks, for each walk of `CASH` over the cash rows of account 100 on a desk in the database of a
 // connection, that its rows and its result are the wanted ones. Fails without a connection.
-fn expect_cash_rows_in<S: Alter + Drop>(
+fn expect_cash_row_walks<S: Alter + Drop>(
     rt: &impl Abort,
     alloc: Global,
     conn: Option<Connection<S>>,
@@ -368,7 +368,7 @@ fn expect_cash_rows_in<S: Alter + Drop>(
 // wanted rows, sorted by stamp, ascending, and that it has the wanted result.
 #[test]
 fn walks_cash_rows_in_order_of_stamps(rt: HostRuntime) -> Result<(), Fail> {
-    expect_cash_rows_in(&rt, rt.alloc(), open_in_memory(rt.alloc()))
+    expect_cash_row_walks(&rt, rt.alloc(), open_in_memory(rt.alloc()))
 }
 
 // Walks over lots: the account, the number of lots that the walk may pass, the lots that it passes,
@@ -408,7 +408,7 @@ fn record_lots<S: Alter>(
 
 // Checks, for each walk of `LOTS` over the lots of an account on a desk in the database of a
 // connection, that its lots and its result are the wanted ones. Fails without a connection.
-fn expect_lots_in<S: Alter + Drop>(
+fn expect_lot_walks<S: Alter + Drop>(
     rt: &impl Abort,
     alloc: Global,
     conn: Option<Connection<S>>,
@@ -430,5 +430,5 @@ fn expect_lots_in<S: Alter + Drop>(
 // lots, sorted by symbol, ascending, and that it has the wanted result.
 #[test]
 fn walks_lots_in_order_of_symbols(rt: HostRuntime) -> Result<(), Fail> {
-    expect_lots_in(&rt, rt.alloc(), open_in_memory(rt.alloc()))
+    expect_lot_walks(&rt, rt.alloc(), open_in_memory(rt.alloc()))
 }

@@ -7,7 +7,9 @@ use brk_lots::Position;
 use brk_money::{Id, Price, Rate, Stamp, TaxRate, TaxStatus, TradeType, Wide};
 use brk_orders::{parse_market_feed, parse_trade_order};
 use brk_ref::{ChargeAmount, LastTrade, Symbol, Volume};
-use brk_trade::{OrderAccount, OrderPlanFacts, Quote, plan_feed, plan_order, price_triggers_trade};
+use brk_trade::{
+    OrderAccount, OrderPlanFacts, Quote, is_triggered_at_price, plan_feed, plan_order,
+};
 use std::alloc::Global;
 use std::process::Abort;
 
@@ -113,9 +115,9 @@ fn an_order_beyond_greatest_trade_id_is_refused(rt: HostRuntime) {
 
 // Returns true if a price of `cents` cents triggers a pending trade of the type `kind` with a bid
 // of 10.00.
-fn cents_trigger_trade(rt: &impl Abort, kind: TradeType, cents: u32) -> bool {
+fn is_trade_triggered_at_cents(rt: &impl Abort, kind: TradeType, cents: u32) -> bool {
     let bid = Price::new(1_000).expect(rt, "bid");
-    price_triggers_trade(kind, bid, Price::new(cents).expect(rt, "price"))
+    is_triggered_at_price(kind, bid, Price::new(cents).expect(rt, "price"))
 }
 
 // Types of trades, each with whether a price below, at and above its bid triggers it.
@@ -133,8 +135,12 @@ const TRIGGERS: [(TradeType, bool, bool, bool); 5] = [
 #[test]
 fn prices_trigger_pending_trades(rt: HostRuntime) {
     for (kind, is_below, is_at, is_above) in &TRIGGERS {
-        expect_equal(&rt, cents_trigger_trade(&rt, *kind, 999), *is_below);
-        expect_equal(&rt, cents_trigger_trade(&rt, *kind, 1_000), *is_at);
-        expect_equal(&rt, cents_trigger_trade(&rt, *kind, 1_001), *is_above);
+        expect_equal(&rt, is_trade_triggered_at_cents(&rt, *kind, 999), *is_below);
+        expect_equal(&rt, is_trade_triggered_at_cents(&rt, *kind, 1_000), *is_at);
+        expect_equal(
+            &rt,
+            is_trade_triggered_at_cents(&rt, *kind, 1_001),
+            *is_above,
+        );
     }
 }

@@ -2,7 +2,7 @@
 use Rattle.std.proofs.Common.{◌≡◌, ℕ, List, [], ◌∷◌, ◌++◌, refl, sym, ap, ◌∙◌, Option, Some, None}
 use Rattle.std.proofs.lemmas.List.{append_assoc}
 use Rattle.brk_lots.specs.Values.{closing_values_of_deal}
-use Rattle.brk_lots.specs.Closing.{AreLotsClosedByDeal}
+use Rattle.brk_lots.specs.Closing.{IsEffectOfDealOnLots}
 use Rattle.brk_lots.specs.Lots.{shares_of_lots}
 use Rattle.brk_lots.specs.declared.closing.ClosedLots.{ClosedLots}
 use Rattle.brk_lots.specs.declared.lot.Lot.{Lot}
@@ -45,7 +45,7 @@ at_any_moment t price stamp other us = rw (same_bought (side_of_trade_type t.kin
 
 -- a refusal that the values tell, over the lots of a position, after the first tests found no cause
 pub refused_by_values : (found : ResultPlanFacts) (price : ℕ) (ls : List Lot) (at stamp : ℕ) (closed : ClosedLots) (clock : _) (refusal : Refusal)
-    → AreLotsClosedByDeal (deal_of_trade_row found.trade price at) ls closed → first_refusal (checks_before_reading_lots found) ≡ None
+    → IsEffectOfDealOnLots (deal_of_trade_row found.trade price at) ls closed → first_refusal (checks_before_reading_lots found) ≡ None
     → first_refusal (checks_after_reading_lots found price closed.values clock) ≡ Some refusal
     → first_refusal (result_checks found price (closing_values_of_deal (deal_of_trade_row found.trade price stamp) (shares_of_lots ls)) clock) ≡ Some refusal
 refused_by_values found price ls at stamp closed clock refusal k first last =

@@ -2,9 +2,9 @@
 use Rattle.std.specs.Prelude.{◌≡◌, ℕ, ◌+◌, ◌≤◌, IfSome, Bool, false, ℤ, pos, if◌then◌else◌, List, [], ◌∷◌, ◌++◌, codes}
 use Rattle.std.specs.Prelude.{decimal, length, flat_map, Option, Some, None, option_map, option_to_list, unwrap_or}
 use Rattle.brk_lots.specs.Values.{closing_values_of_deal}
-use Rattle.brk_lots.specs.Closing.{AreLotsClosedByDeal}
+use Rattle.brk_lots.specs.Closing.{IsEffectOfDealOnLots}
 use Rattle.brk_lots.specs.Lots.{shares_of_lots}
-use Rattle.brk_lots.specs.Against.{trade_closes_lots}
+use Rattle.brk_lots.specs.Against.{is_trade_closing_lots}
 use Rattle.brk_lots.specs.Books.{lot_quantity_sum}
 use Rattle.brk_lots.specs.Position.{AreOpenedByOtherTrades}
 use Rattle.brk_lots.specs.Sources.{YieldsPosition}
@@ -156,7 +156,7 @@ AreLotsBeforeTrade given found ls =
 
 -- The account of the trade of `found` holds no shares that this trade would close.
 abbrev pub ClosesNoHeldShares : ResultPlanFacts → Type 0
-ClosesNoHeldShares found = trade_closes_lots (side_of_trade_type found.trade.kind) (shares_held_before_trade found) ≡ false
+ClosesNoHeldShares found = is_trade_closing_lots (side_of_trade_type found.trade.kind) (shares_held_before_trade found) ≡ false
 
 -- `plan` completes the trade of `found` at `price` and the stamp of the command, where `given` is
 -- true of each list of lots that the source may return, `last` is the last stamp, and `now` the
@@ -167,7 +167,7 @@ pub record IsResultPlan (found : ResultPlanFacts) (price : ℕ) (given : List Lo
   pub stamp : ℕ
   pub closed : ClosedLots
   pub stamped : stamp_after last now ≡ Some stamp
-  pub closes : (ls : List Lot) → AreLotsBeforeTrade given found ls → AreLotsClosedByDeal (deal_of_trade_row found.trade price stamp) ls closed
+  pub closes : (ls : List Lot) → AreLotsBeforeTrade given found ls → IsEffectOfDealOnLots (deal_of_trade_row found.trade price stamp) ls closed
   pub accepted : first_refusal (result_checks found price closed.values (Some stamp)) ≡ None
   pub replied : plan.reply ≡ reply.Completed (reply_figures_of_result found price closed.values stamp)
   pub changes : AreResultChanges found price closed (figures_of_result found price closed.values stamp) plan.changes.items
@@ -181,7 +181,7 @@ CompletesExistingTrade (Some found) price given last now plan = IsResultPlan fou
 -- `price`. The clause `early` is vacuous if no check before the lots are read fails, and the clause
 -- `late` if no lots of the source match the summary (`AreLotsBeforeTrade`). `last` is the last
 -- stamp, and `now` the clock reading.
-pub record IsRefusalOfExistingTrade (found : ResultPlanFacts) (price : ℕ) (given : List Lot → Type 0) (last : Option ℕ) (now : ℕ)
+pub record IsResultRefusalOfExistingTrade (found : ResultPlanFacts) (price : ℕ) (given : List Lot → Type 0) (last : Option ℕ) (now : ℕ)
     (refusal : Refusal) : Type 0 where
   -- If a check before the lots are read fails, its refusal is `refusal`, whatever the lots are.
   pub early : IfSome (first_refusal (checks_before_reading_lots found)) (λ cause. refusal ≡ cause)
@@ -193,10 +193,10 @@ pub record IsRefusalOfExistingTrade (found : ResultPlanFacts) (price : ℕ) (giv
       ≡ Some refusal
 
 -- `refusal` is the refusal of a result: `NoTrade` if there is no such trade, and otherwise the
--- first one that applies (`IsRefusalOfExistingTrade`).
+-- first one that applies (`IsResultRefusalOfExistingTrade`).
 abbrev pub IsResultRefusal : Option ResultPlanFacts → ℕ → (List Lot → Type 0) → Option ℕ → ℕ → Refusal → Type 0
 IsResultRefusal None price given last now refusal = refusal ≡ NoTrade
-IsResultRefusal (Some found) price given last now refusal = IsRefusalOfExistingTrade found price given last now refusal
+IsResultRefusal (Some found) price given last now refusal = IsResultRefusalOfExistingTrade found price given last now refusal
 
 -- The stamp `stamp`, or the clock reading `now` if it is none.
 abbrev pub stamp_or_clock_reading : Option ℕ → ℕ → ℕ

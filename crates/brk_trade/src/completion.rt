@@ -198,7 +198,7 @@ fn create_settlement_change(trade: &TradeRow, completed: &Completed) -> Change
 
 // Appends to `changes` the row changes of the account's summary, of the broker's totals and of the
 // settlement, in this sequence. Fails with `Memory` only.
-fn append_summary_and_settlement_changes(
+fn append_summary_broker_settlement_changes(
     found: &ResultPlanFacts,
     outcome: &ResultFigures,
     changes: &mut Vec<Change>,
@@ -302,7 +302,7 @@ fn create_result_changes(
     append_completed_trade_changes(trade.id, price, completed, &mut changes)?;
     append_changes_of_all_touched_lots(trade.id, &closed.touched, &mut changes)?;
     append_opened_lot_changes(trade, closed.opened, &mut changes)?;
-    append_summary_and_settlement_changes(found, outcome, &mut changes)?;
+    append_summary_broker_settlement_changes(found, outcome, &mut changes)?;
     append_cash_row_changes(trade.account, completed, cash, &mut changes)?;
     changes.push(Change::SetLastStamp(completed.stamp))?;
     Ok(changes)

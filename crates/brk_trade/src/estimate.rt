@@ -6,7 +6,7 @@ ghost use Rattle.brk_model.specs.Derived.{shares_of_position};
 ghost use Rattle.brk_model.specs.Orders as spec_orders;
 ghost use Rattle.brk_lots.specs.declared.lot.Lot.{Lot};
 ghost use Rattle.brk_lots.specs.Lots.{shares_of_lots};
-ghost use Rattle.brk_lots.specs.Against.{trade_closes_lots};
+ghost use Rattle.brk_lots.specs.Against.{is_trade_closing_lots};
 ghost use Rattle.brk_lots.specs.Books.{lot_quantity_sum};
 ghost use Rattle.brk_lots.specs.Sources.{YieldsPosition, AreLotsOfFaithfulSource};
 ghost use Rattle.brk_lots.specs.Values.{closing_values_of_deal};
@@ -14,7 +14,7 @@ ghost use Rattle.brk_trade.specs.Estimates.{AreOrderTermsInBase, OrderReadsAtMos
 ghost use Rattle.brk_plans.specs.Replies.{estimate_from_model};
 
 use brk_lots::{
-    LotSource, Values, estimate_closing_values, trade_closes_lots, zero_closing_values,
+    LotSource, Values, estimate_closing_values, is_trade_closing_lots, zero_closing_values,
 };
 use brk_money::{
     Amount, Cents, Fault, Price, Qty, Rate, Side, TaxRate, TaxStatus, Wide, commission, tax,
@@ -88,7 +88,7 @@ fn values_of_shares_to_close<L: LotSource>(source: &mut L, terms: &Terms) -> Res
     // The number of lots requested, also if the call fails.
     ensures asked { OrderReadsAtMostOneLotMore terms.now
         (AreLotsOfFaithfulSource (L.reads_faithfully source.new) (L.remaining source.old)) (L.asked source.old) (L.asked source.new) }
-    ensures reads_no_lot { trade_closes_lots terms.now.side terms.now.held ≡ false → source.new ≡ source.old }
+    ensures reads_no_lot { is_trade_closing_lots terms.now.side terms.now.held ≡ false → source.new ≡ source.old }
 
     // At `Ok` the source counted no fault; a fault is that of a call of the source.
     ensures faulted { IfOk result (λ values. L.faulted source.new ≡ L.faulted source.old) }
@@ -98,7 +98,7 @@ fn values_of_shares_to_close<L: LotSource>(source: &mut L, terms: &Terms) -> Res
     ensures rest { (ls : List Lot) → AreLotsOfFaithfulSource (L.reads_faithfully source.new) (L.remaining source.old) ls
         → (n : ℕ) × L.remaining source.new (drop n ls) }
 {
-    if trade_closes_lots(terms.side, terms.held) {
+    if is_trade_closing_lots(terms.side, terms.held) {
         estimate_closing_values(source, terms.side, terms.qty, terms.price)
     } else {
         Ok(zero_closing_values())
@@ -125,7 +125,7 @@ pub fn estimate_order<L: LotSource>(source: &mut L, terms: &Terms) -> Result<Est
     // none if the account holds no shares that the order would close.
     ensures asked { OrderReadsAtMostOneLotMore terms.now
         (AreLotsOfFaithfulSource (L.reads_faithfully source.new) (L.remaining source.old)) (L.asked source.old) (L.asked source.new) }
-    ensures reads_no_lot { trade_closes_lots terms.now.side terms.now.held ≡ false → source.new ≡ source.old }
+    ensures reads_no_lot { is_trade_closing_lots terms.now.side terms.now.held ≡ false → source.new ≡ source.old }
     // A fault of the source is never ignored, and is returned unchanged.
     ensures faulted { IfOk result (λ estimate. L.faulted source.new ≡ L.faulted source.old) }
     ensures fault { IfErr result (λ fault. (before : L) × L.fails before fault source.new) }

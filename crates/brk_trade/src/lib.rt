@@ -19,8 +19,8 @@ pub use brk_changes::{
 pub use brk_plans::{
     CashText, Completed, Estimate, MovementPlanFacts, Ordered, Plan, Quote, Reference,
     ReferenceFacts, Reply, SettlementText, Span, TextUpdate, create_quote, first_symbol_price_span,
-    has_no_quote_of_symbol, plan_cancel, plan_feed, plan_move, plan_oneday, plan_reference,
-    plan_update, price_triggers_trade,
+    has_no_quote_of_symbol, is_triggered_at_price, plan_cancel, plan_feed, plan_move, plan_oneday,
+    plan_reference, plan_update,
 };
 pub use estimate::{Terms, estimate_order, tax_on_realised_gain};
 pub use order::{OrderAccount, OrderPlanFacts, plan_estimate, plan_order};

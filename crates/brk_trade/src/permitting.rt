@@ -21,7 +21,7 @@ fn executor_has_names_and_tax_id(
 }
 
 // Returns true if the permission has the first name, the last name and the tax id of the executor.
-fn permission_names_executor(permission: &Permission, executor: &Executor) -> bool
+fn is_permission_of_executor(permission: &Permission, executor: &Executor) -> bool
     ensures { result ≡ orders.executor_has_identity (abstract_executor executor.now) permission.now.first_name permission.now.last_name permission.now.tax_id }
 {
     executor_has_names_and_tax_id(
@@ -44,5 +44,5 @@ pub fn permitted(customer: &Customer, permissions: &[Permission], executor: &Exe
         &customer.first_name,
         &customer.last_name,
         &customer.tax_id,
-    ) || permissions.iter().any(|permission| permission_names_executor(permission, executor))
+    ) || permissions.iter().any(|permission| is_permission_of_executor(permission, executor))
 }

@@ -1,6 +1,6 @@
 ghost use Rattle.std.specs.Prelude.{◌≡◌, ◌⊎◌, ◌+◌, ◌*◌, ◌≤◌, ℕ, List, drop, length, option_map, IfOk, IfErr, IfSome, MatchResult};
 ghost use Rattle.brk_lots.specs.declared.lot.Lot.{Lot};
-ghost use Rattle.brk_lots.specs.Closing.{AreLotsClosedByDeal};
+ghost use Rattle.brk_lots.specs.Closing.{IsEffectOfDealOnLots};
 ghost use Rattle.brk_lots.specs.Lots.{shares_of_lots};
 ghost use Rattle.brk_lots.specs.Sources.{AreLotsOfFaithfulSource};
 ghost use Rattle.brk_model.specs.Limits.{greatest_price};
@@ -15,7 +15,7 @@ use crate::completion::create_completion_changes;
 use crate::outcome::{checked_rate_and_summary, checked_result_figures};
 use crate::result_found::ResultPlanFacts;
 use brk_lots::{
-    ClosedLots, LotSource, close_with_amounts, open_lot_without_closing, trade_closes_lots,
+    ClosedLots, LotSource, close_with_amounts, is_trade_closing_lots, open_lot_without_closing,
 };
 use brk_money::{Fault, Planned, Price, Refusal, Stamp, stamp_after};
 use brk_plans::{Plan, Reply};
@@ -37,7 +37,7 @@ fn effect_of_trade_on_lots<L: LotSource>(
     // At `Ok` the effect of the trade on the lots, and the limit of the sell value.
     ensures closed { IfOk result (λ closed. (ls : List Lot)
         → AreLotsBeforeTrade (AreLotsOfFaithfulSource (L.reads_faithfully source.new) (L.remaining source.old)) found.now ls →
-        AreLotsClosedByDeal (deal_of_trade_row found.now.trade price stamp) ls closed) }
+        IsEffectOfDealOnLots (deal_of_trade_row found.now.trade price stamp) ls closed) }
     ensures sold { IfOk result (λ closed. closed.values.sell_value ≤ found.now.trade.qty * greatest_price) }
 
     // The number of lots requested, also if the call fails.
@@ -55,7 +55,7 @@ fn effect_of_trade_on_lots<L: LotSource>(
 {
     let trade = &found.trade;
     let side = trade.kind.side();
-    if trade_closes_lots(side, found.summary.unwrap_or(0)) {
+    if is_trade_closing_lots(side, found.summary.unwrap_or(0)) {
         close_with_amounts(alloc, source, side, trade.qty, trade.id, price, stamp)
     } else {
         Ok(open_lot_without_closing(alloc, side, trade.qty, trade.id, price, stamp))

@@ -17,7 +17,7 @@ use Rattle.brk_orders.specs.Records.{abstract_ticks}
 use Rattle.brk_orders.specs.declared.tick.Tick.{Tick}
 use Rattle.brk_changes.specs.Changes.{tables_after_changes}
 use Rattle.brk_plans.specs.Feed as planner
-use Rattle.brk_plans.specs.Feed.{SymbolState, IsFeedPlan, row_changes_of_ticks, exceeds_volume_limit, trades_triggered_by_ticks, is_state_of_symbol, lacks_state_of_symbol, states_after_ticks, IsTickedReply}
+use Rattle.brk_plans.specs.Feed.{SymbolState, IsFeedPlan, row_changes_of_ticks, has_volume_above_limit, trades_triggered_by_ticks, is_state_of_symbol, has_no_state_of_symbol, states_after_ticks, IsTickedReply}
 use Rattle.brk_plans.specs.Reference.{later_stamp_check}
 use Rattle.brk_plans.specs.Replies.{abstract_reply}
 use Rattle.brk_changes.specs.declared.change.Change.TheVariants.{SetLastStamp}
@@ -28,7 +28,7 @@ use Rattle.brk_book_theorems.specs.Steps.{base_after_command}
 use Rattle.brk_trade_theorems.specs.Plans.{PlanImplementsCommand}
 use Rattle.brk_trade_theorems.specs.TradePlans.{HasQuoteIfSymbolHasLastTrade, PlanFeedPrecondition, HasDistinctQuoteSymbols}
 use Rattle.brk_book_theorems.specs.TradeReads.{last_trade_row_of_symbol}
-use Rattle.brk_book_theorems.specs.Ticks.{exceeds_symbol_volume_limit, is_tick_of_unknown_symbol}
+use Rattle.brk_book_theorems.specs.Ticks.{is_symbol_volume_above_limit, is_tick_of_unknown_symbol}
 use Rattle.brk_trade_theorems.specs.TradeTests.{feed_checks_on_tables}
 use Rattle.brk_book_theorems.specs.Trading.{trade_ids_triggered_by_feed}
 use Rattle.brk_book_theorems.proofs.Same.{All-map, any-none}
@@ -53,10 +53,10 @@ same_known t ticks quotes tick k d h = both_ways (list_any (is_state_of_symbol t
         ap is_some (sym (ap (last_trade_row_of_symbol t) q.same) ∙ q.read.last_trade)
 
 same_unknown : (t : Tables) (ticks : List Tick) (quotes : List SymbolState) → AllByRecursion (IsHeld t ticks) quotes → HasDistinctQuoteSymbols quotes → AllByRecursion (HasQuoteIfSymbolHasLastTrade t quotes) ticks
-    → list_any (lacks_state_of_symbol quotes) ticks ≡ list_any (is_tick_of_unknown_symbol t) (abstract_ticks ticks)
+    → list_any (has_no_state_of_symbol quotes) ticks ≡ list_any (is_tick_of_unknown_symbol t) (abstract_ticks ticks)
 same_unknown t ticks quotes k d quoted = each ticks quoted
   where
-    each : (us : List Tick) → AllByRecursion (HasQuoteIfSymbolHasLastTrade t quotes) us → list_any (lacks_state_of_symbol quotes) us ≡ list_any (is_tick_of_unknown_symbol t) (abstract_ticks us)
+    each : (us : List Tick) → AllByRecursion (HasQuoteIfSymbolHasLastTrade t quotes) us → list_any (has_no_state_of_symbol quotes) us ≡ list_any (is_tick_of_unknown_symbol t) (abstract_ticks us)
     each [] h = refl
     each (u ∷ us) h = λ i. not (same_known t ticks quotes u k d h.0 i) || each us h.1 i
 
@@ -64,22 +64,22 @@ same_unknown t ticks quotes k d quoted = each ticks quoted
 held_quotes : (base : Base) (ticks : List Tick) (quotes : List SymbolState) (last : Option ℕ) (now : ℕ) → PlanFeedPrecondition base ticks quotes last now → AllByRecursion (IsHeld (sheets base) ticks) quotes
 held_quotes base ticks quotes last now k = All-map quotes (λ quote q. is_held base ticks quote k.books q) k.quotes_read.read
 
-known_quotes : (ticks : List Tick) (quotes : List SymbolState) → list_any (lacks_state_of_symbol quotes) ticks ≡ false → HaveQuotes quotes ticks
-known_quotes ticks quotes e = All-map ticks (λ tick n. not_not (list_any (is_state_of_symbol tick.symbol) quotes) n) (any-none (lacks_state_of_symbol quotes) ticks e)
+known_quotes : (ticks : List Tick) (quotes : List SymbolState) → list_any (has_no_state_of_symbol quotes) ticks ≡ false → HaveQuotes quotes ticks
+known_quotes ticks quotes e = All-map ticks (λ tick n. not_not (list_any (is_state_of_symbol tick.symbol) quotes) n) (any-none (has_no_state_of_symbol quotes) ticks e)
 
 read_tests : (base : Base) (stamp : ℕ) (ticks : List Tick) (quotes : List SymbolState) (last : Option ℕ) (now : ℕ) → PlanFeedPrecondition base ticks quotes last now
     → first_refusal (planner.feed_checks stamp ticks quotes ++ later_stamp_check last now ∷ []) ≡ first_refusal (feed_checks_on_tables (sheets base) (abstract_ticks ticks) (sheets base).last now)
-read_tests base stamp ticks quotes last now k = by_unknown (list_any (lacks_state_of_symbol quotes) ticks) refl
+read_tests base stamp ticks quotes last now k = by_unknown (list_any (has_no_state_of_symbol quotes) ticks) refl
   where
-    same : list_any (lacks_state_of_symbol quotes) ticks ≡ list_any (is_tick_of_unknown_symbol (sheets base)) (abstract_ticks ticks)
+    same : list_any (has_no_state_of_symbol quotes) ticks ≡ list_any (is_tick_of_unknown_symbol (sheets base)) (abstract_ticks ticks)
     same = same_unknown (sheets base) ticks quotes (held_quotes base ticks quotes last now k) k.quotes_read.apart k.quotes_read.quoted
 
-    by_unknown : (b : Bool) → list_any (lacks_state_of_symbol quotes) ticks ≡ b → first_refusal (planner.feed_checks stamp ticks quotes ++ later_stamp_check last now ∷ [])
+    by_unknown : (b : Bool) → list_any (has_no_state_of_symbol quotes) ticks ≡ b → first_refusal (planner.feed_checks stamp ticks quotes ++ later_stamp_check last now ∷ [])
         ≡ first_refusal (feed_checks_on_tables (sheets base) (abstract_ticks ticks) (sheets base).last now)
     by_unknown true e =
-        refused_first (list_any (lacks_state_of_symbol quotes) ticks) (list_any (is_tick_of_unknown_symbol (sheets base)) (abstract_ticks ticks)) NoSecurity
-        ((list_any exceeds_volume_limit (states_after_ticks stamp ticks quotes), Range limit.Volume) ∷ later_stamp_check last now ∷ [])
-        ((list_any (exceeds_symbol_volume_limit (sheets base) (abstract_ticks ticks)) (abstract_ticks ticks), Range limit.Volume) ∷ later_stamp_check (sheets base).last now ∷ []) e (sym same ∙ e)
+        refused_first (list_any (has_no_state_of_symbol quotes) ticks) (list_any (is_tick_of_unknown_symbol (sheets base)) (abstract_ticks ticks)) NoSecurity
+        ((list_any has_volume_above_limit (states_after_ticks stamp ticks quotes), Range limit.Volume) ∷ later_stamp_check last now ∷ [])
+        ((list_any (is_symbol_volume_above_limit (sheets base) (abstract_ticks ticks)) (abstract_ticks ticks), Range limit.Volume) ∷ later_stamp_check (sheets base).last now ∷ []) e (sym same ∙ e)
     by_unknown false e =
         let volumes = quotes_exceed base stamp ticks quotes k.books (held_quotes base ticks quotes last now k) k.quotes_read.apart (known_quotes ticks quotes e) in
         λ i. first_refusal ((same i, NoSecurity) ∷ (volumes i, Range limit.Volume) ∷ later_stamp_check (k.last_read i) now ∷ [])
@@ -114,8 +114,8 @@ pub feed_plan_does : (base : Base) (ticks : List Tick) (quotes : List SymbolStat
     → IsFeedPlan ticks quotes last now plan → PlanImplementsCommand base now (FeedTicks (abstract_ticks ticks)) plan
 feed_plan_does base ticks quotes last now plan k p =
     let t : Tables = sheets base in
-    let known : HaveQuotes quotes ticks = known_quotes ticks quotes (first_false (list_any (lacks_state_of_symbol quotes) ticks) NoSecurity
-    ((list_any exceeds_volume_limit (states_after_ticks p.stamp ticks quotes), Range limit.Volume) ∷ later_stamp_check last now ∷ []) p.accepted) in
+    let known : HaveQuotes quotes ticks = known_quotes ticks quotes (first_false (list_any (has_no_state_of_symbol quotes) ticks) NoSecurity
+    ((list_any has_volume_above_limit (states_after_ticks p.stamp ticks quotes), Range limit.Volume) ∷ later_stamp_check last now ∷ []) p.accepted) in
     let quoted : Quoted t ticks quotes =
     record { read = held_quotes base ticks quotes last now k; apart = k.quotes_read.apart; requests = base_apart base k.books; known = known } in
     let stamped : stamp_after t.last now ≡ Some p.stamp = sym (ap (λ o. stamp_after o now) k.last_read) ∙ p.stamped in

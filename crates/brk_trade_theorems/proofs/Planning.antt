@@ -15,7 +15,7 @@ use Rattle.brk_model.specs.Commands.{Booked}
 use Rattle.brk_model.specs.Tests.{checks_of_command, refusal_of_command, first_refusal, duplicate_check, stamp_of_next_command}
 use Rattle.brk_model.specs.Step.{reply_to_command, step, value_unless_refused}
 use Rattle.brk_changes.specs.Changes.{tables_after_changes}
-use Rattle.brk_plans.specs.Reference.{IsReferencePlan, later_stamp_check, sum_exceeds_greatest_tax_rate, row_changes_adding_record, reference_checks}
+use Rattle.brk_plans.specs.Reference.{IsReferencePlan, later_stamp_check, is_sum_above_greatest_tax_rate, row_changes_adding_record, reference_checks}
 use Rattle.brk_changes.specs.declared.change.Change.TheVariants as change
 use Rattle.brk_plans.specs.declared.plan.Plan.{Plan}
 use Rattle.brk_plans.specs.declared.reference.ReferenceFacts.{ReferenceFacts}
@@ -39,7 +39,7 @@ pub clock_read : (base : Base) (last : Option ℕ) (now : ℕ) → BooksInvarian
 clock_read base last now books l h = ap (λ o. is_none (stamp_after o now)) (l ∙ reads_last base) ∙ stamp_left base.last now books.clock h
 
 -- a customer's rates with another one, by their sum where it is no more than the whole
-exceeds_read : (rates : Option ℕ) (sum : ℕ) (rate : Option ℕ) → SomeIff rates (sum ≤ greatest_tax_rate) sum → sum_exceeds_greatest_tax_rate rates rate ≡ nat_lt greatest_tax_rate (sum + unwrap_or rate 0)
+exceeds_read : (rates : Option ℕ) (sum : ℕ) (rate : Option ℕ) → SomeIff rates (sum ≤ greatest_tax_rate) sum → is_sum_above_greatest_tax_rate rates rate ≡ nat_lt greatest_tax_rate (sum + unwrap_or rate 0)
 exceeds_read None sum rate h = above sum (unwrap_or rate 0) h
   where
     above : (m n : ℕ) → (m ≤ greatest_tax_rate → ⊥) → true ≡ nat_lt greatest_tax_rate (m + n)

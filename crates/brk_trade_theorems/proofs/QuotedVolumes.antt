@@ -14,11 +14,11 @@ use Rattle.brk_model.specs.Tables.{Tables, last_trade_row}
 use Rattle.brk_orders.specs.Records.{abstract_tick, abstract_ticks}
 use Rattle.brk_orders.specs.declared.tick.Tick.{Tick}
 use Rattle.brk_ref.specs.Records.{abstract_last_trade_row}
-use Rattle.brk_plans.specs.Feed.{SymbolState, exceeds_volume_limit, is_state_of_symbol, state_after_tick, states_after_ticks, states_after_tick}
+use Rattle.brk_plans.specs.Feed.{SymbolState, has_volume_above_limit, is_state_of_symbol, state_after_tick, states_after_ticks, states_after_tick}
 use Rattle.brk_book_theorems.specs.Books.{BooksInvariant, HasDistinctSymbols, HasVolumeWithinLimit}
 use Rattle.brk_book_theorems.specs.TradeReads.{volume_of_symbol}
 use Rattle.brk_trade_theorems.specs.TradePlans.{HasDistinctQuoteSymbols}
-use Rattle.brk_book_theorems.specs.Ticks.{exceeds_symbol_volume_limit, tick_quantity_sum_of_symbol}
+use Rattle.brk_book_theorems.specs.Ticks.{is_symbol_volume_above_limit, tick_quantity_sum_of_symbol}
 use Rattle.brk_book_theorems.proofs.Same.{All-map, All-mapped, find-All}
 use Rattle.brk_book_theorems.proofs.Reading.{find-map, is_some-map, some-is-any}
 use Rattle.brk_book_theorems.proofs.TermReading.{reads_last_trade}
@@ -83,9 +83,9 @@ market_ticks stamp [] quotes = refl
 market_ticks stamp (tick ∷ ticks) quotes =
     ap (λ base. base_after_ticks stamp base (abstract_ticks ticks)) (market_tick stamp tick quotes) ∙ market_ticks stamp ticks (states_after_tick stamp quotes tick)
 
-market_exceeds : (quotes : List SymbolState) → list_any exceeds_volume_limit quotes ≡ list_any (λ s. nat_lt greatest_amount s.volume) (map security_of quotes)
+market_exceeds : (quotes : List SymbolState) → list_any has_volume_above_limit quotes ≡ list_any (λ s. nat_lt greatest_amount s.volume) (map security_of quotes)
 market_exceeds [] = refl
-market_exceeds (quote ∷ quotes) = ap (λ b. exceeds_volume_limit quote || b) (market_exceeds quotes)
+market_exceeds (quote ∷ quotes) = ap (λ b. has_volume_above_limit quote || b) (market_exceeds quotes)
 
 -- it knows the symbols that have quotes
 market_knows : (quotes : List SymbolState) (ticks : List Tick) → HaveQuotes quotes ticks → KnowsTicks (market quotes) (abstract_ticks ticks)
@@ -124,11 +124,11 @@ quotes_within base ticks quotes books k = All-map quotes (λ quote q. by_securit
         (find-All HasVolumeWithinLimit (λ u. bytes_eq u.symbol quote.last.symbol) base.securities s books.volumes e)
 
 pub quotes_exceed : (base : Base) (stamp : ℕ) (ticks : List Tick) (quotes : List SymbolState) → BooksInvariant base → AllByRecursion (IsHeld (sheets base) ticks) quotes → HasDistinctQuoteSymbols quotes
-    → HaveQuotes quotes ticks → list_any exceeds_volume_limit (states_after_ticks stamp ticks quotes) ≡ list_any (exceeds_symbol_volume_limit (sheets base) (abstract_ticks ticks)) (abstract_ticks ticks)
+    → HaveQuotes quotes ticks → list_any has_volume_above_limit (states_after_ticks stamp ticks quotes) ≡ list_any (is_symbol_volume_above_limit (sheets base) (abstract_ticks ticks)) (abstract_ticks ticks)
 quotes_exceed base stamp ticks quotes books k d known =
     market_exceeds (states_after_ticks stamp ticks quotes)
     ∙ sym (ap (λ b. list_any (λ s. nat_lt greatest_amount s.volume) b.securities) (market_ticks stamp ticks quotes))
     ∙ sym (reads_exceeds (market quotes) stamp (abstract_ticks ticks) (market_books quotes d (quotes_within base ticks quotes books k)) (market_knows quotes ticks known))
-    ∙ any-each (exceeds_symbol_volume_limit (sheets (market quotes)) (abstract_ticks ticks)) (exceeds_symbol_volume_limit (sheets base) (abstract_ticks ticks)) (abstract_ticks ticks)
-    (All-mapped (λ u. exceeds_symbol_volume_limit (sheets (market quotes)) (abstract_ticks ticks) u ≡ exceeds_symbol_volume_limit (sheets base) (abstract_ticks ticks) u) abstract_tick ticks
+    ∙ any-each (is_symbol_volume_above_limit (sheets (market quotes)) (abstract_ticks ticks)) (is_symbol_volume_above_limit (sheets base) (abstract_ticks ticks)) (abstract_ticks ticks)
+    (All-mapped (λ u. is_symbol_volume_above_limit (sheets (market quotes)) (abstract_ticks ticks) u ≡ is_symbol_volume_above_limit (sheets base) (abstract_ticks ticks) u) abstract_tick ticks
     (All-map ticks (λ tick h. ap (λ volume. nat_lt greatest_amount (volume + tick_quantity_sum_of_symbol tick.symbol (abstract_ticks ticks))) (market_volume (sheets base) ticks tick.symbol quotes k d h)) known))

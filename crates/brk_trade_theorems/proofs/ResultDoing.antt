@@ -3,7 +3,7 @@ use Rattle.std.proofs.Common.{◌≡◌, ◌<◌, ℕ, ◌+◌, Bool, true, fals
 use Rattle.std.specs.Prelude.{decimal, codes, is_none, is_some, option_map, option_to_list, unwrap_or, flat_map, Ok}
 use Rattle.std.specs.Option.{option_map_or}
 use Rattle.std.proofs.lemmas.Int.{ints}
-use Rattle.brk_lots.specs.Closing.{AreLotsClosedByDeal}
+use Rattle.brk_lots.specs.Closing.{IsEffectOfDealOnLots}
 use Rattle.brk_lots.specs.Values.{closing_values_of_deal}
 use Rattle.brk_lots.specs.Lots.{list_reversed_if_lifo, abstract_lot, abstract_touch, shares_of_lots}
 use Rattle.brk_lots.specs.declared.closing.ClosedLots.{ClosedLots}
@@ -363,7 +363,7 @@ result_plan_does base id price (Some found) given last now plan k p =
     let tests = none_refuse (result_checks found price p.closed.values (Some p.stamp)) p.accepted in
     let held = lots_of_position (sheets base) found.trade.account found.trade.symbol in
     let met = lots_met base id found given k.books k.trade_read (at_market found tests.0) (k.lots_read (passes_status found tests.0)) (held_by_row base t.0 found f (passes_rate found tests.0 tests.1.0)) in
-    let closes : AreLotsClosedByDeal (deal_of_trade_row found.trade price p.stamp) held p.closed = p.closes held met in
+    let closes : IsEffectOfDealOnLots (deal_of_trade_row found.trade price p.stamp) held p.closed = p.closes held met in
     let deal : deal_of_trade_row found.trade price p.stamp ≡ deal_of_result p.stamp price t.0 = deal_read t.0 found price p.stamp t.2 in
     let same : shares_of_lots held ≡ shares_of_position (completed_trades base) t.0.account t.0.symbol = lots_shares base t.0 found f in
     let values : p.closed.values ≡ result_values base p.stamp price t.0 = closes.values ∙ (λ i. closing_values_of_deal (deal i) (same i)) in

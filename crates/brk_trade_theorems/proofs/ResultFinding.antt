@@ -6,7 +6,7 @@ use Rattle.std.proofs.lemmas.Bool.{eqb-true}
 use Rattle.brk_lots.specs.Values.{closing_values_of_deal}
 use Rattle.brk_lots.specs.declared.values.Values.{Values}
 use Rattle.brk_model.specs.Base as base_spec
-use Rattle.brk_model.specs.Base.{Base, commission_band_for_quantity, is_taxable_status, broker_id_of_account, broker_with_id, completed_trades, customer_id_of_account, exchange_of_security, has_status, last_status_change, security_name, security_with_symbol, is_withholding_status, tax_status_in_accounts, tier_of_account, trade_with_id}
+use Rattle.brk_model.specs.Base.{Base, commission_band_for_quantity, is_taxable_status, broker_id_of_account, broker_with_id, completed_trades, customer_id_of_account, exchange_of_security, has_last_status, last_status_change, security_name, security_with_symbol, is_withholding_status, tax_status_in_accounts, tier_of_account, trade_with_id}
 use Rattle.brk_model.specs.Commands.{CompleteTrade}
 use Rattle.brk_model.specs.Derived as derived
 use Rattle.brk_model.specs.Derived.{balance_of_account, commission_total_of_broker, due_day_of_completion_stamp, postings_of_base, signed_proceeds, shares_of_position, holding_summary_quantity, trade_count_of_broker}
@@ -238,7 +238,7 @@ pub mark_status : (o : Option StatusChange) → is_same_trade_status (option_map
 mark_status None = refl
 mark_status (Some m) = refl
 
-status_read : (t : Trade) (found : ResultPlanFacts) → abstract_trade_row found.trade ≡ trade_row t → not (is_same_trade_status found.trade.status Submitted) ≡ not (has_status Submitted t)
+status_read : (t : Trade) (found : ResultPlanFacts) → abstract_trade_row found.trade ≡ trade_row t → not (is_same_trade_status found.trade.status Submitted) ≡ not (has_last_status Submitted t)
 status_read t found row = ap (λ (r : TradeRow). not (is_same_trade_status r.status Submitted)) row ∙ ap not (mark_status (last_status_change t))
 
 -- a stamp that is left, and the day of settlement
@@ -271,7 +271,7 @@ all_alike base now id price t found last k e l h =
     (same_first _ _ (WrongStatus (last_status_of_trade t)) _ _ (status_read t found k.row) (λ a.
     same_first _ _ NoRate _ _
     (ap is_none (rate_read base t found k (passes_status found a)) ∙ is_none-map (λ b. b.rate) (commission_band_for_quantity base (tier_of_account base t.account) t.kind (exchange_of_security base t.symbol) t.qty)) (λ b.
-    let f : Found base now price t = found_at base now id price t k.books e (not_not (has_status Submitted t) (sym (status_read t found k.row) ∙ a)) in
+    let f : Found base now price t = found_at base now id price t k.books e (not_not (has_last_status Submitted t) (sym (status_read t found k.row) ∙ a)) in
     let one = passes_status found a in
     same_first _ _ (Range limit.Summary) _ _
     (ap (λ q. nat_lt greatest_summary (nat_abs q)) (summary_read base stamp price t f.front f.back found k f.result (passes_rate found a b))) (λ c.

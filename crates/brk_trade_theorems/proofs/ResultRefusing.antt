@@ -6,7 +6,7 @@ use Rattle.brk_lots.specs.Values.{closing_values_of_deal}
 use Rattle.brk_lots.specs.Lots.{shares_of_lots}
 use Rattle.brk_lots.specs.declared.lot.Lot.{Lot}
 use Rattle.brk_lots.specs.Position.{AreOpenedByOtherTrades}
-use Rattle.brk_model.specs.Base.{Base, completed_trades, has_status, last_status_change, trade_with_id}
+use Rattle.brk_model.specs.Base.{Base, completed_trades, has_last_status, last_status_change, trade_with_id}
 use Rattle.brk_model.specs.Commands.{CompleteTrade}
 use Rattle.brk_model.specs.Derived.{shares_of_position, holding_summary_quantity}
 use Rattle.brk_model.specs.Joins.{trade_row_with_id}
@@ -61,7 +61,7 @@ pub lots_met : (base : Base) (id : ℕ) (found : ResultPlanFacts) (given : List 
 lots_met base id found given books e s k h =
     let trade = found.trade in
     let t = trade_of base id (abstract_trade_row trade) e in
-    let at_market : has_status Submitted t.0 ≡ true = sym (ap (λ (r : TradeRow). is_same_trade_status r.status Submitted) t.2 ∙ mark_status (last_status_change t.0)) ∙ s in
+    let at_market : has_last_status Submitted t.0 ≡ true = sym (ap (λ (r : TradeRow). is_same_trade_status r.status Submitted) t.2 ∙ mark_status (last_status_change t.0)) ∙ s in
     let g : FoundAt Trade (λ u. u.id == id) t.0 base.trades = find-at (λ u. u.id == id) base.trades t.0 t.1 in
     let same : trade.id ≡ id = ap (λ (r : TradeRow). r.id) t.2 ∙ eqb-true t.0.id id g.passes in
     let fresh : AreOpenedByOtherTrades id (lots_of_position (sheets base) trade.account trade.symbol) = new_of_waiting base id trade.account trade.symbol t.0 books t.1 (submitted_not_completed t.0 at_market) in (

@@ -12,7 +12,7 @@ use Rattle.brk_money.specs.declared.refusal.Limit.TheVariants as limit
 use Rattle.brk_money.specs.declared.status.Status.TheVariants.{Pending, Canceled}
 use Rattle.brk_model.specs.Limits.{greatest_amount}
 use Rattle.brk_model.specs.Records.{StatusChange, Trade}
-use Rattle.brk_model.specs.Base.{Base, has_status, last_status_change, security_with_symbol, trade_with_id}
+use Rattle.brk_model.specs.Base.{Base, has_last_status, last_status_change, security_with_symbol, trade_with_id}
 use Rattle.brk_model.specs.Tables.{Tables, last_trade_row, last_status_of_trade, trade_row}
 use Rattle.brk_model.specs.Joins.{trade_row_with_id}
 use Rattle.brk_model.specs.Sheets.{sheets}
@@ -27,7 +27,7 @@ use Rattle.brk_book_theorems.specs.Books.{BooksInvariant}
 use Rattle.brk_book_theorems.specs.Steps.{base_after_command, HasTableEffect, IsAcceptedWithEffect, PreservesBooksInvariant}
 use Rattle.brk_book_theorems.specs.Trading.{tables_after_cancel, tables_after_feed, trade_ids_triggered_by_feed}
 use Rattle.brk_trade_theorems.specs.TradeTests.{cancel_checks_on_trade_row, feed_checks_on_tables}
-use Rattle.brk_book_theorems.specs.Ticks.{exceeds_symbol_volume_limit, is_tick_of_unknown_symbol}
+use Rattle.brk_book_theorems.specs.Ticks.{is_symbol_volume_above_limit, is_tick_of_unknown_symbol}
 use Rattle.brk_book_theorems.proofs.Same.{All-map, any-none}
 use Rattle.brk_book_theorems.proofs.Reading.{is_none-map, reads_last}
 use Rattle.brk_book_theorems.proofs.TermReading.{reads_last_trade}
@@ -81,7 +81,7 @@ mark_status None = refl
 mark_status (Some m) = refl
 
 same_tests : (o : Option Trade) (last : Option ℕ) (now : ℕ)
-    → cancel_checks_on_trade_row (option_map trade_row o) last now ≡ option_map_or (λ t. status_check (has_status Pending t) t ∷ []) o ((true, NoTrade) ∷ []) ++ later_stamp_check last now ∷ []
+    → cancel_checks_on_trade_row (option_map trade_row o) last now ≡ option_map_or (λ t. status_check (has_last_status Pending t) t ∷ []) o ((true, NoTrade) ∷ []) ++ later_stamp_check last now ∷ []
 same_tests None last now = refl
 same_tests (Some t) last now = ap (λ b. (not b, WrongStatus (last_status_of_trade t)) ∷ later_stamp_check last now ∷ []) (mark_status (last_status_change t))
 
@@ -92,8 +92,8 @@ cancel_refusal base now id books h =
     let clock = clock_read base (sheets base).last now books refl h in
     ap (λ o. first_refusal (cancel_checks_on_trade_row o (sheets base).last now)) (reads_trade base id)
     ∙ ap first_refusal (same_tests (trade_with_id base id) (sheets base).last now)
-    ∙ ap (λ b. first_refusal (option_map_or (λ t. status_check (has_status Pending t) t ∷ []) (trade_with_id base id) ((true, NoTrade) ∷ []) ++ (b, ClockEnd) ∷ [])) clock
-    ∙ never_early (option_map_or (λ t. status_check (has_status Pending t) t ∷ []) (trade_with_id base id) ((true, NoTrade) ∷ [])) (nat_lt greatest_stamp (stamp_of_next_command base now))
+    ∙ ap (λ b. first_refusal (option_map_or (λ t. status_check (has_last_status Pending t) t ∷ []) (trade_with_id base id) ((true, NoTrade) ∷ []) ++ (b, ClockEnd) ∷ [])) clock
+    ∙ never_early (option_map_or (λ t. status_check (has_last_status Pending t) t ∷ []) (trade_with_id base id) ((true, NoTrade) ∷ [])) (nat_lt greatest_stamp (stamp_of_next_command base now))
 
 pub cancel_done : (base : Base) (now id stamp : ℕ) → BooksInvariant base → now ≤ greatest_stamp
     → first_refusal (cancel_checks_on_trade_row (trade_row_with_id (sheets base) id) (sheets base).last now) ≡ None → stamp_after (sheets base).last now ≡ Some stamp
@@ -127,7 +127,7 @@ feed_refusal base now ticks books h = by_unknown (list_any unknown ticks) refl
         ≡ first_refusal ((list_any unknown ticks, NoSecurity) ∷ (exceeds, Range limit.Volume) ∷ (nat_lt greatest_stamp (stamp_of_next_command base now), ClockEnd) ∷ [])
     by_unknown true e =
         refused_first (list_any (is_tick_of_unknown_symbol (sheets base)) ticks) (list_any unknown ticks) NoSecurity
-        ((list_any (exceeds_symbol_volume_limit (sheets base) ticks) ticks, Range limit.Volume) ∷ later_stamp_check (sheets base).last now ∷ [])
+        ((list_any (is_symbol_volume_above_limit (sheets base) ticks) ticks, Range limit.Volume) ∷ later_stamp_check (sheets base).last now ∷ [])
         ((exceeds, Range limit.Volume) ∷ (nat_lt greatest_stamp (stamp_of_next_command base now), ClockEnd) ∷ []) (same ∙ e) e
     by_unknown false e =
         let known = All-map ticks (λ tick n. not_not (is_some (security_with_symbol base tick.symbol)) n) (any-none unknown ticks e) in

@@ -9,7 +9,7 @@ use Rattle.brk_model.specs.Tables.{Tables, TradeRow}
 use Rattle.brk_model.specs.Commands.{Tick}
 use Rattle.brk_model.specs.Tests.{RefusalCheck}
 use Rattle.brk_plans.specs.Reference.{later_stamp_check}
-use Rattle.brk_book_theorems.specs.Ticks.{exceeds_symbol_volume_limit, is_tick_of_unknown_symbol}
+use Rattle.brk_book_theorems.specs.Ticks.{is_symbol_volume_above_limit, is_tick_of_unknown_symbol}
 
 -- ---- a cancel
 
@@ -27,5 +27,5 @@ cancel_checks_on_trade_row (Some r) last now = (not (is_same_trade_status r.stat
 -- range of stamps. Each check has the refusal that the feed gets if the check fails.
 abbrev pub feed_checks_on_tables : Tables → List Tick → Option ℕ → ℕ → List RefusalCheck
 feed_checks_on_tables t ticks last now =
-    (list_any (is_tick_of_unknown_symbol t) ticks, NoSecurity) ∷ (list_any (exceeds_symbol_volume_limit t ticks) ticks, Range limit.Volume)
+    (list_any (is_tick_of_unknown_symbol t) ticks, NoSecurity) ∷ (list_any (is_symbol_volume_above_limit t ticks) ticks, Range limit.Volume)
     ∷ later_stamp_check last now ∷ []

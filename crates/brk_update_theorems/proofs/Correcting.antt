@@ -14,7 +14,7 @@ use Rattle.brk_model.specs.Base.{Base, account_with_id, completed_trades, is_com
 use Rattle.brk_model.specs.Commands.{Changed, Command}
 use Rattle.brk_model.specs.Derived.{Posting, cash_trades, postings_sorted_by_stamp, posting_of_movement, posting_of_trade, postings_of_base}
 use Rattle.brk_model.specs.Joins.{account_row_with_id, security_row_with_symbol, trade_row_with_id}
-use Rattle.brk_model.specs.Keys.{rows_sorted_by_key, move_key, settlement_key, trade_key}
+use Rattle.brk_model.specs.Keys.{rows_sorted_by_key, cash_move_key, settlement_key, trade_key}
 use Rattle.brk_model.specs.Lists.{contains_number, update_where}
 use Rattle.brk_model.specs.LookupView.{is_cash_row_of_trade}
 use Rattle.brk_model.specs.Records.{Security, Trade}
@@ -22,7 +22,7 @@ use Rattle.brk_model.specs.Sheets.{sheets, tables_sorted_by_key}
 use Rattle.brk_model.specs.Step.{base_after_command_unstamped, reply_to_command, step, value_unless_refused}
 use Rattle.brk_model.specs.Tables.{MoveRow, SecurityRow, SettlementRow, Tables, TradeRow, numbered_move_rows, security_row, settlement_row, tables_of_base_in_schema, trade_row}
 use Rattle.brk_model.specs.Tests.{first_refusal, stamp_of_next_command, refusal_of_command, checks_of_command}
-use Rattle.brk_model.specs.Updates.{updated_cash_row_name, updated_cash_type, updated_executor_name, selected_ids_of_account, selected_ids_of_symbol, trade_stamp_is_between, base_with_updated_cash_names, base_with_updated_cash_types, base_with_updated_executors}
+use Rattle.brk_model.specs.Updates.{updated_cash_row_name, updated_cash_type, updated_executor_name, selected_trade_ids_of_account, selected_trade_ids_of_symbol, trade_stamp_is_between, base_with_updated_cash_names, base_with_updated_cash_types, base_with_updated_executors}
 use Rattle.brk_orders.specs.Records.{text_update_command}
 use Rattle.brk_orders.specs.declared.update.Update as told
 use Rattle.brk_orders.specs.declared.update.Update.TheVariants as update
@@ -177,11 +177,11 @@ same_row : (base : Base) (t u : Trade) → t.id ≡ u.id → trade_row_with_id (
 same_row base t u same own other = some_is _ _ (sym other ∙ ap (trade_row_with_id (sheets base)) (sym same) ∙ own)
 
 pub cash_types_set : (base : Base) (account first last : ℕ) (cs : List SettlementText) → BooksInvariant base → SettlementTextsMatchTables (sheets base) (first_twenty_completed_trade_rows_of_account account first last (sheets base)) cs
-    → sheets (base_with_updated_cash_types (selected_ids_of_account base account first last) base) ≡ fold (λ t c. cash_type_update c t) (sheets base) cs
+    → sheets (base_with_updated_cash_types (selected_trade_ids_of_account base account first last) base) ≡ fold (λ t c. cash_type_update c t) (sheets base) cs
 unfolding tables_of_base_in_schema tables_sorted_by_key
 cash_types_set base account first last cs books read =
     let us : List Trade = chosen_trades base (λ t. t.account == account) first last in
-    let ids : List ℕ = selected_ids_of_account base account first last in
+    let ids : List ℕ = selected_trade_ids_of_account base account first last in
     let rows = own_rows base books.numbered in
     let found = found_of settlement_text_row_of_typed_row (settlement_text_row_in_tables (sheets base)) (λ r. r.0) cs us _ (λ u. refl) (read ∙ ap (map (settlement_text_row_in_tables (sheets base))) (account_rows base account first last books.numbered))
     (of_chosen _ base (λ t. t.account == account) first last rows) in
@@ -224,7 +224,7 @@ abbrev pub texts_with : Base → (Trade → Bool) → List Posting
 texts_with base p = map (λ t. record (posting_of_trade base.accounts t) { name = text_then base p t }) (cash_trades (completed_trades base)) ++ map posting_of_movement base.movements
 
 pub cash_names_rows : (base : Base) (ids : List ℕ) → sheets (base_with_updated_cash_names ids base)
-    ≡ record (sheets base) { moves = rows_sorted_by_key move_key (numbered_move_rows 1 (postings_sorted_by_stamp (texts_with base (λ t. contains_number t.id ids)))) }
+    ≡ record (sheets base) { moves = rows_sorted_by_key cash_move_key (numbered_move_rows 1 (postings_sorted_by_stamp (texts_with base (λ t. contains_number t.id ids)))) }
 unfolding tables_of_base_in_schema tables_sorted_by_key
 cash_names_rows base ids =
     let p : Trade → Bool = λ t. contains_number t.id ids in
@@ -250,12 +250,12 @@ and_last false b c e = absurd (cc)
 
 pub cash_names_set : (base : Base) (symbol : Text) (first last : ℕ) (name : Text) (cs : List CashText) → BooksInvariant base → SecurityHasName (sheets base) symbol name
     → CashTextsMatchTables (sheets base) (first_twenty_completed_cash_trade_rows_of_symbol symbol first last (sheets base)) cs
-    → sheets (base_with_updated_cash_names (selected_ids_of_symbol base symbol first last) base) ≡ fold (λ t c. cash_text_update name c t) (sheets base) cs
+    → sheets (base_with_updated_cash_names (selected_trade_ids_of_symbol base symbol first last) base) ≡ fold (λ t c. cash_text_update name c t) (sheets base) cs
 unfolding tables_of_base_in_schema tables_sorted_by_key
 cash_names_set base symbol first last name cs books is_named read =
     let test : Trade → Bool = λ t. t.is_cash && bytes_eq t.symbol symbol in
     let us : List Trade = chosen_trades base test first last in
-    let ids : List ℕ = selected_ids_of_symbol base symbol first last in
+    let ids : List ℕ = selected_trade_ids_of_symbol base symbol first last in
     let rows = own_rows base books.numbered in
     let found = found_of cash_text_row_of_typed_row (cash_text_row_in_tables (sheets base)) (λ r. r.0) cs us _ (λ u. refl) (read ∙ ap (map (cash_text_row_in_tables (sheets base))) (symbol_rows base symbol first last books.numbered))
     (of_chosen _ base test first last rows) in
@@ -264,7 +264,7 @@ cash_names_set base symbol first last name cs books is_named read =
     ∙ ap (λ moves. record (sheets base) { moves = moves })
     (each_text (λ (c : CashText). c.trade) (λ (c : CashText). planner.toggled_cash_text_of_trade name c) (sheets base).moves cs
     ∙ rows_through (all_named (λ (c : CashText). c.trade) (λ (c : CashText). planner.toggled_cash_text_of_trade name c) cs) (postings_of_base base)
-    ∙ ap (λ ps. rows_sorted_by_key move_key (numbered_move_rows 1 (postings_sorted_by_stamp ps)))
+    ∙ ap (λ ps. rows_sorted_by_key cash_move_key (numbered_move_rows 1 (postings_sorted_by_stamp ps)))
     (texts_named (λ (c : CashText). c.trade) (λ (c : CashText). planner.toggled_cash_text_of_trade name c) (updated_cash_row_name base) base.accounts (completed_trades base) base.movements cs
     (All-map (cash_trades (completed_trades base)) (λ t own. All-map cs (λ c f same.
     let at : t.id ≡ f.0.id = eqb-true t.id c.trade same ∙ ap (λ (r : CashTextRow). r.0) f.1 in

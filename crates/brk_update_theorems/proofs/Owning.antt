@@ -5,7 +5,7 @@ use Rattle.std.specs.List.{AllByRecursion}
 use Rattle.std.proofs.lemmas.Bool.{eq-eqb}
 use Rattle.brk_model.specs.Base.{Base, completed_trades, is_completed}
 use Rattle.brk_model.specs.Derived.{Posting, cash_trades, postings_sorted_by_stamp, posting_of_movement, posting_of_trade, postings_of_base}
-use Rattle.brk_model.specs.Adopted.{is_posting_of_trade, posting_of_move_row}
+use Rattle.brk_model.specs.Adopted.{is_posting_of_trade, posting_of_cash_move_row}
 use Rattle.brk_model.specs.Joins.{trade_row_with_id}
 use Rattle.brk_model.specs.Lists.{sort_by}
 use Rattle.brk_model.specs.Names.{TradesAreNumberedFrom}
@@ -88,7 +88,7 @@ turn_one : (p : Posting) → postings_sorted_by_stamp (p ∷ []) ≡ p ∷ []
 unfolding sort_by
 turn_one p = refl
 
-name_of : (o : Option MoveRow) → option_map (λ r. r.name) o ≡ option_map (λ p. p.name) (option_map posting_of_move_row o)
+name_of : (o : Option MoveRow) → option_map (λ r. r.name) o ≡ option_map (λ p. p.name) (option_map posting_of_cash_move_row o)
 name_of None = refl
 name_of (Some r) = refl
 
@@ -102,7 +102,7 @@ own_name base t alone =
     ∙ (λ i. filter-map (is_posting_of_trade t.id) (λ u. u.id == t.id) P (cash_trades (completed_trades base)) (λ u. refl) i ++ no_movement t.id base.movements i)
     ∙ ap (λ us. map P us ++ []) alone in
     name_of (cash_row_of_trade (sheets base) t.id)
-    ∙ ap (option_map (λ p. p.name)) (sym (find-map (is_posting_of_trade t.id) posting_of_move_row (sheets base).moves)
+    ∙ ap (option_map (λ p. p.name)) (sym (find-map (is_posting_of_trade t.id) posting_of_cash_move_row (sheets base).moves)
     ∙ ap (find (is_posting_of_trade t.id)) (rows_posted base)
     ∙ found_first (is_posting_of_trade t.id) (postings_sorted_by_stamp (postings_of_base base))
     ∙ ap (find (λ p. true)) (turn_filter (is_posting_of_trade t.id) (postings_of_base base) ∙ ap postings_sorted_by_stamp posted ∙ turn_one (P t)))

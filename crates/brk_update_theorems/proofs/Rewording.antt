@@ -8,12 +8,12 @@ use Rattle.brk_money.specs.Spelling.{Text}
 use Rattle.brk_money.specs.declared.status.Status.TheVariants.{Pending}
 use Rattle.brk_model.specs.Lists.{is_zero, sort_by_key, total_by}
 use Rattle.brk_model.specs.Records.{Account, Broker, Movement, SettleRule, Trade}
-use Rattle.brk_model.specs.Base.{Base, broker_id_in_accounts, completed_trades, has_status, is_completed, last_status_stamp_of_trade, opening_balance_in_accounts}
+use Rattle.brk_model.specs.Base.{Base, broker_id_in_accounts, completed_trades, has_last_status, is_completed, last_status_stamp_of_trade, opening_balance_in_accounts}
 use Rattle.brk_model.specs.Shares.{lot_quantity, replay, signed_by_side}
 use Rattle.brk_model.specs.Derived.{Posting, balance_of_account, cash_trades, commission_total_of_broker, deal_of_trade, deals_of_position, trades_of_account, trades_of_broker, trades_of_position, pending_trades, postings_to_account, posting_of_movement, posting_of_trade, postings, postings_sorted_by_stamp, shares_of_position, holding_summary_quantity, trade_count_of_broker}
-use Rattle.brk_model.specs.Tables.{HoldingRow, MoveRow, SettlementRow, SummaryRow, TradeRow, account_row, broker_row, rows_by_position, history_rows, holding_row, holding_history_of_lot, holding_history_rows_of_lot, numbered_move_rows, request_row, settlement_row, summary_rows, tables_of_base_in_schema, tables_from_completed_trades, trade_row}
+use Rattle.brk_model.specs.Tables.{HoldingRow, MoveRow, SettlementRow, SummaryRow, TradeRow, account_row, broker_row, rows_by_position, history_rows, holding_row, holding_history_over_deals, holding_history_rows_of_lot, numbered_move_rows, request_row, settlement_row, summary_rows, tables_of_base_in_schema, tables_from_completed_trades, trade_row}
 use Rattle.brk_model.specs.Schemas.{third_schema}
-use Rattle.brk_model.specs.Keys.{account_key, broker_key, rows_sorted_by_key, history_key, holding_history_key, holding_key, move_key, request_key, settlement_key, summary_key, trade_key}
+use Rattle.brk_model.specs.Keys.{account_key, broker_key, rows_sorted_by_key, history_key, holding_history_key, holding_key, cash_move_key, request_key, settlement_key, summary_key, trade_key}
 use Rattle.brk_model.specs.Sheets.{sheets, tables_sorted_by_key}
 use Rattle.brk_book_theorems.proofs.Places.{map-append}
 use Rattle.brk_update_theorems.proofs.Through.{filter-map, flat_map-map, map-map, sort-map, sum-map, total-map}
@@ -108,7 +108,7 @@ module _ (x y z : Trade → Text) where
 
   requests_reworded : (accounts : List Account) (ts : List Trade) → map (request_row accounts) (pending_trades (map f ts)) ≡ map (request_row accounts) (pending_trades ts)
   requests_reworded accounts ts =
-      ap (map (request_row accounts)) (filter-map (has_status Pending) (has_status Pending) f ts (λ t. refl)) ∙ map-map (request_row accounts) f (pending_trades ts)
+      ap (map (request_row accounts)) (filter-map (has_last_status Pending) (has_last_status Pending) f ts (λ t. refl)) ∙ map-map (request_row accounts) f (pending_trades ts)
 
   holding_reworded : (done : List Trade) (t : Trade) → holding_row (map f done) (f t) ≡ holding_row done t
   holding_reworded done t = λ i. record (holding_row done t) { qty = lot_quantity (shares_reworded done t.account t.symbol i) t.id }
@@ -122,7 +122,7 @@ module _ (x y z : Trade → Text) where
 
   lots_reworded : (done : List Trade) (t : Trade) → holding_history_rows_of_lot (map f done) (f t) ≡ holding_history_rows_of_lot done t
   lots_reworded done t =
-      ap (holding_history_of_lot t.id []) (deals_reworded done t.account t.symbol)
+      ap (holding_history_over_deals t.id []) (deals_reworded done t.account t.symbol)
 
   lot_changes_reworded : (done : List Trade) → flat_map (holding_history_rows_of_lot (map f done)) (map f done) ≡ flat_map (holding_history_rows_of_lot done) done
   lot_changes_reworded done = flat_map-map (holding_history_rows_of_lot (map f done)) f done ∙ (λ i. flat_map (λ t. lots_reworded done t i) done)
@@ -143,7 +143,7 @@ module _ (x y z : Trade → Text) where
   settlements_with base = rows_sorted_by_key settlement_key (map (λ t. record (settlement_row base.accounts base.rule t) { cash_type = y t }) (completed_trades base))
 
   abbrev pub moves_with : Base → List MoveRow
-  moves_with base = rows_sorted_by_key move_key (numbered_move_rows 1 (postings_sorted_by_stamp (postings_with base.accounts (completed_trades base) base.movements)))
+  moves_with base = rows_sorted_by_key cash_move_key (numbered_move_rows 1 (postings_sorted_by_stamp (postings_with base.accounts (completed_trades base) base.movements)))
 
   upon : (base : Base) → tables_sorted_by_key (tables_from_completed_trades third_schema (base_reworded base) (map f (completed_trades base)))
       ≡ record (sheets base) { trades = trades_with base; settlements = settlements_with base; moves = moves_with base }
@@ -160,7 +160,7 @@ module _ (x y z : Trade → Text) where
         summaries = rows_sorted_by_key summary_key (summaries_reworded base done i);
         holding_history = rows_sorted_by_key holding_history_key (lot_changes_reworded done i);
         settlements = rows_sorted_by_key settlement_key (settlements_reworded base.accounts base.rule done i);
-        moves = rows_sorted_by_key move_key (numbered_move_rows 1 (postings_sorted_by_stamp (posted_reworded base.accounts done base.movements i)));
+        moves = rows_sorted_by_key cash_move_key (numbered_move_rows 1 (postings_sorted_by_stamp (posted_reworded base.accounts done base.movements i)));
       }
 
   pub tables_reworded : (base : Base)

@@ -4,14 +4,14 @@ use Rattle.brk_money.specs.Spelling.{Text}
 use Rattle.brk_model.specs.Base.{Base, completed_trades}
 use Rattle.brk_model.specs.Commands.{ChangeCashNames, ChangeCashTypes, ChangeExecutors}
 use Rattle.brk_model.specs.Derived.{Posting, postings_sorted_by_stamp, postings_of_base}
-use Rattle.brk_model.specs.Keys.{KeyPart, rows_sorted_by_key, move_key, settlement_key, trade_key}
+use Rattle.brk_model.specs.Keys.{KeyPart, rows_sorted_by_key, cash_move_key, settlement_key, trade_key}
 use Rattle.brk_model.specs.Lists.{contains_number}
 use Rattle.brk_model.specs.Records.{Trade}
 use Rattle.brk_model.specs.Sheets.{sheets, tables_sorted_by_key}
 use Rattle.brk_model.specs.Step.{base_after_command_unstamped}
 use Rattle.brk_model.specs.Tables.{MoveRow, SettlementRow, TradeRow, numbered_move_rows, settlement_row, tables_of_base_in_schema, trade_row}
 use Rattle.brk_model.specs.Tests.{stamp_of_next_command}
-use Rattle.brk_model.specs.Updates.{selected_ids_of_account, selected_ids_of_symbol, base_with_updated_cash_names, base_with_updated_cash_types, base_with_updated_executors}
+use Rattle.brk_model.specs.Updates.{selected_trade_ids_of_account, selected_trade_ids_of_symbol, base_with_updated_cash_names, base_with_updated_cash_types, base_with_updated_executors}
 use Rattle.brk_changes.specs.Changes.{tables_with_last_stamp}
 use Rattle.brk_book_theorems.proofs.Order.{by_key-map}
 use Rattle.brk_book_theorems.proofs.Trades.{whole}
@@ -45,7 +45,7 @@ pub words_alone : (base : Base) (now account first last : ℕ) → ChangesOnlySe
 unfolding base_after_command_unstamped tables_of_base_in_schema tables_sorted_by_key
 words_alone base now account first last =
     let stamp : ℕ = stamp_of_next_command base now in
-    let ids : List ℕ = selected_ids_of_account base account first last in
+    let ids : List ℕ = selected_trade_ids_of_account base account first last in
     let rows : List SettlementRow = rows_sorted_by_key settlement_key (map (λ t. record (settlement_row base.accounts base.rule t) { cash_type = word_then (λ t. contains_number t.id ids) t }) (completed_trades base)) in
     let e : tables_after_command base now (ChangeCashTypes account first last) ≡ tables_with_last_stamp stamp (record (sheets base) { settlements = rows }) = whole (base_with_updated_cash_types ids base) stamp _ (cash_types_rows base ids) in
     record {
@@ -58,15 +58,15 @@ pub texts_alone : (base : Base) (now : ℕ) (symbol : Text) (first last : ℕ) �
 unfolding base_after_command_unstamped tables_of_base_in_schema tables_sorted_by_key
 texts_alone base now symbol first last =
     let stamp : ℕ = stamp_of_next_command base now in
-    let ids : List ℕ = selected_ids_of_symbol base symbol first last in
+    let ids : List ℕ = selected_trade_ids_of_symbol base symbol first last in
     let texts : List Posting = texts_with base (λ t. contains_number t.id ids) in
-    let rows : List MoveRow = rows_sorted_by_key move_key (numbered_move_rows 1 (postings_sorted_by_stamp texts)) in
+    let rows : List MoveRow = rows_sorted_by_key cash_move_key (numbered_move_rows 1 (postings_sorted_by_stamp texts)) in
     let e : tables_after_command base now (ChangeCashNames symbol first last) ≡ tables_with_last_stamp stamp (record (sheets base) { moves = rows }) = whole (base_with_updated_cash_names ids base) stamp _ (cash_names_rows base ids) in
     record {
       others = e ∙ ap (λ (moves : List MoveRow). tables_with_last_stamp stamp (record (sheets base) { moves = moves })) (sym (ap (λ t. t.moves) e));
       rows = ap (λ t. map cash_row_without_text t.moves) e
           ∙ rows_through (λ trade name. []) texts
-          ∙ ap (λ ps. rows_sorted_by_key move_key (numbered_move_rows 1 (postings_sorted_by_stamp ps)))
+          ∙ ap (λ ps. rows_sorted_by_key cash_move_key (numbered_move_rows 1 (postings_sorted_by_stamp ps)))
           (posted_nameless (λ t. t.executor) (λ t. t.cash_type) (text_then base (λ t. contains_number t.id ids)) base.accounts (completed_trades base) base.movements)
           ∙ sym (rows_through (λ trade name. []) (postings_of_base base));
     }

@@ -5,7 +5,7 @@ use Rattle.std.specs.Option.{option_map_or}
 use Rattle.std.specs.List.{AllByRecursion}
 use Rattle.brk_money.specs.Spelling.{Text}
 use Rattle.brk_model.specs.Derived.{Posting, cash_trades, postings_sorted_by_stamp, posting_of_movement, posting_of_trade, postings}
-use Rattle.brk_model.specs.Keys.{rows_sorted_by_key, move_key}
+use Rattle.brk_model.specs.Keys.{rows_sorted_by_key, cash_move_key}
 use Rattle.brk_model.specs.Lists.{contains_number, update_where}
 use Rattle.brk_model.specs.LookupView.{is_cash_row_of_trade}
 use Rattle.brk_model.specs.Records.{Account, Movement, Trade}
@@ -33,10 +33,10 @@ numbered_through g n [] = refl
 numbered_through g n (p ∷ ps) = ap (λ rows. cash_move_row n (renamed g p) ∷ rows) (numbered_through g (n + 1) ps)
 
 pub rows_through : (g : Rename) (ps : List Posting)
-    → map (renamed_row g) (rows_sorted_by_key move_key (numbered_move_rows 1 (postings_sorted_by_stamp ps))) ≡ rows_sorted_by_key move_key (numbered_move_rows 1 (postings_sorted_by_stamp (map (renamed g) ps)))
+    → map (renamed_row g) (rows_sorted_by_key cash_move_key (numbered_move_rows 1 (postings_sorted_by_stamp ps))) ≡ rows_sorted_by_key cash_move_key (numbered_move_rows 1 (postings_sorted_by_stamp (map (renamed g) ps)))
 rows_through g ps =
-    sym (by_key-map move_key move_key (renamed_row g) (numbered_move_rows 1 (postings_sorted_by_stamp ps)) (λ r. refl))
-    ∙ ap (rows_sorted_by_key move_key) (numbered_through g 1 (postings_sorted_by_stamp ps)
+    sym (by_key-map cash_move_key cash_move_key (renamed_row g) (numbered_move_rows 1 (postings_sorted_by_stamp ps)) (λ r. refl))
+    ∙ ap (rows_sorted_by_key cash_move_key) (numbered_through g 1 (postings_sorted_by_stamp ps)
     ∙ ap (numbered_move_rows 1) (sym (sort-map (λ a b. nat_lt a.stamp b.stamp) (λ a b. nat_lt a.stamp b.stamp) (renamed g) ps (λ a b. refl))))
 
 -- ---- texts that are set, each by its trade

@@ -16,7 +16,7 @@ use Rattle.brk_model.specs.PositionView.{is_before_by_market_value, last_ten_tra
 use Rattle.brk_model.specs.Queries.{View}
 use Rattle.brk_model.specs.Records.{Customer}
 use Rattle.brk_model.specs.Rows.{nonnegative_cents_text}
-use Rattle.brk_model.specs.StatusView.{account_name_records, record_of_trade_status, trade_status_view}
+use Rattle.brk_model.specs.StatusView.{customer_and_broker_names, record_of_trade_status, trade_status_view}
 use Rattle.brk_model.specs.Tables as tables
 use Rattle.brk_model.specs.Tables.{Tables, AccountRow, SecurityRow}
 use Rattle.brk_model.specs.VolumeView.{is_before_by_volume, sector_volume_of_broker, broker_volume_view}
@@ -25,12 +25,12 @@ use Rattle.brk_money.specs.Spelling.{Text}
 use Rattle.brk_ref.specs.Records.{abstract_security_row}
 use Rattle.brk_ref.specs.declared.security.Security.{Security}
 use Rattle.std.specs.Global.{Vec}
-use Rattle.brk_view.specs.Lookup.{AreRowsOfTrade, LookedUpRows, records_of_looked_up_trade, rows_of_looked_up_trade, table_rows_of_trade, status_of_typed_history_row, history_status_record, is_older_trade, is_older_status, status_of_history_row}
+use Rattle.brk_view.specs.Lookup.{AreRowsOfTrade, LookedUpRows, records_of_looked_up_trade, rows_of_looked_up_trade, table_rows_of_trade, stamped_status_of_typed_history_row, history_status_record, is_older_trade, is_older_status, stamped_status_of_history_row}
 use Rattle.brk_view.specs.Lots.{AreTouchedLots, first_trade_since_stamp, is_earlier_lot_change, stamped_lot_change, lot_change_record, touched_lot_records, changes_of_touched_lots}
 use Rattle.brk_view.specs.Recent.{is_newer_status, recent_status_record, recent_trade_record}
 use Rattle.brk_view.specs.Status.{trade_status_record, party_names_record, rows_of_trade_status, trade_row_with_security}
-use Rattle.brk_view.specs.Volume.{volume_of_broker_in_sector, has_name_and_pending_request, precedes_by_volume, broker_volume_record}
-use Rattle.brk_view.specs.Worths.{precedes_by_market_value, worth_of_account, account_worth_record}
+use Rattle.brk_view.specs.Volume.{volume_of_broker_in_sector, has_name_and_pending_request, is_before_by_broker_volume, broker_volume_record}
+use Rattle.brk_view.specs.Worths.{is_worth_before_by_market_value, worth_of_account, account_worth_record}
 use Rattle.brk_view.specs.declared.lookups.LookedUp.{LookedUp}
 use Rattle.brk_view.specs.declared.lookups.StampedStatus.{StampedStatus}
 use Rattle.brk_view.specs.declared.lots.LotTouch.{LotTouch}
@@ -50,11 +50,11 @@ map_map g f (x ∷ xs) = ap (λ ys. g (f x) ∷ ys) (map_map g f xs)
 
 pub position_shown : (t : Tables) (test : Customer → Bool) (accounts : List AccountWorth)
     → accounts ≡ map (worth_of_account t) (filter (λ a. list_any (λ c. test c && (c.id == a.customer)) t.customers) t.accounts)
-    → map account_worth_record (sort_by precedes_by_market_value accounts) ≡ customer_position_view t test
+    → map account_worth_record (sort_by is_worth_before_by_market_value accounts) ≡ customer_position_view t test
 unfolding customer_position_view
 position_shown t test accounts e =
     let rows : List AccountRow = filter (λ a. list_any (λ c. test c && (c.id == a.customer)) t.customers) t.accounts in
-    ap (λ worths. map account_worth_record (sort_by precedes_by_market_value worths)) e ∙ ap (map account_worth_record) (map_sorted (is_before_by_market_value t) precedes_by_market_value (worth_of_account t) rows (λ a b. refl))
+    ap (λ worths. map account_worth_record (sort_by is_worth_before_by_market_value worths)) e ∙ ap (map account_worth_record) (map_sorted (is_before_by_market_value t) is_worth_before_by_market_value (worth_of_account t) rows (λ a b. refl))
     ∙ map_map account_worth_record (worth_of_account t) (sort_by (is_before_by_market_value t) rows)
 
 -- ---- what an account did last
@@ -102,20 +102,20 @@ older_shown trades = sym (map_sorted is_older_trade older_row abstract_trade_row
 abbrev older_status : tables.HistoryRow → tables.HistoryRow → Bool
 older_status a b = nat_lt a.stamp b.stamp
 
-moments_carried : (history : List HistoryRow) → sort_by is_older_status (map status_of_typed_history_row history) ≡ map status_of_history_row (sort_by (λ a b. nat_lt a.stamp b.stamp) (map abstract_history_row history))
+moments_carried : (history : List HistoryRow) → sort_by is_older_status (map stamped_status_of_typed_history_row history) ≡ map stamped_status_of_history_row (sort_by (λ a b. nat_lt a.stamp b.stamp) (map abstract_history_row history))
 moments_carried history =
     let before : HistoryRow → HistoryRow → Bool = λ a b. nat_lt a.stamp b.stamp in
-    map_sorted before is_older_status status_of_typed_history_row history (λ a b. refl)
-    ∙ sym (map_map status_of_history_row abstract_history_row (sort_by before history)) ∙ ap (map status_of_history_row) (sym (map_sorted before older_status abstract_history_row history (λ a b. refl)))
+    map_sorted before is_older_status stamped_status_of_typed_history_row history (λ a b. refl)
+    ∙ sym (map_map stamped_status_of_history_row abstract_history_row (sort_by before history)) ∙ ap (map stamped_status_of_history_row) (sym (map_sorted before older_status abstract_history_row history (λ a b. refl)))
 
 pub one_carried : (t : Tables) (trade : TradeRow) (settlement : Option SettlementRow) (cash : Option MoveRow) (history : List HistoryRow) (moments : Vec StampedStatus)
-    → moments.items ≡ sort_by is_older_status (map status_of_typed_history_row history) → AreRowsOfTrade t trade settlement cash history
+    → moments.items ≡ sort_by is_older_status (map stamped_status_of_typed_history_row history) → AreRowsOfTrade t trade settlement cash history
     → rows_of_looked_up_trade (record { trade = trade; settlement = settlement; cash = cash; history = moments }) ≡ table_rows_of_trade t (abstract_trade_row trade)
 one_carried t trade settlement cash history moments e is = λ i. record {
   trade = abstract_trade_row trade;
   settlements = is.settlement_rows i;
   moves = is.cash_rows i;
-  history = (e ∙ moments_carried history ∙ ap (λ rows. map status_of_history_row (sort_by (λ a b. nat_lt a.stamp b.stamp) rows)) is.history_rows) i;
+  history = (e ∙ moments_carried history ∙ ap (λ rows. map stamped_status_of_history_row (sort_by (λ a b. nat_lt a.stamp b.stamp) rows)) is.history_rows) i;
 }
 
 -- The records of the rows `r` of a trade: of the trade, its settlements, its cash rows and its
@@ -126,14 +126,14 @@ shown_rows r = model.trade_record r.trade ∷ map model.settlement_record r.sett
 rows_in_shown : (t : Tables) (row : tables.TradeRow) → shown_rows (table_rows_of_trade t row) ≡ model.trade_lookup_records t row
 rows_in_shown t row =
     ap (λ moments. model.trade_record row ∷ map model.settlement_record (filter (λ s. s.trade == row.id) t.settlements) ++ map model.cash_record (filter (model.is_cash_row_of_trade row.id) t.moves) ++ moments)
-    (map_map history_status_record status_of_history_row (sort_by (λ a b. nat_lt a.stamp b.stamp) (history_rows_with_trade_id t row.id)))
+    (map_map history_status_record stamped_status_of_history_row (sort_by (λ a b. nat_lt a.stamp b.stamp) (history_rows_with_trade_id t row.id)))
 
 -- trades with these rows have their records
 pub rows_shown : (t : Tables) (found : List LookedUp) (rows : List tables.TradeRow) → map rows_of_looked_up_trade found ≡ map (table_rows_of_trade t) rows → map records_of_looked_up_trade found ≡ map (model.trade_lookup_records t) rows
 rows_shown t found rows e =
     sym (map_map shown_rows rows_of_looked_up_trade found) ∙ ap (map shown_rows) e ∙ map_map shown_rows (table_rows_of_trade t) rows ∙ (λ i. map (λ row. rows_in_shown t row i) rows)
 
-pub one_shown : (t : Tables) (trade : TradeRow) (settlement : Option SettlementRow) (cash : Option MoveRow) (history : List HistoryRow) (moments : Vec StampedStatus) → moments.items ≡ sort_by is_older_status (map status_of_typed_history_row history)
+pub one_shown : (t : Tables) (trade : TradeRow) (settlement : Option SettlementRow) (cash : Option MoveRow) (history : List HistoryRow) (moments : Vec StampedStatus) → moments.items ≡ sort_by is_older_status (map stamped_status_of_typed_history_row history)
     → AreRowsOfTrade t trade settlement cash history
     → records_of_looked_up_trade (record { trade = trade; settlement = settlement; cash = cash; history = moments }) ≡ model.trade_lookup_records t (abstract_trade_row trade)
 one_shown t trade settlement cash history moments e is =
@@ -185,17 +185,17 @@ lots_shown t account first lots is = lots_of t (first_trade_since_stamp t accoun
 
 -- ---- what brokers have to trade
 
-volume_order : (t : Tables) (sector : Text) (a b : tables.BrokerRow) → precedes_by_volume (volume_of_broker_in_sector t sector a) (volume_of_broker_in_sector t sector b) ≡ is_before_by_volume t sector a b
+volume_order : (t : Tables) (sector : Text) (a b : tables.BrokerRow) → is_before_by_broker_volume (volume_of_broker_in_sector t sector a) (volume_of_broker_in_sector t sector b) ≡ is_before_by_volume t sector a b
 volume_order t sector a b =
     sym (volumes_before (sector_volume_of_broker t sector a.id) (sector_volume_of_broker t sector b.id) (is_text_less a.name b.name || (bytes_eq a.name b.name && nat_lt a.id b.id)))
 
 pub volumes_shown : (t : Tables) (sector : Text) (names : List Text) (rows : List tables.BrokerRow) (brokers : List BrokerVolume) → brokers ≡ map (volume_of_broker_in_sector t sector) rows
     → sort_by (is_before_by_volume t sector) rows ≡ sort_by (is_before_by_volume t sector) (filter (has_name_and_pending_request t sector names) t.brokers)
-    → map broker_volume_record (sort_by precedes_by_volume brokers) ≡ broker_volume_view t sector names
+    → map broker_volume_record (sort_by is_before_by_broker_volume brokers) ≡ broker_volume_view t sector names
 unfolding broker_volume_view
 volumes_shown t sector names rows brokers e f =
-    ap (λ bs. map broker_volume_record (sort_by precedes_by_volume bs)) e
-    ∙ ap (map broker_volume_record) (map_sorted (is_before_by_volume t sector) precedes_by_volume (volume_of_broker_in_sector t sector) rows (volume_order t sector) ∙ ap (map (volume_of_broker_in_sector t sector)) f)
+    ap (λ bs. map broker_volume_record (sort_by is_before_by_broker_volume bs)) e
+    ∙ ap (map broker_volume_record) (map_sorted (is_before_by_volume t sector) is_before_by_broker_volume (volume_of_broker_in_sector t sector) rows (volume_order t sector) ∙ ap (map (volume_of_broker_in_sector t sector)) f)
     ∙ map_map broker_volume_record (volume_of_broker_in_sector t sector) (sort_by (is_before_by_volume t sector) (filter (has_name_and_pending_request t sector names) t.brokers))
 
 -- ---- how the trades of an account stand
@@ -220,7 +220,7 @@ shown_status r =
 pub statuses_shown : (t : Tables) (trades : List TradeStatus) (rows : List tables.TradeRow) → map rows_of_trade_status trades ≡ map (trade_row_with_security t) rows → map trade_status_record trades ≡ map (record_of_trade_status t) rows
 statuses_shown t trades rows e = sym (map_map shown_status rows_of_trade_status trades) ∙ ap (map shown_status) e ∙ map_map shown_status (trade_row_with_security t) rows
 
-pub status_shown : (t : Tables) (id : ℕ) (account : AccountStatus) → flat_map (account_name_records t) (filter (λ a. a.id == id) t.accounts) ≡ party_names_record account ∷ []
+pub status_shown : (t : Tables) (id : ℕ) (account : AccountStatus) → flat_map (customer_and_broker_names t) (filter (λ a. a.id == id) t.accounts) ≡ party_names_record account ∷ []
     → map trade_status_record account.trades.items ≡ map (record_of_trade_status t) (take 50 (trade_rows_recent_first (trade_rows_of_account t id)))
     → party_names_record account ∷ map trade_status_record account.trades.items ≡ trade_status_view t id
 unfolding trade_status_view

@@ -27,8 +27,8 @@ abbrev pub is_older_trade : TradeRow → TradeRow → Bool
 is_older_trade a b = is_pair_less a.stamp b.stamp a.id b.id
 
 -- The stamp and the status of the typed TRADE_HISTORY row `r`.
-abbrev pub status_of_typed_history_row : HistoryRow → StampedStatus
-status_of_typed_history_row r = record { stamp = r.stamp; status = r.status }
+abbrev pub stamped_status_of_typed_history_row : HistoryRow → StampedStatus
+stamped_status_of_typed_history_row r = record { stamp = r.stamp; status = r.status }
 
 -- The record of the status `m` of a trade: the word `history`, its stamp and its code.
 abbrev pub history_status_record : StampedStatus → List Text
@@ -52,8 +52,8 @@ price_and_cost_fields t =
 
 -- The last two of the fifteen fields of the record of the looked-up trade `t`: `cash` or, if it is
 -- no cash trade, `margin`; and `lifo` if it closes the newest lots first, otherwise `fifo`.
-abbrev pub account_type_and_closing_order_fields : tables.TradeRow → List Text
-account_type_and_closing_order_fields t = cash_or_margin_word t.is_cash ∷ lifo_or_fifo_word t.is_lifo ∷ []
+abbrev pub cash_and_lifo_fields : tables.TradeRow → List Text
+cash_and_lifo_fields t = cash_or_margin_word t.is_cash ∷ lifo_or_fifo_word t.is_lifo ∷ []
 
 -- The records of the looked-up trade `l`: one for the trade, one for its settlement and one for its
 -- cash row, if they exist, and one for each of its statuses.
@@ -82,8 +82,8 @@ rows_of_looked_up_trade l = record {
 }
 
 -- The stamp and the status of the TRADE_HISTORY row `r`.
-abbrev pub status_of_history_row : tables.HistoryRow → StampedStatus
-status_of_history_row r = record { stamp = r.stamp; status = r.status }
+abbrev pub stamped_status_of_history_row : tables.HistoryRow → StampedStatus
+stamped_status_of_history_row r = record { stamp = r.stamp; status = r.status }
 
 -- The TRADE row `row` with its settlements, its cash rows and its statuses in the tables `t`. The
 -- statuses are sorted by stamp, ascending.
@@ -92,7 +92,7 @@ table_rows_of_trade t row = record {
   trade = row;
   settlements = filter (λ s. s.trade == row.id) t.settlements;
   moves = filter (model.is_cash_row_of_trade row.id) t.moves;
-  history = map status_of_history_row (sort_by (λ a b. nat_lt a.stamp b.stamp) (history_rows_with_trade_id t row.id));
+  history = map stamped_status_of_history_row (sort_by (λ a b. nat_lt a.stamp b.stamp) (history_rows_with_trade_id t row.id));
 }
 
 -- `settlement`, `cash` and `history` are exactly the SETTLEMENT, the CASH_MOVE and the

@@ -8,13 +8,13 @@ use Rattle.brk_money.specs.Spelling.{Text, cents_text}
 use Rattle.brk_view.specs.declared.volumes.BrokerVolume.{BrokerVolume}
 
 -- True if the broker `a` is before `b` when they are sorted by name, then by id, ascending.
-abbrev pub precedes_by_name : BrokerVolume → BrokerVolume → Bool
-precedes_by_name a b = is_text_less a.name b.name || (bytes_eq a.name b.name && nat_lt a.broker b.broker)
+abbrev pub is_before_by_broker_name : BrokerVolume → BrokerVolume → Bool
+is_before_by_broker_name a b = is_text_less a.name b.name || (bytes_eq a.name b.name && nat_lt a.broker b.broker)
 
 -- True if the broker `a` is before `b` when they are sorted by volume, descending, then by name,
 -- then by id, both ascending.
-abbrev pub precedes_by_volume : BrokerVolume → BrokerVolume → Bool
-precedes_by_volume a b = int_lt b.volume a.volume || (not (int_lt a.volume b.volume) && precedes_by_name a b)
+abbrev pub is_before_by_broker_volume : BrokerVolume → BrokerVolume → Bool
+is_before_by_broker_volume a b = int_lt b.volume a.volume || (not (int_lt a.volume b.volume) && is_before_by_broker_name a b)
 
 -- The record of the broker volume `v`: the name and the id of the broker, and the volume.
 abbrev pub broker_volume_record : BrokerVolume → List Text

@@ -12,8 +12,8 @@ worth_of_account t a = record { account = a.id; balance = a.balance; assets = ma
 
 -- True if the account `a` is before `b` when they are sorted by market value, then by id,
 -- ascending.
-abbrev pub precedes_by_market_value : AccountWorth → AccountWorth → Bool
-precedes_by_market_value a b = int_lt a.assets b.assets || (not (int_lt b.assets a.assets) && nat_lt a.account b.account)
+abbrev pub is_worth_before_by_market_value : AccountWorth → AccountWorth → Bool
+is_worth_before_by_market_value a b = int_lt a.assets b.assets || (not (int_lt b.assets a.assets) && nat_lt a.account b.account)
 
 -- The record of the account `a`: its id, its balance and the market value of its holdings.
 abbrev pub account_worth_record : AccountWorth → List Text

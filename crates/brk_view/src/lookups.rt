@@ -8,7 +8,7 @@ ghost use Rattle.brk_model.specs.LookupView.{row_stamp_is_between, trade_lookup_
 ghost use Rattle.brk_model.specs.Tables.{Tables};
 ghost use Rattle.brk_money.specs.declared.fault.Fault.TheVariants.{Memory};
 ghost use Rattle.brk_view.specs.Lookup.{AreRowsOfTrade, records_of_looked_up_trade, rows_of_looked_up_trade};
-ghost use Rattle.brk_view.specs.Lookup.{table_rows_of_trade, status_of_typed_history_row, is_older_trade, is_older_status};
+ghost use Rattle.brk_view.specs.Lookup.{table_rows_of_trade, stamped_status_of_typed_history_row, is_older_trade, is_older_status};
 ghost use Rattle.brk_view.specs.Views.{records_of_view};
 ghost use Rattle.brk_view.specs.declared.view.View.TheVariants as views;
 
@@ -65,7 +65,7 @@ fn sorted_statuses_of_history(
     alloc: Global,
     history: &[HistoryRow],
 ) -> Result<Vec<StampedStatus>, Fault>
-    ensures order { IfOk result (λ moments. moments.items ≡ sort_by is_older_status (map status_of_typed_history_row history.now)) }
+    ensures order { IfOk result (λ moments. moments.items ≡ sort_by is_older_status (map stamped_status_of_typed_history_row history.now)) }
     ensures fault { OnErr result (result ≡ Err Memory) }
 {
     let mut moments = Vec::new(alloc);

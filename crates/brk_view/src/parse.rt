@@ -9,7 +9,7 @@ ghost use Rattle.brk_view.specs.Queries.{abstract_query};
 ghost use Rattle.brk_view.specs.ViewNames.{text_of_view_name};
 
 use crate::parse_accounts::{
-    parse_account_status_query, parse_position_of_tax_id_query, parse_position_query,
+    parse_account_status_query, parse_account_values_by_tax_id_query, parse_account_values_query,
     parse_recent_trades_query,
 };
 use crate::parse_lookups::{
@@ -65,8 +65,8 @@ pub fn parse_query_of_view(alloc: Global, view: ViewName, arguments: &[&[u8]]) -
     match view {
         ViewName::Submitted => Ok(parse_submitted_trades_query(arguments)),
         ViewName::Estimate => parse_estimate_query(alloc, arguments),
-        ViewName::Customer => Ok(parse_position_query(arguments)),
-        ViewName::TaxId => parse_position_of_tax_id_query(alloc, arguments),
+        ViewName::Customer => Ok(parse_account_values_query(arguments)),
+        ViewName::TaxId => parse_account_values_by_tax_id_query(alloc, arguments),
         ViewName::Recent => Ok(parse_recent_trades_query(arguments)),
         ViewName::Status => Ok(parse_account_status_query(arguments)),
         ViewName::Trades => parse_trades_query(alloc, arguments),

@@ -15,7 +15,7 @@ use std::alloc::Global;
 // Parses the query of the balances and market values of a customer's accounts from its one
 // argument, the id of the customer. Refuses malformed arguments, or a wrong number of them, with
 // `BadText`.
-pub(crate) fn parse_position_query(arguments: &[&[u8]]) -> Result<Query, Refusal>
+pub(crate) fn parse_account_values_query(arguments: &[&[u8]]) -> Result<Query, Refusal>
     ensures { ParsesAs abstract_query result (read_single_argument (read_and_wrap PositionOf read_id) (texts_of_fields arguments.now)) }
 {
     let [customer] = arguments else {
@@ -30,7 +30,10 @@ pub(crate) fn parse_position_query(arguments: &[&[u8]]) -> Result<Query, Refusal
 // Parses the query of the balances and market values of a customer's accounts from its one
 // argument, the tax id of the customer. Refuses malformed arguments, or a wrong number of them,
 // with `BadText`. Fails with `Memory` only.
-pub(crate) fn parse_position_of_tax_id_query(alloc: Global, arguments: &[&[u8]]) -> Planned<Query>
+pub(crate) fn parse_account_values_by_tax_id_query(
+    alloc: Global,
+    arguments: &[&[u8]],
+) -> Planned<Query>
     ensures read { IfOk result (λ read. ParsesAs abstract_query read
         (read_single_argument (read_and_wrap PositionOfTaxId read_tax_id) (texts_of_fields arguments.now))) }
     ensures fault { OnErr result (result ≡ Err Memory) }

@@ -3,7 +3,7 @@
 ghost use Rattle.std.specs.Prelude.{◌≡◌, ◌==◌, ◌∷◌, [], ℕ, Some, filter, flat_map, map, take};
 ghost use Rattle.brk_changes.specs.Rows.{abstract_trade_row};
 ghost use Rattle.brk_model.specs.Joins.{trade_rows_recent_first, security_row_with_symbol, trade_rows_of_account};
-ghost use Rattle.brk_model.specs.StatusView.{account_name_records, record_of_trade_status, trade_status_view};
+ghost use Rattle.brk_model.specs.StatusView.{customer_and_broker_names, record_of_trade_status, trade_status_view};
 ghost use Rattle.brk_model.specs.Tables.{Tables};
 ghost use Rattle.brk_ref.specs.Records.{abstract_security_row};
 ghost use Rattle.brk_view.specs.Status.{trade_status_record, party_names_record, rows_of_trade_status, trade_row_with_security};
@@ -54,7 +54,7 @@ pub fn status(account: AccountStatus) -> View
     // If the trades are the last fifty of an account that exists, the view equals the specified
     // view.
     ensures view { (t : Tables) (id : ℕ)
-        → flat_map (account_name_records t) (filter (λ a. a.id == id) t.accounts) ≡ party_names_record account ∷ []
+        → flat_map (customer_and_broker_names t) (filter (λ a. a.id == id) t.accounts) ≡ party_names_record account ∷ []
         → map trade_status_record account.trades.items ≡ map (record_of_trade_status t) (take 50 (trade_rows_recent_first (trade_rows_of_account t id)))
         → records_of_view result ≡ trade_status_view t id }
 {

@@ -10,7 +10,7 @@ ghost use Rattle.brk_money.specs.Spelling.{Text};
 ghost use Rattle.brk_money.specs.declared.fault.Fault.TheVariants.{Memory};
 ghost use Rattle.brk_view.specs.Views.{records_of_view};
 ghost use Rattle.brk_view.specs.Volume as volume;
-ghost use Rattle.brk_view.specs.Volume.{has_name_and_pending_request, precedes_by_name, request_value_at_bid, precedes_by_volume, broker_volume_record};
+ghost use Rattle.brk_view.specs.Volume.{has_name_and_pending_request, is_before_by_broker_name, request_value_at_bid, is_before_by_broker_volume, broker_volume_record};
 ghost use Rattle.brk_view.specs.declared.view.View.TheVariants as views;
 ghost use Rattle.brk_view.specs.declared.volumes.BrokerVolume.{BrokerVolume};
 
@@ -34,8 +34,8 @@ pub struct BrokerVolume {
 // Returns true if the broker `one` is before `other` when they are sorted by name, then by id,
 // ascending.
 #[tactic(auto, using(crate::proofs::Names::names_compared))]
-fn broker_precedes_by_name(one: &BrokerVolume, other: &BrokerVolume) -> bool
-    ensures { result ≡ precedes_by_name one.now other.now }
+fn is_broker_before_by_name(one: &BrokerVolume, other: &BrokerVolume) -> bool
+    ensures { result ≡ is_before_by_broker_name one.now other.now }
 {
     match one.name.as_str().cmp(other.name.as_str()) {
         Ordering::Less => true,
@@ -45,13 +45,13 @@ fn broker_precedes_by_name(one: &BrokerVolume, other: &BrokerVolume) -> bool
 }
 
 impl Ranked for BrokerVolume {
-    ghost before = { precedes_by_volume };
+    ghost before = { is_before_by_broker_volume };
 
     /// Returns true if the broker has a greater volume than `other`, or an equal volume and is
     /// before `other` when they are sorted by name, then by id, ascending.
     fn ranks_before(&self, other: &BrokerVolume) -> bool {
         if self.volume.get() == other.volume.get() {
-            return broker_precedes_by_name(self, other);
+            return is_broker_before_by_name(self, other);
         }
         self.volume.get() > other.volume.get()
     }
@@ -82,9 +82,9 @@ pub fn total_bid_value_of_requests(requests: &[RequestRow]) -> Wide
 /// volumes of the brokers that have one of the names of the query and a pending request in the
 /// sector. Fails with `Memory` only.
 pub fn broker_volume(alloc: Global, brokers: Vec<BrokerVolume>) -> Result<View, Fault>
-    ensures records { IfOk result (λ view. records_of_view view ≡ map broker_volume_record (sort_by precedes_by_volume brokers.items)) }
+    ensures records { IfOk result (λ view. records_of_view view ≡ map broker_volume_record (sort_by is_before_by_broker_volume brokers.items)) }
     ensures value { IfOk result (λ view. (sorted : Vec BrokerVolume)
-        × (view ≡ views.Volume sorted) × (sorted.items ≡ sort_by precedes_by_volume brokers.items)) }
+        × (view ≡ views.Volume sorted) × (sorted.items ≡ sort_by is_before_by_broker_volume brokers.items)) }
     // If the brokers are those with these names and a request, in any sequence, the view equals the
     // specified view.
     ensures view { IfOk result (λ view. (t : Tables) (sector : Text) (names : List Text) (rows : List BrokerRow)

@@ -9,7 +9,7 @@ ghost use Rattle.brk_model.specs.Records as records;
 ghost use Rattle.brk_model.specs.Tables.{Tables};
 ghost use Rattle.brk_money.specs.declared.fault.Fault.TheVariants.{Memory};
 ghost use Rattle.brk_view.specs.Views.{records_of_view};
-ghost use Rattle.brk_view.specs.Worths.{precedes_by_market_value, worth_of_account, account_worth_record};
+ghost use Rattle.brk_view.specs.Worths.{is_worth_before_by_market_value, worth_of_account, account_worth_record};
 ghost use Rattle.brk_view.specs.declared.view.View.TheVariants as views;
 ghost use Rattle.brk_view.specs.declared.worths.AccountWorth.{AccountWorth};
 
@@ -29,7 +29,7 @@ pub struct AccountWorth {
 }
 
 impl Ranked for AccountWorth {
-    ghost before = { precedes_by_market_value };
+    ghost before = { is_worth_before_by_market_value };
 
     /// Returns true if the account has a smaller market value than `other`, or an equal market
     /// value and a smaller id.
@@ -45,9 +45,9 @@ impl Ranked for AccountWorth {
 /// (Customer-Position), sorted by market value, then by id, ascending, without reading a table. The
 /// caller passes the values of all accounts of the customer. Fails with `Memory` only.
 pub fn position(alloc: Global, accounts: Vec<AccountWorth>) -> Result<View, Fault>
-    ensures records { IfOk result (λ view. records_of_view view ≡ map account_worth_record (sort_by precedes_by_market_value accounts.items)) }
+    ensures records { IfOk result (λ view. records_of_view view ≡ map account_worth_record (sort_by is_worth_before_by_market_value accounts.items)) }
     ensures value { IfOk result (λ view. (sorted : Vec AccountWorth)
-        × (view ≡ views.Position sorted) × (sorted.items ≡ sort_by precedes_by_market_value accounts.items)) }
+        × (view ≡ views.Position sorted) × (sorted.items ≡ sort_by is_worth_before_by_market_value accounts.items)) }
     // If the accounts are those of the customers that pass a test, the view equals the specified
     // view.
     ensures view { IfOk result (λ view. (t : Tables) (test : records.Customer → Bool)

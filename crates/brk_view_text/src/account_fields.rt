@@ -7,7 +7,7 @@ ghost use Rattle.brk_view.specs.Status as statuses;
 ghost use Rattle.brk_view.specs.Views.{texts_of_record, texts_of_records};
 ghost use Rattle.brk_view.specs.Worths.{account_worth_record};
 
-use crate::texts::{push_amount, push_number, push_stamp, push_word};
+use crate::texts::{push_amount, push_number, push_stamp, push_text};
 use brk_changes::{HistoryRow, TradeRow};
 use brk_money::Wide;
 use brk_view::recents::Activity;
@@ -49,9 +49,9 @@ fn recent_trade_texts(alloc: Global, trade: &TradeRow) -> Result<Vec<String>, Al
     ensures { IfOk result (λ texts. texts_of_record texts ≡ recents.recent_trade_record (abstract_trade_row trade.now)) }
 {
     let mut texts = Vec::new(alloc);
-    push_word(alloc, &mut texts, "trade")?;
+    push_text(alloc, &mut texts, "trade")?;
     push_number(alloc, &mut texts, trade.id.get())?;
-    push_word(alloc, &mut texts, trade.symbol.as_str())?;
+    push_text(alloc, &mut texts, trade.symbol.as_str())?;
     push_number(alloc, &mut texts, u64::from(trade.qty.get()))?;
     Ok(texts)
 }
@@ -62,9 +62,9 @@ fn recent_status_texts(alloc: Global, row: &HistoryRow) -> Result<Vec<String>, A
     ensures { IfOk result (λ texts. texts_of_record texts ≡ recents.recent_status_record row.now) }
 {
     let mut texts = Vec::new(alloc);
-    push_word(alloc, &mut texts, "history")?;
+    push_text(alloc, &mut texts, "history")?;
     push_number(alloc, &mut texts, row.trade.get())?;
-    push_word(alloc, &mut texts, row.status.name())?;
+    push_text(alloc, &mut texts, row.status.name())?;
     push_stamp(alloc, &mut texts, row.stamp)?;
     Ok(texts)
 }
@@ -118,9 +118,9 @@ fn party_name_texts(alloc: Global, account: &AccountStatus) -> Result<Vec<String
     ensures { IfOk result (λ texts. texts_of_record texts ≡ statuses.party_names_record account.now) }
 {
     let mut texts = Vec::new(alloc);
-    push_word(alloc, &mut texts, account.last_name.as_str())?;
-    push_word(alloc, &mut texts, account.first_name.as_str())?;
-    push_word(alloc, &mut texts, account.broker.as_str())?;
+    push_text(alloc, &mut texts, account.last_name.as_str())?;
+    push_text(alloc, &mut texts, account.first_name.as_str())?;
+    push_text(alloc, &mut texts, account.broker.as_str())?;
     Ok(texts)
 }
 
@@ -133,9 +133,9 @@ fn first_five_status_texts(alloc: Global, trade: &TradeRow) -> Result<Vec<String
     let mut texts = Vec::new(alloc);
     push_number(alloc, &mut texts, trade.id.get())?;
     push_stamp(alloc, &mut texts, trade.stamp)?;
-    push_word(alloc, &mut texts, trade.status.name())?;
-    push_word(alloc, &mut texts, trade.kind.name())?;
-    push_word(alloc, &mut texts, trade.symbol.as_str())?;
+    push_text(alloc, &mut texts, trade.status.name())?;
+    push_text(alloc, &mut texts, trade.kind.name())?;
+    push_text(alloc, &mut texts, trade.symbol.as_str())?;
     Ok(texts)
 }
 
@@ -150,14 +150,14 @@ fn append_last_five_status_texts(
     ensures { OnOk result (texts_of_record texts.new ≡ texts_of_record texts.old ++ statuses.last_five_status_fields status.now) }
 {
     push_number(alloc, texts, u64::from(status.trade.qty.get()))?;
-    push_word(alloc, texts, status.trade.executor.as_str())?;
+    push_text(alloc, texts, status.trade.executor.as_str())?;
     push_amount(
         alloc,
         texts,
         Wide::new(i128::from(status.trade.charge.get())),
     )?;
-    push_word(alloc, texts, status.security.name.as_str())?;
-    push_word(alloc, texts, status.security.exchange.as_str())
+    push_text(alloc, texts, status.security.name.as_str())?;
+    push_text(alloc, texts, status.security.exchange.as_str())
 }
 
 // Returns the record of a trade with its security in the view of an account's status, in ten

@@ -11,7 +11,7 @@ ghost use Rattle.brk_view.specs.declared.view.View.TheVariants as views;
 use crate::account_fields::{account_status_records, account_worth_records, activity_records};
 use crate::lookup_fields::looked_up_trade_records;
 use crate::lot_fields::records_of_touched_lots;
-use crate::texts::{push_amount, push_number, push_word};
+use crate::texts::{push_amount, push_number, push_text};
 use crate::volume_fields::broker_volume_records;
 use brk_money::{Fault, Wide};
 use brk_plans::Estimate;
@@ -25,8 +25,8 @@ fn submitted_trade_texts(alloc: Global, trade: &SubmittedTrade) -> Result<Vec<St
 {
     let mut texts = Vec::new(alloc);
     push_number(alloc, &mut texts, trade.id.get())?;
-    push_word(alloc, &mut texts, trade.kind.code())?;
-    push_word(alloc, &mut texts, trade.symbol.as_str())?;
+    push_text(alloc, &mut texts, trade.kind.code())?;
+    push_text(alloc, &mut texts, trade.symbol.as_str())?;
     push_number(alloc, &mut texts, u64::from(trade.qty.get()))?;
     push_amount(alloc, &mut texts, Wide::from(trade.bid))?;
     Ok(texts)

@@ -3,12 +3,12 @@
 ghost use Rattle.std.specs.Prelude.{◌≡◌, ◌++◌, ◌∷◌, [], IfOk, OnOk, flat_map, map, option_map, option_to_list};
 ghost use Rattle.brk_changes.specs.Rows.{abstract_move_row, abstract_settlement_row, abstract_trade_row};
 ghost use Rattle.brk_model.specs.LookupView as model;
-ghost use Rattle.brk_view.specs.Lookup.{account_type_and_closing_order_fields, price_and_cost_fields, records_of_looked_up_trade};
+ghost use Rattle.brk_view.specs.Lookup.{cash_and_lifo_fields, price_and_cost_fields, records_of_looked_up_trade};
 ghost use Rattle.brk_view.specs.Lookup.{history_status_record, first_five_trade_fields, order_fields_of_trade};
 ghost use Rattle.brk_view.specs.Views.{texts_of_record, texts_of_records};
 
 use crate::texts::{
-    push_amount, push_day, push_number, push_optional_price, push_stamp, push_word,
+    push_amount, push_day, push_number, push_optional_price, push_stamp, push_text,
 };
 use brk_changes::{MoveRow, SettlementRow, TradeRow};
 use brk_commands::{cash_or_margin_word, lifo_or_fifo_word};
@@ -22,11 +22,11 @@ fn first_five_trade_texts(alloc: Global, trade: &TradeRow) -> Result<Vec<String>
     ensures { IfOk result (λ texts. texts_of_record texts ≡ first_five_trade_fields (abstract_trade_row trade.now)) }
 {
     let mut texts = Vec::new(alloc);
-    push_word(alloc, &mut texts, "trade")?;
+    push_text(alloc, &mut texts, "trade")?;
     push_number(alloc, &mut texts, trade.id.get())?;
     push_stamp(alloc, &mut texts, trade.stamp)?;
-    push_word(alloc, &mut texts, trade.status.code())?;
-    push_word(alloc, &mut texts, trade.kind.code())?;
+    push_text(alloc, &mut texts, trade.status.code())?;
+    push_text(alloc, &mut texts, trade.kind.code())?;
     Ok(texts)
 }
 
@@ -39,10 +39,10 @@ fn append_order_texts(
 ) -> Result<(), AllocError>
     ensures { OnOk result (texts_of_record texts.new ≡ texts_of_record texts.old ++ order_fields_of_trade (abstract_trade_row trade.now)) }
 {
-    push_word(alloc, texts, trade.symbol.as_str())?;
+    push_text(alloc, texts, trade.symbol.as_str())?;
     push_number(alloc, texts, u64::from(trade.qty.get()))?;
     push_amount(alloc, texts, Wide::from(trade.bid))?;
-    push_word(alloc, texts, trade.executor.as_str())
+    push_text(alloc, texts, trade.executor.as_str())
 }
 
 // Appends to `texts` the fields 10 to 13 of the fifteen fields of the record of a looked-up trade:
@@ -64,15 +64,15 @@ fn append_price_and_cost_texts(
 // Appends to `texts` the last two of the fifteen fields of the record of a looked-up trade: `cash`
 // or, if it is no cash trade, `margin`; and `lifo` if it closes the newest lots first, otherwise
 // `fifo`. Fails only if memory runs out.
-fn append_account_type_and_closing_order_texts(
+fn append_cash_and_lifo_texts(
     alloc: Global,
     texts: &mut Vec<String>,
     trade: &TradeRow,
 ) -> Result<(), AllocError>
-    ensures { OnOk result (texts_of_record texts.new ≡ texts_of_record texts.old ++ account_type_and_closing_order_fields (abstract_trade_row trade.now)) }
+    ensures { OnOk result (texts_of_record texts.new ≡ texts_of_record texts.old ++ cash_and_lifo_fields (abstract_trade_row trade.now)) }
 {
-    push_word(alloc, texts, cash_or_margin_word(trade.is_cash))?;
-    push_word(alloc, texts, lifo_or_fifo_word(trade.is_lifo))
+    push_text(alloc, texts, cash_or_margin_word(trade.is_cash))?;
+    push_text(alloc, texts, lifo_or_fifo_word(trade.is_lifo))
 }
 
 // Returns the record of a looked-up trade, in fifteen fields: the word `trade`, its id, stamp,
@@ -84,7 +84,7 @@ fn looked_up_trade_texts(alloc: Global, trade: &TradeRow) -> Result<Vec<String>,
     let mut texts = first_five_trade_texts(alloc, trade)?;
     append_order_texts(alloc, &mut texts, trade)?;
     append_price_and_cost_texts(alloc, &mut texts, trade)?;
-    append_account_type_and_closing_order_texts(alloc, &mut texts, trade)?;
+    append_cash_and_lifo_texts(alloc, &mut texts, trade)?;
     Ok(texts)
 }
 
@@ -94,8 +94,8 @@ fn settlement_texts(alloc: Global, row: SettlementRow) -> Result<Vec<String>, Al
     ensures { IfOk result (λ texts. texts_of_record texts ≡ model.settlement_record (abstract_settlement_row row)) }
 {
     let mut texts = Vec::new(alloc);
-    push_word(alloc, &mut texts, "settlement")?;
-    push_word(alloc, &mut texts, row.cash_type.text())?;
+    push_text(alloc, &mut texts, "settlement")?;
+    push_text(alloc, &mut texts, row.cash_type.text())?;
     push_day(alloc, &mut texts, row.due_day)?;
     push_amount(alloc, &mut texts, Wide::from(row.amount))?;
     Ok(texts)
@@ -107,10 +107,10 @@ fn cash_row_texts(alloc: Global, row: &MoveRow) -> Result<Vec<String>, AllocErro
     ensures { IfOk result (λ texts. texts_of_record texts ≡ model.cash_record (abstract_move_row row.now)) }
 {
     let mut texts = Vec::new(alloc);
-    push_word(alloc, &mut texts, "cash")?;
+    push_text(alloc, &mut texts, "cash")?;
     push_stamp(alloc, &mut texts, row.stamp)?;
     push_amount(alloc, &mut texts, Wide::from(row.amount))?;
-    push_word(alloc, &mut texts, row.name.as_str())?;
+    push_text(alloc, &mut texts, row.name.as_str())?;
     Ok(texts)
 }
 
@@ -120,9 +120,9 @@ fn history_status_texts(alloc: Global, moment: StampedStatus) -> Result<Vec<Stri
     ensures { IfOk result (λ texts. texts_of_record texts ≡ history_status_record moment) }
 {
     let mut texts = Vec::new(alloc);
-    push_word(alloc, &mut texts, "history")?;
+    push_text(alloc, &mut texts, "history")?;
     push_stamp(alloc, &mut texts, moment.stamp)?;
-    push_word(alloc, &mut texts, moment.status.code())?;
+    push_text(alloc, &mut texts, moment.status.code())?;
     Ok(texts)
 }
 

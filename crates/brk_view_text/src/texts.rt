@@ -13,7 +13,7 @@ use brk_money::{Day, Price, Stamp, Wide};
 use std::alloc::{AllocError, Global};
 
 // Appends a copy of the text `word` to `texts`, as one field. Fails only if memory runs out.
-pub(crate) fn push_word(
+pub(crate) fn push_text(
     alloc: Global,
     texts: &mut Vec<String>,
     word: &str,
@@ -96,6 +96,6 @@ pub(crate) fn push_optional_price(
 {
     match price {
         Some(price) => push_amount(alloc, texts, Wide::from(price)),
-        None => push_word(alloc, texts, ""),
+        None => push_text(alloc, texts, ""),
     }
 }

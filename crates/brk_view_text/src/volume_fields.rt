@@ -4,7 +4,7 @@ ghost use Rattle.std.specs.Prelude.{◌≡◌, IfOk, map};
 ghost use Rattle.brk_view.specs.Views.{texts_of_record, texts_of_records};
 ghost use Rattle.brk_view.specs.Volume.{broker_volume_record};
 
-use crate::texts::{push_amount, push_number, push_word};
+use crate::texts::{push_amount, push_number, push_text};
 use brk_view::volumes::BrokerVolume;
 use std::alloc::{AllocError, Global};
 
@@ -14,7 +14,7 @@ fn broker_volume_texts(alloc: Global, broker: &BrokerVolume) -> Result<Vec<Strin
     ensures { IfOk result (λ texts. texts_of_record texts ≡ broker_volume_record broker.now) }
 {
     let mut texts = Vec::new(alloc);
-    push_word(alloc, &mut texts, broker.name.as_str())?;
+    push_text(alloc, &mut texts, broker.name.as_str())?;
     push_number(alloc, &mut texts, broker.broker.get())?;
     push_amount(alloc, &mut texts, broker.volume)?;
     Ok(texts)

@@ -5,7 +5,7 @@ use Rattle.std.specs.Prelude.{◌&&◌, ◌||◌, flat_map, nat_lt, option_to_li
 use Rattle.std.specs.List.{AllByRecursion, list_any}
 use Rattle.std.proofs.lemmas.Bool.{eqb-true}
 use Rattle.std.proofs.lemmas.Bool.Decides.{nat_tests}
-use Rattle.brk_model.specs.Adopted.{is_posting_of_trade, posting_of_move_row}
+use Rattle.brk_model.specs.Adopted.{is_posting_of_trade, posting_of_cash_move_row}
 use Rattle.brk_model.specs.Base.{Base, completed_trades, is_completed}
 use Rattle.brk_model.specs.Derived.{Posting, cash_trades, postings_sorted_by_stamp, posting_of_movement, posting_of_trade, postings_of_base}
 use Rattle.brk_model.specs.Joins.{trade_rows_oldest_first}

@@ -11,7 +11,7 @@ use Rattle.brk_model.specs.Joins.{trade_rows_recent_first, security_row_with_sym
 use Rattle.brk_model.specs.Keys.{account_key, customer_key, number, security_key, word}
 use Rattle.brk_model.specs.Rows.{nonnegative_cents_text}
 use Rattle.brk_model.specs.Sheets.{sheets, tables_sorted_by_key}
-use Rattle.brk_model.specs.StatusView.{broker_name_with_id, account_name_records, record_of_trade_status, trade_status_view}
+use Rattle.brk_model.specs.StatusView.{broker_name_with_id, customer_and_broker_names, record_of_trade_status, trade_status_view}
 use Rattle.brk_model.specs.Tables.{AccountRow, BrokerRow, TradeRow, tables_of_base}
 use Rattle.brk_book_theorems.specs.Books.{BooksInvariant}
 use Rattle.brk_book_theorems.proofs.Bools.{same_text}
@@ -36,7 +36,7 @@ unfolding tables_sorted_by_key
 same_security base symbol =
     find-key security_key (λ row. bytes_eq row.symbol symbol) (word symbol ∷ []) (tables_of_base base).securities (λ row e. ap (λ s. word s ∷ []) (same_text row.symbol symbol e))
 
-same_head : (base : Base) (a : AccountRow) → account_name_records (sheets base) a ≡ account_name_records (tables_of_base base) a
+same_head : (base : Base) (a : AccountRow) → customer_and_broker_names (sheets base) a ≡ customer_and_broker_names (tables_of_base base) a
 same_head base a i = map (λ c. c.last_name ∷ c.first_name ∷ same_broker base a.broker i ∷ []) (same_customers base a.customer i)
 
 same_record : (base : Base) (t : TradeRow) → record_of_trade_status (sheets base) t ≡ record_of_trade_status (tables_of_base base) t

@@ -1,12 +1,12 @@
 //! The parts of a statement that are written row by row.
 
 ghost use Rattle.std.specs.Prelude.{◌≤◌, IfErr};
-ghost use Rattle.brk_report.specs.CashWalk.{WritesCashLines, WritesLinesOfWalk};
+ghost use Rattle.brk_report.specs.CashWalk.{WritesCashLines, WritesLinesOfCashWalk};
 ghost use Rattle.brk_report.specs.Stated.{PreservesDesk, IsMemoryStoreOrWriteFault, HoldsForStoredTables, WritesLotLines};
 ghost use Rattle.brk_store.specs.Walked.{cash_rows_in_span};
 
 use crate::statements::visitors::{
-    CashLineWriter, CashProgress, LineWriter, write_opening_line_unless,
+    CashLineWriter, CashProgress, LineWriter, write_opening_line_unless_written,
 };
 use crate::walk_faults::fault_from_walk_error;
 use brk_desk::Desk;
@@ -22,7 +22,7 @@ use std::io::Write;
 // Returns the total, the number of the rows with a line, and whether the line of the opening amount
 // is written. If the database is still open, it is unchanged. Fails with `Desk` if a read fails,
 // memory runs out, or the number or the sum overflows, or with `Write`.
-fn walk_cash_rows<W: Write, S: Alter>(
+fn write_cash_walk_lines<W: Write, S: Alter>(
     alloc: Global,
     desk: &mut Desk<S>,
     account: Id,
@@ -34,7 +34,7 @@ fn walk_cash_rows<W: Write, S: Alter>(
     ensures keeps { PreservesDesk S.Store desk.old desk.new }
     ensures fault { IfErr result IsMemoryStoreOrWriteFault }
     ensures written { HoldsForStoredTables S.Store desk.old desk.new
-        (λ t. WritesLinesOfWalk (cash_rows_in_span account 0 last t) first opening (W.contents writer.old) (W.contents writer.new) result) }
+        (λ t. WritesLinesOfCashWalk (cash_rows_in_span account 0 last t) first opening (W.contents writer.old) (W.contents writer.new) result) }
 {
     let mut visitor = CashLineWriter {
         alloc,
@@ -73,7 +73,7 @@ pub(crate) fn write_opening_and_cash_lines<W: Write, S: Alter>(
     ensures written { HoldsForStoredTables S.Store desk.old desk.new
         (λ t. WritesCashLines t account from to opening (W.contents writer.old) (W.contents writer.new) result) }
 {
-    let moved = walk_cash_rows(
+    let moved = write_cash_walk_lines(
         alloc,
         desk,
         account,
@@ -82,7 +82,7 @@ pub(crate) fn write_opening_and_cash_lines<W: Write, S: Alter>(
         opening,
         writer,
     )?;
-    write_opening_line_unless(alloc, moved.is_opened, moved.total, writer)?;
+    write_opening_line_unless_written(alloc, moved.is_opened, moved.total, writer)?;
     Ok(moved)
 }
 

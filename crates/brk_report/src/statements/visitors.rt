@@ -5,7 +5,7 @@ ghost use Rattle.brk_changes.specs.Rows.{abstract_move_row};
 ghost use Rattle.brk_money.specs.Spelling.{Text};
 ghost use Rattle.brk_model.specs.Run.{IsCallFault};
 ghost use Rattle.brk_model.specs.Statement.{cash_row_line};
-ghost use Rattle.brk_report.specs.CashWalk.{opening_line_unless};
+ghost use Rattle.brk_report.specs.CashWalk.{opening_line_unless_written};
 ghost use Rattle.brk_report_lines.specs.Written.{WritesLines, line_with_line_feed};
 
 use crate::totals::total_plus_amount;
@@ -60,13 +60,13 @@ fn is_before_stamp(item: &MoveRow, first: Stamp) -> bool
 
 /// Writes the line of the opening amount `opening`, in cents, or nothing if `is_written` is true.
 /// Fails with `Desk(Memory)` or `Write`.
-pub(crate) fn write_opening_line_unless<W: Write>(
+pub(crate) fn write_opening_line_unless_written<W: Write>(
     alloc: Global,
     is_written: bool,
     opening: Wide,
     writer: &mut W,
 ) -> Result<(), LinesFault>
-    ensures { WritesLines (opening_line_unless is_written opening) (W.contents writer.old) (W.contents writer.new) result }
+    ensures { WritesLines (opening_line_unless_written is_written opening) (W.contents writer.old) (W.contents writer.new) result }
 {
     if is_written {
         return Ok(());
@@ -83,10 +83,10 @@ fn write_opening_and_row_lines<W: Write>(
     item: &MoveRow,
     writer: &mut W,
 ) -> Result<(), LinesFault>
-    ensures { WritesLines (opening_line_unless moved.is_opened moved.total ++ cash_row_line (abstract_move_row item.now)
+    ensures { WritesLines (opening_line_unless_written moved.is_opened moved.total ++ cash_row_line (abstract_move_row item.now)
         ∷ []) (W.contents writer.old) (W.contents writer.new) result }
 {
-    write_opening_line_unless(alloc, moved.is_opened, moved.total, writer)?;
+    write_opening_line_unless_written(alloc, moved.is_opened, moved.total, writer)?;
     write_line(writer, item.line(alloc))
 }
 
@@ -168,17 +168,17 @@ impl<W: Write> Visitor<MoveRow, LinesFault> for CashLineWriter<'_, W> {
     ghost use Rattle.std.specs.Io.KnownBytes.{Appends};
     ghost use Rattle.brk_changes.specs.Rows.{abstract_move_row};
     ghost use Rattle.brk_model.specs.Statement.{text_of_lines};
-    ghost use Rattle.brk_report.specs.CashWalk.{lines_of_row, progress_after_row};
+    ghost use Rattle.brk_report.specs.CashWalk.{lines_of_cash_row, progress_after_cash_row};
     ghost use Rattle.brk_report_lines.specs.Written.{FailsWithinFirstLines};
 
     ghost ready = { λ _. Unit {0} };
 
     ghost leads = { λ p q. q.writer.ghost_name ≡ p.writer.ghost_name };
 
-    ghost takes = { λ p r q. (q.first ≡ p.first) × (q.moved ≡ progress_after_row (nat_lt r.stamp p.first) p.moved (abstract_move_row r))
-        × Appends (W.contents p.writer.now) (W.contents q.writer.now) (text_of_lines (lines_of_row (nat_lt r.stamp p.first) p.moved (abstract_move_row r))) };
+    ghost takes = { λ p r q. (q.first ≡ p.first) × (q.moved ≡ progress_after_cash_row (nat_lt r.stamp p.first) p.moved (abstract_move_row r))
+        × Appends (W.contents p.writer.now) (W.contents q.writer.now) (text_of_lines (lines_of_cash_row (nat_lt r.stamp p.first) p.moved (abstract_move_row r))) };
 
-    ghost stops = { λ p r e q. FailsWithinFirstLines (lines_of_row (nat_lt r.stamp p.first) p.moved (abstract_move_row r)) (W.contents p.writer.now) (W.contents q.writer.now) e };
+    ghost stops = { λ p r e q. FailsWithinFirstLines (lines_of_cash_row (nat_lt r.stamp p.first) p.moved (abstract_move_row r)) (W.contents p.writer.now) (W.contents q.writer.now) e };
 
     /// Adds the amount of the cash row to the total. If the row is not before the first stamp, also
     /// writes its line, after the line of the opening amount unless this was written before, and

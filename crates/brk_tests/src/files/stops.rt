@@ -404,7 +404,7 @@ fn crashes_while_a_batch_is_executed(rt: HostRuntime) -> Result<(), Fail> {
 
 // Upgrades a desk that the SQL statements `change` convert to an older schema, with each crash of
 // `STOPS` at each call of its file, and checks each recovery (`expect_upgrade_crash_recovered`).
-fn upgrade_with_crash_at_each_call(alloc: Global, change: &str) -> Result<(), Fail> {
+fn expect_upgrade_recovered_at_each_call(alloc: Global, change: &str) -> Result<(), Fail> {
     let (start, tables) = files_of_older_schema(alloc, change)?;
     let work = Work::Upgrade {
         start: &start,
@@ -417,14 +417,14 @@ fn upgrade_with_crash_at_each_call(alloc: Global, change: &str) -> Result<(), Fa
 // the database file, and that a retry completes it.
 #[test]
 fn crashes_while_schema_1_is_upgraded(rt: HostRuntime) -> Result<(), Fail> {
-    upgrade_with_crash_at_each_call(rt.alloc(), FIRST)
+    expect_upgrade_recovered_at_each_call(rt.alloc(), FIRST)
 }
 
 // Checks that the upgrade from schema 2 is atomic if the machine crashes at any call of the log or
 // the database file, and that a retry completes it.
 #[test]
 fn crashes_while_schema_2_is_upgraded(rt: HostRuntime) -> Result<(), Fail> {
-    upgrade_with_crash_at_each_call(rt.alloc(), SECOND)
+    expect_upgrade_recovered_at_each_call(rt.alloc(), SECOND)
 }
 
 // Executes a batch on the desk in the files `held`, and returns the files after it. Fails with

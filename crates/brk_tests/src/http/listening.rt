@@ -117,7 +117,7 @@ fn serve_at_first_timestamp<S: Alter>(
 // Checks that the streams of the peers, served in sequence on one new desk in the database of a
 // connection, have the replies of `PEERS`, and that the serving ends with `Net` if no stream can be
 // accepted. Fails without a connection.
-fn expect_streams_served_in<S: Alter + Drop>(
+fn expect_streams_served_on_desk<S: Alter + Drop>(
     rt: &impl Abort,
     alloc: Global,
     conn: Option<Connection<S>>,
@@ -138,7 +138,7 @@ fn expect_streams_served_in<S: Alter + Drop>(
 fn socket_streams_share_one_desk(rt: HostRuntime) -> Result<(), Fail> {
     let mut listener = TcpListener::bind(&rt, ("127.0.0.1", 0))?;
     let waiting = connect_all_peers(&rt, &listener)?;
-    expect_streams_served_in(
+    expect_streams_served_on_desk(
         &rt,
         rt.alloc(),
         open_in_memory(rt.alloc()),

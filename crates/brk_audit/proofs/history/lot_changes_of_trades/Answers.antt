@@ -1,7 +1,7 @@
 use Rattle.std.proofs.Common.{arith, ◌≡◌, ◌+◌, ◌-◌, ◌++◌, List, [], ◌∷◌, length, drop, take, map, sym, ap, ◌∙◌, subst, append-nil}
 use Rattle.std.proofs.lemmas.List.{append_assoc, drop_all, length-drop, length-take}
 use Rattle.brk_lots.specs.Chains.{abstract_deal_touch, lot_changes_of_deals}
-use Rattle.brk_lots.specs.Deals.{AreAscendingDeals}
+use Rattle.brk_lots.specs.Deals.{AreDistinctAscendingDeals}
 use Rattle.brk_model.specs.Shares.{Deal}
 use Rattle.brk_model.specs.Tables.{HoldingHistoryRow, TradeRow}
 use Rattle.brk_audit.specs.Positions.{AreLotChangesOfTrades, moves, deal_of_completed_row, untouched}
@@ -15,7 +15,7 @@ append_lot_changes_of_trades-requires-clause-deals c =
     let n = c.leading_trade_count_of_position.result in
     let x = c.index-done-begin.result in
     let k : Stretch done b n x = stretch done b n x c.loop-begin-test.true c.index-done-begin.is c.requires.order c.requires.apart c.leading_trade_count_of_position.ensures.same c.leading_trade_count_of_position.ensures.next in
-    subst AreAscendingDeals (sym (deals_are (take (b + 1 + n - b) (drop b done)) _ k.run)) k.deals
+    subst AreDistinctAscendingDeals (sym (deals_are (take (b + 1 + n - b) (drop b done)) _ k.run)) k.deals
 
 pub loop-begin-preserved : goal.loop-begin-preserved
 loop-begin-preserved c =

@@ -2,7 +2,7 @@ use Rattle.std.proofs.Common.{arith, ◌≡◌, ◌+◌, ◌-◌, ◌++◌, List
 use Rattle.std.proofs.lemmas.List.{append_assoc, drop_all, length-drop, length-take}
 use Rattle.brk_changes.specs.Rows.{abstract_holding_row}
 use Rattle.brk_lots.specs.declared.lot.Lot.{Lot}
-use Rattle.brk_lots.specs.Deals.{AreAscendingDeals}
+use Rattle.brk_lots.specs.Deals.{AreDistinctAscendingDeals}
 use Rattle.brk_lots.specs.Position.{IsPosition}
 use Rattle.brk_lots.specs.Lots.{abstract_lot, shares_of_lots}
 use Rattle.brk_lots.proofs.Ends.{walk_of}
@@ -25,7 +25,7 @@ position_after_trades-requires-clause-deals c =
     let n = c.leading_trade_count_of_position.result in
     let x = c.index-done-begin.result in
     let k : Stretch done b n x = stretch done b n x c.loop-begin-test.true c.index-done-begin.is c.requires.order c.requires.apart c.leading_trade_count_of_position.ensures.same c.leading_trade_count_of_position.ensures.next in
-    subst AreAscendingDeals (sym (deals_are (take (b + 1 + n - b) (drop b done)) _ k.run)) k.deals
+    subst AreDistinctAscendingDeals (sym (deals_are (take (b + 1 + n - b) (drop b done)) _ k.run)) k.deals
 
 pub loop-begin-preserved : goal.loop-begin-preserved
 loop-begin-preserved c =

@@ -2,7 +2,7 @@ use Rattle.std.proofs.Common.{false, sym, ◌∙◌, ap, map}
 use Rattle.std.specs.Prelude.{Bool, ◌&&◌}
 use Rattle.std.specs.List.{list_all}
 use Rattle.brk_model.specs.Audit.{ConditionHolds}
-use Rattle.brk_model.specs.Form.{satisfies_form_condition, has_distinct_tax_ids, is_within_customer_limits, is_well_formed_cash_row, is_well_formed_move_row, trade_ids_of_cash_rows}
+use Rattle.brk_model.specs.Form.{satisfies_form_condition, has_distinct_tax_ids, is_within_customer_limits, is_well_formed_cash_transaction_row, is_well_formed_cash_move_row, trade_ids_of_cash_rows}
 use Rattle.brk_model.specs.Lists.{all_distinct}
 use Rattle.brk_ref.specs.Records.{abstract_customer}
 use Rattle.brk_changes.specs.Rows.{abstract_cash_row, abstract_move_row}
@@ -19,10 +19,10 @@ abbrev limits : Sheets → Bool
 limits s = list_all (is_within_customer_limits (abstract_sheets s)) (map abstract_customer s.customers.items)
 
 abbrev cash : Sheets → Bool
-cash s = list_all (is_well_formed_cash_row (abstract_sheets s)) (map abstract_cash_row s.cash.items)
+cash s = list_all (is_well_formed_cash_transaction_row (abstract_sheets s)) (map abstract_cash_row s.cash.items)
 
 abbrev moves : Sheets → Bool
-moves s = list_all (is_well_formed_move_row (abstract_sheets s)) (map abstract_move_row s.moves.items)
+moves s = list_all (is_well_formed_cash_move_row (abstract_sheets s)) (map abstract_move_row s.moves.items)
 
 abbrev owns : Sheets → Bool
 owns s = all_distinct (trade_ids_of_cash_rows (map abstract_move_row s.moves.items))

@@ -35,13 +35,13 @@ returns-clause-value c = λ schema.
     let each_row : c.deref-6.result.now ≡ cs = c.deref-6.ensures.value in
     let rows : c.deref-7.result.now ≡ s.summaries.items = c.deref-7.ensures.value in
     let law = summaries_by_rows schema t c.requires.form c.requires.status in (
-      (λ b. let h = c.all_three_true.ensures.0 b in
+      (λ b. let h = c.are_all_three_true.ensures.0 b in
           law.1 (they_hold s sums told ps cs w (subst (AllByRecursion (Agree sums told)) each_trade (c.sums_agree_at_postings-each_trade.ensures.0 h.0))
-          (subst (AllByRecursion (Agree sums told)) each_row (c.sums_agree_at_postings-each_row.ensures.0 h.1)) (subst (AllByRecursion Tells) rows (c.all_summaries_nonzero-shares.ensures.0 h.2)))),
+          (subst (AllByRecursion (Agree sums told)) each_row (c.sums_agree_at_postings-each_row.ensures.0 h.1)) (subst (AllByRecursion Tells) rows (c.has_no_zero_summary-shares.ensures.0 h.2)))),
       (λ h. let k = they_agree s sums told ps cs w c.requires.form (law.0 h) in
-          c.all_three_true.ensures.1 (
+          c.are_all_three_true.ensures.1 (
             c.sums_agree_at_postings-each_trade.ensures.1 (subst (AllByRecursion (Agree sums told)) (sym each_trade) k.0),
             c.sums_agree_at_postings-each_row.ensures.1 (subst (AllByRecursion (Agree sums told)) (sym each_row) k.1),
-            c.all_summaries_nonzero-shares.ensures.1 (subst (AllByRecursion Tells) (sym rows) k.2),
+            c.has_no_zero_summary-shares.ensures.1 (subst (AllByRecursion Tells) (sym rows) k.2),
           )),
     )

@@ -4,7 +4,7 @@ use Rattle.std.proofs.lemmas.Result.{err_from_is_err_and}
 use Rattle.brk_money.specs.declared.fault.Fault.{Fault}
 use Rattle.brk_model.specs.Tables.{Tables}
 use Rattle.brk_orders.specs.declared.tick.Tick.{Tick}
-use Rattle.brk_plans.specs.Feed.{states_of_quotes, lacks_state_of_symbol}
+use Rattle.brk_plans.specs.Feed.{states_of_quotes, has_no_state_of_symbol}
 use Rattle.brk_plans.specs.declared.quote.Quote.{Quote}
 use Rattle.brk_trade_theorems.specs.TradePlans.{AreQuotesOfTicks}
 use Rattle.brk_trade_theorems.proofs.Quotes.{no_quotes}
@@ -33,7 +33,7 @@ loop-tick-preserved g c =
     let tick = c.tick-item.result in
     let last = c.in_ok-last.last in
     let before = c.loop-tick.quotes.items in
-    let lacks : lacks_state_of_symbol (states_of_quotes before) tick ≡ c.has_no_quote_of_symbol.result = sym (ap (λ quotes. lacks_state_of_symbol (states_of_quotes quotes) tick) c.deref.ensures.value) ∙ sym c.has_no_quote_of_symbol.ensures in
+    let lacks : has_no_state_of_symbol (states_of_quotes before) tick ≡ c.has_no_quote_of_symbol.result = sym (ap (λ quotes. has_no_state_of_symbol (states_of_quotes quotes) tick) c.deref.ensures.value) ∙ sym c.has_no_quote_of_symbol.ensures in
     let after : ReadPost {V = Unit {0}} {E = Fault} g.S.Store c.args.store.now c.if-has_no_quote_of_symbol.store (Ok tt) (λ _. QuotesAndLastStampMatch ticks (take i ticks ++ tick ∷ []) (states_of_quotes c.if-has_no_quote_of_symbol.quotes.items) last) =
     elim c.if-has_no_quote_of_symbol.branch [
       | then-has_no_quote_of_symbol+in_ok-quote+in-Some+in_ok-push w ↦

@@ -17,5 +17,5 @@ returns-clause-read g c =
     retold g.S.Store c.args.store.now c.commission_bands.new.self c.in_ok-bands.bands _
     (λ all (t : Tables). map abstract_band all.items ≡ filter (λ (r : Band). (r.tier == b.tier) && is_same_trade_type r.kind b.kind && bytes_eq r.exchange b.exchange) t.bands)
     (λ (found : ReferenceFacts) (t : Tables). found.overlaps ≡ overlaps_some_band t b)
-    (λ t e. c.overlaps_any_band-overlaps.ensures ∙ ap (λ bands. list_any (bands_overlap b) (map abstract_band bands)) c.deref.ensures.value ∙ ap (list_any (bands_overlap b)) e)
+    (λ t e. c.has_overlapping_band-overlaps.ensures ∙ ap (λ bands. list_any (bands_overlap b) (map abstract_band bands)) c.deref.ensures.value ∙ ap (list_any (bands_overlap b)) e)
     c.in_ok-bands.ensures.read

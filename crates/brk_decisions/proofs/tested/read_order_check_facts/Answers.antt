@@ -35,12 +35,12 @@ returns-clause-read g c =
     (λ _ t. price_read t × permission_read t) (λ t a b. (a, b))
     c.in_ok-last_price.ensures.read c.in_ok-is_permitted.ensures.read in
     let two =
-    read_both g.S.Store old c.is_executor_permitted.new.store c.read_charge_of_tier.new.store {X = Unit {0}} {H = Fault} tt charge tt
+    read_both g.S.Store old c.is_executor_permitted.new.store c.read_charge_of_type_and_tier.new.store {X = Unit {0}} {H = Fault} tt charge tt
     (λ _ t. price_read t × permission_read t) (λ charge (t : Tables). charge ≡ charge_of_type_and_tier t (trade_type_of_order order.order_type) customer.tier)
     (λ _ t. (price_read t × permission_read t) × charge_read t) (λ t a b. (a, b))
     one (rw c.kind.ensures at c.in_ok-charge.ensures.read) in
     let tested : OrderCheckFacts = record { last_price = last_price; is_permitted = is_permitted; charge = charge; rate = rate } in
-    read_both g.S.Store old c.read_charge_of_tier.new.store c.read_commission_rate_of_order.new.store {H = Fault} tt rate tested
+    read_both g.S.Store old c.read_charge_of_type_and_tier.new.store c.read_commission_rate_of_order.new.store {H = Fault} tt rate tested
     (λ _ t. (price_read t × permission_read t) × charge_read t)
     (λ rate (t : Tables). IfSome (security_row_with_symbol t order.symbol) (λ (s : SecurityRow). rate ≡ option_map (λ (b : Band). b.rate) (commission_band_of_quantity t customer.tier (trade_type_of_order order.order_type) s.exchange order.qty)))
     (λ tested (t : Tables). CustomerOrderFactsMatchTables t order customer tested)
@@ -57,10 +57,10 @@ pub returns-in_err-charge-clause-read : goal.returns-in_err-charge-clause-read
 returns-in_err-charge-clause-read g c =
     let old = c.args.store.now in
     let p = err_from_is_err_and c.from_residual-in_err-charge.result c.from_residual-in_err-charge.ensures.1 in
-    rw p.1 (failed_after g.S.Store old c.is_executor_permitted.new.store c.read_charge_of_tier.new.store _ p.0 _ _ (unchanged_after g.S.Store old c.read_last_price.new.store c.is_executor_permitted.new.store _ _ (single_read_changes_nothing old c.read_last_price.new.store _ _ c.in_ok-last_price.ensures.read) c.in_ok-is_permitted.ensures.read) c.in_err-charge.ensures.read)
+    rw p.1 (failed_after g.S.Store old c.is_executor_permitted.new.store c.read_charge_of_type_and_tier.new.store _ p.0 _ _ (unchanged_after g.S.Store old c.read_last_price.new.store c.is_executor_permitted.new.store _ _ (single_read_changes_nothing old c.read_last_price.new.store _ _ c.in_ok-last_price.ensures.read) c.in_ok-is_permitted.ensures.read) c.in_err-charge.ensures.read)
 
 pub returns-in_err-rate-clause-read : goal.returns-in_err-rate-clause-read
 returns-in_err-rate-clause-read g c =
     let old = c.args.store.now in
     let p = err_from_is_err_and c.from_residual-in_err-rate.result c.from_residual-in_err-rate.ensures.1 in
-    rw p.1 (failed_after g.S.Store old c.read_charge_of_tier.new.store c.read_commission_rate_of_order.new.store _ p.0 _ _ (unchanged_after g.S.Store old c.is_executor_permitted.new.store c.read_charge_of_tier.new.store _ _ (unchanged_after g.S.Store old c.read_last_price.new.store c.is_executor_permitted.new.store _ _ (single_read_changes_nothing old c.read_last_price.new.store _ _ c.in_ok-last_price.ensures.read) c.in_ok-is_permitted.ensures.read) c.in_ok-charge.ensures.read) c.in_err-rate.ensures.read)
+    rw p.1 (failed_after g.S.Store old c.read_charge_of_type_and_tier.new.store c.read_commission_rate_of_order.new.store _ p.0 _ _ (unchanged_after g.S.Store old c.is_executor_permitted.new.store c.read_charge_of_type_and_tier.new.store _ _ (unchanged_after g.S.Store old c.read_last_price.new.store c.is_executor_permitted.new.store _ _ (single_read_changes_nothing old c.read_last_price.new.store _ _ c.in_ok-last_price.ensures.read) c.in_ok-is_permitted.ensures.read) c.in_ok-charge.ensures.read) c.in_err-rate.ensures.read)

@@ -1,10 +1,10 @@
 use Rattle.brk_explain_columns.proofs.Chains.{more2, first2, on_ok}
 use Rattle.std.proofs.Common.{◌≡◌, ◌∙◌, ◌++◌, codes, decimal}
-use Rattle.brk_explain_model.specs.TradeLines.{band_bounds_text}
+use Rattle.brk_explain_model.specs.TradeLines.{band_unit_and_bounds_text}
 use Rattle.brk_explain_lines.proofs.tax_lines.put_band_bounds.Goals as goal
 
 pub returns-clause-ok : goal.returns-clause-ok
-unfolding band_bounds_text
+unfolding band_unit_and_bounds_text
 returns-clause-ok c =
     let a = c.from.ensures ∙ c.get.ensures.value in
     let b = c.from-2.ensures ∙ c.get-2.ensures.value in

@@ -11,5 +11,5 @@ loop-i-preserved c =
     let lot : Lot = c.index-lots-i.result in
     let e : drop i lots ≡ lot ∷ drop (i + 1) lots = drop_more lots i lot (omega arith) ∙ ap (λ (l : Lot). l ∷ drop (i + 1) lots) (sym c.index-lots-i.is) in
     let n : lot.qty ≢ pos 0 = search rules in
-    let a : FirstLotSatisfies (PrecedesOnSameSide lot) (drop (i + 1) lots) = rw (take_rest lots (i + 1)) at (c.next_lot_is_later_on_same_side.ensures.0 c.if-not-next_lot_is_later_on_same_side.false) in
+    let a : FirstLotSatisfies (PrecedesOnSameSide lot) (drop (i + 1) lots) = rw (take_rest lots (i + 1)) at (c.is_before_next_on_same_side.ensures.0 c.if-not-is_before_next_on_same_side.false) in
     (λ p. c.loop-i.invariant.0 (rw e (n, a, p)), λ p. let h = c.loop-i.invariant.1 p in let q = rw e at h in q.2)

@@ -24,7 +24,7 @@ returns-clause-position c =
     let moved = c.sort_lots_by_trade.new.lots in
     let climbs : IsOneSidedAndAscending lots = c.is_one_sided_and_ascending.ensures.0 c.if-not-is_one_sided_and_ascending.false in (
       λ t.
-          let there : Distinct moved = distinct_by moved (ascends_of (λ l. l.trade) moved c.sort_lots_by_trade.ensures.order) (c.neighbours_differ_in_trade-distinct.ensures.0 t) in
+          let there : Distinct moved = distinct_by moved (ascends_of (λ l. l.trade) moved c.sort_lots_by_trade.ensures.order) (c.has_no_neighbours_of_one_trade-distinct.ensures.0 t) in
           position_of lots climbs (distinct_moved moved lots (IsPermutation-sym lots moved c.sort_lots_by_trade.ensures.permutation) there),
-      λ p. c.neighbours_differ_in_trade-distinct.ensures.1 (differ_of moved (distinct_moved lots moved c.sort_lots_by_trade.ensures.permutation (distinct_of lots p))),
+      λ p. c.has_no_neighbours_of_one_trade-distinct.ensures.1 (differ_of moved (distinct_moved lots moved c.sort_lots_by_trade.ensures.permutation (distinct_of lots p))),
     )

@@ -1,6 +1,6 @@
 use Rattle.std.proofs.Common.{◌≡◌, ◌++◌, drop, false}
 use Rattle.std.specs.List.{list_any}
-use Rattle.brk_plans.specs.Feed.{states_of_quotes, states_after_ticks, row_changes_of_ticks, trades_triggered_by_ticks, exceeds_volume_limit}
+use Rattle.brk_plans.specs.Feed.{states_of_quotes, states_after_ticks, row_changes_of_ticks, trades_triggered_by_ticks, has_volume_above_limit}
 use Rattle.brk_plans.proofs.feed.apply_ticks_to_quotes.Given as goal
 
 -- what the ticks that are left come to, after what came of those before
@@ -10,7 +10,7 @@ invariant-loop-tick l =
     let before = states_of_quotes l.fn.quotes.items in
     record {
       quotes : states_after_ticks l.stamp rest (states_of_quotes l.current.items) ≡ states_after_ticks l.stamp l.ticks before;
-      within : list_any exceeds_volume_limit (states_of_quotes l.current.items) ≡ false;
+      within : list_any has_volume_above_limit (states_of_quotes l.current.items) ≡ false;
       changes : l.changes.items ++ row_changes_of_ticks l.stamp rest (states_of_quotes l.current.items) ≡ l.fn.changes.items ++ row_changes_of_ticks l.stamp l.ticks before;
       ids : l.ids.items ++ trades_triggered_by_ticks l.stamp rest (states_of_quotes l.current.items) ≡ l.fn.ids.items ++ trades_triggered_by_ticks l.stamp l.ticks before;
     }

@@ -16,7 +16,7 @@ returns-clause-read g c =
     let customer = c.in_ok-customer.customer in
     let broker = c.in_ok-broker.broker in
     let found : AccountStatus = record { last_name = customer.last_name; first_name = customer.first_name; broker = broker; trades = c.args.trades } in
-    read_both g.S.Store c.args.store.now c.require_customer_party.new.store c.require_broker_name.new.store {H = Fault} customer broker found
+    read_both g.S.Store c.args.store.now c.require_customer_with_id.new.store c.require_broker_name.new.store {H = Fault} customer broker found
     (λ customer (t : Tables). Some (abstract_customer customer) ≡ find (λ r. r.id == row.account.customer) t.customers)
     (λ name (t : Tables). name ≡ broker_name_with_id t row.account.broker)
     (IsAccountStatusWithTrades (abstract_account_row row) c.args.trades)
@@ -27,4 +27,4 @@ pub returns-in_err-broker-clause-read : goal.returns-in_err-broker-clause-read
 returns-in_err-broker-clause-read g c =
     let old = c.args.store.now in
     let p = err_from_is_err_and c.from_residual-in_err-broker.result c.from_residual-in_err-broker.ensures.1 in
-    rw p.1 (failed_after g.S.Store old c.require_customer_party.new.store c.require_broker_name.new.store _ p.0 _ _ (single_read_changes_nothing old c.require_customer_party.new.store _ _ c.in_ok-customer.ensures.read) c.in_err-broker.ensures.read)
+    rw p.1 (failed_after g.S.Store old c.require_customer_with_id.new.store c.require_broker_name.new.store _ p.0 _ _ (single_read_changes_nothing old c.require_customer_with_id.new.store _ _ c.in_ok-customer.ensures.read) c.in_err-broker.ensures.read)

@@ -6,7 +6,7 @@ use Rattle.brk_changes.specs.Rows.{abstract_request_row}
 use Rattle.brk_changes.specs.declared.request_row.RequestRow.{RequestRow}
 use Rattle.brk_model.specs.Tables.{Tables}
 use Rattle.brk_store.proofs.Sequences.{no_reads, reads_both, reads_retold}
-use Rattle.brk_queries.specs.Volumes.{is_sector_request_of_broker, requests_with_row_of_broker_in_sector}
+use Rattle.brk_queries.specs.Volumes.{is_sector_request_of_broker, requests_with_row_if_of_broker_in_sector}
 use Rattle.brk_queries.proofs.VolumeViews.{request_more}
 use Rattle.brk_queries.proofs.volumes.read_sector_requests_of_broker.Goals as goal
 
@@ -30,7 +30,7 @@ loop-row-preserved g c =
     let new = c.append_request_if_of_broker_in_sector.new.found.items in
     reads_both g.S.Store c.args.store.now c.loop-row.store c.append_request_if_of_broker_in_sector.new.store {H = Fault} tt tt tt
     (λ _. FirstRequests sector broker rows old i)
-    (λ _ (t : Tables). new ≡ requests_with_row_of_broker_in_sector t sector broker row old)
+    (λ _ (t : Tables). new ≡ requests_with_row_if_of_broker_in_sector t sector broker row old)
     (λ _. FirstRequests sector broker rows new (i + 1))
     (λ t p e. request_more t sector broker rows i row old new c.loop-row-test.true c.row-item.is p e)
     c.loop-row.invariant c.in_ok-append_request_if_of_broker_in_sector.ensures.read

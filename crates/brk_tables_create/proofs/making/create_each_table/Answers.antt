@@ -5,7 +5,7 @@ use Rattle.brk_money.specs.declared.fault.Fault.{Fault}
 use Rattle.brk_sql.specs.Desk.{CreatesTableOfShape}
 use Rattle.brk_sql.specs.Model.{IsTransactionStep}
 use Rattle.brk_sql.proofs.Inside.{step_then}
-use Rattle.brk_tables_schema.specs.Desk.{table_definition_at}
+use Rattle.brk_tables_schema.specs.Desk.{table_definition_at_tree}
 use Rattle.brk_tables_create.specs.Texts.{specified_table}
 use Rattle.brk_tables_create.specs.declared.table.Table.{Table}
 use Rattle.brk_tables_create.specs.declared.table.Table.TheVariants.{TheDesk}
@@ -24,7 +24,7 @@ loop-table-preserved g c =
     let d = state g.S.Store c.create_desk_table.new.tx.conn.now in
     record {
       same = c.create_desk_table.ensures.same_reference ∙ c.loop-table.invariant.same;
-      step = step_then a b d tt (Ok tt) (λ _ x y. each (take i tables) x.now y.now) (λ _ x y. CreatesTableOfShape x.now y.now (table_definition_at (specified_table (get_or tables i TheDesk)))) (λ _ x y. each (take (i + 1) tables) x.now y.now)
+      step = step_then a b d tt (Ok tt) (λ _ x y. each (take i tables) x.now y.now) (λ _ x y. CreatesTableOfShape x.now y.now (table_definition_at_tree (specified_table (get_or tables i TheDesk)))) (λ _ x y. each (take (i + 1) tables) x.now y.now)
           (λ _ p made. made_at TheDesk tables i c.loop-table-test.true a.now b.now d.now p made)
           c.loop-table.invariant.step c.in_ok-create_desk_table.ensures.step;
     }

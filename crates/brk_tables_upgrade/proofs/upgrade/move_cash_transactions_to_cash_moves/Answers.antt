@@ -18,7 +18,7 @@ use Rattle.brk_tables_upgrade.proofs.upgrade.move_cash_transactions_to_cash_move
 pub returns-clause-step : goal.returns-clause-step
 returns-clause-step g c =
     let a = state g.S.Store c.args.tx.now.conn.now in
-    let b = state g.S.Store c.cash_transactions_by_trade.new.tx.conn.now in
+    let b = state g.S.Store c.all_cash_transactions.new.tx.conn.now in
     let d = state g.S.Store c.add_numbered_cash_rows.new.tx.conn.now in
     let e = state g.S.Store c.remove_cash_transactions.new.tx.conn.now in
     let found = c.in_ok-found.found in

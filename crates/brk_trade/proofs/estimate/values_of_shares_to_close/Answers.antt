@@ -1,14 +1,14 @@
 use Rattle.std.proofs.Common.{◌≡◌, ◌∙◌, ap, false, of_z, rules, subst, sym, to_z, w64, ℤ}
 use Rattle.std.specs.Int.RustNames.{FitsSigned}
 use Rattle.std.proofs.lemmas.Int.{to_z-of_z}
-use Rattle.brk_lots.specs.Against.{trade_closes_lots}
+use Rattle.brk_lots.specs.Against.{is_trade_closing_lots}
 use Rattle.brk_trade.specs.Estimates.{deal_from_terms}
 use Rattle.brk_trade.proofs.estimate.values_of_shares_to_close.Goals as goal
 
-pub returns-else-trade_closes_lots-clause-values : goal.returns-else-trade_closes_lots-clause-values
-returns-else-trade_closes_lots-clause-values g c ls trade stamp lifo given held =
+pub returns-else-is_trade_closing_lots-clause-values : goal.returns-else-is_trade_closing_lots-clause-values
+returns-else-is_trade_closing_lots-clause-values g c ls trade stamp lifo given held =
     let terms = c.args.terms.now in
     let fits : FitsSigned w64 terms.held = search rules in
     let same : to_z w64 (of_z w64 terms.held) ≡ terms.held = to_z-of_z w64 terms.held fits in
-    let none : trade_closes_lots terms.side terms.held ≡ false = sym (ap (λ (z : ℤ). trade_closes_lots terms.side z) same) ∙ sym c.trade_closes_lots.ensures ∙ c.if-trade_closes_lots.false in
-    c.zero_closing_values.ensures.values (deal_from_terms terms trade stamp lifo) ls given.1 (subst (λ (z : ℤ). trade_closes_lots terms.side z ≡ false) held none)
+    let none : is_trade_closing_lots terms.side terms.held ≡ false = sym (ap (λ (z : ℤ). is_trade_closing_lots terms.side z) same) ∙ sym c.is_trade_closing_lots.ensures ∙ c.if-is_trade_closing_lots.false in
+    c.zero_closing_values.ensures.values (deal_from_terms terms trade stamp lifo) ls given.1 (subst (λ (z : ℤ). is_trade_closing_lots terms.side z ≡ false) held none)

@@ -1,5 +1,5 @@
 use Rattle.std.proofs.Common.{rules, ◌≡◌, ℕ, List, Some, refl, sym, ap, subst, ◌∙◌}
-use Rattle.brk_lots.specs.Closing.{AreLotsClosedByDeal}
+use Rattle.brk_lots.specs.Closing.{IsEffectOfDealOnLots}
 use Rattle.brk_lots.specs.Lots.{shares_of_lots}
 use Rattle.brk_lots.specs.Sources.{AreLotsOfFaithfulSource}
 use Rattle.brk_lots.specs.Values.{closing_values_of_deal}
@@ -24,7 +24,7 @@ returns-in-Err-checked_result_figures-clause-planned g c =
     let refusal = c.in-Err-checked_result_figures.refusal in
     let late : (ls : List Lot) (stamp : ℕ) → AreLotsBeforeTrade (AreLotsOfFaithfulSource (g.L.LotSource.reads_faithfully c.effect_of_trade_on_lots.new.source) (g.L.LotSource.remaining c.args.source.now)) found ls
     → first_refusal (result_checks found c.args.price (closing_values_of_deal (deal_of_trade_row found.trade c.args.price stamp) (shares_of_lots ls)) (stamp_after c.args.last c.args.now)) ≡ Some refusal = λ ls stamp met.
-    let closes : AreLotsClosedByDeal (deal_of_trade_row found.trade c.args.price c.match-moved.at) ls closed = c.in_ok-closed.ensures.closed ls met in
+    let closes : IsEffectOfDealOnLots (deal_of_trade_row found.trade c.args.price c.match-moved.at) ls closed = c.in_ok-closed.ensures.closed ls met in
     refused_by_values found c.args.price ls c.match-moved.at stamp closed (stamp_after c.args.last c.args.now) refusal closes c.in-Ok.ensures.0 told in
     rw c.in-Some.is (record { early = rw c.in-Ok.ensures.0 tt; late = late })
 

@@ -1,6 +1,6 @@
 use Rattle.std.proofs.Common.{ℤ, ◌+ℤ◌, [], ◌∷◌, codes, subst}
 use Rattle.std.specs.Io.KnownBytes.{Appends}
-use Rattle.brk_model.specs.Statement.{amount_line, cash_move_rows_before_day, cash_move_rows_of_account, cash_move_rows_within_days, cash_row_total, text_of_lines}
+use Rattle.brk_model.specs.Statement.{amount_line, cash_move_rows_before_day, sorted_cash_rows_of_account, cash_move_rows_within_days, cash_row_total, text_of_lines}
 use Rattle.brk_report_lines.specs.Written.{FailsWithinLines}
 use Rattle.brk_report_lines.proofs.Composed.{breaks_behind, breaks_off, then_all}
 use Rattle.brk_report.specs.CashWalk.{opening_and_cash_lines}
@@ -11,14 +11,14 @@ use Rattle.brk_report.proofs.statements.parts.write_cash_and_closing_lines.Goals
 
 pub returns-in_err-moved-clause-written : goal.returns-in_err-moved-clause-written
 returns-in_err-moved-clause-written g c = λ clean t holds.
-    let rows = cash_move_rows_of_account t c.args.account in
+    let rows = sorted_cash_rows_of_account t c.args.account in
     let closing = c.args.opening +ℤ cash_row_total (cash_move_rows_before_day c.args.from rows) +ℤ cash_row_total (cash_move_rows_within_days c.args.from c.args.to rows) in
     days_broke t _ _ _ _ _ _ _ _ c.from_residual.ensures.1
     (breaks_off (opening_and_cash_lines t c.args.account c.args.from c.args.to c.args.opening) (amount_line (codes "Closing") closing) [] _ _ _ (c.in_err-moved.ensures.written clean t holds))
 
 pub returns-in_err-write_line-clause-written : goal.returns-in_err-write_line-clause-written
 returns-in_err-write_line-clause-written g c = λ clean t holds.
-    let rows = cash_move_rows_of_account t c.args.account in
+    let rows = sorted_cash_rows_of_account t c.args.account in
     let closing = c.args.opening +ℤ cash_row_total (cash_move_rows_before_day c.args.from rows) +ℤ cash_row_total (cash_move_rows_within_days c.args.from c.args.to rows) in
     let done = c.in_ok-moved.ensures.written clean t holds in
     days_broke t _ _ _ _ _ _ _ _ c.from_residual-in_err-write_line.ensures.1
@@ -28,7 +28,7 @@ returns-in_err-write_line-clause-written g c = λ clean t holds.
 
 pub returns-clause-written : goal.returns-clause-written
 returns-clause-written g c = λ clean t holds.
-    let rows = cash_move_rows_of_account t c.args.account in
+    let rows = sorted_cash_rows_of_account t c.args.account in
     let closing = c.args.opening +ℤ cash_row_total (cash_move_rows_before_day c.args.from rows) +ℤ cash_row_total (cash_move_rows_within_days c.args.from c.args.to rows) in
     let done = c.in_ok-moved.ensures.written clean t holds in (
       then_all (opening_and_cash_lines t c.args.account c.args.from c.args.to c.args.opening) (amount_line (codes "Closing") closing ∷ []) _ _ _ done.0

@@ -5,7 +5,7 @@ use Rattle.brk_money.specs.Spelling.{Text}
 use Rattle.brk_report_lines.specs.Written.{FailsWithinFirstLines, FailsWithinLines}
 use Rattle.brk_report_lines.proofs.Composed.{then_all}
 use Rattle.brk_store.specs.Walked.{cash_rows_in_span}
-use Rattle.brk_report.specs.CashWalk.{lines_of_rows, opening_line_unless, progress_before_rows}
+use Rattle.brk_report.specs.CashWalk.{lines_of_cash_rows, opening_line_unless_written, progress_before_cash_rows}
 use Rattle.brk_report.specs.Stated.{IsMemoryStoreOrWriteFault}
 use Rattle.brk_report.specs.declared.statements.visitors.CashProgress.{CashProgress}
 use Rattle.brk_report.proofs.CashWalked.{first_before, first_behind}
@@ -19,44 +19,44 @@ returns-in_err-moved-clause-written g c = λ clean t holds.
     let a = c.args in
     let first = c.first_stamp_of_day.result in
     let last = c.last_stamp_of_day.result in
-    let lines = lines_of_rows first (progress_before_rows a.opening) (cash_rows_in_span a.account 0 last t) in
+    let lines = lines_of_cash_rows first (progress_before_cash_rows a.opening) (cash_rows_in_span a.account 0 last t) in
     let end = end_of_walk t a.account a.from a.to first last a.opening c.requires c.first_stamp_of_day.ensures c.last_stamp_of_day.ensures in
     opening_broke t _ _ _ _ _ _ _ _ c.from_residual.ensures.1
-    (subst (λ (ls : List Text). FailsWithinFirstLines ls (g.W.Write.contents a.writer.now) (g.W.Write.contents c.walk_cash_rows.new.writer) c.in_err-moved.field-0.0)
+    (subst (λ (ls : List Text). FailsWithinFirstLines ls (g.W.Write.contents a.writer.now) (g.W.Write.contents c.write_cash_walk_lines.new.writer) c.in_err-moved.field-0.0)
     (walk_lines t a.account a.from a.to first last a.opening c.requires c.first_stamp_of_day.ensures c.last_stamp_of_day.ensures)
-    (first_before lines (opening_line_unless end.is_opened end.total) _ _ _ (c.in_err-moved.ensures.written clean t holds)))
+    (first_before lines (opening_line_unless_written end.is_opened end.total) _ _ _ (c.in_err-moved.ensures.written clean t holds)))
 
-pub returns-in_err-write_opening_line_unless-clause-written : goal.returns-in_err-write_opening_line_unless-clause-written
-returns-in_err-write_opening_line_unless-clause-written g c = λ clean t holds.
+pub returns-in_err-write_opening_line_unless_written-clause-written : goal.returns-in_err-write_opening_line_unless_written-clause-written
+returns-in_err-write_opening_line_unless_written-clause-written g c = λ clean t holds.
     let a = c.args in
     let first = c.first_stamp_of_day.result in
     let last = c.last_stamp_of_day.result in
-    let lines = lines_of_rows first (progress_before_rows a.opening) (cash_rows_in_span a.account 0 last t) in
+    let lines = lines_of_cash_rows first (progress_before_cash_rows a.opening) (cash_rows_in_span a.account 0 last t) in
     let end = end_of_walk t a.account a.from a.to first last a.opening c.requires c.first_stamp_of_day.ensures c.last_stamp_of_day.ensures in
     let rows = c.in_ok-moved.ensures.written clean t holds in
-    let mid = g.W.Write.contents c.walk_cash_rows.new.writer in
-    let after = g.W.Write.contents c.write_opening_line_unless.new.writer in
-    let e = c.in_err-write_opening_line_unless.field-0.0 in
-    opening_broke t _ _ _ _ _ _ _ _ c.from_residual-in_err-write_opening_line_unless.ensures.1
+    let mid = g.W.Write.contents c.write_cash_walk_lines.new.writer in
+    let after = g.W.Write.contents c.write_opening_line_unless_written.new.writer in
+    let e = c.in_err-write_opening_line_unless_written.field-0.0 in
+    opening_broke t _ _ _ _ _ _ _ _ c.from_residual-in_err-write_opening_line_unless_written.ensures.1
     (subst (λ (ls : List Text). FailsWithinFirstLines ls (g.W.Write.contents a.writer.now) after e)
     (walk_lines t a.account a.from a.to first last a.opening c.requires c.first_stamp_of_day.ensures c.last_stamp_of_day.ensures)
-    (first_behind lines (opening_line_unless end.is_opened end.total) _ _ _ _ rows.0
-    (weaker _ _ _ _ (subst (λ (p : CashProgress). FailsWithinLines (opening_line_unless p.is_opened p.total) mid after e) rows.1 c.in_err-write_opening_line_unless.ensures))))
+    (first_behind lines (opening_line_unless_written end.is_opened end.total) _ _ _ _ rows.0
+    (weaker _ _ _ _ (subst (λ (p : CashProgress). FailsWithinLines (opening_line_unless_written p.is_opened p.total) mid after e) rows.1 c.in_err-write_opening_line_unless_written.ensures))))
 
 pub returns-clause-written : goal.returns-clause-written
 returns-clause-written g c = λ clean t holds.
     let a = c.args in
     let first = c.first_stamp_of_day.result in
     let last = c.last_stamp_of_day.result in
-    let lines = lines_of_rows first (progress_before_rows a.opening) (cash_rows_in_span a.account 0 last t) in
+    let lines = lines_of_cash_rows first (progress_before_cash_rows a.opening) (cash_rows_in_span a.account 0 last t) in
     let end = end_of_walk t a.account a.from a.to first last a.opening c.requires c.first_stamp_of_day.ensures c.last_stamp_of_day.ensures in
     let rows = c.in_ok-moved.ensures.written clean t holds in
-    let mid = g.W.Write.contents c.walk_cash_rows.new.writer in
-    let after = g.W.Write.contents c.write_opening_line_unless.new.writer in (
+    let mid = g.W.Write.contents c.write_cash_walk_lines.new.writer in
+    let after = g.W.Write.contents c.write_opening_line_unless_written.new.writer in (
       subst (λ (ls : List Text). Appends (g.W.Write.contents a.writer.now) after (text_of_lines ls))
           (walk_lines t a.account a.from a.to first last a.opening c.requires c.first_stamp_of_day.ensures c.last_stamp_of_day.ensures)
-          (then_all lines (opening_line_unless end.is_opened end.total) _ _ _ rows.0
-          (subst (λ (p : CashProgress). Appends mid after (text_of_lines (opening_line_unless p.is_opened p.total))) rows.1 c.in_ok-write_opening_line_unless.ensures)),
+          (then_all lines (opening_line_unless_written end.is_opened end.total) _ _ _ rows.0
+          (subst (λ (p : CashProgress). Appends mid after (text_of_lines (opening_line_unless_written p.is_opened p.total))) rows.1 c.in_ok-write_opening_line_unless_written.ensures)),
       ap (λ (p : CashProgress). p.count) rows.1 ∙ walk_count t a.account a.from a.to first last a.opening c.requires c.first_stamp_of_day.ensures c.last_stamp_of_day.ensures,
       ap (λ (p : CashProgress). p.total) rows.1 ∙ walk_total t a.account a.from a.to first last a.opening c.requires c.first_stamp_of_day.ensures c.last_stamp_of_day.ensures,
     )
@@ -64,6 +64,6 @@ returns-clause-written g c = λ clean t holds.
 pub returns-in_err-moved-clause-fault : goal.returns-in_err-moved-clause-fault
 returns-in_err-moved-clause-fault g c = on_err IsMemoryStoreOrWriteFault _ _ c.from_residual.ensures.1 c.in_err-moved.ensures.fault
 
-pub returns-in_err-write_opening_line_unless-clause-fault : goal.returns-in_err-write_opening_line_unless-clause-fault
-returns-in_err-write_opening_line_unless-clause-fault g c =
-    on_err IsMemoryStoreOrWriteFault _ _ c.from_residual-in_err-write_opening_line_unless.ensures.1 (in_broken _ _ _ _ c.in_err-write_opening_line_unless.ensures)
+pub returns-in_err-write_opening_line_unless_written-clause-fault : goal.returns-in_err-write_opening_line_unless_written-clause-fault
+returns-in_err-write_opening_line_unless_written-clause-fault g c =
+    on_err IsMemoryStoreOrWriteFault _ _ c.from_residual-in_err-write_opening_line_unless_written.ensures.1 (in_broken _ _ _ _ c.in_err-write_opening_line_unless_written.ensures)

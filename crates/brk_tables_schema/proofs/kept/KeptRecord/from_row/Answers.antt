@@ -6,8 +6,8 @@ use Rattle.brk_tables_schema.proofs.kept.KeptRecord.from_row.Goals as goal
 pub returns-in_err-check_column_count-clause-form : goal.returns-in_err-check_column_count-clause-form
 returns-in_err-check_column_count-clause-form c = λ h. wrong_length kept_column_cell_checks c.args.row.now (c.check_column_count.ensures.form (handed_on c.check_column_count.result c.from_residual.result _ c.from_residual.ensures.1 c.in_err-check_column_count.was h))
 
-pub returns-in_err-formatted_text_in_column-clause-form : goal.returns-in_err-formatted_text_in_column-clause-form
-returns-in_err-formatted_text_in_column-clause-form c = λ h. no_form_at kept_column_cell_checks c.args.row.now 0 _ refl (c.formatted_text_in_column.ensures.form (handed_on c.formatted_text_in_column.result c.from_residual-in_err-formatted_text_in_column.result _ c.from_residual-in_err-formatted_text_in_column.ensures.1 c.in_err-formatted_text_in_column.was h))
+pub returns-in_err-well_formed_text_in_column-clause-form : goal.returns-in_err-well_formed_text_in_column-clause-form
+returns-in_err-well_formed_text_in_column-clause-form c = λ h. no_form_at kept_column_cell_checks c.args.row.now 0 _ refl (c.well_formed_text_in_column.ensures.form (handed_on c.well_formed_text_in_column.result c.from_residual-in_err-well_formed_text_in_column.result _ c.from_residual-in_err-well_formed_text_in_column.ensures.1 c.in_err-well_formed_text_in_column.was h))
 
 pub returns-in_err-row_number_in_column-clause-form : goal.returns-in_err-row_number_in_column-clause-form
 returns-in_err-row_number_in_column-clause-form c = λ h. no_form_at kept_column_cell_checks c.args.row.now 1 _ refl (c.row_number_in_column.ensures.form (handed_on c.row_number_in_column.result c.from_residual-in_err-row_number_in_column.result _ c.from_residual-in_err-row_number_in_column.ensures.1 c.in_err-row_number_in_column.was h))

@@ -19,8 +19,8 @@ returns-in_err-id_in_column-2-clause-form c = λ h. no_form_at account_column_ce
 pub returns-in_err-id_in_column-3-clause-form : goal.returns-in_err-id_in_column-3-clause-form
 returns-in_err-id_in_column-3-clause-form c = λ h. no_form_at account_column_cell_checks c.args.row.now 2 _ refl (c.id_in_column-3.ensures.form (handed_on c.id_in_column-3.result c.from_residual-in_err-id_in_column-3.result _ c.from_residual-in_err-id_in_column-3.ensures.1 c.in_err-id_in_column-3.was h))
 
-pub returns-in_err-formatted_text_in_column-clause-form : goal.returns-in_err-formatted_text_in_column-clause-form
-returns-in_err-formatted_text_in_column-clause-form c = λ h. no_form_at account_column_cell_checks c.args.row.now 3 _ refl (c.formatted_text_in_column.ensures.form (handed_on c.formatted_text_in_column.result c.from_residual-in_err-formatted_text_in_column.result _ c.from_residual-in_err-formatted_text_in_column.ensures.1 c.in_err-formatted_text_in_column.was h))
+pub returns-in_err-well_formed_text_in_column-clause-form : goal.returns-in_err-well_formed_text_in_column-clause-form
+returns-in_err-well_formed_text_in_column-clause-form c = λ h. no_form_at account_column_cell_checks c.args.row.now 3 _ refl (c.well_formed_text_in_column.ensures.form (handed_on c.well_formed_text_in_column.result c.from_residual-in_err-well_formed_text_in_column.result _ c.from_residual-in_err-well_formed_text_in_column.ensures.1 c.in_err-well_formed_text_in_column.was h))
 
 pub returns-in_err-tax_status_in_column-clause-form : goal.returns-in_err-tax_status_in_column-clause-form
 returns-in_err-tax_status_in_column-clause-form c = λ h. no_form_at account_column_cell_checks c.args.row.now 4 _ refl (c.tax_status_in_column.ensures.form (handed_on c.tax_status_in_column.result c.from_residual-in_err-tax_status_in_column.result _ c.from_residual-in_err-tax_status_in_column.ensures.1 c.in_err-tax_status_in_column.was h))

@@ -9,8 +9,8 @@ returns-in_err-check_column_count-clause-form c = λ h. wrong_length tax_rate_co
 pub returns-in_err-id_in_column-clause-form : goal.returns-in_err-id_in_column-clause-form
 returns-in_err-id_in_column-clause-form c = λ h. no_form_at tax_rate_column_cell_checks c.args.row.now 0 _ refl (c.id_in_column.ensures.form (handed_on c.id_in_column.result c.from_residual-in_err-id_in_column.result _ c.from_residual-in_err-id_in_column.ensures.1 c.in_err-id_in_column.was h))
 
-pub returns-in_err-formatted_text_in_column-clause-form : goal.returns-in_err-formatted_text_in_column-clause-form
-returns-in_err-formatted_text_in_column-clause-form c = λ h. no_form_at tax_rate_column_cell_checks c.args.row.now 1 _ refl (c.formatted_text_in_column.ensures.form (handed_on c.formatted_text_in_column.result c.from_residual-in_err-formatted_text_in_column.result _ c.from_residual-in_err-formatted_text_in_column.ensures.1 c.in_err-formatted_text_in_column.was h))
+pub returns-in_err-well_formed_text_in_column-clause-form : goal.returns-in_err-well_formed_text_in_column-clause-form
+returns-in_err-well_formed_text_in_column-clause-form c = λ h. no_form_at tax_rate_column_cell_checks c.args.row.now 1 _ refl (c.well_formed_text_in_column.ensures.form (handed_on c.well_formed_text_in_column.result c.from_residual-in_err-well_formed_text_in_column.result _ c.from_residual-in_err-well_formed_text_in_column.ensures.1 c.in_err-well_formed_text_in_column.was h))
 
 pub returns-in_err-tax_rate_in_column-clause-form : goal.returns-in_err-tax_rate_in_column-clause-form
 returns-in_err-tax_rate_in_column-clause-form c = λ h. no_form_at tax_rate_column_cell_checks c.args.row.now 2 _ refl (c.tax_rate_in_column.ensures.form (handed_on c.tax_rate_in_column.result c.from_residual-in_err-tax_rate_in_column.result _ c.from_residual-in_err-tax_rate_in_column.ensures.1 c.in_err-tax_rate_in_column.was h))

@@ -5,7 +5,7 @@ use Rattle.brk_money.specs.declared.fault.Fault.TheVariants as fault
 use Rattle.brk_report_lines.specs.Written.{FailsWithinFirstLines}
 use Rattle.brk_report_lines.specs.declared.fault.LinesFault.TheVariants.{Desk}
 use Rattle.brk_report_lines.proofs.Composed.{appends_none}
-use Rattle.brk_report.specs.CashWalk.{lines_of_row}
+use Rattle.brk_report.specs.CashWalk.{lines_of_cash_row}
 use Rattle.brk_report.specs.declared.statements.visitors.CashProgress.{CashProgress}
 use Rattle.brk_report.proofs.CashWalked.{none_first}
 use Rattle.brk_report.proofs.Handing.{on_err}
@@ -17,7 +17,7 @@ returns-in_err-total-clause-stops g c =
     let self = c.args.self.now in
     let item = c.args.item.now in
     let is : c.in_err-total.field-0.0 ≡ Desk fault.Store = let same = c.in_err-total.ensures.fault in cc in
-    on_err (FailsWithinFirstLines (lines_of_row (nat_lt item.stamp self.first) self.moved (abstract_move_row item)) _ _) _ _ c.from_residual.ensures.1 (none_first _ _ _ is)
+    on_err (FailsWithinFirstLines (lines_of_cash_row (nat_lt item.stamp self.first) self.moved (abstract_move_row item)) _ _) _ _ c.from_residual.ensures.1 (none_first _ _ _ is)
 
 pub returns-then-is_before_stamp-clause-takes : goal.returns-then-is_before_stamp-clause-takes
 returns-then-is_before_stamp-clause-takes g c =
@@ -35,7 +35,7 @@ returns-in_err-write_opening_and_row_lines-clause-stops g c =
     let self = c.args.self.now in
     let item = c.args.item.now in
     let late : nat_lt item.stamp self.first ≡ false = sym c.is_before_stamp.ensures ∙ c.if-is_before_stamp.false in
-    on_err (FailsWithinFirstLines (lines_of_row (nat_lt item.stamp self.first) self.moved (abstract_move_row item)) _ _) _ _ c.from_residual-in_err-write_opening_and_row_lines.ensures.1
+    on_err (FailsWithinFirstLines (lines_of_cash_row (nat_lt item.stamp self.first) self.moved (abstract_move_row item)) _ _) _ _ c.from_residual-in_err-write_opening_and_row_lines.ensures.1
     (rw late (weaker _ _ _ _ c.in_err-write_opening_and_row_lines.ensures))
 
 pub returns-clause-takes : goal.returns-clause-takes
