@@ -2,7 +2,7 @@
 """Writes the files that follow from the list of tables and statements below: the shapes and cells of the tables (brk_tables_schema), which
 text makes which table (brk_tables_create), the rows of a desk's tables in code (brk_changes), the names of all columns, the reads of
 whole tables and their decoding (brk_tables_scan), that a database has the rows of one set of tables (brk_tables_unique), the tables that
-a transcript shows (brk_cases), and what each SQL text means over any schema (in the crate of the statement). Run it at the top of the
+a transcript shows (brk_replay), and what each SQL text means over any schema (in the crate of the statement). Run it at the top of the
 repository after a change of the list; `.ci/run` does so first. It lays out what it wrote by `rt fmt`, so where nothing changed it leaves
 the tree as it was, and it prints nothing. With `--texts` it prints the SQL texts as well, for the Rust code. What it writes is checked
 like any other file."""
@@ -1554,11 +1554,11 @@ def table_list():
 pub const TABLES: [(&str, &str); {len(DATA)}] = [
 {''.join(f'    ("{d[1]}", "{keys(d)}"),{chr(10)}' for d in DATA)}];
 """
-    save('crates/brk_cases/src/table_list.rt', out)
+    save('crates/brk_replay/src/table_list.rt', out)
 
 def lay_out():
     """Lays out the crates that were written to, and gives each file that came out as it was its time again"""
-    for crate in ['brk_changes', 'brk_tables_unique', 'brk_cases', *STATEMENTS]:
+    for crate in ['brk_changes', 'brk_tables_unique', 'brk_replay', *STATEMENTS]:
         done = subprocess.run(['rt', 'fmt'], cwd=f'crates/{crate}', stdout=subprocess.PIPE, stderr=subprocess.STDOUT, text=True)
         if done.returncode != 0:
             sys.exit(f'tools/tables.py: rt fmt in crates/{crate}:\n{done.stdout}')

@@ -3,16 +3,31 @@
 //! the bytes that are printed equal the transcript.
 #![tactic(auto)]
 
-mod commands;
-mod failed;
-mod files;
-mod records;
-mod replay;
-mod table_list;
-
-use failed::Failed;
+use brk_replay::replay_transcript;
 use std::io;
 use std::process::ExitCode;
+
+// The reason why the program fails.
+#[derive(Clone, Copy)]
+enum Failed {
+    // Standard input cannot be read, or is not UTF-8.
+    Input,
+    // Standard output cannot be written.
+    Output,
+    // Out of memory.
+    Memory,
+}
+
+impl Failed {
+    // Returns the line that the program writes to standard error for this failure.
+    fn stderr_line(self) -> &'static str {
+        match self {
+            Failed::Input => "brk_cases: input\n",
+            Failed::Output => "brk_cases: output\n",
+            Failed::Memory => "brk_cases: memory\n",
+        }
+    }
+}
 
 // Reads a transcript from standard input and writes its replay to standard output. Fails with
 // `Input` if the input cannot be read or is not UTF-8, with `Output` if the replay cannot be
@@ -21,7 +36,9 @@ fn replay_standard_input(rt: &HostRuntime) -> Result<(), Failed> {
     let Ok(text) = io::read_to_string(rt.alloc(), rt.reader()) else {
         return Err(Failed::Input);
     };
-    let replayed = replay::replay_transcript(rt, text.as_str())?;
+    let Ok(replayed) = replay_transcript(rt, text.as_str()) else {
+        return Err(Failed::Memory);
+    };
     match rt.print(replayed.as_str()) {
         Ok(()) => Ok(()),
         Err(_) => Err(Failed::Output),

@@ -146,20 +146,13 @@ fn expect_batch_read_fault<S: Alter + Drop>(
     expect_batch_fault(name.as_str(), ended, wanted, &told, lines.as_str())
 }
 
-// Checks, for each byte of a batch before which the reader fails or is interrupted, that the batch
-// fails with `Read` after the lines of the decided rows, and that its retry completes.
-#[test]
-fn batch_readers_failing_at_each_byte(rt: HostRuntime) -> Result<(), Fail> {
-    let batch = format_batch(rt.alloc(), &ROWS)?;
+/// Checks, for each byte of a batch before which the reader fails or is interrupted, that the batch
+/// fails with `Read` after the lines of the decided rows, and that its retry completes.
+pub fn batch_readers_failing_at_each_byte(alloc: Global) -> Result<(), Fail> {
+    let batch = format_batch(alloc, &ROWS)?;
     for len in 0..batch.len() {
         for kind in [ErrorKind::Other, ErrorKind::Interrupted] {
-            expect_batch_read_fault(
-                rt.alloc(),
-                open_in_memory(rt.alloc()),
-                batch.as_str(),
-                len,
-                kind,
-            )?;
+            expect_batch_read_fault(alloc, open_in_memory(alloc), batch.as_str(), len, kind)?;
         }
     }
     Ok(())
@@ -192,18 +185,17 @@ fn expect_batch_write_fault<S: Alter + Drop>(
     expect_batch_fault(name.as_str(), ended, fault, &writer.taken, wanted)
 }
 
-// Checks, for each byte of the lines of a batch at which the writer fails, is interrupted or
-// accepts no byte, that the batch fails with `Write`, that exactly the bytes before are written,
-// and that its retry completes.
-#[test]
-fn batch_writers_failing_at_each_byte(rt: HostRuntime) -> Result<(), Fail> {
-    let batch = format_batch(rt.alloc(), &ROWS)?;
-    let lines = all_lines_of_retry(rt.alloc(), 0)?;
+/// Checks, for each byte of the lines of a batch at which the writer fails, is interrupted or
+/// accepts no byte, that the batch fails with `Write`, that exactly the bytes before are written,
+/// and that its retry completes.
+pub fn batch_writers_failing_at_each_byte(alloc: Global) -> Result<(), Fail> {
+    let batch = format_batch(alloc, &ROWS)?;
+    let lines = all_lines_of_retry(alloc, 0)?;
     for room in 0..lines.len() {
         for fault in [None, Some(ErrorKind::Other), Some(ErrorKind::Interrupted)] {
             expect_batch_write_fault(
-                rt.alloc(),
-                open_in_memory(rt.alloc()),
+                alloc,
+                open_in_memory(alloc),
                 batch.as_str(),
                 lines.as_str(),
                 room,

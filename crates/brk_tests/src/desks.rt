@@ -13,8 +13,14 @@ use brk_money::{Fault, Stamp};
 use brk_report::{ReportFault, statement};
 use sqlite::{Alter, Connection, MemStore};
 use std::alloc::Global;
+use std::fmt::Display;
 use std::io::{Read, Write};
 use std::test::Fail;
+
+/// Checks that `holds` is true. Fails with the text of `why` if not.
+pub fn expect<D: Display + Drop>(holds: bool, why: D) -> Result<(), Fail> {
+    if holds { Ok(()) } else { Err(Fail::new(why)) }
+}
 
 /// Returns the connection `conn`. Fails if it is `None`.
 pub fn expect_connection<S: Alter + Drop>(

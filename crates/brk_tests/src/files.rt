@@ -2,5 +2,5 @@
 
 pub mod jobs;
 pub mod machine;
-mod statements;
-mod stops;
+pub mod statements;
+pub mod stops;

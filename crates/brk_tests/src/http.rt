@@ -1,6 +1,6 @@
 //! Tests of streams of HTTP requests: on a desk in memory, byte for byte, and over sockets of this
 //! machine.
 
-mod cuts;
-mod listening;
-mod streams;
+pub mod cuts;
+pub mod listening;
+pub mod streams;

@@ -1,29 +1,79 @@
 //! Tests of a desk that no transcript of `cases/` can show: readers, writers and disks that fail,
 //! crashes, files, sockets, streams in pieces, runs of calls, walks, and the number of rows that a
-//! sale reads.
+//! sale reads. The command `test` of a transcript runs one of them.
 #![tactic(auto)]
 
-#[cfg(test)]
 mod cuts;
-#[cfg(test)]
 mod desks;
-#[cfg(test)]
 mod faulty;
-#[cfg(test)]
 mod files;
-#[cfg(test)]
 mod http;
-#[cfg(test)]
 mod made;
-#[cfg(test)]
 mod row_calls;
-#[cfg(test)]
 mod rows_read;
-#[cfg(test)]
 mod runs;
-#[cfg(test)]
 mod statements;
-#[cfg(test)]
 mod tables;
-#[cfg(test)]
 mod worked;
+
+use std::test::Fail;
+
+/// Runs the test `name`, which is the name of its function. Returns `None` if no test has this
+/// name, and the failure of the test if it fails.
+pub fn run_test(rt: &HostRuntime, name: &str) -> Option<Result<(), Fail>> {
+    let alloc = rt.alloc();
+    let tested = match name {
+        "batch_readers_failing_at_each_byte" => cuts::batch_readers_failing_at_each_byte(alloc),
+        "batch_writers_failing_at_each_byte" => cuts::batch_writers_failing_at_each_byte(alloc),
+        "statements_over_a_failing_disk" => files::statements::statements_over_a_failing_disk(
+            alloc,
+        ),
+        "crashes_while_a_store_is_created" => files::stops::crashes_while_a_store_is_created(alloc),
+        "crashes_while_a_batch_is_executed" => files::stops::crashes_while_a_batch_is_executed(
+            alloc,
+        ),
+        "crashes_while_schema_1_is_upgraded" => files::stops::crashes_while_schema_1_is_upgraded(
+            alloc,
+        ),
+        "crashes_while_schema_2_is_upgraded" => files::stops::crashes_while_schema_2_is_upgraded(
+            alloc,
+        ),
+        "desks_in_files_can_be_reopened" => files::stops::desks_in_files_can_be_reopened(alloc),
+        "streams_cut_at_each_byte" => http::cuts::streams_cut_at_each_byte(alloc),
+        "stream_readers_failing_at_each_byte" => http::cuts::stream_readers_failing_at_each_byte(
+            alloc,
+        ),
+        "stream_writers_failing_at_each_byte" => http::cuts::stream_writers_failing_at_each_byte(
+            alloc,
+        ),
+        "socket_streams_share_one_desk" => http::listening::socket_streams_share_one_desk(rt),
+        "streams_in_pieces_get_the_same_replies" =>
+            http::streams::streams_in_pieces_get_the_same_replies(alloc),
+        "a_head_has_at_most_16_384_bytes" => http::streams::a_head_has_at_most_16_384_bytes(alloc),
+        "a_store_fault_is_the_last_reply" => http::streams::a_store_fault_is_the_last_reply(alloc),
+        "a_second_creation_is_refused" => made::a_second_creation_is_refused(alloc),
+        "creation_preserves_other_tables" => made::creation_preserves_other_tables(alloc),
+        "creation_beside_a_desk_table_is_refused" => made::creation_beside_a_desk_table_is_refused(
+            alloc,
+        ),
+        "a_sale_reads_only_the_pages_it_needs" => rows_read::a_sale_reads_only_the_pages_it_needs(
+            alloc,
+        ),
+        "calls_of_a_sale_do_not_grow_with_lots" => rows_read::calls_of_a_sale_do_not_grow_with_lots(
+            alloc,
+        ),
+        "a_run_continues_after_a_refusal" => runs::a_run_continues_after_a_refusal(alloc),
+        "a_run_repeats_the_stored_reply" => runs::a_run_repeats_the_stored_reply(alloc),
+        "a_run_answers_queries" => runs::a_run_answers_queries(alloc),
+        "a_batch_equals_one_run_of_its_calls" => runs::a_batch_equals_one_run_of_its_calls(alloc),
+        "wide_amounts_are_printed_whole" => statements::wide_amounts_are_printed_whole(alloc),
+        "statement_writers_failing_at_each_byte" =>
+            statements::statement_writers_failing_at_each_byte(alloc),
+        "walks_cash_rows_in_order_of_stamps" => statements::walks_cash_rows_in_order_of_stamps(
+            alloc,
+        ),
+        "walks_lots_in_order_of_symbols" => statements::walks_lots_in_order_of_symbols(alloc),
+        _ => return None,
+    };
+    Some(tested)
+}

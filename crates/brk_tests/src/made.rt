@@ -1,6 +1,7 @@
-use crate::desks::{create_store, expect_connection, open_in_memory};
+use crate::desks::{create_store, expect, expect_connection, open_in_memory};
 use brk_money::{Condition, Fault};
 use sqlite::{Alter, Connection};
+use std::alloc::Global;
 use std::test::Fail;
 
 // Creates the tables of a store in the database of a connection, and returns the connection. Fails
@@ -31,16 +32,16 @@ fn fault_of_second_creation<S: Alter + Drop>(
     Ok(fault_of_creation(connection_after_creation(conn)?))
 }
 
-// Checks that creating a store in a database that has one already fails with `NotEmpty`, and that
-// no transaction is open after it.
-#[test]
-fn a_second_creation_is_refused(rt: HostRuntime) -> Result<(), Fail> {
-    let Some((fault, is_closed)) = fault_of_second_creation(open_in_memory(rt.alloc()))? else {
+/// Checks that creating a store in a database that has one already fails with `NotEmpty`, and that
+/// no transaction is open after it.
+pub fn a_second_creation_is_refused(alloc: Global) -> Result<(), Fail> {
+    let Some((fault, is_closed)) = fault_of_second_creation(open_in_memory(alloc))? else {
         return Err("made twice")?;
     };
-    assert_eq!(rt; fault, Fault::Damaged(Condition::NotEmpty));
-    assert!(rt; is_closed);
-    Ok(())
+    expect(
+        fault == Fault::Damaged(Condition::NotEmpty) && is_closed,
+        "another fault, or an open transaction",
+    )
 }
 
 // Returns the number of rows of the table FIRST whose column B is 1. Fails if they cannot be
@@ -67,12 +68,10 @@ fn row_count_of_first_after_creation<S: Alter + Drop>(
     count_rows_of_first(&mut conn)
 }
 
-// Checks that creating a store does not change another table of the database.
-#[test]
-fn creation_preserves_other_tables(rt: HostRuntime) -> Result<(), Fail> {
-    let count = row_count_of_first_after_creation(open_in_memory(rt.alloc()))?;
-    assert_eq!(rt; count, 1);
-    Ok(())
+/// Checks that creating a store does not change another table of the database.
+pub fn creation_preserves_other_tables(alloc: Global) -> Result<(), Fail> {
+    let count = row_count_of_first_after_creation(open_in_memory(alloc))?;
+    expect(count == 1, "other rows")
 }
 
 // Creates a table whose name differs from that of a desk's table only in upper and lower case, and
@@ -87,13 +86,14 @@ fn fault_of_creation_beside_a_desk_table<S: Alter + Drop>(
     Ok(fault_of_creation(conn))
 }
 
-// Checks that creating a store fails with `NotEmpty` in a database that has a table whose name
-// differs from that of a desk's table only in upper and lower case.
-#[test]
-fn creation_beside_a_desk_table_is_refused(rt: HostRuntime) -> Result<(), Fail> {
-    match fault_of_creation_beside_a_desk_table(open_in_memory(rt.alloc()))? {
-        None => assert!(rt; false, "made beside a table of its own name"),
-        Some((fault, _)) => assert_eq!(rt; fault, Fault::Damaged(Condition::NotEmpty)),
+/// Checks that creating a store fails with `NotEmpty` in a database that has a table whose name
+/// differs from that of a desk's table only in upper and lower case.
+pub fn creation_beside_a_desk_table_is_refused(alloc: Global) -> Result<(), Fail> {
+    match fault_of_creation_beside_a_desk_table(open_in_memory(alloc))? {
+        None => Err("made beside a table of its own name")?,
+        Some((fault, _)) => expect(
+            fault == Fault::Damaged(Condition::NotEmpty),
+            "another fault",
+        ),
     }
-    Ok(())
 }

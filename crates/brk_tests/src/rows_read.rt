@@ -1,10 +1,10 @@
 //! Tests of what a sale reads: rows, on a position of forty lots of one share each, and calls of
 //! the database file, of which a position of many lots needs no more than one of a single lot.
 
-use crate::desks::{desk_with_reference_data, open_in_memory, run_batch_at_desk};
+use crate::desks::{desk_with_reference_data, expect, open_in_memory, run_batch_at_desk};
 use crate::files::jobs::{Job, Task};
 use crate::files::machine::{
-    Held, MachineCrash, Sent, files_with_reference_data, options_with_one_cached_page,
+    Held, MachineCrash, Sent, files_with_reference_data, options_with_cached_pages,
     perform_job_until_crash, run_batch_until_crash,
 };
 use crate::worked::{FIRST_MOMENT, append_end, append_purchase};
@@ -14,7 +14,6 @@ use brk_money::{Id, Price, Qty, Side, Stamp};
 use brk_ref::Symbol;
 use sqlite::{Alter, Connection};
 use std::alloc::Global;
-use std::process::Abort;
 use std::test::Fail;
 
 // The number of lots of account 100.
@@ -87,14 +86,16 @@ const SALES: [(u32, usize, u64); 5] = [
 // Checks that each sale of `SALES` touches the wanted number of lots and reads the wanted number of
 // rows, the last lots first if `lifo` is true.
 fn expect_rows_read_by_sales<S: Alter>(
-    rt: &impl Abort,
     alloc: Global,
     store: &mut Store<S>,
     lifo: bool,
 ) -> Result<(), Fail> {
     for (count, touched, read) in SALES {
         let found = lots_touched_and_rows_read(alloc, store, count, lifo)?;
-        assert!(rt; found == (touched, read), "{count}");
+        expect(
+            found == (touched, read),
+            format_args!("a sale of {count} shares"),
+        )?;
     }
     Ok(())
 }
@@ -103,20 +104,18 @@ fn expect_rows_read_by_sales<S: Alter>(
 // number of lots and reads the wanted number of rows, with the first and with the last lots first.
 // Fails without a connection.
 fn expect_rows_read_in_database<S: Alter + Drop>(
-    rt: &impl Abort,
     alloc: Global,
     conn: Option<Connection<S>>,
 ) -> Result<(), Fail> {
     let mut store = store_with_forty_lots(alloc, conn)?;
-    expect_rows_read_by_sales(rt, alloc, &mut store, false)?;
-    expect_rows_read_by_sales(rt, alloc, &mut store, true)
+    expect_rows_read_by_sales(alloc, &mut store, false)?;
+    expect_rows_read_by_sales(alloc, &mut store, true)
 }
 
-// Checks that a sale reads only the pages of 16 rows that contain the lots that it closes, whether
-// it closes the first or the last lots first.
-#[test]
-fn a_sale_reads_only_the_pages_it_needs(rt: HostRuntime) -> Result<(), Fail> {
-    expect_rows_read_in_database(&rt, rt.alloc(), open_in_memory(rt.alloc()))
+/// Checks that a sale reads only the pages of 16 rows that contain the lots that it closes, whether
+/// it closes the first or the last lots first.
+pub fn a_sale_reads_only_the_pages_it_needs(alloc: Global) -> Result<(), Fail> {
+    expect_rows_read_in_database(alloc, open_in_memory(alloc))
 }
 
 // The number of lots of account 100.
@@ -175,7 +174,7 @@ fn is_sale_complete_within_calls(
         alloc,
         held,
         MachineCrash::of_database_after(calls),
-        options_with_one_cached_page(),
+        options_with_cached_pages(1),
         Job::Desk(Task::Batch),
         batch.as_bytes(),
     )?;
@@ -195,24 +194,21 @@ fn least_calls_of_sale(alloc: Global, held: &Held, account: u64) -> Result<u64, 
     Ok(most.saturating_add(1))
 }
 
-// Checks that the sale of one share needs no more calls of the database file with 100 lots than
-// with one lot, and that the sale of 33 shares of the 100 lots needs more.
-#[test]
-fn calls_of_a_sale_do_not_grow_with_lots(rt: HostRuntime) -> Result<(), Fail> {
-    let alloc = rt.alloc();
+/// Checks that the sale of one share needs no more calls of the database file with 100 lots than
+/// with one lot, and that the sale of 33 shares of the 100 lots needs more.
+pub fn calls_of_a_sale_do_not_grow_with_lots(alloc: Global) -> Result<(), Fail> {
     let held = files_with_hundred_lots(alloc)?;
     let calls = least_calls_of_sale(alloc, &held, 101)?;
-    assert!(rt;
+    expect(
         is_sale_complete_within_calls(alloc, &held, 101, 1, calls)?,
-        "{calls}"
-    );
-    assert!(rt;
+        format_args!("one lot, {calls} calls"),
+    )?;
+    expect(
         is_sale_complete_within_calls(alloc, &held, 100, 1, calls)?,
-        "{calls}"
-    );
-    assert!(rt;
+        format_args!("100 lots, {calls} calls"),
+    )?;
+    expect(
         !is_sale_complete_within_calls(alloc, &held, 100, 33, calls)?,
-        "{calls}"
-    );
-    Ok(())
+        format_args!("33 of 100 lots, {calls} calls"),
+    )
 }

@@ -1,6 +1,6 @@
 //! Tests of runs of calls on a desk: refusals, stored replies, queries, and a batch of many trades.
 
-use crate::desks::{desk_with_reference_data, new_desk, open_in_memory, run_batch_at_desk};
+use crate::desks::{desk_with_reference_data, expect, new_desk, open_in_memory, run_batch_at_desk};
 use crate::row_calls::{parse_keyed_row_call, parse_query_call, parse_row_call, split_fields};
 use crate::worked::append_end;
 use brk_import::Counts;
@@ -11,7 +11,6 @@ use brk_trade::Reply;
 use brk_view::View;
 use sqlite::{Alter, Connection};
 use std::alloc::{AllocError, Global};
-use std::process::Abort;
 use std::test::Fail;
 
 // Returns the text of an outcome: `ok,` and the stamp of a command whose reply is only its stamp;
@@ -34,7 +33,6 @@ fn format_outcome(alloc: Global, outcome: &Outcome) -> Result<String, AllocError
 // Executes calls on a desk as one run, and checks that the texts of their outcomes, in the form of
 // `format_outcome`, are exactly `wanted`, in order. Fails if the run fails or an outcome differs.
 fn expect_run_outcomes<S: Alter>(
-    rt: &impl Abort,
     alloc: Global,
     desk: &mut Desk<S>,
     calls: &[(Stamp, Call)],
@@ -42,61 +40,56 @@ fn expect_run_outcomes<S: Alter>(
 ) -> Result<(), Fail> {
     let mut out = Vec::new(alloc);
     desk.run(alloc, calls, &mut out)?;
-    assert!(rt; out.len() == wanted.len());
+    expect(out.len() == wanted.len(), "the number of outcomes")?;
     for (outcome, wanted) in out.iter().zip(wanted) {
         let told = format_outcome(alloc, outcome)?;
-        assert!(rt; told.as_str() == *wanted, "{told}");
+        expect(told.as_str() == *wanted, told)?;
     }
     Ok(())
 }
 
 // Executes calls as one run on a new desk in the database of a connection, and checks that the
 // texts of their outcomes are exactly `wanted` (`expect_run_outcomes`). Fails without a connection,
-// if the run fails, or if an outcome differs.
+// if the desk cannot be created, if the run fails, if an outcome differs, and if memory runs out.
 fn expect_outcomes_on_new_desk<S: Alter + Drop>(
-    rt: &impl Abort,
     alloc: Global,
     conn: Option<Connection<S>>,
     calls: &[(Stamp, Call)],
     wanted: &[&str],
 ) -> Result<(), Fail> {
     let mut desk = new_desk(conn)?;
-    expect_run_outcomes(rt, alloc, &mut desk, calls, wanted)
+    expect_run_outcomes(alloc, &mut desk, calls, wanted)
 }
 
 // Executes calls as one run on a new desk in the database of a connection, after the batch `SET`,
 // and checks that the texts of their outcomes are exactly `wanted` (`expect_run_outcomes`). Fails
-// without a connection, if the run fails, or if an outcome differs.
+// without a connection, if the desk cannot be created, if the batch `SET` writes other lines than
+// `SET_LINES`, if the run fails, if an outcome differs, and if memory runs out.
 fn expect_outcomes_after_set<S: Alter + Drop>(
-    rt: &impl Abort,
     alloc: Global,
     conn: Option<Connection<S>>,
     calls: &[(Stamp, Call)],
     wanted: &[&str],
 ) -> Result<(), Fail> {
     let mut desk = desk_with_reference_data(alloc, conn)?;
-    expect_run_outcomes(rt, alloc, &mut desk, calls, wanted)
+    expect_run_outcomes(alloc, &mut desk, calls, wanted)
 }
 
-// Checks that a run executes the calls after a refused one: of three brokers, the second has the id
-// of the first and is refused with 15, and the third is accepted.
-#[test]
-fn a_run_continues_after_a_refusal(rt: HostRuntime) -> Result<(), Fail> {
-    let alloc = rt.alloc();
+/// Checks that a run executes the calls after a refused one: of three brokers, the second has the
+/// id of the first and is refused with 15, and the third is accepted.
+pub fn a_run_continues_after_a_refusal(alloc: Global) -> Result<(), Fail> {
     let mut calls = Vec::new(alloc);
     for row in ["broker,1,Bo", "broker,1,Cy", "broker,2,Cy"] {
         calls.push(parse_row_call(alloc, row, None)?)?;
     }
     let wanted = ["ok,1709251200000", "no,15", "ok,1709251200001"];
-    expect_outcomes_on_new_desk(&rt, alloc, open_in_memory(alloc), &calls, &wanted)
+    expect_outcomes_on_new_desk(alloc, open_in_memory(alloc), &calls, &wanted)
 }
 
-// Checks that a run returns the stored reply for a repeated row under its key, refuses another row
-// under this key with 19, and refuses the same row under another key with 15, because its broker
-// exists.
-#[test]
-fn a_run_repeats_the_stored_reply(rt: HostRuntime) -> Result<(), Fail> {
-    let alloc = rt.alloc();
+/// Checks that a run returns the stored reply for a repeated row under its key, refuses another row
+/// under this key with 19, and refuses the same row under another key with 15, because its broker
+/// exists.
+pub fn a_run_repeats_the_stored_reply(alloc: Global) -> Result<(), Fail> {
     let mut calls = Vec::new(alloc);
     for (row, n) in [
         ("broker,1,Bo", 1),
@@ -107,20 +100,18 @@ fn a_run_repeats_the_stored_reply(rt: HostRuntime) -> Result<(), Fail> {
         calls.push(parse_keyed_row_call(alloc, b"A", n, row)?)?;
     }
     let wanted = ["ok,1709251200000", "again,1709251200000", "no,19", "no,15"];
-    expect_outcomes_on_new_desk(&rt, alloc, open_in_memory(alloc), &calls, &wanted)
+    expect_outcomes_on_new_desk(alloc, open_in_memory(alloc), &calls, &wanted)
 }
 
-// Checks that a run executes queries: it returns the view of submitted trades, which is empty, and
-// refuses the estimate of an order of an account that does not exist with 1.
-#[test]
-fn a_run_answers_queries(rt: HostRuntime) -> Result<(), Fail> {
-    let alloc = rt.alloc();
+/// Checks that a run executes queries: it returns the view of submitted trades, which is empty, and
+/// refuses the estimate of an order of an account that does not exist with 1.
+pub fn a_run_answers_queries(alloc: Global) -> Result<(), Fail> {
     let stranger = split_fields(alloc, "101,TMB,ABC,100,,cash,fifo,Ann,Lee,T10")?;
     let mut calls = Vec::new(alloc);
     calls.push(parse_query_call(alloc, "submitted", &[])?)?;
     calls.push(parse_query_call(alloc, "estimate", &stranger)?)?;
     let wanted = ["0 trades", "no,1"];
-    expect_outcomes_after_set(&rt, alloc, open_in_memory(alloc), &calls, &wanted)
+    expect_outcomes_after_set(alloc, open_in_memory(alloc), &calls, &wanted)
 }
 
 // The number of trades of the batch.
@@ -164,21 +155,17 @@ fn format_batch_of_rows(alloc: Global, rows: &[String]) -> Result<String, Fail> 
 
 // Checks that account 100 holds 42,084 shares after all trades (83,667 bought less 41,583 sold),
 // that broker 1 has 500 trades and commissions of 12525.00, and that the audit passes.
-fn expect_totals_after_trades<S: Alter>(
-    rt: &impl Abort,
-    alloc: Global,
-    store: &mut Store<S>,
-) -> Result<(), Fail> {
+fn expect_totals_after_trades<S: Alter>(alloc: Global, store: &mut Store<S>) -> Result<(), Fail> {
     let account = Id::new(100).ok_or("account")?;
     let broker = Id::new(1).ok_or("broker")?;
     let summaries = store.summaries_of_account(alloc, account)?;
-    assert_eq!(rt; summaries.len(), 1);
-    assert_eq!(rt; summaries[0].qty, 42_084);
+    let summary = summaries.first().ok_or("no summary")?;
+    expect(summaries.len() == 1 && summary.qty == 42_084, "the summary")?;
     match store.broker_totals(broker)? {
-        Some(numbers) => {
-            assert_eq!(rt; numbers.trades.get(), 500);
-            assert_eq!(rt; numbers.commissions.get(), 1_252_500);
-        }
+        Some(numbers) => expect(
+            numbers.trades.get() == 500 && numbers.commissions.get() == 1_252_500,
+            "the broker's totals",
+        )?,
         None => Err("no broker")?,
     }
     store.audit(alloc)?;
@@ -190,7 +177,6 @@ fn expect_totals_after_trades<S: Alter>(
 // that the totals after the trades are right (`expect_totals_after_trades`). Returns the lines.
 // Fails without a connection.
 fn run_and_check_batch<S: Alter + Drop>(
-    rt: &impl Abort,
     alloc: Global,
     conn: Option<Connection<S>>,
     rows: &[String],
@@ -203,13 +189,14 @@ fn run_and_check_batch<S: Alter + Drop>(
         again: 0,
         no: 0,
     };
-    assert!(rt; ended == Ok(all));
-    assert!(rt;
+    expect(ended == Ok(all), "the counts of the batch")?;
+    expect(
         lines.ends_with(
-            b"\n1000,ok,1709251201015,50.00,0.00,-5055.00,2024-03-03,0.00,0.00,-425865.00\nend,1000,0,0\n"
-        )
-    );
-    expect_totals_after_trades(rt, alloc, &mut desk.into_store())?;
+            b"\n1000,ok,1709251201015,50.00,0.00,-5055.00,2024-03-03,0.00,0.00,-425865.00\nend,1000,0,0\n",
+        ),
+        "the last lines",
+    )?;
+    expect_totals_after_trades(alloc, &mut desk.into_store())?;
     Ok(lines)
 }
 
@@ -267,26 +254,22 @@ fn lines_of_outcomes(alloc: Global, outcomes: &[Outcome]) -> Result<String, Fail
 // that a batch would write for the rows, without its end line. Fails without a connection, and if a
 // row is not accepted.
 fn run_rows_and_check_totals<S: Alter + Drop>(
-    rt: &impl Abort,
     alloc: Global,
     conn: Option<Connection<S>>,
     rows: &[String],
 ) -> Result<String, Fail> {
     let mut desk = desk_with_reference_data(alloc, conn)?;
     let lines = lines_of_outcomes(alloc, &run_calls_of_rows(alloc, &mut desk, rows)?)?;
-    expect_totals_after_trades(rt, alloc, &mut desk.into_store())?;
+    expect_totals_after_trades(alloc, &mut desk.into_store())?;
     Ok(lines)
 }
 
-// Checks that a batch of 500 orders and their results writes the lines that result from one run of
-// the same calls, followed by its end line.
-#[test]
-fn a_batch_equals_one_run_of_its_calls(rt: HostRuntime) -> Result<(), Fail> {
-    let alloc = rt.alloc();
+/// Checks that a batch of 500 orders and their results writes the lines that result from one run of
+/// the same calls, followed by its end line.
+pub fn a_batch_equals_one_run_of_its_calls(alloc: Global) -> Result<(), Fail> {
     let rows = rows_of_all_trades(alloc)?;
-    let batch = run_and_check_batch(&rt, alloc, open_in_memory(alloc), &rows)?;
-    let mut run = run_rows_and_check_totals(&rt, alloc, open_in_memory(alloc), &rows)?;
+    let batch = run_and_check_batch(alloc, open_in_memory(alloc), &rows)?;
+    let mut run = run_rows_and_check_totals(alloc, open_in_memory(alloc), &rows)?;
     run.push_str("end,1000,0,0\n")?;
-    assert!(rt; batch.as_slice() == run.as_bytes());
-    Ok(())
+    expect(batch.as_slice() == run.as_bytes(), "other lines")
 }

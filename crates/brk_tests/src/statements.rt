@@ -1,7 +1,7 @@
 //! Tests of statements: their amounts, writers that fail, and the walks over cash rows and lots.
 
 use crate::desks::{
-    Step, desk_with_reference_data, expect_batch_result, open_in_memory, write_statement,
+    Step, desk_with_reference_data, expect, expect_batch_result, open_in_memory, write_statement,
 };
 use crate::faulty::Narrow;
 use brk_changes::MoveRow;
@@ -13,7 +13,6 @@ use brk_report_lines::amount_line;
 use sqlite::{Alter, Connection};
 use std::alloc::Global;
 use std::io::ErrorKind;
-use std::process::Abort;
 use std::test::Fail;
 
 /// An account and the first and the last day of its statement, both included.
@@ -60,13 +59,15 @@ const AMOUNTS: [(&str, i128, &str); 6] = [
     ),
 ];
 
-// Checks that `amount_line` returns the wanted line of each word and amount of `AMOUNTS`, in which
-// an amount wider than its column is printed whole.
-#[test]
-fn wide_amounts_are_printed_whole(rt: HostRuntime) -> Result<(), Fail> {
+/// Checks that `amount_line` returns the wanted line of each word and amount of `AMOUNTS`, in which
+/// an amount wider than its column is printed whole.
+pub fn wide_amounts_are_printed_whole(alloc: Global) -> Result<(), Fail> {
     for (word, cents, wanted) in AMOUNTS {
-        let line = amount_line(rt.alloc(), word, Wide::new(cents))?;
-        assert!(rt; line.as_slice() == wanted.as_bytes(), "{cents}");
+        let line = amount_line(alloc, word, Wide::new(cents))?;
+        expect(
+            line.as_slice() == wanted.as_bytes(),
+            format_args!("{cents} cents"),
+        )?;
     }
     Ok(())
 }
@@ -118,7 +119,6 @@ fn write_error_for_room(room: usize) -> Option<ErrorKind> {
 // Checks that the statement fails with `Write`, or completes if there is room for all its bytes,
 // and that exactly its first `room` bytes are written.
 fn expect_statement_write_fault<S: Alter>(
-    rt: &impl Abort,
     alloc: Global,
     desk: &mut Desk<S>,
     room: usize,
@@ -127,20 +127,19 @@ fn expect_statement_write_fault<S: Alter>(
     let mut writer = Narrow::new(alloc, room, write_error_for_room(room));
     let ended = write_statement(alloc, asked, &mut writer, desk);
     let is_cut = matches!(&ended, Err(ReportFault::Write));
-    assert!(rt;
-        is_cut == (room < WANTED.len()),
-        "room for {room}: the fault"
-    );
-    assert!(rt;
-        ended.is_ok() == (room == WANTED.len()),
-        "room for {room}: the end"
-    );
     let taken = writer.taken.as_slice();
-    assert!(rt;
+    expect(
+        is_cut == (room < WANTED.len()),
+        format_args!("room for {room}: the fault"),
+    )?;
+    expect(
+        ended.is_ok() == (room == WANTED.len()),
+        format_args!("room for {room}: the end"),
+    )?;
+    expect(
         taken.len() == room && WANTED.as_bytes().starts_with(taken),
-        "room for {room}"
-    );
-    Ok(())
+        format_args!("room for {room}"),
+    )
 }
 
 // Checks, for each number of bytes of the statement from 0 to all, that the statement on a desk in
@@ -148,24 +147,22 @@ fn expect_statement_write_fault<S: Alter>(
 // first bytes and fails with `Write`, or completes if all are written
 // (`expect_statement_write_fault`). Fails without a connection.
 fn expect_each_statement_write_fault<S: Alter + Drop>(
-    rt: &impl Abort,
     alloc: Global,
     conn: Option<Connection<S>>,
 ) -> Result<(), Fail> {
     let mut desk = desk_with_reference_data(alloc, conn)?;
     expect_batch_result(alloc, &mut desk, "trades", BOUGHT)?;
     for room in 0..=WANTED.len() {
-        expect_statement_write_fault(rt, alloc, &mut desk, room)?;
+        expect_statement_write_fault(alloc, &mut desk, room)?;
     }
     Ok(())
 }
 
-// Checks, for each byte of a statement at which the writer fails, is interrupted or accepts no
-// byte, that the statement fails with `Write` and that exactly the bytes before are written, and
-// that the statement completes with room for all bytes.
-#[test]
-fn statement_writers_failing_at_each_byte(rt: HostRuntime) -> Result<(), Fail> {
-    expect_each_statement_write_fault(&rt, rt.alloc(), open_in_memory(rt.alloc()))
+/// Checks, for each byte of a statement at which the writer fails, is interrupted or accepts no
+/// byte, that the statement fails with `Write` and that exactly the bytes before are written, and
+/// that the statement completes with room for all bytes.
+pub fn statement_writers_failing_at_each_byte(alloc: Global) -> Result<(), Fail> {
+    expect_each_statement_write_fault(alloc, open_in_memory(alloc))
 }
 
 // Two purchases, a sale that closes the last lot first, a short sale on margin of another symbol,
@@ -228,9 +225,9 @@ fn count_row_or_stop(seen: &mut Seen, trade: u64) -> Result<(), Ended> {
     Ok(())
 }
 
-// Counts a cash row (`count_row_or_stop`) and appends its number, trade (0 for a movement), stamp, amount
-// in cents and text to the rows as a line. Fails with `At` if no more rows may be passed, and with
-// `Memory` if memory runs out.
+// Counts a cash row (`count_row_or_stop`) and appends its number, trade (0 for a movement), stamp,
+// amount in cents and text to the rows as a line. Fails with `At` if no more rows may be passed,
+// and with `Memory` if memory runs out.
 fn record_cash_row(seen: &mut Seen, row: &MoveRow) -> Result<(), Ended> {
     let trade = row.trade.map_or(0, Id::get);
     count_row_or_stop(seen, trade)?;
@@ -346,7 +343,6 @@ fn record_cash_rows<S: Alter>(
 // Checks, for each walk of `CASH` over the cash rows of account 100 on a desk in the database of a
 // connection, that its rows and its result are the wanted ones. Fails without a connection.
 fn expect_cash_row_walks<S: Alter + Drop>(
-    rt: &impl Abort,
     alloc: Global,
     conn: Option<Connection<S>>,
 ) -> Result<(), Fail> {
@@ -358,17 +354,18 @@ fn expect_cash_row_walks<S: Alter + Drop>(
             left,
         };
         let ended = record_cash_rows(&mut desk, account, from, to, &mut seen);
-        assert!(rt; ended == wanted, "{from} to {to}, {left}");
-        assert!(rt; seen.rows.as_str() == rows, "{from} to {to}, {left}");
+        expect(
+            ended == wanted && seen.rows.as_str() == rows,
+            format_args!("{from} to {to}, {left} rows"),
+        )?;
     }
     Ok(())
 }
 
-// Checks, for each walk of `CASH` over the cash rows of account 100, that it passes exactly the
-// wanted rows, sorted by stamp, ascending, and that it has the wanted result.
-#[test]
-fn walks_cash_rows_in_order_of_stamps(rt: HostRuntime) -> Result<(), Fail> {
-    expect_cash_row_walks(&rt, rt.alloc(), open_in_memory(rt.alloc()))
+/// Checks, for each walk of `CASH` over the cash rows of account 100, that it passes exactly the
+/// wanted rows, sorted by stamp, ascending, and that it has the wanted result.
+pub fn walks_cash_rows_in_order_of_stamps(alloc: Global) -> Result<(), Fail> {
+    expect_cash_row_walks(alloc, open_in_memory(alloc))
 }
 
 // Walks over lots: the account, the number of lots that the walk may pass, the lots that it passes,
@@ -409,7 +406,6 @@ fn record_lots<S: Alter>(
 // Checks, for each walk of `LOTS` over the lots of an account on a desk in the database of a
 // connection, that its lots and its result are the wanted ones. Fails without a connection.
 fn expect_lot_walks<S: Alter + Drop>(
-    rt: &impl Abort,
     alloc: Global,
     conn: Option<Connection<S>>,
 ) -> Result<(), Fail> {
@@ -420,15 +416,16 @@ fn expect_lot_walks<S: Alter + Drop>(
             left,
         };
         let ended = record_lots(&mut desk, account, &mut seen)?;
-        assert!(rt; ended == wanted, "{left} lots");
-        assert!(rt; seen.rows.as_str() == rows, "{left} lots");
+        expect(
+            ended == wanted && seen.rows.as_str() == rows,
+            format_args!("{left} lots of account {account}"),
+        )?;
     }
     Ok(())
 }
 
-// Checks, for each walk of `LOTS` over the lots of an account, that it passes exactly the wanted
-// lots, sorted by symbol, ascending, and that it has the wanted result.
-#[test]
-fn walks_lots_in_order_of_symbols(rt: HostRuntime) -> Result<(), Fail> {
-    expect_lot_walks(&rt, rt.alloc(), open_in_memory(rt.alloc()))
+/// Checks, for each walk of `LOTS` over the lots of an account, that it passes exactly the wanted
+/// lots, sorted by symbol, ascending, and that it has the wanted result.
+pub fn walks_lots_in_order_of_symbols(alloc: Global) -> Result<(), Fail> {
+    expect_lot_walks(alloc, open_in_memory(alloc))
 }

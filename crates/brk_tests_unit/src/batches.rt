@@ -5,7 +5,7 @@ ghost use Rattle.brk_model.specs.Commands.{Again, Booked, Done, Refused};
 ghost use Rattle.brk_tests_unit.specs.declared.batches.Asked.{Asked};
 ghost use Rattle.brk_tests_unit.specs.declared.batches.Asked.TheVariants as asks;
 
-use crate::expect::expect_equal;
+use crate::expect::{expect, expect_equal};
 use brk_batch_engine::{
     BatchFault, Clock, Counts, FaultKind, MAXIMUM_INPUT_BYTES, Rows, execute_batch_on_desk,
 };
@@ -14,7 +14,7 @@ use brk_ref::{Answer, Key};
 use std::alloc::{AllocError, Global};
 use std::io;
 use std::io::{Read, Write};
-use std::process::Abort;
+use std::test::Fail;
 
 // A clock that always returns one timestamp.
 #[derive(Drop)]
@@ -260,18 +260,18 @@ fn run_batch_on_new_desk<R: Read + Drop, W: Write>(
 }
 
 // Checks that the batch that `reader` returns has the result `wanted` on a new test desk, at the
-// timestamp 7, and that it writes exactly the bytes `lines`.
+// timestamp 7, and that it writes exactly the bytes `lines`. Fails with both results or with both
+// texts if not.
 fn expect_batch<R: Read + Drop>(
-    rt: &impl Abort,
     alloc: Global,
     reader: R,
     wanted: Result<Counts, BatchFault>,
     lines: &[u8],
-) {
+) -> Result<(), Fail> {
     let mut out = Vec::new(alloc);
     let done = run_batch_on_new_desk(alloc, reader, &mut out);
-    expect_equal(rt, done, wanted);
-    expect_equal(rt, out.as_slice(), lines);
+    expect_equal(done, wanted)?;
+    expect_equal(out.as_slice(), lines)
 }
 
 // Returns the result of a completed batch with these numbers of accepted, repeated and refused
@@ -293,31 +293,28 @@ const WHOLE: &[u8] =
 // The lines of the batch `WHOLE`.
 const LINES: &[u8] = b"1,ok,7\n2,again,5,CNCL\n3,no,14,accounts\n4,no,18\n5,no,8\nend,1,1,3\n";
 
-// Checks that each row of the batch `WHOLE`, which has an accepted, a repeated and three refused
-// rows, has its line, followed by the end line of the counts, both if the batch is read whole and
-// if it is read byte by byte.
-#[test]
-fn each_row_of_a_batch_gets_a_line(rt: HostRuntime) {
-    expect_batch(&rt, rt.alloc(), WHOLE, batch_counts(1, 1, 3), LINES);
+/// Checks that each row of the batch `WHOLE`, which has an accepted, a repeated and three refused
+/// rows, has its line, followed by the end line of the counts, both if the batch is read whole and
+/// if it is read byte by byte.
+pub fn each_row_of_a_batch_gets_a_line(alloc: Global) -> Result<(), Fail> {
+    expect_batch(alloc, WHOLE, batch_counts(1, 1, 3), LINES)?;
     let slow = Flaky {
         text: WHOLE,
         at: 0,
         cut: usize::MAX,
         kind: io::ErrorKind::Other,
     };
-    expect_batch(&rt, rt.alloc(), slow, batch_counts(1, 1, 3), LINES);
+    expect_batch(alloc, slow, batch_counts(1, 1, 3), LINES)
 }
 
-// Checks that a batch without rows writes only its end line.
-#[test]
-fn an_empty_batch_gets_an_end_line(rt: HostRuntime) {
+/// Checks that a batch without rows writes only its end line.
+pub fn an_empty_batch_gets_an_end_line(alloc: Global) -> Result<(), Fail> {
     expect_batch(
-        &rt,
-        rt.alloc(),
+        alloc,
         b"batch,Z\nend,0".as_slice(),
         batch_counts(0, 0, 0),
         b"end,0,0,0\n",
-    );
+    )
 }
 
 // Inputs without an end record, each with the number of their rows and the lines of these.
@@ -330,14 +327,14 @@ const CUT_INPUTS: [(&[u8], u64, &[u8]); 2] = [
     (b"batch,C\n", 0, b""),
 ];
 
-// Checks that a row without a record after it is refused with 18, and that a batch without an end
-// record fails with `NoEnd`, after the lines of its rows, if it has any.
-#[test]
-fn the_last_row_of_a_cut_input_is_refused(rt: HostRuntime) {
+/// Checks that a row without a record after it is refused with 18, and that a batch without an end
+/// record fails with `NoEnd`, after the lines of its rows, if it has any.
+pub fn the_last_row_of_a_cut_input_is_refused(alloc: Global) -> Result<(), Fail> {
     for (text, rows, lines) in &CUT_INPUTS {
         let wanted = batch_fault_result(*rows, FaultKind::NoEnd);
-        expect_batch(&rt, rt.alloc(), *text, wanted, lines);
+        expect_batch(alloc, *text, wanted, lines)?;
     }
+    Ok(())
 }
 
 // Batches whose header is missing or malformed.
@@ -363,23 +360,17 @@ const HEADERS: [&[u8]; 2] = [
     b"batch,1234567890123456789012345678901234567890\nend,0\n",
 ];
 
-// Checks that a batch with a missing or malformed header fails with `BadHeader` and writes nothing,
-// and that two correct headers are accepted.
-#[test]
-fn a_batch_with_a_wrong_header_is_refused(rt: HostRuntime) {
+/// Checks that a batch with a missing or malformed header fails with `BadHeader` and writes
+/// nothing, and that two correct headers are accepted.
+pub fn a_batch_with_a_wrong_header_is_refused(alloc: Global) -> Result<(), Fail> {
     for text in &WRONG_HEADERS {
         let wanted = batch_fault_result(0, FaultKind::BadHeader);
-        expect_batch(&rt, rt.alloc(), *text, wanted, b"");
+        expect_batch(alloc, *text, wanted, b"")?;
     }
     for text in &HEADERS {
-        expect_batch(
-            &rt,
-            rt.alloc(),
-            *text,
-            batch_counts(0, 0, 0),
-            b"end,0,0,0\n",
-        );
+        expect_batch(alloc, *text, batch_counts(0, 0, 0), b"end,0,0,0\n")?;
     }
+    Ok(())
 }
 
 // Batches of one row whose end record is malformed or has a wrong count.
@@ -391,14 +382,14 @@ const WRONG_ENDS: [&[u8]; 5] = [
     b"batch,A\nput,1,2\nend,",
 ];
 
-// Checks that a batch whose end record is malformed or has a wrong count fails with `BadEnd`, after
-// the lines of its rows.
-#[test]
-fn a_wrong_end_record_is_a_fault(rt: HostRuntime) {
+/// Checks that a batch whose end record is malformed or has a wrong count fails with `BadEnd`,
+/// after the lines of its rows.
+pub fn a_wrong_end_record_is_a_fault(alloc: Global) -> Result<(), Fail> {
     for text in &WRONG_ENDS {
         let wanted = batch_fault_result(1, FaultKind::BadEnd);
-        expect_batch(&rt, rt.alloc(), *text, wanted, b"1,ok,7\n");
+        expect_batch(alloc, *text, wanted, b"1,ok,7\n")?;
     }
+    Ok(())
 }
 
 // A batch of two rows.
@@ -414,10 +405,9 @@ const FAILED_READS: [(usize, u64, &[u8], io::ErrorKind); 5] = [
     (29, 1, b"1,ok,7\n", io::ErrorKind::Other),
 ];
 
-// Checks, for each of five positions at which a reader fails once, that the batch fails with `Read`
-// and the number of decided rows, and that exactly the lines of these rows are written.
-#[test]
-fn a_failed_read_ends_the_batch(rt: HostRuntime) {
+/// Checks, for each of five positions at which a reader fails once, that the batch fails with
+/// `Read` and the number of decided rows, and that exactly the lines of these rows are written.
+pub fn a_failed_read_ends_the_batch(alloc: Global) -> Result<(), Fail> {
     for (cut, rows, lines, kind) in &FAILED_READS {
         let reader = Flaky {
             text: READ,
@@ -426,8 +416,9 @@ fn a_failed_read_ends_the_batch(rt: HostRuntime) {
             kind: *kind,
         };
         let wanted = batch_fault_result(*rows, FaultKind::Read);
-        expect_batch(&rt, rt.alloc(), reader, wanted, lines);
+        expect_batch(alloc, reader, wanted, lines)?;
     }
+    Ok(())
 }
 
 // Numbers of bytes after which a writer of the lines of `WHOLE` fails, each with the number of
@@ -441,21 +432,37 @@ const FAILED_WRITES: [(usize, u64, Option<io::ErrorKind>); 6] = [
     (61, 5, None),
 ];
 
-// Checks, for each of six numbers of bytes after which a writer fails, that the batch fails with
-// `Write` and the number of decided rows, and that exactly this number of bytes of its lines is
-// written.
-#[test]
-fn a_failed_write_ends_the_batch(rt: HostRuntime) {
+// Checks that the batch `WHOLE` fails with `Write` after `rows` decided rows if its writer accepts
+// `most` bytes and then fails with `error`, or accepts no byte if `error` is `None`, and that
+// exactly the first `most` bytes of its lines are written. Fails with both results or with `most`
+// if not.
+fn expect_batch_write_fault(
+    alloc: Global,
+    most: usize,
+    rows: u64,
+    error: Option<io::ErrorKind>,
+) -> Result<(), Fail> {
+    let mut out = Choppy {
+        got: Vec::new(alloc),
+        most,
+        error,
+    };
+    let done = run_batch_on_new_desk(alloc, WHOLE, &mut out);
+    expect_equal(done, batch_fault_result(rows, FaultKind::Write))?;
+    expect(
+        Some(out.got.as_slice()) == LINES.get(..most),
+        format_args!("other bytes than the first {most}"),
+    )
+}
+
+/// Checks, for each of six numbers of bytes after which a writer fails, that the batch fails with
+/// `Write` and the number of decided rows, and that exactly this number of bytes of its lines is
+/// written.
+pub fn a_failed_write_ends_the_batch(alloc: Global) -> Result<(), Fail> {
     for (most, rows, error) in &FAILED_WRITES {
-        let mut out = Choppy {
-            got: Vec::new(rt.alloc()),
-            most: *most,
-            error: *error,
-        };
-        let done = run_batch_on_new_desk(rt.alloc(), WHOLE, &mut out);
-        expect_equal(&rt, done, batch_fault_result(*rows, FaultKind::Write));
-        assert!(rt; Some(out.got.as_slice()) == LINES.get(..*most));
+        expect_batch_write_fault(alloc, *most, *rows, *error)?;
     }
+    Ok(())
 }
 
 // Batches whose second row meets a fault of the desk, with the fault.
@@ -467,29 +474,22 @@ const DESK_FAULTS: [(&[u8], Fault); 2] = [
     (b"batch,A\nput,1,2\nparse,,,,,,,,\nend,2\n", Fault::Memory),
 ];
 
-// Checks that a fault of the desk, in a call or while a row is parsed, ends the batch after the
-// lines of the rows before.
-#[test]
-fn a_fault_of_the_desk_ends_the_batch(rt: HostRuntime) {
+/// Checks that a fault of the desk, in a call or while a row is parsed, ends the batch after the
+/// lines of the rows before.
+pub fn a_fault_of_the_desk_ends_the_batch(alloc: Global) -> Result<(), Fail> {
     for (text, fault) in &DESK_FAULTS {
         let wanted = batch_fault_result(1, FaultKind::Desk(*fault));
-        expect_batch(&rt, rt.alloc(), *text, wanted, b"1,ok,7\n");
+        expect_batch(alloc, *text, wanted, b"1,ok,7\n")?;
     }
+    Ok(())
 }
 
-// Checks that a batch whose end record ends at the limit of an input completes, and that no byte
-// beyond the limit is read.
-#[test]
-fn input_beyond_the_limit_is_not_read(rt: HostRuntime) {
+/// Checks that a batch whose end record ends at the limit of an input completes, and that no byte
+/// beyond the limit is read.
+pub fn input_beyond_the_limit_is_not_read(alloc: Global) -> Result<(), Fail> {
     let whole = Long {
         at: 0,
         tail: b"put,1,2\nend,1",
     };
-    expect_batch(
-        &rt,
-        rt.alloc(),
-        whole,
-        batch_counts(1, 0, 0),
-        b"1,ok,7\nend,1,0,0\n",
-    );
+    expect_batch(alloc, whole, batch_counts(1, 0, 0), b"1,ok,7\nend,1,0,0\n")
 }

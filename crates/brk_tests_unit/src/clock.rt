@@ -6,6 +6,7 @@ use brk_exit::brk_io::Clock;
 use brk_money::Stamp;
 use std::io::{self, ErrorKind};
 use std::rt;
+use std::test::Fail;
 use std::time::Duration;
 
 // A machine's clock that always returns the same time since 1970-01-01 UTC, or that cannot be read
@@ -28,44 +29,32 @@ impl rt::Clock for Stopped {
 // 2024-03-01 00:00 UTC, in milliseconds since 1970-01-01 UTC.
 const PAST: i64 = 1_709_251_200_000;
 
-// Checks that a clock with a fixed timestamp returns it at the first and at the second reading.
-#[test]
-fn a_fixed_clock_returns_its_timestamp(rt: HostRuntime) {
-    let mut clock = ProgramClock::new(&rt, Some(Stamp::nearest(PAST)));
-    expect_equal(&rt, clock.now().get(), PAST);
-    expect_equal(&rt, clock.now().get(), PAST);
+/// Checks that a clock with a fixed timestamp returns it at the first and at the second reading.
+pub fn a_fixed_clock_returns_its_timestamp(rt: &HostRuntime) -> Result<(), Fail> {
+    let mut clock = ProgramClock::new(rt, Some(Stamp::nearest(PAST)));
+    expect_equal(clock.now().get(), PAST)?;
+    expect_equal(clock.now().get(), PAST)
 }
 
-// Checks that a reading of the machine's clock drops the fraction of a millisecond.
-#[test]
-fn clock_readings_are_whole_milliseconds(rt: HostRuntime) {
+/// Checks that a reading of the machine's clock drops the fraction of a millisecond.
+pub fn clock_readings_are_whole_milliseconds() -> Result<(), Fail> {
     let machine = Stopped(Some(Duration::new(1_709_251_200, 123_999_999)));
     let mut clock = ProgramClock::new(&machine, None);
-    expect_equal(&rt, clock.now().get(), PAST + 123);
-    expect_equal(&rt, clock.now().get(), PAST + 123);
+    expect_equal(clock.now().get(), PAST + 123)?;
+    expect_equal(clock.now().get(), PAST + 123)
 }
 
-// Checks that the reading is the greatest stamp if the machine's time is this stamp, or later.
-// 10000-01-01 00:00 UTC is second 253,402,300,800.
-#[test]
-fn clock_readings_end_at_the_greatest_stamp(rt: HostRuntime) {
+/// Checks that the reading is the greatest stamp if the machine's time is this stamp, or later.
+/// 10000-01-01 00:00 UTC is second 253,402,300,800.
+pub fn clock_readings_end_at_the_greatest_stamp() -> Result<(), Fail> {
     let last = Stopped(Some(Duration::new(253_402_300_799, 999_000_000)));
-    expect_equal(
-        &rt,
-        ProgramClock::new(&last, None).now().get(),
-        Stamp::GREATEST,
-    );
+    expect_equal(ProgramClock::new(&last, None).now().get(), Stamp::GREATEST)?;
     let late = Stopped(Some(Duration::from_secs(253_402_300_800)));
-    expect_equal(
-        &rt,
-        ProgramClock::new(&late, None).now().get(),
-        Stamp::GREATEST,
-    );
+    expect_equal(ProgramClock::new(&late, None).now().get(), Stamp::GREATEST)
 }
 
-// Checks that the reading is the timestamp 0 if the machine's clock cannot be read.
-#[test]
-fn an_unreadable_clock_reads_as_zero(rt: HostRuntime) {
+/// Checks that the reading is the timestamp 0 if the machine's clock cannot be read.
+pub fn an_unreadable_clock_reads_as_zero() -> Result<(), Fail> {
     let machine = Stopped(None);
-    expect_equal(&rt, ProgramClock::new(&machine, None).now().get(), 0);
+    expect_equal(ProgramClock::new(&machine, None).now().get(), 0)
 }

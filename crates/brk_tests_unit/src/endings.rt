@@ -8,7 +8,7 @@ use brk_money::{Condition, Fault, Refusal};
 use std::alloc::Global;
 use std::io;
 use std::io::Write;
-use std::process::Abort;
+use std::test::Fail;
 
 // Returns the ending of the program after a batch that failed with this fault after 3 decided rows.
 fn ending_of_batch_fault(kind: FaultKind) -> Ending {
@@ -16,12 +16,16 @@ fn ending_of_batch_fault(kind: FaultKind) -> Ending {
 }
 
 // Checks that `end_with` returns the exit status `status` for an ending, and that it writes exactly
-// the text `text` to its error stream.
-fn expect_status_and_line(rt: &impl Abort, alloc: Global, ending: Ending, status: u8, text: &str) {
+// the text `text` to its error stream. Fails with both statuses and texts if not.
+fn expect_status_and_line(
+    alloc: Global,
+    ending: Ending,
+    status: u8,
+    text: &str,
+) -> Result<(), Fail> {
     let mut errors = Vec::new(alloc);
     let told = end_with(&ending, &mut errors);
-    expect_equal(rt, told, status);
-    expect_equal(rt, errors.as_slice(), text.as_bytes());
+    expect_equal((told, errors.as_slice()), (status, text.as_bytes()))
 }
 
 // Faults of a batch, each with its exit status and its error line.
@@ -35,29 +39,26 @@ const BATCHES: [(FaultKind, u8, &str); 7] = [
     (FaultKind::Desk(Fault::Memory), 3, "brk: fault: memory\n"),
 ];
 
-// Checks that a failed batch has the exit status 1 for a missing or wrong header or end record, 3
-// for any other fault, and the error line of the fault.
-#[test]
-fn exit_status_and_line_of_batch_faults(rt: HostRuntime) {
+/// Checks that a failed batch has the exit status 1 for a missing or wrong header or end record, 3
+/// for any other fault, and the error line of the fault.
+pub fn exit_status_and_line_of_batch_faults(alloc: Global) -> Result<(), Fail> {
     for (kind, status, text) in &BATCHES {
-        let ending = ending_of_batch_fault(*kind);
-        expect_status_and_line(&rt, rt.alloc(), ending, *status, text);
+        expect_status_and_line(alloc, ending_of_batch_fault(*kind), *status, text)?;
     }
+    Ok(())
 }
 
-// Checks that a refused report has the exit status 1 and an error line with the number of the
-// refusal, and that a report that failed has the exit status 3 and the error line of its fault.
-#[test]
-fn exit_status_and_line_of_report_faults(rt: HostRuntime) {
-    let alloc = rt.alloc();
+/// Checks that a refused report has the exit status 1 and an error line with the number of the
+/// refusal, and that a report that failed has the exit status 3 and the error line of its fault.
+pub fn exit_status_and_line_of_report_faults(alloc: Global) -> Result<(), Fail> {
     let stranger = Ending::Report(ReportFault::Refused(Refusal::NoAccount));
-    expect_status_and_line(&rt, alloc, stranger, 1, "brk: refused: 1\n");
+    expect_status_and_line(alloc, stranger, 1, "brk: refused: 1\n")?;
     let days = Ending::Report(ReportFault::Refused(Refusal::BadText));
-    expect_status_and_line(&rt, alloc, days, 1, "brk: refused: 18\n");
+    expect_status_and_line(alloc, days, 1, "brk: refused: 18\n")?;
     let store = Ending::Report(ReportFault::Desk(Fault::Store));
-    expect_status_and_line(&rt, alloc, store, 3, "brk: fault: store\n");
+    expect_status_and_line(alloc, store, 3, "brk: fault: store\n")?;
     let writer = Ending::Report(ReportFault::Write);
-    expect_status_and_line(&rt, alloc, writer, 3, "brk: fault: write\n");
+    expect_status_and_line(alloc, writer, 3, "brk: fault: write\n")
 }
 
 // Faults of opening a desk, each with its exit status and its error line.
@@ -71,48 +72,48 @@ const OPENS: [(Fault, u8, &str); 3] = [
     ),
 ];
 
-// Checks that the exit status is 1 for a damaged database and 3 for any other fault of opening a
-// desk, each with the error line of the fault.
-#[test]
-fn exit_status_and_line_of_open_faults(rt: HostRuntime) {
+/// Checks that the exit status is 1 for a damaged database and 3 for any other fault of opening a
+/// desk, each with the error line of the fault.
+pub fn exit_status_and_line_of_open_faults(alloc: Global) -> Result<(), Fail> {
     for (fault, status, text) in &OPENS {
-        expect_status_and_line(&rt, rt.alloc(), Ending::Open(*fault), *status, text);
+        expect_status_and_line(alloc, Ending::Open(*fault), *status, text)?;
     }
+    Ok(())
 }
 
 // Checks that `end_with` returns the exit status `status` for a fault of the arguments, and that it
-// writes exactly the text `text` to its error stream.
-fn expect_usage_fault(rt: &impl Abort, alloc: Global, fault: UsageFault, status: u8, text: &str) {
-    expect_status_and_line(rt, alloc, Ending::Usage(fault), status, text);
+// writes exactly the text `text` to its error stream. Fails with both statuses and texts if not.
+fn expect_usage_fault(
+    alloc: Global,
+    fault: UsageFault,
+    status: u8,
+    text: &str,
+) -> Result<(), Fail> {
+    expect_status_and_line(alloc, Ending::Usage(fault), status, text)
 }
 
-// Checks that the exit status is 2 for wrong arguments and for a malformed day, 3 if memory ran
-// out, each with its error text, and 0 without a text for help.
-#[test]
-fn exit_status_and_line_of_usage_faults(rt: HostRuntime) {
-    let alloc = rt.alloc();
-    let words = String::from_str(alloc, "error: no\n").expect(&rt, "memory");
-    expect_usage_fault(&rt, alloc, UsageFault::Words(words), 2, "error: no\n");
-    let help = String::from_str(alloc, "help\n").expect(&rt, "memory");
-    expect_usage_fault(&rt, alloc, UsageFault::Help(help), 0, "");
-    expect_usage_fault(&rt, alloc, UsageFault::Day, 2, "brk: usage: day\n");
-    expect_usage_fault(&rt, alloc, UsageFault::Memory, 3, "brk: fault: memory\n");
+/// Checks that the exit status is 2 for wrong arguments and for a malformed day, 3 if memory ran
+/// out, each with its error text, and 0 without a text for help.
+pub fn exit_status_and_line_of_usage_faults(alloc: Global) -> Result<(), Fail> {
+    let words = String::from_str(alloc, "error: no\n")?;
+    expect_usage_fault(alloc, UsageFault::Words(words), 2, "error: no\n")?;
+    let help = String::from_str(alloc, "help\n")?;
+    expect_usage_fault(alloc, UsageFault::Help(help), 0, "")?;
+    expect_usage_fault(alloc, UsageFault::Day, 2, "brk: usage: day\n")?;
+    expect_usage_fault(alloc, UsageFault::Memory, 3, "brk: fault: memory\n")
 }
 
-// Checks that the exit status is 0 without a line for a job that is done, and 3 with an error line
-// if output cannot be written, no stream can be accepted, or memory runs out in a stream.
-#[test]
-fn exit_status_and_line_of_other_endings(rt: HostRuntime) {
+/// Checks that the exit status is 0 without a line for a job that is done, and 3 with an error line
+/// if output cannot be written, no stream can be accepted, or memory runs out in a stream.
+pub fn exit_status_and_line_of_other_endings(alloc: Global) -> Result<(), Fail> {
+    expect_status_and_line(alloc, Ending::Done, 0, "")?;
+    expect_status_and_line(alloc, Ending::Output, 3, "brk: fault: write\n")?;
+    expect_status_and_line(alloc, Ending::Net, 3, "brk: fault: net\n")?;
     let unserved = ServeFault {
         done: 2,
         kind: StreamFault::Memory,
     };
-    let alloc = rt.alloc();
-    expect_status_and_line(&rt, alloc, Ending::Done, 0, "");
-    expect_status_and_line(&rt, alloc, Ending::Output, 3, "brk: fault: write\n");
-    expect_status_and_line(&rt, alloc, Ending::Net, 3, "brk: fault: net\n");
-    let unserved = Ending::Serve(unserved);
-    expect_status_and_line(&rt, alloc, unserved, 3, "brk: fault: memory\n");
+    expect_status_and_line(alloc, Ending::Serve(unserved), 3, "brk: fault: memory\n")
 }
 
 // A writer that accepts no byte.
@@ -131,11 +132,11 @@ impl Write for Closed {
     }
 }
 
-// Checks that the exit status does not change if the error line cannot be written: 1 for a batch
-// without an end record, and 0 for a job that is done.
-#[test]
-fn exit_status_with_a_closed_error_stream(rt: HostRuntime) {
-    let failed = ending_of_batch_fault(FaultKind::NoEnd);
-    expect_equal(&rt, end_with(&failed, &mut Closed), 1);
-    expect_equal(&rt, end_with(&Ending::Done, &mut Closed), 0);
+/// Checks that the exit status does not change if the error line cannot be written: 1 for a batch
+/// without an end record, and 0 for a job that is done.
+pub fn exit_status_with_a_closed_error_stream() -> Result<(), Fail> {
+    let status = end_with(&ending_of_batch_fault(FaultKind::NoEnd), &mut Closed);
+    expect_equal(status, 1)?;
+    let status = end_with(&Ending::Done, &mut Closed);
+    expect_equal(status, 0)
 }

@@ -1,21 +1,30 @@
-//! Assertions on what the tested functions return.
+//! Checks of what the tested functions return.
 
 use std::alloc::Global;
 use std::fmt::{Debug, Display};
-use std::process::Abort;
+use std::test::Fail;
 
-/// Checks that the value `told` is `wanted`.
-pub(crate) fn expect_equal<T: PartialEq + Debug + Copy>(rt: &impl Abort, told: T, wanted: T) {
-    assert!(rt; told == wanted, "{told:?} instead of {wanted:?}");
+/// Checks that `holds` is true. Fails with the text of `why` if not.
+pub fn expect<D: Display + Drop>(holds: bool, why: D) -> Result<(), Fail> {
+    if holds { Ok(()) } else { Err(Fail::new(why)) }
 }
 
-/// Checks that the text `told` is `wanted`.
-pub(crate) fn expect_text(rt: &impl Abort, told: &str, wanted: &str) {
-    assert!(rt; told == wanted, "{told} instead of {wanted}");
+/// Checks that the value `told` is `wanted`. Fails with both values if not.
+pub fn expect_equal<T: PartialEq + Debug + Copy>(told: T, wanted: T) -> Result<(), Fail> {
+    expect(
+        told == wanted,
+        format_args!("{told:?} instead of {wanted:?}"),
+    )
 }
 
-/// Checks that the value is printed as the text `wanted`.
-pub(crate) fn expect_printed<T: Display>(rt: &impl Abort, alloc: Global, value: &T, wanted: &str) {
-    let printed = value.to_string(alloc).expect(rt, "memory");
-    expect_text(rt, printed.as_str(), wanted);
+/// Checks that the text `told` is `wanted`. Fails with both texts if not.
+pub fn expect_text(told: &str, wanted: &str) -> Result<(), Fail> {
+    expect(told == wanted, format_args!("{told} instead of {wanted}"))
+}
+
+/// Checks that the value is printed as the text `wanted`. Fails with both texts if not. Fails also
+/// if memory runs out.
+pub fn expect_printed<T: Display>(alloc: Global, value: &T, wanted: &str) -> Result<(), Fail> {
+    let printed = value.to_string(alloc)?;
+    expect_text(printed.as_str(), wanted)
 }

@@ -4,7 +4,7 @@ use brk_orders::{Direction, Movement};
 use brk_ref::MovedAmount;
 use brk_trade::{MovementPlanFacts, plan_move, plan_oneday};
 use std::alloc::Global;
-use std::process::Abort;
+use std::test::Fail;
 
 // A movement of account 100: its direction, its amount in cents, the balance before it in cents
 // (`None` without the account), whether the limit of movements is reached, and the number that it
@@ -19,26 +19,27 @@ struct Case {
 }
 
 // Checks that the reply to the movement of a case after the last stamp 1709251200021, or `no,` and
-// the refusal of the movement, is the text `wanted`.
-fn expect_movement_reply(rt: &impl Abort, alloc: Global, case: &Case, wanted: &str) {
+// the refusal of the movement, is the text `wanted`. Fails with both texts if not. Fails also if a
+// number of the case is not within its limits, and if memory runs out.
+fn expect_movement_reply(alloc: Global, case: &Case, wanted: &str) -> Result<(), Fail> {
     let movement = Movement {
         direction: case.direction,
-        account: Id::new(100).expect(rt, "account"),
-        amount: MovedAmount::new(case.cents).expect(rt, "amount"),
+        account: Id::new(100).ok_or("account")?,
+        amount: MovedAmount::new(case.cents).ok_or("amount")?,
     };
     let balance = match case.balance {
-        Some(balance) => Some(Cents::new(balance).expect(rt, "balance")),
+        Some(balance) => Some(Cents::new(balance).ok_or("balance")?),
         None => None,
     };
     let found = MovementPlanFacts {
         balance,
         has_all_movements: case.has_all_movements,
-        next: MoveId::new(case.next).expect(rt, "number"),
+        next: MoveId::new(case.next).ok_or("number")?,
     };
     let last = Stamp::new(1_709_251_200_021);
     let now = Stamp::nearest(1_709_251_200_000);
     let planned = plan_move(alloc, &movement, &found, last, now);
-    expect_planned_reply(rt, alloc, planned, wanted);
+    expect_planned_reply(alloc, planned, wanted)
 }
 
 // A deposit of 100.00.
@@ -88,43 +89,42 @@ const MOVEMENTS: [(Case, &str); 5] = [
     ),
 ];
 
-// Checks the replies to a deposit and to a withdrawal, with their number and the new balance, which
-// may be below 0. Checks that a deposit beyond the limit of the balance is refused with 14,
-// `balance`, a deposit to an account that does not exist with 1, and a deposit beyond the limit of
-// movements with 14, `moves`.
-#[test]
-fn movement_replies_and_refusals(rt: HostRuntime) {
+/// Checks the replies to a deposit and to a withdrawal, with their number and the new balance,
+/// which may be below 0. Checks that a deposit beyond the limit of the balance is refused with 14,
+/// `balance`, a deposit to an account that does not exist with 1, and a deposit beyond the limit of
+/// movements with 14, `moves`.
+pub fn movement_replies_and_refusals(alloc: Global) -> Result<(), Fail> {
     for (case, wanted) in &MOVEMENTS {
-        expect_movement_reply(&rt, rt.alloc(), case, wanted);
+        expect_movement_reply(alloc, case, wanted)?;
     }
+    Ok(())
 }
 
 // Checks that the reply to the command that sets the settlement day `days`, or `no,` and the
 // refusal of the command, is the text `wanted`. The desk has the settlement day `rule`, or none,
-// and its last stamp is on 2024-03-01 UTC; both days are in days since 1970-01-01.
+// and its last stamp is on 2024-03-01 UTC; both days are in days since 1970-01-01. Fails with both
+// texts if not. Fails also if a day is not within its limits, and if memory runs out.
 fn expect_settlement_day_reply(
-    rt: &impl Abort,
     alloc: Global,
     days: i32,
     rule: Option<i32>,
     wanted: &str,
-) {
-    let day = Day::new(days).expect(rt, "day");
+) -> Result<(), Fail> {
+    let day = Day::new(days).ok_or("day")?;
     let set = match rule {
-        Some(set) => Some(Day::new(set).expect(rt, "day")),
+        Some(set) => Some(Day::new(set).ok_or("day")?),
         None => None,
     };
     let last = Stamp::new(1_709_251_200_015);
     let now = Stamp::nearest(1_709_251_200_000);
     let planned = plan_oneday(alloc, day, set, last, now);
-    expect_planned_reply(rt, alloc, planned, wanted);
+    expect_planned_reply(alloc, planned, wanted)
 }
 
-// Checks that a settlement day is refused with 22 if it is the day of the command's stamp, accepted
-// if it is the next day, and refused with 15 if the desk has a settlement day already.
-#[test]
-fn a_settlement_day_must_be_in_the_future(rt: HostRuntime) {
-    expect_settlement_day_reply(&rt, rt.alloc(), 19_783, None, "no,22");
-    expect_settlement_day_reply(&rt, rt.alloc(), 19_784, None, "1709251200016");
-    expect_settlement_day_reply(&rt, rt.alloc(), 19_783, Some(19_784), "no,15");
+/// Checks that a settlement day is refused with 22 if it is the day of the command's stamp,
+/// accepted if it is the next day, and refused with 15 if the desk has a settlement day already.
+pub fn a_settlement_day_must_be_in_the_future(alloc: Global) -> Result<(), Fail> {
+    expect_settlement_day_reply(alloc, 19_783, None, "no,22")?;
+    expect_settlement_day_reply(alloc, 19_784, None, "1709251200016")?;
+    expect_settlement_day_reply(alloc, 19_783, Some(19_784), "no,15")
 }

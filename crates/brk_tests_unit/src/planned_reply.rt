@@ -3,7 +3,7 @@ use brk_commands::line_text;
 use brk_money::{Fault, Refusal};
 use brk_trade::Plan;
 use std::alloc::Global;
-use std::process::Abort;
+use std::test::Fail;
 
 /// Returns the reply of an accepted plan as text, its fields separated by commas, or `no,` and the
 /// text of the refusal. Fails with `Memory` only.
@@ -15,14 +15,14 @@ fn format_planned_reply(alloc: Global, planned: &Result<Plan, Refusal>) -> Resul
 }
 
 /// Checks that a plan is made or refused, and that its reply, or `no,` and the refusal, is the text
-/// `wanted` (`format_planned_reply`).
+/// `wanted` (`format_planned_reply`). Fails with both texts if not. Fails also if `planned` is a
+/// fault, and if memory runs out.
 pub(crate) fn expect_planned_reply(
-    rt: &impl Abort,
     alloc: Global,
     planned: Result<Result<Plan, Refusal>, Fault>,
     wanted: &str,
-) {
-    let planned = planned.expect(rt, "a plan");
-    let told = format_planned_reply(alloc, &planned).expect(rt, "memory");
-    expect_text(rt, told.as_str(), wanted);
+) -> Result<(), Fail> {
+    let planned = planned?;
+    let told = format_planned_reply(alloc, &planned)?;
+    expect_text(told.as_str(), wanted)
 }

@@ -1,3 +1,4 @@
+use crate::expect::expect;
 use crate::planned_reply::expect_planned_reply;
 use brk_lots::Position;
 use brk_money::{
@@ -8,7 +9,7 @@ use brk_trade::{
     Amount, BrokerTotals, ResultAccount, ResultPlanFacts, TradeCount, TradeRow, plan_result,
 };
 use std::alloc::Global;
-use std::process::Abort;
+use std::test::Fail;
 
 // A trade of ABC before its result: its type, quantity, cash or margin, status and commission rate
 // in hundredths of a percent, the shares held, the balance and the broker's commissions in cents,
@@ -41,99 +42,117 @@ const SUBMITTED_CASH_PURCHASE: Case = Case {
 };
 
 // Returns the TRADE row of the trade of a case, with the id 1, the account 100, a bid of 10.00, a
-// charge of 5.00 and a commission of 10.00.
-fn trade_row_of_case(rt: &impl Abort, alloc: Global, case: &Case) -> TradeRow {
-    let symbol = Symbol::parse(alloc, b"ABC").expect(rt, "memory");
-    TradeRow {
-        id: Id::new(1).expect(rt, "trade"),
+// charge of 5.00 and a commission of 10.00. Fails if the quantity is not within its limits, and if
+// memory runs out.
+fn trade_row_of_case(alloc: Global, case: &Case) -> Result<TradeRow, Fail> {
+    let id = Id::new(1).ok_or("trade")?;
+    let qty = Qty::new(case.qty).ok_or("quantity")?;
+    let bid = Price::new(1_000).ok_or("bid")?;
+    let account = Id::new(100).ok_or("account")?;
+    let charge = ChargeAmount::new(500).ok_or("charge")?;
+    let commission = Amount::new(1_000).ok_or("commission")?;
+    let tax = Amount::new(0).ok_or("tax")?;
+    let symbol = Symbol::parse(alloc, b"ABC")?.ok_or("symbol")?;
+    let executor = String::from_str(alloc, "Ann Lee")?;
+    Ok(TradeRow {
+        id,
         stamp: Stamp::nearest(1_709_251_200_016),
         status: case.status,
         kind: case.kind,
         is_cash: case.is_cash,
-        symbol: symbol.expect(rt, "symbol"),
-        qty: Qty::new(case.qty).expect(rt, "quantity"),
-        bid: Price::new(1_000).expect(rt, "bid"),
-        account: Id::new(100).expect(rt, "account"),
-        executor: String::from_str(alloc, "Ann Lee").expect(rt, "memory"),
+        symbol,
+        qty,
+        bid,
+        account,
+        executor,
         price: None,
-        charge: ChargeAmount::new(500).expect(rt, "charge"),
-        commission: Amount::new(1_000).expect(rt, "commission"),
-        tax: Amount::new(0).expect(rt, "tax"),
+        charge,
+        commission,
+        tax,
         is_lifo: false,
-    }
+    })
 }
 
 // Returns the account of the trade of a case: broker 1, the tax status `Withheld`, and the balance
-// of the case.
-fn account_of_case(rt: &impl Abort, case: &Case) -> ResultAccount {
-    ResultAccount {
-        broker: Id::new(1).expect(rt, "broker"),
+// of the case. Fails if the balance is not within its limits.
+fn account_of_case(case: &Case) -> Result<ResultAccount, Fail> {
+    Ok(ResultAccount {
+        broker: Id::new(1).ok_or("broker")?,
         tax_status: TaxStatus::Withheld,
-        balance: Cents::new(case.balance).expect(rt, "balance"),
-    }
+        balance: Cents::new(case.balance).ok_or("balance")?,
+    })
 }
 
 // Returns the broker totals before the result of a case: no trades, and the commissions of the
-// case.
-fn broker_totals_of_case(rt: &impl Abort, case: &Case) -> BrokerTotals {
-    BrokerTotals {
-        trades: TradeCount::new(0).expect(rt, "trades"),
-        commissions: Amount::new(case.commissions).expect(rt, "commissions"),
-    }
+// case. Fails if the commissions are not within their limits.
+fn broker_totals_of_case(case: &Case) -> Result<BrokerTotals, Fail> {
+    Ok(BrokerTotals {
+        trades: TradeCount::new(0).ok_or("trades")?,
+        commissions: Amount::new(case.commissions).ok_or("commissions")?,
+    })
 }
 
-// Returns the facts of the tables on which the plan for the result of a case depends.
-fn result_facts(rt: &impl Abort, alloc: Global, case: &Case) -> ResultPlanFacts {
-    let security = Name::parse(alloc, b"Acme").expect(rt, "memory");
+// Returns the facts of the tables on which the plan for the result of a case depends. Fails if a
+// number of the case is not within its limits, and if memory runs out.
+fn result_facts(alloc: Global, case: &Case) -> Result<ResultPlanFacts, Fail> {
     let rate = match case.rate {
-        Some(rate) => Some(Rate::new(rate).expect(rt, "rate")),
+        Some(rate) => Some(Rate::new(rate).ok_or("rate")?),
         None => None,
     };
-    ResultPlanFacts {
-        trade: trade_row_of_case(rt, alloc, case),
-        account: account_of_case(rt, case),
-        broker: broker_totals_of_case(rt, case),
+    let rates = TaxRate::new(20_000).ok_or("rates")?;
+    let next = MoveId::new(1).ok_or("number")?;
+    let account = account_of_case(case)?;
+    let broker = broker_totals_of_case(case)?;
+    let security = Name::parse(alloc, b"Acme")?.ok_or("security")?;
+    let trade = trade_row_of_case(alloc, case)?;
+    Ok(ResultPlanFacts {
+        trade,
+        account,
+        broker,
         summary: case.held,
-        security: security.expect(rt, "security"),
+        security,
         rate,
-        rates: TaxRate::new(20_000).expect(rt, "rates"),
+        rates,
         rule: None,
-        next: MoveId::new(1).expect(rt, "number"),
-    }
+        next,
+    })
 }
 
 // Checks that the reply to a result at 10.10 with the facts `found`, on a position without lots and
 // after the last stamp `last`, or `no,` and the refusal of the result, is the text `wanted`. If
-// `found` is `None`, the trade does not exist.
+// `found` is `None`, the trade does not exist. Fails with both texts if not. Fails also if the
+// position does not accept the trade, and if memory runs out.
 fn expect_result_reply(
-    rt: &impl Abort,
     alloc: Global,
     found: Option<&ResultPlanFacts>,
     last: Option<Stamp>,
     wanted: &str,
-) {
-    let price = Price::new(1_010).expect(rt, "price");
-    let position = Position::from_lots(Vec::new(alloc)).expect(rt, "lots");
+) -> Result<(), Fail> {
+    let price = Price::new(1_010).ok_or("price")?;
+    let position = Position::from_lots(Vec::new(alloc)).ok_or("lots")?;
     let now = Stamp::nearest(1_709_251_200_000);
     if let Some(found) = found {
-        assert!(rt; position.accepts_trade(found.trade.id, now));
+        expect(
+            position.accepts_trade(found.trade.id, now),
+            "the position does not accept the trade",
+        )?;
     }
     let mut end = position.from_end(false);
     let planned = plan_result(alloc, found, price, &mut end, last, now);
-    expect_planned_reply(rt, alloc, planned, wanted);
+    expect_planned_reply(alloc, planned, wanted)
 }
 
 // Checks that the reply to the result of the trade of a case, or `no,` and the refusal of the
-// result, is the text `wanted`.
-fn expect_case_reply(rt: &impl Abort, alloc: Global, case: &Case, wanted: &str) {
-    let found = result_facts(rt, alloc, case);
-    expect_result_reply(rt, alloc, Some(&found), Stamp::new(case.last), wanted);
+// result, is the text `wanted`. Fails with both texts if not. Fails also if a number of the case is
+// not within its limits, and if memory runs out.
+fn expect_case_reply(alloc: Global, case: &Case, wanted: &str) -> Result<(), Fail> {
+    let found = result_facts(alloc, case)?;
+    expect_result_reply(alloc, Some(&found), Stamp::new(case.last), wanted)
 }
 
-// Checks that a result for a trade that does not exist is refused with 5.
-#[test]
-fn a_result_without_a_trade_is_refused(rt: HostRuntime) {
-    expect_result_reply(&rt, rt.alloc(), None, None, "no,5");
+/// Checks that a result for a trade that does not exist is refused with 5.
+pub fn a_result_without_a_trade_is_refused(alloc: Global) -> Result<(), Fail> {
+    expect_result_reply(alloc, None, None, "no,5")
 }
 
 // The case of `SUBMITTED_CASH_PURCHASE` on a desk whose last stamp is the greatest one. Each of the
@@ -212,14 +231,14 @@ const CAUSES: [(Case, &str); 10] = [
     ),
 ];
 
-// Checks that the submitted purchase is accepted, and that a result with several causes to be
-// refused is refused by the first one that applies: the status of the trade, then its commission
-// band, the limits of the shares held, the balance and the broker, and the last stamp.
-#[test]
-fn results_are_refused_by_the_first_cause(rt: HostRuntime) {
+/// Checks that the submitted purchase is accepted, and that a result with several causes to be
+/// refused is refused by the first one that applies: the status of the trade, then its commission
+/// band, the limits of the shares held, the balance and the broker, and the last stamp.
+pub fn results_are_refused_by_the_first_cause(alloc: Global) -> Result<(), Fail> {
     for (case, wanted) in &CAUSES {
-        expect_case_reply(&rt, rt.alloc(), case, wanted);
+        expect_case_reply(alloc, case, wanted)?;
     }
+    Ok(())
 }
 
 // Cases at the limits of the broker's commissions and of the balance, each with the text of its
@@ -250,14 +269,14 @@ const LIMITS: [(Case, &str); 3] = [
     ),
 ];
 
-// Checks that a result is accepted up to the limit of the broker's commissions and refused beyond
-// it with 14, `broker`, and that the result of a margin trade, which does not change the balance,
-// is accepted at the lower limit of the balance.
-#[test]
-fn broker_and_balance_limits_of_results(rt: HostRuntime) {
+/// Checks that a result is accepted up to the limit of the broker's commissions and refused beyond
+/// it with 14, `broker`, and that the result of a margin trade, which does not change the balance,
+/// is accepted at the lower limit of the balance.
+pub fn broker_and_balance_limits_of_results(alloc: Global) -> Result<(), Fail> {
     for (case, wanted) in &LIMITS {
-        expect_case_reply(&rt, rt.alloc(), case, wanted);
+        expect_case_reply(alloc, case, wanted)?;
     }
+    Ok(())
 }
 
 // Types of trades, shares held and quantities, each with the text of the reply to the result of a
@@ -279,10 +298,9 @@ const SUMMARIES: [(TradeType, i64, u32, &str); 4] = [
     (TradeType::LimitSell, -9_999_999_000, 1_000, "no,14,summary"),
 ];
 
-// Checks that a result is accepted up to the limit of the shares held, bought or sold short, and
-// refused beyond it with 14, `summary`.
-#[test]
-fn summary_limits_of_results(rt: HostRuntime) {
+/// Checks that a result is accepted up to the limit of the shares held, bought or sold short, and
+/// refused beyond it with 14, `summary`.
+pub fn summary_limits_of_results(alloc: Global) -> Result<(), Fail> {
     for (kind, held, qty, wanted) in &SUMMARIES {
         let case = Case {
             kind: *kind,
@@ -290,6 +308,7 @@ fn summary_limits_of_results(rt: HostRuntime) {
             held: Some(*held),
             ..SUBMITTED_CASH_PURCHASE
         };
-        expect_case_reply(&rt, rt.alloc(), &case, wanted);
+        expect_case_reply(alloc, &case, wanted)?;
     }
+    Ok(())
 }

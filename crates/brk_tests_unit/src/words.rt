@@ -1,7 +1,8 @@
+use crate::expect::expect;
 use brk_args::{Job, UsageFault, read_words};
 use brk_money::Stamp;
 use std::alloc::{AllocError, Global};
-use std::process::Abort;
+use std::test::Fail;
 
 // Returns the path of a file, or `-` if there is none.
 fn path_or_hyphen(db: &Option<String>) -> &str {
@@ -73,14 +74,13 @@ fn format_job(alloc: Global, job: &Job) -> Result<String, AllocError> {
 }
 
 // Returns the words of a command line, which are separated by `|`: the name of the program and its
-// arguments.
-fn words_of_command_line(rt: &impl Abort, alloc: Global, line: &str) -> Vec<String> {
+// arguments. Fails only if memory runs out.
+fn words_of_command_line(alloc: Global, line: &str) -> Result<Vec<String>, AllocError> {
     let mut all = Vec::new(alloc);
     for word in line.split('|') {
-        let word = String::from_str(alloc, word).expect(rt, "memory");
-        all.push(word).expect(rt, "memory");
+        all.push(String::from_str(alloc, word)?)?;
     }
-    all
+    Ok(all)
 }
 
 // Returns the text of a parsed job, or `wrong:` with the error text, `help:` with the help or
@@ -96,21 +96,35 @@ fn format_parsed_job(alloc: Global, read: &Result<Job, UsageFault>) -> Result<St
     }
 }
 
-// Checks that a text consists of these parts, in order.
-fn expect_parts(rt: &impl Abort, told: &str, parts: &[&str]) {
+// Parses the words of a command line, and returns the text of the job or of the fault
+// (`format_parsed_job`). Fails only if memory runs out.
+fn format_parsed_words(alloc: Global, words: Vec<String>) -> Result<String, AllocError> {
+    format_parsed_job(alloc, &read_words(words))
+}
+
+// Checks that a text consists of these parts, in order. Fails with the text if not, and with the
+// first part that is missing, if one is.
+fn expect_parts(told: &str, parts: &[&str]) -> Result<(), Fail> {
     let mut rest = told.as_bytes();
     for part in parts {
-        rest = rest.strip_prefix(part.as_bytes()).expect(rt, part);
+        let Some(after) = rest.strip_prefix(part.as_bytes()) else {
+            return Err(Fail::new(format_args!("{part:?} is missing in {told:?}")));
+        };
+        rest = after;
     }
-    assert!(rt; rest.is_empty(), "{told}");
+    expect(
+        rest.is_empty(),
+        format_args!("{told:?} has more than its parts"),
+    )
 }
 
 // Checks that a command line, its words separated by `|`, is parsed to the job whose text consists
-// of the parts `wanted`, or is reported with this text (`format_parsed_job`).
-fn expect_parsed_command_line(rt: &impl Abort, alloc: Global, line: &str, wanted: &[&str]) {
-    let read = read_words(words_of_command_line(rt, alloc, line));
-    let told = format_parsed_job(alloc, &read).expect(rt, "memory");
-    expect_parts(rt, told.as_str(), wanted);
+// of the parts `wanted`, or is reported with this text (`format_parsed_job`). Fails with the text
+// if not. Fails also if memory runs out.
+fn expect_parsed_command_line(alloc: Global, line: &str, wanted: &[&str]) -> Result<(), Fail> {
+    let words = words_of_command_line(alloc, line)?;
+    let told = format_parsed_words(alloc, words)?;
+    expect_parts(told.as_str(), wanted)
 }
 
 // Command lines, each with the text of the job that it requests, or with `day`.
@@ -164,13 +178,13 @@ const JOBS: [(&str, &str); 17] = [
     ),
 ];
 
-// Checks that the command lines of `JOBS`, correct ones of each subcommand, request the wanted
-// jobs, and that a malformed day is reported.
-#[test]
-fn parses_the_arguments_of_each_job(rt: HostRuntime) {
+/// Checks that the command lines of `JOBS`, correct ones of each subcommand, request the wanted
+/// jobs, and that a malformed day is reported.
+pub fn parses_the_arguments_of_each_job(alloc: Global) -> Result<(), Fail> {
     for (line, job) in &JOBS {
-        expect_parsed_command_line(&rt, rt.alloc(), line, &[*job]);
+        expect_parsed_command_line(alloc, line, &[*job])?;
     }
+    Ok(())
 }
 
 // The usage of a batch in an error text.
@@ -329,22 +343,23 @@ const WRONG_SERVES: [(&str, &str, &str); 6] = [
 const MORE: &str = "For more information, try '--help'.\n";
 
 // Checks that each command line in `faults` is reported as wrong, with the whole error text: the
-// cause, the usage, and a line about help.
-fn expect_usage_faults(rt: &impl Abort, alloc: Global, faults: &[(&str, &str, &str)]) {
+// cause, the usage, and a line about help. Fails with the text that is reported if not. Fails also
+// if memory runs out.
+fn expect_usage_faults(alloc: Global, faults: &[(&str, &str, &str)]) -> Result<(), Fail> {
     for (line, cause, usage) in faults {
         let text = ["wrong: error: ", cause, "\n\n", usage, MORE];
-        expect_parsed_command_line(rt, alloc, line, &text);
+        expect_parsed_command_line(alloc, line, &text)?;
     }
+    Ok(())
 }
 
-// Checks that wrong arguments of a batch, a statement, an audit and serving are reported with the
-// wanted error texts.
-#[test]
-fn refuses_wrong_arguments(rt: HostRuntime) {
-    expect_usage_faults(&rt, rt.alloc(), &WRONG_BATCHES);
-    expect_usage_faults(&rt, rt.alloc(), &WRONG_STATEMENTS);
-    expect_usage_faults(&rt, rt.alloc(), &WRONG_AUDITS);
-    expect_usage_faults(&rt, rt.alloc(), &WRONG_SERVES);
+/// Checks that wrong arguments of a batch, a statement, an audit and serving are reported with the
+/// wanted error texts.
+pub fn refuses_wrong_arguments(alloc: Global) -> Result<(), Fail> {
+    expect_usage_faults(alloc, &WRONG_BATCHES)?;
+    expect_usage_faults(alloc, &WRONG_STATEMENTS)?;
+    expect_usage_faults(alloc, &WRONG_AUDITS)?;
+    expect_usage_faults(alloc, &WRONG_SERVES)
 }
 
 // The help of the program.
@@ -381,13 +396,13 @@ const TEXTS: [(&str, &str); 3] = [
     ),
 ];
 
-// Checks that the texts for the version, for an unknown subcommand, and for the help of `audit` are
-// the wanted ones.
-#[test]
-fn prints_version_help_and_errors(rt: HostRuntime) {
+/// Checks that the texts for the version, for an unknown subcommand, and for the help of `audit`
+/// are the wanted ones.
+pub fn prints_version_help_and_errors(alloc: Global) -> Result<(), Fail> {
     for (line, text) in &TEXTS {
-        expect_parsed_command_line(&rt, rt.alloc(), line, &[*text]);
+        expect_parsed_command_line(alloc, line, &[*text])?;
     }
+    Ok(())
 }
 
 // Command lines that request help, with the help that is printed.
@@ -398,12 +413,11 @@ const HELPS: [(&str, &str); 4] = [
     ("brk|--help", HELP),
 ];
 
-// Checks that the help of the program and of `batch` are the wanted texts, and that an empty list
-// of arguments is reported as wrong with the help of the program as the error text.
-#[test]
-fn prints_help_of_commands(rt: HostRuntime) {
+/// Checks that the help of the program and of `batch` are the wanted texts, and that an empty list
+/// of arguments is reported as wrong with the help of the program as the error text.
+pub fn prints_help_of_commands(alloc: Global) -> Result<(), Fail> {
     for (line, text) in &HELPS {
-        expect_parsed_command_line(&rt, rt.alloc(), line, &["help: ", *text]);
+        expect_parsed_command_line(alloc, line, &["help: ", *text])?;
     }
-    expect_parsed_command_line(&rt, rt.alloc(), "brk", &["wrong: ", HELP]);
+    expect_parsed_command_line(alloc, "brk", &["wrong: ", HELP])
 }

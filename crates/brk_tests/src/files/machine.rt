@@ -168,11 +168,16 @@ pub struct Sent {
     pub was_stopped: bool,
 }
 
-/// Returns the options of a database that caches one page, so that it reads each other page from
-/// its file.
-pub fn options_with_one_cached_page() -> Options {
+/// The number of pages that a database of these tests caches if all its pages are to be cached: more
+/// than the file of any test has, and fewer than the 2,000 of `Options::new`, which take longer to
+/// allocate than most jobs to perform.
+const CACHED_PAGES: usize = 200;
+
+/// Returns the options of a database that caches `pages` pages, and reads each other page from its
+/// file.
+pub fn options_with_cached_pages(pages: usize) -> Options {
     let mut options = Options::new(1);
-    options.cache_pages = 1;
+    options.cache_pages = pages;
     options
 }
 
@@ -210,7 +215,14 @@ pub fn run_batch_until_crash(
     batch: &[u8],
 ) -> Result<Sent, Fail> {
     let job = Job::Observed(Task::Batch);
-    perform_job_until_crash(alloc, held, stop, Options::new(1), job, batch)
+    perform_job_until_crash(
+        alloc,
+        held,
+        stop,
+        options_with_cached_pages(CACHED_PAGES),
+        job,
+        batch,
+    )
 }
 
 /// Returns the files of a new desk after the batch `SET`. Fails if memory runs out.
@@ -232,7 +244,7 @@ pub fn files_after_sql(alloc: Global, held: &Held, text: &str) -> Result<Held, F
         alloc,
         held,
         MachineCrash::NEVER,
-        Options::new(1),
+        options_with_cached_pages(CACHED_PAGES),
         Job::Sql,
         text.as_bytes(),
     )?;

@@ -1,9 +1,10 @@
 //! Test of a disk that fails within a statement, at each of its calls: whole first lines are
 //! written, and never the last one.
 
+use crate::desks::expect;
 use crate::files::jobs::{Ended, Job, Observation, Task};
 use crate::files::machine::{
-    Held, MachineCrash, Sent, options_with_one_cached_page, perform_job_until_crash,
+    Held, MachineCrash, Sent, options_with_cached_pages, perform_job_until_crash,
     run_batch_until_crash,
 };
 use crate::statements::account_and_days;
@@ -55,7 +56,7 @@ fn write_statement_over_failing_disk(
         alloc,
         held,
         MachineCrash::of_database_after(calls),
-        options_with_one_cached_page(),
+        options_with_cached_pages(1),
         Job::Desk(Task::Statement(asked)),
         b"",
     )?;
@@ -69,12 +70,10 @@ fn is_proper_prefix_of_statement(text: &[u8]) -> bool {
     is_whole && text.len() < WANTED.len() && WANTED.starts_with(text)
 }
 
-// Checks, for a database file that fails after 0, 1, 2 and more calls, that the desk cannot be
-// opened or the statement fails with `Store` after whole first lines, perhaps none, until the
-// statement is complete. Checks also that some failed statements have lines and some have none.
-#[test]
-fn statements_over_a_failing_disk(rt: HostRuntime) -> Result<(), Fail> {
-    let alloc = rt.alloc();
+/// Checks, for a database file that fails after 0, 1, 2 and more calls, that the desk cannot be
+/// opened or the statement fails with `Store` after whole first lines, perhaps none, until the
+/// statement is complete. Checks also that some failed statements have lines and some have none.
+pub fn statements_over_a_failing_disk(alloc: Global) -> Result<(), Fail> {
     let Sent { held, .. } = run_batch_until_crash(
         alloc,
         &Held::empty_files(alloc),
@@ -88,16 +87,21 @@ fn statements_over_a_failing_disk(rt: HostRuntime) -> Result<(), Fail> {
         match seen.ended {
             Ended::NotBegun => (),
             Ended::Done => {
-                assert!(rt; text == WANTED, "after {calls} calls");
-                assert!(rt; parts > 0 && faults > parts);
-                return Ok(());
+                expect(text == WANTED, format_args!("after {calls} calls"))?;
+                return expect(
+                    parts > 0 && faults > parts,
+                    "no part, or no fault without one",
+                );
             }
             Ended::StoreFault => {
-                assert!(rt; is_proper_prefix_of_statement(text), "after {calls} calls");
+                expect(
+                    is_proper_prefix_of_statement(text),
+                    format_args!("after {calls} calls"),
+                )?;
                 faults = faults.saturating_add(1);
                 parts = parts.saturating_add(u64::from(!text.is_empty()));
             }
-            _ => assert!(rt; false, "after {calls} calls"),
+            _ => expect(false, format_args!("after {calls} calls"))?,
         }
     }
     Err("no statement was whole")?

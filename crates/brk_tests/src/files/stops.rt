@@ -369,12 +369,11 @@ fn expect_each_crash_recovered(alloc: Global, work: Work<'_>) -> Result<(), Fail
     Ok(())
 }
 
-// Checks that a desk can be created and set up after a crash at each call of the log or the
-// database file during its creation, with the bytes that were not synced lost or stored.
-#[test]
-fn crashes_while_a_store_is_created(rt: HostRuntime) -> Result<(), Fail> {
-    let tables = tables_after_rows(rt.alloc(), 0)?;
-    expect_each_crash_recovered(rt.alloc(), Work::Creation(tables.as_str()))
+/// Checks that a desk can be created and set up after a crash at each call of the log or the
+/// database file during its creation, with the bytes that were not synced lost or stored.
+pub fn crashes_while_a_store_is_created(alloc: Global) -> Result<(), Fail> {
+    let tables = tables_after_rows(alloc, 0)?;
+    expect_each_crash_recovered(alloc, Work::Creation(tables.as_str()))
 }
 
 // Returns all tables of a desk in memory, as text, after the batch `SET` and each number of the
@@ -387,19 +386,18 @@ fn tables_after_each_row(alloc: Global) -> Result<Vec<String>, Fail> {
     Ok(tables)
 }
 
-// Checks that a batch can be retried and completed after a crash at each call of the log or the
-// database file during the batch, with the bytes that were not synced lost or stored.
-#[test]
-fn crashes_while_a_batch_is_executed(rt: HostRuntime) -> Result<(), Fail> {
-    let batch = format_batch(rt.alloc(), &ROWS)?;
-    let tables = tables_after_each_row(rt.alloc())?;
-    let start = files_with_reference_data(rt.alloc())?;
+/// Checks that a batch can be retried and completed after a crash at each call of the log or the
+/// database file during the batch, with the bytes that were not synced lost or stored.
+pub fn crashes_while_a_batch_is_executed(alloc: Global) -> Result<(), Fail> {
+    let batch = format_batch(alloc, &ROWS)?;
+    let tables = tables_after_each_row(alloc)?;
+    let start = files_with_reference_data(alloc)?;
     let work = Work::Batch {
         start: &start,
         batch: batch.as_str(),
         tables: &tables,
     };
-    expect_each_crash_recovered(rt.alloc(), work)
+    expect_each_crash_recovered(alloc, work)
 }
 
 // Upgrades a desk that the SQL statements `change` convert to an older schema, with each crash of
@@ -413,18 +411,16 @@ fn expect_upgrade_recovered_at_each_call(alloc: Global, change: &str) -> Result<
     expect_each_crash_recovered(alloc, work)
 }
 
-// Checks that the upgrade from schema 1 is atomic if the machine crashes at any call of the log or
-// the database file, and that a retry completes it.
-#[test]
-fn crashes_while_schema_1_is_upgraded(rt: HostRuntime) -> Result<(), Fail> {
-    expect_upgrade_recovered_at_each_call(rt.alloc(), FIRST)
+/// Checks that the upgrade from schema 1 is atomic if the machine crashes at any call of the log or
+/// the database file, and that a retry completes it.
+pub fn crashes_while_schema_1_is_upgraded(alloc: Global) -> Result<(), Fail> {
+    expect_upgrade_recovered_at_each_call(alloc, FIRST)
 }
 
-// Checks that the upgrade from schema 2 is atomic if the machine crashes at any call of the log or
-// the database file, and that a retry completes it.
-#[test]
-fn crashes_while_schema_2_is_upgraded(rt: HostRuntime) -> Result<(), Fail> {
-    expect_upgrade_recovered_at_each_call(rt.alloc(), SECOND)
+/// Checks that the upgrade from schema 2 is atomic if the machine crashes at any call of the log or
+/// the database file, and that a retry completes it.
+pub fn crashes_while_schema_2_is_upgraded(alloc: Global) -> Result<(), Fail> {
+    expect_upgrade_recovered_at_each_call(alloc, SECOND)
 }
 
 // Executes a batch on the desk in the files `held`, and returns the files after it. Fails with
@@ -467,10 +463,9 @@ fn expect_trades_stored_and_repeated(
     Ok(())
 }
 
-// Checks that a desk that is opened again from its files returns the stored replies of its trades,
-// for batches of one to six trades.
-#[test]
-fn desks_in_files_can_be_reopened(rt: HostRuntime) -> Result<(), Fail> {
+/// Checks that a desk that is opened again from its files returns the stored replies of its trades,
+/// for batches of one to six trades.
+pub fn desks_in_files_can_be_reopened(alloc: Global) -> Result<(), Fail> {
     for (name, count) in [
         ("a purchase", 2),
         ("two purchases", 4),
@@ -480,14 +475,14 @@ fn desks_in_files_can_be_reopened(rt: HostRuntime) -> Result<(), Fail> {
         ("all is sold", 12),
     ] {
         expect_trades_stored_and_repeated(
-            rt.alloc(),
+            alloc,
             name,
             &worked::ROWS[..count],
             &worked::LINES[..count],
         )?;
     }
     expect_trades_stored_and_repeated(
-        rt.alloc(),
+        alloc,
         "a sale of the last",
         &LAST_FIRST_ROWS,
         &LAST_FIRST_LINES,

@@ -117,13 +117,12 @@ fn expect_cut_stream<S: Alter + Drop>(
     }
 }
 
-// Checks, for a stream that is cut before each of its bytes and at its end, that each whole request
-// has its reply, and that a request that is cut has the reply 400.
-#[test]
-fn streams_cut_at_each_byte(rt: HostRuntime) -> Result<(), Fail> {
-    let all = three_requests_and_replies(rt.alloc())?;
+/// Checks, for a stream that is cut before each of its bytes and at its end, that each whole
+/// request has its reply, and that a request that is cut has the reply 400.
+pub fn streams_cut_at_each_byte(alloc: Global) -> Result<(), Fail> {
+    let all = three_requests_and_replies(alloc)?;
     for len in 0..=all.input.len() {
-        expect_cut_stream(rt.alloc(), open_in_memory(rt.alloc()), &all, len)?;
+        expect_cut_stream(alloc, open_in_memory(alloc), &all, len)?;
     }
     Ok(())
 }
@@ -182,15 +181,14 @@ fn expect_stream_read_fault<S: Alter + Drop>(
     expect_completed_stream(alloc, desk, name.as_str(), all, done > 0)
 }
 
-// Checks, for each position of a stream, its end included, at which the reader fails or is
-// interrupted, that the stream fails with `Read` after the replies to the requests that were read
-// whole, and that a retry completes.
-#[test]
-fn stream_readers_failing_at_each_byte(rt: HostRuntime) -> Result<(), Fail> {
-    let all = three_requests_and_replies(rt.alloc())?;
+/// Checks, for each position of a stream, its end included, at which the reader fails or is
+/// interrupted, that the stream fails with `Read` after the replies to the requests that were read
+/// whole, and that a retry completes.
+pub fn stream_readers_failing_at_each_byte(alloc: Global) -> Result<(), Fail> {
+    let all = three_requests_and_replies(alloc)?;
     for len in 0..=all.input.len() {
         for kind in [ErrorKind::Interrupted, ErrorKind::ConnectionReset] {
-            expect_stream_read_fault(rt.alloc(), open_in_memory(rt.alloc()), &all, len, kind)?;
+            expect_stream_read_fault(alloc, open_in_memory(alloc), &all, len, kind)?;
         }
     }
     Ok(())
@@ -224,20 +222,19 @@ fn expect_stream_write_fault<S: Alter + Drop>(
     expect_completed_stream(alloc, desk, name.as_str(), all, true)
 }
 
-// Checks, for each byte of the replies of a stream at which the writer fails, is interrupted or
-// accepts no byte, that the stream fails with `Write`, that exactly the bytes before are written,
-// and that a retry completes.
-#[test]
-fn stream_writers_failing_at_each_byte(rt: HostRuntime) -> Result<(), Fail> {
-    let all = three_requests_and_replies(rt.alloc())?;
-    let (replies, _, _) = replies_within_length(rt.alloc(), &all, all.input.len())?;
+/// Checks, for each byte of the replies of a stream at which the writer fails, is interrupted or
+/// accepts no byte, that the stream fails with `Write`, that exactly the bytes before are written,
+/// and that a retry completes.
+pub fn stream_writers_failing_at_each_byte(alloc: Global) -> Result<(), Fail> {
+    let all = three_requests_and_replies(alloc)?;
+    let (replies, _, _) = replies_within_length(alloc, &all, all.input.len())?;
     for room in 0..replies.len() {
         for fault in [
             None,
             Some(ErrorKind::BrokenPipe),
             Some(ErrorKind::Interrupted),
         ] {
-            expect_stream_write_fault(rt.alloc(), open_in_memory(rt.alloc()), &all, room, fault)?;
+            expect_stream_write_fault(alloc, open_in_memory(alloc), &all, room, fault)?;
         }
     }
     Ok(())

@@ -1,6 +1,6 @@
 //! Tests of streams over sockets of this machine, in one process.
 
-use crate::desks::{Still, new_desk, open_in_memory};
+use crate::desks::{Still, expect, new_desk, open_in_memory};
 use brk_http::{ListenFault, serve_on};
 use brk_import::brk_desk::Desk;
 use sqlite::{Alter, Connection};
@@ -8,7 +8,6 @@ use std::alloc::Global;
 use std::io;
 use std::io::Write;
 use std::net::{Shutdown, TcpListener, TcpStream};
-use std::process::Abort;
 use std::test::Fail;
 
 // The bytes that each peer sends, in the order of their streams, and the wanted replies. A peer
@@ -85,14 +84,10 @@ fn connect_all_peers(
 
 // Checks that each peer in `waiting` receives exactly its wanted replies until the end of its
 // stream.
-fn expect_peer_replies(
-    rt: &impl Abort,
-    alloc: Global,
-    waiting: Vec<(TcpStream, &'static str)>,
-) -> Result<(), Fail> {
+fn expect_peer_replies(alloc: Global, waiting: Vec<(TcpStream, &'static str)>) -> Result<(), Fail> {
     for (peer, wanted) in waiting {
         let told = io::read_to_string(alloc, peer)?;
-        assert!(rt; told.as_str() == wanted, "{wanted:?}");
+        expect(told.as_str() == wanted, format_args!("{wanted:?}"))?;
     }
     Ok(())
 }
@@ -118,31 +113,25 @@ fn serve_at_first_timestamp<S: Alter>(
 // connection, have the replies of `PEERS`, and that the serving ends with `Net` if no stream can be
 // accepted. Fails without a connection.
 fn expect_streams_served_on_desk<S: Alter + Drop>(
-    rt: &impl Abort,
     alloc: Global,
     conn: Option<Connection<S>>,
     listener: &mut TcpListener,
     waiting: Vec<(TcpStream, &'static str)>,
 ) -> Result<(), Fail> {
     let mut desk = new_desk(conn)?;
-    assert!(rt; serve_at_first_timestamp(alloc, listener, 6, &mut desk) == Ok(()));
-    expect_peer_replies(rt, alloc, waiting)?;
+    let served = serve_at_first_timestamp(alloc, listener, 6, &mut desk);
+    expect(served == Ok(()), "six streams")?;
+    expect_peer_replies(alloc, waiting)?;
     listener.set_nonblocking(true)?;
-    assert!(rt; serve_at_first_timestamp(alloc, listener, 1, &mut desk) == Err(ListenFault::Net));
-    Ok(())
+    let served = serve_at_first_timestamp(alloc, listener, 1, &mut desk);
+    expect(served == Err(ListenFault::Net), "no stream")
 }
 
-// Checks that six streams over sockets, served in sequence on one desk, have the replies of
-// `PEERS`, and that the serving ends with `Net` if no stream can be accepted.
-#[test]
-fn socket_streams_share_one_desk(rt: HostRuntime) -> Result<(), Fail> {
-    let mut listener = TcpListener::bind(&rt, ("127.0.0.1", 0))?;
-    let waiting = connect_all_peers(&rt, &listener)?;
-    expect_streams_served_on_desk(
-        &rt,
-        rt.alloc(),
-        open_in_memory(rt.alloc()),
-        &mut listener,
-        waiting,
-    )
+/// Checks that six streams over sockets, served in sequence on one desk, have the replies of
+/// `PEERS`, and that the serving ends with `Net` if no stream can be accepted.
+pub fn socket_streams_share_one_desk(rt: &HostRuntime) -> Result<(), Fail> {
+    let alloc = rt.alloc();
+    let mut listener = TcpListener::bind(rt, ("127.0.0.1", 0))?;
+    let waiting = connect_all_peers(rt, &listener)?;
+    expect_streams_served_on_desk(alloc, open_in_memory(alloc), &mut listener, waiting)
 }

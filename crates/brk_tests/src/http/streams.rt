@@ -1,6 +1,6 @@
 //! Tests of streams of requests: in pieces, with heads of each length, and over a store that fails.
 
-use crate::desks::{desk_with_reference_data, open_in_memory, serve_stream_of_reader};
+use crate::desks::{desk_with_reference_data, expect, open_in_memory, serve_stream_of_reader};
 use crate::faulty::Failing;
 use crate::files::jobs::{Ended, Job, Observation, Task};
 use crate::files::machine::{Held, MachineCrash, Sent, perform_job_until_crash};
@@ -149,15 +149,14 @@ const STREAMS: [(&str, &[WantedReply]); 7] = [
     ),
 ];
 
-// Checks that each stream of `STREAMS` has its replies, whether its bytes arrive in pieces of
-// 4,096, of seven or of one.
-#[test]
-fn streams_in_pieces_get_the_same_replies(rt: HostRuntime) -> Result<(), Fail> {
+/// Checks that each stream of `STREAMS` has its replies, whether its bytes arrive in pieces of
+/// 4,096, of seven or of one.
+pub fn streams_in_pieces_get_the_same_replies(alloc: Global) -> Result<(), Fail> {
     for (input, wanted) in STREAMS {
-        assert!(rt;
-            has_wanted_replies_in_all_pieces(rt.alloc(), input.as_bytes(), wanted)?,
-            "{input:?}"
-        );
+        expect(
+            has_wanted_replies_in_all_pieces(alloc, input.as_bytes(), wanted)?,
+            format_args!("{input:?}"),
+        )?;
     }
     Ok(())
 }
@@ -175,17 +174,16 @@ fn request_with_head_of_length(alloc: Global, len: usize) -> Result<String, Allo
     Ok(head)
 }
 
-// Checks that a request with a head of 16,384 bytes has its reply, and that one with a longer head
-// is refused with 413, which ends its stream, for each size of pieces.
-#[test]
-fn a_head_has_at_most_16_384_bytes(rt: HostRuntime) -> Result<(), Fail> {
+/// Checks that a request with a head of 16,384 bytes has its reply, and that one with a longer head
+/// is refused with 413, which ends its stream, for each size of pieces.
+pub fn a_head_has_at_most_16_384_bytes(alloc: Global) -> Result<(), Fail> {
     for (len, wanted) in [(16_384, EMPTY), (16_385, LARGE)] {
-        let input = request_with_head_of_length(rt.alloc(), len)?;
-        assert!(rt; input.len() == len + 2);
-        assert!(rt;
-            has_wanted_replies_in_all_pieces(rt.alloc(), input.as_bytes(), &[wanted])?,
-            "{len}"
-        );
+        let input = request_with_head_of_length(alloc, len)?;
+        expect(input.len() == len + 2, "the length of the request")?;
+        expect(
+            has_wanted_replies_in_all_pieces(alloc, input.as_bytes(), &[wanted])?,
+            format_args!("a head of {len} bytes"),
+        )?;
     }
     Ok(())
 }
@@ -226,12 +224,10 @@ fn replies_to_two_requests(alloc: Global) -> Result<String, AllocError> {
     Ok(replies)
 }
 
-// Checks, for a log that fails after 0, 1, 2 and more calls, that the reply to a row is 503 and the
-// last of its stream, until the row and the query after it both have their replies. Numbers of
-// calls with which the desk cannot be created are skipped.
-#[test]
-fn a_store_fault_is_the_last_reply(rt: HostRuntime) -> Result<(), Fail> {
-    let alloc = rt.alloc();
+/// Checks, for a log that fails after 0, 1, 2 and more calls, that the reply to a row is 503 and
+/// the last of its stream, until the row and the query after it both have their replies. Numbers of
+/// calls with which the desk cannot be created are skipped.
+pub fn a_store_fault_is_the_last_reply(alloc: Global) -> Result<(), Fail> {
     let input = two_requests(alloc)?;
     let wanted = format_wanted_reply(
         alloc,
@@ -249,15 +245,14 @@ fn a_store_fault_is_the_last_reply(rt: HostRuntime) -> Result<(), Fail> {
                 break;
             }
             Ended::Served(1) => {
-                assert!(rt;
+                expect(
                     seen.lines.as_slice() == wanted.as_bytes(),
-                    "after {calls} calls"
-                );
+                    format_args!("after {calls} calls"),
+                )?;
                 faults = faults.saturating_add(1);
             }
-            _ => assert!(rt; false, "after {calls} calls"),
+            _ => expect(false, format_args!("after {calls} calls"))?,
         }
     }
-    assert!(rt; faults > 0 && booked);
-    Ok(())
+    expect(faults > 0 && booked, "no fault, or no reply")
 }

@@ -1,6 +1,6 @@
 //! The records that transcripts show: those of views and the rows of all tables.
 
-use crate::failed::Failed;
+use crate::failed::OutOfMemory;
 use crate::replay::{Piece, append_escaped_bytes, append_output_line, append_written_bytes};
 use crate::table_list::TABLES;
 use brk_import::brk_desk::{Desk, parse_query};
@@ -13,14 +13,14 @@ use sqlite::{Connection, MemStore, Row};
 use std::alloc::{AllocError, Global};
 
 /// Appends the output line of a refusal: `no` and its number. Fails only if memory runs out.
-pub fn append_refusal_line(out: &mut String, refusal: Refusal) -> Result<(), Failed> {
+pub fn append_refusal_line(out: &mut String, refusal: Refusal) -> Result<(), OutOfMemory> {
     writeln!(out, "> no {}", refusal.number())?;
     Ok(())
 }
 
 // Appends the fields of a record as an output line, with escapes and separated by bars. A record
 // without fields appends an empty line. Fails only if memory runs out.
-fn append_record_line(out: &mut String, record: &[String]) -> Result<(), Failed> {
+fn append_record_line(out: &mut String, record: &[String]) -> Result<(), OutOfMemory> {
     let mut sign = "> ";
     for field in record {
         out.push_str(sign)?;
@@ -32,7 +32,7 @@ fn append_record_line(out: &mut String, record: &[String]) -> Result<(), Failed>
 }
 
 // Appends each record of a view, in order, as an output line. Fails only if memory runs out.
-fn append_view_lines(alloc: Global, out: &mut String, view: &View) -> Result<(), Failed> {
+fn append_view_lines(alloc: Global, out: &mut String, view: &View) -> Result<(), OutOfMemory> {
     match view_fields(alloc, view) {
         Ok(records) => {
             for record in &records {
@@ -40,7 +40,7 @@ fn append_view_lines(alloc: Global, out: &mut String, view: &View) -> Result<(),
             }
             Ok(())
         }
-        Err(_) => Err(Failed::Memory),
+        Err(_) => Err(OutOfMemory),
     }
 }
 
@@ -77,7 +77,7 @@ pub fn execute_ask_command(
     desk: &mut Desk<MemStore>,
     view: &str,
     pieces: &[Piece],
-) -> Result<(), Failed> {
+) -> Result<(), OutOfMemory> {
     let arguments = bytes_of_input_lines(alloc, pieces)?;
     match parse_and_execute_query(alloc, desk, view, &arguments) {
         Ok(Ok(view)) => append_view_lines(alloc, out, &view),
@@ -106,7 +106,7 @@ pub fn execute_print_command(
     desk: &mut Desk<MemStore>,
     words: &str,
     pieces: &[Piece],
-) -> Result<(), Failed> {
+) -> Result<(), OutOfMemory> {
     let (form, view) = words.split_once(' ').unwrap_or((words, ""));
     let arguments = bytes_of_input_lines(alloc, pieces)?;
     let mut printed = Vec::new(alloc);
@@ -129,7 +129,7 @@ pub fn execute_print_command(
 // Appends the value of the column at index `at` of a row, after a bar unless `at` is 0. A value
 // that is neither a whole number nor text, for example a null, is written as `\x00`. Fails only if
 // memory runs out.
-fn append_cell_text(out: &mut String, row: &Row, at: usize) -> Result<(), Failed> {
+fn append_cell_text(out: &mut String, row: &Row, at: usize) -> Result<(), OutOfMemory> {
     if at > 0 {
         out.push_str("|")?;
     }
@@ -143,7 +143,7 @@ fn append_cell_text(out: &mut String, row: &Row, at: usize) -> Result<(), Failed
 
 // Appends a row of a table as an output line: the name of the table, a space, and the values of the
 // columns, separated by bars. Fails only if memory runs out.
-fn append_table_row(out: &mut String, table: &str, row: &Row) -> Result<(), Failed> {
+fn append_table_row(out: &mut String, table: &str, row: &Row) -> Result<(), OutOfMemory> {
     write!(out, "> {table} ")?;
     for at in 0..row.column_count() {
         append_cell_text(out, row, at)?;
@@ -161,7 +161,7 @@ fn append_rows_of_table(
     conn: &mut Connection<MemStore>,
     table: &str,
     key: &str,
-) -> Result<(), Failed> {
+) -> Result<(), OutOfMemory> {
     let sql = format!(in alloc; "SELECT * FROM {table} ORDER BY {key}")?;
     match conn.query_all(sql.as_str(), &[]) {
         Ok(rows) => {
@@ -181,7 +181,7 @@ pub fn append_rows_of_all_tables(
     alloc: Global,
     out: &mut String,
     conn: &mut Connection<MemStore>,
-) -> Result<(), Failed> {
+) -> Result<(), OutOfMemory> {
     for (table, key) in &TABLES {
         append_rows_of_table(alloc, out, conn, table, key)?;
     }

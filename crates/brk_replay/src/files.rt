@@ -1,7 +1,7 @@
 //! The commands of transcripts over files: the program `brk` with its arguments, and changes that
 //! another program makes in a file.
 
-use crate::failed::Failed;
+use crate::failed::OutOfMemory;
 use crate::replay::append_lines_after_mark;
 use brk_exit::end_with;
 use brk_jobs::execute_requested_job;
@@ -28,7 +28,7 @@ fn run_program(
     out: &mut String,
     words: &str,
     input: &[u8],
-) -> Result<(), Failed> {
+) -> Result<(), OutOfMemory> {
     let alloc = rt.alloc();
     let mut printed = Vec::new(alloc);
     let mut errors = Vec::new(alloc);
@@ -102,7 +102,7 @@ pub fn execute_file_command(
     verb: &str,
     words: &str,
     input: &[u8],
-) -> Result<(), Failed> {
+) -> Result<(), OutOfMemory> {
     match verb {
         "$" => run_program(rt, out, words, input),
         _ => {

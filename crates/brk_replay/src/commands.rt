@@ -1,12 +1,13 @@
 //! The commands of transcripts, each of which appends its output lines to the replay, and the
 //! database or desk on which they work.
 
-use crate::failed::Failed;
+use crate::failed::OutOfMemory;
 use crate::files::execute_file_command;
 use crate::records::{
     append_refusal_line, append_rows_of_all_tables, execute_ask_command, execute_print_command,
 };
 use crate::replay::{Piece, append_output_line, append_written_bytes};
+use crate::tests::execute_test_command;
 use brk_http::serve_stream;
 use brk_import::brk_desk::Desk;
 use brk_import::brk_desk::brk_store::Store;
@@ -118,16 +119,17 @@ fn word_of_batch_fault(kind: FaultKind) -> &'static str {
     }
 }
 
-// Executes the input as a batch on the desk at the timestamp `moment`. Appends the lines that the
-// batch wrote and, if it failed, an output line with `!`, the word for its fault, and the number of
-// decided rows. Fails only if memory runs out.
+// Executes the input as a batch on the desk at the timestamp with the canonical text `moment`, or
+// at 0 if `moment` is no such text. Appends the lines that the batch wrote and, if it failed, an
+// output line with `!`, the word for its fault, and the number of decided rows. Fails only if
+// memory runs out.
 fn execute_batch_command(
     alloc: Global,
     out: &mut String,
     desk: &mut Desk<MemStore>,
     moment: &str,
     input: &[u8],
-) -> Result<(), Failed> {
+) -> Result<(), OutOfMemory> {
     let mut lines = Vec::new(alloc);
     let ended = run_batch(
         alloc,
@@ -148,16 +150,16 @@ fn execute_batch_command(
     Ok(())
 }
 
-// Serves the input as a stream of HTTP requests on the desk at the timestamp `moment`. Appends the
-// replies, and then `! done` and the number of replies or, if the stream failed, `! fault`. Fails
-// only if memory runs out.
+// Serves the input as a stream of HTTP requests on the desk at the timestamp with the canonical
+// text `moment`, or at 0 if `moment` is no such text. Appends the replies, and then `! done` and the
+// number of replies or, if the stream failed, `! fault`. Fails only if memory runs out.
 fn execute_http_command(
     alloc: Global,
     out: &mut String,
     desk: &mut Desk<MemStore>,
     moment: &str,
     input: &[u8],
-) -> Result<(), Failed> {
+) -> Result<(), OutOfMemory> {
     let mut replies = Vec::new(alloc);
     let ended = serve_stream(
         alloc,
@@ -183,7 +185,7 @@ fn execute_statement_command(
     out: &mut String,
     desk: &mut Desk<MemStore>,
     words: &str,
-) -> Result<(), Failed> {
+) -> Result<(), OutOfMemory> {
     let (account, days) = words.split_once(' ').unwrap_or((words, ""));
     let (from, to) = days.split_once(' ').unwrap_or((days, ""));
     let (Some(account), Some(from), Some(to)) = (
@@ -211,7 +213,7 @@ fn execute_explain_command(
     out: &mut String,
     desk: &mut Desk<MemStore>,
     words: &str,
-) -> Result<(), Failed> {
+) -> Result<(), OutOfMemory> {
     let mut asked = Vec::new(alloc);
     for word in words.split(' ') {
         asked.push(word.as_bytes())?;
@@ -233,7 +235,7 @@ fn execute_explain_command(
 
 // Appends the result of an audit or of an adoption as an output line: `ok`, `damaged` and the first
 // condition that fails, or `! fault` for any other fault. Fails only if memory runs out.
-fn append_audit_result(out: &mut String, audited: Result<(), Fault>) -> Result<(), Failed> {
+fn append_audit_result(out: &mut String, audited: Result<(), Fault>) -> Result<(), OutOfMemory> {
     match audited {
         Ok(()) => append_output_line(out, "ok"),
         Err(Fault::Damaged(condition)) => {
@@ -248,7 +250,11 @@ fn append_audit_result(out: &mut String, audited: Result<(), Fault>) -> Result<(
 // and the condition that fails, or `! fault`), and returns what was open. A database remains
 // without a desk. If nothing is open, appends nothing and returns `Nothing`. Fails only if memory
 // runs out.
-fn execute_audit_command(alloc: Global, out: &mut String, place: Place) -> Result<Place, Failed> {
+fn execute_audit_command(
+    alloc: Global,
+    out: &mut String,
+    place: Place,
+) -> Result<Place, OutOfMemory> {
     match place {
         Place::Open(mut desk) => {
             append_audit_result(out, desk.audit(alloc))?;
@@ -275,7 +281,11 @@ fn database_without_desk(place: Place) -> Place {
 // and the condition that fails, or `! fault`), and returns its desk, or the database if the
 // adoption failed. If nothing is open, appends nothing and returns `Nothing`. Fails only if memory
 // runs out.
-fn execute_adopt_command(alloc: Global, out: &mut String, place: Place) -> Result<Place, Failed> {
+fn execute_adopt_command(
+    alloc: Global,
+    out: &mut String,
+    place: Place,
+) -> Result<Place, OutOfMemory> {
     match place.into_conn() {
         Some(conn) => {
             let (place, adopted) = adopt_database(alloc, conn);
@@ -292,7 +302,7 @@ fn execute_sql_statement(
     out: &mut String,
     conn: &mut Connection<MemStore>,
     bytes: &[u8],
-) -> Result<(), Failed> {
+) -> Result<(), OutOfMemory> {
     let done = match str::from_utf8(bytes) {
         Ok(sql) => conn.execute(sql, &[]).is_ok(),
         Err(_) => false,
@@ -308,7 +318,11 @@ fn execute_sql_statement(
 // its desk, and appends the output line `! sql` for each statement that fails or is not UTF-8.
 // Returns the database. If nothing is open, appends nothing and returns `Nothing`. Fails only if
 // memory runs out.
-fn execute_sql_command(out: &mut String, place: Place, pieces: &[Piece]) -> Result<Place, Failed> {
+fn execute_sql_command(
+    out: &mut String,
+    place: Place,
+    pieces: &[Piece],
+) -> Result<Place, OutOfMemory> {
     match place.into_conn() {
         Some(mut conn) => {
             for piece in pieces {
@@ -323,7 +337,11 @@ fn execute_sql_command(out: &mut String, place: Place, pieces: &[Piece]) -> Resu
 // Appends the rows of all tables of the open database as output lines, adopts the database again
 // without appending the result, and returns its desk, or the database if the adoption failed. If
 // nothing is open, appends nothing and returns `Nothing`. Fails only if memory runs out.
-fn execute_tables_command(alloc: Global, out: &mut String, place: Place) -> Result<Place, Failed> {
+fn execute_tables_command(
+    alloc: Global,
+    out: &mut String,
+    place: Place,
+) -> Result<Place, OutOfMemory> {
     match place.into_conn() {
         Some(mut conn) => {
             append_rows_of_all_tables(alloc, out, &mut conn)?;
@@ -344,7 +362,7 @@ fn execute_desk_command(
     verb: &str,
     words: &str,
     pieces: &[Piece],
-) -> Result<(), Failed> {
+) -> Result<(), OutOfMemory> {
     match verb {
         "batch" => execute_batch_command(
             alloc,
@@ -374,7 +392,7 @@ fn execute_memory_command(
     verb: &str,
     words: &str,
     pieces: &[Piece],
-) -> Result<Place, Failed> {
+) -> Result<Place, OutOfMemory> {
     match verb {
         "desk" => Ok(Place::with_new_desk(alloc)),
         "empty" => Ok(Place::with_empty_database(alloc)),
@@ -403,22 +421,23 @@ fn execute_command_on_files(
     verb: &str,
     words: &str,
     pieces: &[Piece],
-) -> Result<(), Failed> {
+) -> Result<(), OutOfMemory> {
     let input = join_input_lines(rt.alloc(), pieces)?;
     execute_file_command(rt, out, verb, words, &input)
 }
 
-/// Executes the command `command` with its input lines `pieces`, over files or on the open desk or
-/// database. Appends its output lines, and returns the desk or database that is open after it. If
-/// the command needs a desk or is unknown, and no desk is open, appends only `! no desk`; if it is
-/// unknown and a desk is open, appends only `! no such command`. Fails only if memory runs out.
+/// Executes the command `command` with its input lines `pieces`: a test, a command over files, or
+/// one on the open desk or database. Appends its output lines, and returns the desk or database
+/// that is open after it. If the command needs a desk or is unknown, and no desk is open, appends
+/// only `! no desk`; if it is unknown and a desk is open, appends only `! no such command`. Fails
+/// only if memory runs out.
 pub fn execute_command(
     rt: &HostRuntime,
     out: &mut String,
     place: Place,
     command: &str,
     pieces: &[Piece],
-) -> Result<Place, Failed> {
+) -> Result<Place, OutOfMemory> {
     let (verb, words) = command.split_once(' ').unwrap_or((command, ""));
     match verb {
         "$" | "write" | "copy" | "cut" | "change" => {
@@ -427,6 +446,10 @@ pub fn execute_command(
                 Err(failed) => Err(failed),
             }
         }
+        "test" => match execute_test_command(rt, out, words) {
+            Ok(()) => Ok(place),
+            Err(failed) => Err(failed),
+        },
         _ => execute_memory_command(rt.alloc(), out, place, verb, words, pieces),
     }
 }

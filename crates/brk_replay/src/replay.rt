@@ -1,7 +1,7 @@
 //! The lines of transcripts: their escapes, and the replay line by line.
 
 use crate::commands::{Place, execute_command};
-use crate::failed::Failed;
+use crate::failed::OutOfMemory;
 use std::alloc::{AllocError, Global};
 
 /// An input line of a transcript, without its escapes.
@@ -68,7 +68,7 @@ pub fn unescape_input_line(alloc: Global, text: &str) -> Result<Piece, AllocErro
 // Appends a text with the escapes of an output line: a backslash as `\\`, a carriage return as
 // `\r`, and each other character below 20 (hexadecimal), the character 7f, and a bar if `in_record`
 // is true, as `\x` with two hexadecimal digits. Fails only if memory runs out.
-fn append_escaped_text(out: &mut String, text: &str, in_record: bool) -> Result<(), Failed> {
+fn append_escaped_text(out: &mut String, text: &str, in_record: bool) -> Result<(), OutOfMemory> {
     for c in text.chars() {
         match c {
             '\\' => out.push_str("\\\\")?,
@@ -85,7 +85,11 @@ fn append_escaped_text(out: &mut String, text: &str, in_record: bool) -> Result<
 /// `\r`, and each other byte below 20 (hexadecimal), the byte 7f, each byte that is no part of a
 /// UTF-8 character, and a bar if `in_record` is true, as `\x` with two hexadecimal digits. Fails
 /// only if memory runs out.
-pub fn append_escaped_bytes(out: &mut String, bytes: &[u8], in_record: bool) -> Result<(), Failed> {
+pub fn append_escaped_bytes(
+    out: &mut String,
+    bytes: &[u8],
+    in_record: bool,
+) -> Result<(), OutOfMemory> {
     let mut rest = bytes;
     for _ in 0..bytes.len() {
         let known = match str::from_utf8(rest) {
@@ -106,7 +110,11 @@ pub fn append_escaped_bytes(out: &mut String, bytes: &[u8], in_record: bool) -> 
 /// Appends written bytes as output lines with escapes, each after the mark `mark`: one for the
 /// bytes before each line feed, and one that ends in a single backslash for the bytes after the
 /// last line feed, if there are any. Fails only if memory runs out.
-pub fn append_lines_after_mark(out: &mut String, mark: &str, bytes: &[u8]) -> Result<(), Failed> {
+pub fn append_lines_after_mark(
+    out: &mut String,
+    mark: &str,
+    bytes: &[u8],
+) -> Result<(), OutOfMemory> {
     for piece in bytes.split_inclusive(|byte| *byte == b'\n') {
         out.push_str(mark)?;
         match piece.strip_suffix(b"\n") {
@@ -123,13 +131,13 @@ pub fn append_lines_after_mark(out: &mut String, mark: &str, bytes: &[u8]) -> Re
 
 /// Appends written bytes as output lines with escapes, as `append_lines_after_mark` does after `>`
 /// and a space. Fails only if memory runs out.
-pub fn append_written_bytes(out: &mut String, bytes: &[u8]) -> Result<(), Failed> {
+pub fn append_written_bytes(out: &mut String, bytes: &[u8]) -> Result<(), OutOfMemory> {
     append_lines_after_mark(out, "> ", bytes)
 }
 
 /// Appends the text `line`, without escapes, as an output line: after `>` and a space, and before a
 /// line feed. Fails only if memory runs out.
-pub fn append_output_line(out: &mut String, line: &str) -> Result<(), Failed> {
+pub fn append_output_line(out: &mut String, line: &str) -> Result<(), OutOfMemory> {
     writeln!(out, "> {line}")?;
     Ok(())
 }
@@ -149,7 +157,7 @@ fn execute_pending_command(
     out: &mut String,
     place: Place,
     due: Option<Due<'_>>,
-) -> Result<Place, Failed> {
+) -> Result<Place, OutOfMemory> {
     match due {
         Some(due) => execute_command(rt, out, place, due.command, &due.pieces),
         None => Ok(place),
@@ -172,7 +180,7 @@ impl<'a> Replay<'a> {
     // Adds the input line `text`, without its escapes, to the pending command and returns the
     // replay after it, or returns the replay unchanged if no command is pending. Fails only if
     // memory runs out.
-    fn with_input_line(self, alloc: Global, text: &str) -> Result<Replay<'a>, Failed> {
+    fn with_input_line(self, alloc: Global, text: &str) -> Result<Replay<'a>, OutOfMemory> {
         let Replay { place, due } = self;
         let Some(mut due) = due else {
             return Ok(Replay { place, due: None });
@@ -192,7 +200,7 @@ impl<'a> Replay<'a> {
         rt: &HostRuntime,
         out: &mut String,
         line: &'a str,
-    ) -> Result<Replay<'a>, Failed> {
+    ) -> Result<Replay<'a>, OutOfMemory> {
         let Replay { place, due } = self;
         let place = execute_pending_command(rt, out, place, due)?;
         writeln!(out, "{line}")?;
@@ -216,7 +224,7 @@ impl<'a> Replay<'a> {
         rt: &HostRuntime,
         out: &mut String,
         line: &'a str,
-    ) -> Result<Replay<'a>, Failed> {
+    ) -> Result<Replay<'a>, OutOfMemory> {
         if line.starts_with("> ") {
             return Ok(self);
         }
@@ -234,7 +242,7 @@ impl<'a> Replay<'a> {
 /// place of the old ones.
 ///
 /// Fails only if memory runs out.
-pub fn replay_transcript(rt: &HostRuntime, text: &str) -> Result<String, Failed> {
+pub fn replay_transcript(rt: &HostRuntime, text: &str) -> Result<String, OutOfMemory> {
     let mut out = String::new(rt.alloc());
     let mut replay = Replay {
         place: Place::Nothing,

@@ -1,0 +1,33 @@
+//! The command `test`, which runs a test that no transcript can state.
+
+use crate::failed::OutOfMemory;
+use crate::replay::append_output_line;
+use std::process::Termination;
+use std::test::Fail;
+
+// Runs the test `name` of `brk_tests_unit` or, if that has none of this name, of `brk_tests`.
+// Returns `None` if neither has a test of this name, and the failure of the test if it fails.
+fn run_test(rt: &HostRuntime, name: &str) -> Option<Result<(), Fail>> {
+    match brk_tests_unit::run_test(rt, name) {
+        None => brk_tests::run_test(rt, name),
+        tested => tested,
+    }
+}
+
+/// Runs the test `name` of `brk_tests_unit` or of `brk_tests`. Appends the output line `ok` if the
+/// test succeeds, and `! no such test` if no test has this name. If the test fails, writes its
+/// failure to standard error and appends `failed`. Fails only if memory runs out.
+pub fn execute_test_command(
+    rt: &HostRuntime,
+    out: &mut String,
+    name: &str,
+) -> Result<(), OutOfMemory> {
+    match run_test(rt, name) {
+        None => append_output_line(out, "! no such test"),
+        Some(Ok(())) => append_output_line(out, "ok"),
+        Some(failure) => {
+            let _ = failure.report(rt);
+            append_output_line(out, "failed")
+        }
+    }
+}
