@@ -9,7 +9,7 @@ ghost use Rattle.brk_commit.specs.Booked.{CommandPost};
 ghost use Rattle.brk_invariant_theorems.specs.InForm.{MeetsAuditFormats, IsWellFormedKey};
 
 use crate::deciding::decide_command;
-use crate::in_form::{prove_command_is_well_formed, prove_key_is_well_formed};
+use crate::in_form::{prove_command_meets_audit_formats, prove_key_is_well_formed};
 use crate::keeping::{answer_retry, plan_with_stored_reply, read_stored_reply};
 use brk_commands::Command;
 use brk_money::{Fault, Stamp};
@@ -22,12 +22,13 @@ use std::alloc::Global;
 /// The answer to a command: `Done` with its reply, `Again` with the stored reply, or `Refused`.
 pub type CommandAnswer = Answer<Reply>;
 
-// Proves that a command is well-formed, and its key if it has one. Does nothing at run time.
-fn prove_command_and_key_are_well_formed(command: &Command, key: Option<&Key>)
+// Proves that a command meets the formats that an audit checks, and that its key, if it has one, is
+// well-formed. Does nothing at run time.
+fn prove_command_and_key_meet_formats(command: &Command, key: Option<&Key>)
     ensures command { MeetsAuditFormats (abstract_command command.now) }
     ensures key { IfSome (optional_model_key (option_copied key.entry)) IsWellFormedKey }
 {
-    prove_command_is_well_formed(command);
+    prove_command_meets_audit_formats(command);
     if let Some(key) = key {
         prove_key_is_well_formed(key);
     }
@@ -62,7 +63,7 @@ pub fn execute_and_commit_command<S: Alter>(
 ) -> Result<CommandAnswer, Fault>
     ensures called { CommandPost S.Store store.old store.new now (abstract_command command.now) (optional_model_key (option_copied key.entry)) result }
 {
-    prove_command_and_key_are_well_formed(command, key);
+    prove_command_and_key_meet_formats(command, key);
     if let Some(kept) = read_stored_reply(store, key)? {
         return answer_retry(alloc, command, kept);
     }

@@ -1,5 +1,5 @@
-//! Proofs that commands and keys are well-formed: the types of their fields have no malformed
-//! values.
+//! Proofs that commands meet the formats that an audit checks, and that keys are well-formed: the
+//! types of their fields have no malformed values.
 
 ghost use Rattle.std.specs.Prelude.{◌≡◌};
 ghost use Rattle.std.specs.List.{AllByRecursion};
@@ -16,16 +16,18 @@ use brk_orders::{Direction, Movement, Order, Tick, Update};
 use brk_plans::Reference;
 use brk_ref::{Account, Band, Broker, Charge, Customer, Key, Listing, Permission, Tax};
 
-// Proves that the command that adds this broker is well-formed. Does nothing at run time.
-fn prove_broker_is_well_formed(broker: &Broker)
+// Proves that the command that adds this broker meets the formats that an audit checks. Does
+// nothing at run time.
+fn prove_broker_meets_audit_formats(broker: &Broker)
     ensures { MeetsAuditFormats (AddBroker (abstract_broker broker.now)) }
 {
     let _ = broker.id.get();
     broker.name.prove_text_has_its_format();
 }
 
-// Proves that the command that adds this customer is well-formed. Does nothing at run time.
-fn prove_customer_is_well_formed(customer: &Customer)
+// Proves that the command that adds this customer meets the formats that an audit checks. Does
+// nothing at run time.
+fn prove_customer_meets_audit_formats(customer: &Customer)
     ensures { MeetsAuditFormats (AddCustomer (abstract_customer customer.now)) }
 {
     let _ = customer.id.get();
@@ -35,8 +37,9 @@ fn prove_customer_is_well_formed(customer: &Customer)
     customer.first_name.prove_text_has_its_format();
 }
 
-// Proves that the command that adds this account is well-formed. Does nothing at run time.
-fn prove_account_is_well_formed(account: &Account)
+// Proves that the command that adds this account meets the formats that an audit checks. Does
+// nothing at run time.
+fn prove_account_meets_audit_formats(account: &Account)
     ensures { MeetsAuditFormats (AddAccount (abstract_account account.now)) }
 {
     let _ = account.id.get();
@@ -44,8 +47,9 @@ fn prove_account_is_well_formed(account: &Account)
     let _ = account.opening.get();
 }
 
-// Proves that the command that adds this permission is well-formed. Does nothing at run time.
-fn prove_permission_is_well_formed(permission: &Permission)
+// Proves that the command that adds this permission meets the formats that an audit checks. Does
+// nothing at run time.
+fn prove_permission_meets_audit_formats(permission: &Permission)
     ensures { MeetsAuditFormats (AddPermission (abstract_permission permission.now)) }
 {
     permission.acl.prove_text_has_its_format();
@@ -54,9 +58,9 @@ fn prove_permission_is_well_formed(permission: &Permission)
     permission.first_name.prove_text_has_its_format();
 }
 
-// Proves that the command that adds this security with its first price is well-formed. Does nothing
-// at run time.
-fn prove_listing_is_well_formed(listing: &Listing)
+// Proves that the command that adds this security with its first price meets the formats that an
+// audit checks. Does nothing at run time.
+fn prove_listing_meets_audit_formats(listing: &Listing)
     ensures { MeetsAuditFormats (AddSecurity (abstract_listing listing.now)) }
 {
     listing.security.symbol.prove_text_has_its_format();
@@ -66,16 +70,18 @@ fn prove_listing_is_well_formed(listing: &Listing)
     let _ = listing.price.get();
 }
 
-// Proves that the command that adds this charge is well-formed. Does nothing at run time.
-fn prove_charge_is_well_formed(charge: &Charge)
+// Proves that the command that adds this charge meets the formats that an audit checks. Does
+// nothing at run time.
+fn prove_charge_meets_audit_formats(charge: &Charge)
     ensures { MeetsAuditFormats (AddCharge (abstract_charge charge.now)) }
 {
     let _ = charge.tier.get();
     let _ = charge.amount.get();
 }
 
-// Proves that the command that adds this commission band is well-formed. Does nothing at run time.
-fn prove_band_is_well_formed(band: &Band)
+// Proves that the command that adds this commission band meets the formats that an audit checks.
+// Does nothing at run time.
+fn prove_band_meets_audit_formats(band: &Band)
     ensures { MeetsAuditFormats (AddBand (abstract_band band.now)) }
 {
     let _ = band.tier.get();
@@ -85,8 +91,9 @@ fn prove_band_is_well_formed(band: &Band)
     let _ = band.rate.get();
 }
 
-// Proves that the command that adds this tax rate is well-formed. Does nothing at run time.
-fn prove_tax_is_well_formed(tax: &Tax)
+// Proves that the command that adds this tax rate meets the formats that an audit checks. Does
+// nothing at run time.
+fn prove_tax_meets_audit_formats(tax: &Tax)
     ensures { MeetsAuditFormats (AddTaxRate (abstract_tax_rate tax.now)) }
 {
     let _ = tax.id.get();
@@ -94,26 +101,27 @@ fn prove_tax_is_well_formed(tax: &Tax)
     let _ = tax.rate.get();
 }
 
-// Proves that the command that adds this reference record, for example a broker or a charge, is
-// well-formed. Does nothing at run time.
-fn prove_reference_is_well_formed(reference: &Reference)
+// Proves that the command that adds this reference record, for example a broker or a charge, meets
+// the formats that an audit checks. Does nothing at run time.
+fn prove_reference_meets_audit_formats(reference: &Reference)
     ensures { MeetsAuditFormats (books.command_adding_record reference.now) }
 {
     match reference {
-        Reference::Broker(broker) => prove_broker_is_well_formed(broker),
-        Reference::Customer(customer) => prove_customer_is_well_formed(customer),
-        Reference::Account(account) => prove_account_is_well_formed(account),
-        Reference::Permission(permission) => prove_permission_is_well_formed(permission),
-        Reference::Security(listing) => prove_listing_is_well_formed(listing),
-        Reference::Charge(charge) => prove_charge_is_well_formed(charge),
-        Reference::Band(band) => prove_band_is_well_formed(band),
-        Reference::TaxRate(tax) => prove_tax_is_well_formed(tax),
+        Reference::Broker(broker) => prove_broker_meets_audit_formats(broker),
+        Reference::Customer(customer) => prove_customer_meets_audit_formats(customer),
+        Reference::Account(account) => prove_account_meets_audit_formats(account),
+        Reference::Permission(permission) => prove_permission_meets_audit_formats(permission),
+        Reference::Security(listing) => prove_listing_meets_audit_formats(listing),
+        Reference::Charge(charge) => prove_charge_meets_audit_formats(charge),
+        Reference::Band(band) => prove_band_meets_audit_formats(band),
+        Reference::TaxRate(tax) => prove_tax_meets_audit_formats(tax),
         Reference::CustomerTax(_) => (),
     }
 }
 
-// Proves that an order is well-formed. Does nothing at run time.
-fn prove_order_is_well_formed(order: &Order)
+// Proves that the quantity and the price of an order, if it has one, are within their limits. Does
+// nothing at run time.
+fn prove_order_meets_audit_formats(order: &Order)
     ensures { OrderMeetsAuditFormats (abstract_order order.now) }
 {
     let _ = order.qty.get();
@@ -122,8 +130,8 @@ fn prove_order_is_well_formed(order: &Order)
     }
 }
 
-// Proves that each of the ticks is well-formed. Does nothing at run time.
-fn prove_ticks_are_well_formed(ticks: &[Tick])
+// Proves that the price of each tick is within its limits. Does nothing at run time.
+fn prove_ticks_meet_audit_formats(ticks: &[Tick])
     ensures { AllByRecursion TickMeetsAuditFormats (abstract_ticks ticks.now) }
 {
     for tick in ticks {
@@ -131,8 +139,9 @@ fn prove_ticks_are_well_formed(ticks: &[Tick])
     }
 }
 
-// Proves that a text update is well-formed. Does nothing at run time.
-fn prove_update_is_well_formed(update: &Update)
+// Proves that a text update meets the formats that an audit checks: it has no field that an audit
+// checks. Does nothing at run time.
+fn prove_update_meets_audit_formats(update: &Update)
     ensures { MeetsAuditFormats (text_update_command update.now) }
 {
     match update {
@@ -140,8 +149,9 @@ fn prove_update_is_well_formed(update: &Update)
     }
 }
 
-// Proves that a deposit or a withdrawal is well-formed. Does nothing at run time.
-fn prove_movement_is_well_formed(movement: &Movement)
+// Proves that the amount of a deposit or a withdrawal is within its limits. Does nothing at run
+// time.
+fn prove_movement_meets_audit_formats(movement: &Movement)
     ensures { MeetsAuditFormats (movement_command movement.now) }
 {
     let _ = movement.amount.get();
@@ -150,20 +160,21 @@ fn prove_movement_is_well_formed(movement: &Movement)
     }
 }
 
-/// Proves that a command is well-formed. Does nothing at run time.
-pub fn prove_command_is_well_formed(command: &Command)
+/// Proves that a command meets the formats that an audit checks, also the limits of its numbers.
+/// Does nothing at run time.
+pub fn prove_command_meets_audit_formats(command: &Command)
     ensures { MeetsAuditFormats (abstract_command command.now) }
 {
     match command {
-        Command::Add(reference) => prove_reference_is_well_formed(reference),
-        Command::Order(order) => prove_order_is_well_formed(order),
-        Command::Feed(feed) => prove_ticks_are_well_formed(feed.ticks()),
+        Command::Add(reference) => prove_reference_meets_audit_formats(reference),
+        Command::Order(order) => prove_order_meets_audit_formats(order),
+        Command::Feed(feed) => prove_ticks_meet_audit_formats(feed.ticks()),
         Command::Cancel(_) => (),
         Command::Complete(completion) => {
             let _ = completion.price.get();
         }
-        Command::Update(update) => prove_update_is_well_formed(update),
-        Command::Move(movement) => prove_movement_is_well_formed(movement),
+        Command::Update(update) => prove_update_meets_audit_formats(update),
+        Command::Move(movement) => prove_movement_meets_audit_formats(movement),
         Command::OneDay(day) => {
             let _ = day.get();
         }

@@ -9,4 +9,4 @@ mod keeping;
 
 pub use booking::{CommandAnswer, execute_and_commit_command};
 pub use brk_ref::Answer;
-pub use in_form::{prove_command_is_well_formed, prove_key_is_well_formed};
+pub use in_form::{prove_command_meets_audit_formats, prove_key_is_well_formed};

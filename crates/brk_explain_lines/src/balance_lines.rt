@@ -64,7 +64,7 @@ pub(crate) fn put_balance_lines(
 // Appends to `out` the last line of the explanation of a completed trade, with the numbers of its
 // status changes (`statuses`), of the lots of which it closed shares (`lots`), and of the account's
 // earlier cash rows (`cash`). Fails with `Memory` only.
-fn put_trade_counts_line(
+fn put_counts_line_of_trade(
     out: &mut Vec<u8>,
     statuses: usize,
     lots: usize,
@@ -92,7 +92,7 @@ pub(crate) fn put_counts_of_completed_trade(
         ≡ out.old.items ++ text_of_lines (lines.trade_counts_lines (abstract_order_details order.now) (abstract_result_details details.now))) }
     ensures fault { OnErr result (result ≡ Err Memory) }
 {
-    put_trade_counts_line(
+    put_counts_line_of_trade(
         out,
         order.statuses.len(),
         details.closings.len(),

@@ -43,8 +43,9 @@ pub fn content_length_states_body_length()
 {}
 
 /// Shows that `/rows`, `/rows/BATCH/N` and `/ask/VIEW` have routes, and that targets with an
-/// unknown view, a malformed row number, an encoded byte, an empty batch name, a query string or a
-/// host have none. Shows also a text that is split at its commas.
+/// unknown view, a malformed row number, an encoded byte, an empty batch name, nothing after
+/// `/rows/`, a query string or a host have none. Shows also the parts of a text that is split at its
+/// commas.
 pub fn routes_of_request_targets()
     ensures row_without_key { route_of_target model_parsers.views (codes "/rows") ≡ Some (ToRow None) }
     ensures row_with_key { route_of_target model_parsers.views (codes "/rows/A.b-c_1/1000000000000")
@@ -55,7 +56,8 @@ pub fn routes_of_request_targets()
     ensures leading_zero { route_of_target model_parsers.views (codes "/rows/A/01") ≡ None }
     ensures row_number_too_great { route_of_target model_parsers.views (codes "/rows/A/1000000000001") ≡ None }
     ensures percent_encoding { route_of_target model_parsers.views (codes "/rows/%41/1") ≡ None }
-    ensures empty_batch_name { route_of_target model_parsers.views (codes "/rows/") ≡ None }
+    ensures empty_batch_name { route_of_target model_parsers.views (codes "/rows//1") ≡ None }
+    ensures nothing_after_rows { route_of_target model_parsers.views (codes "/rows/") ≡ None }
     ensures query_string { route_of_target model_parsers.views (codes "/ask/lots?x=1") ≡ None }
     ensures absolute_target { route_of_target model_parsers.views (codes "http://h/rows") ≡ None }
     ensures split_text { split_at_byte 44 (codes "1,SBMT,,") ≡ codes "1" ∷ codes "SBMT" ∷ [] ∷ [] ∷ [] }

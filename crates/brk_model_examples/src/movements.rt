@@ -37,9 +37,9 @@ pub fn movements_respect_balance_limit()
 
 /// Shows that the cash rows of movements after trades follow the cash rows of the trades, in
 /// CASH_MOVE and in the statement, that the balance includes all of these cash rows, and that
-/// CASH_TRANSACTION has no row. The lookup of a trade returns only the cash row of the trade, and
-/// `uptext` changes no cash row of a movement.
-pub fn cash_rows_of_movements()
+/// CASH_TRANSACTION has no row. Of the cash rows, the lookup of a trade returns only that of the
+/// trade, and `uptext` does not change the text of the cash row of a movement.
+pub fn cash_rows_of_movements_follow_those_of_trades()
     ensures numbers { map {B = ℕ} (λ row. row.id) (tables_of_base base_after_sale_and_movements).moves ≡ 1 ∷ 2 ∷ 3 ∷ 4 ∷ 5 ∷ [] }
     ensures amounts { map {B = ℤ} (λ row. row.amount) (tables_of_base base_after_sale_and_movements).moves
         ≡ negsuc 102509 ∷ negsuc 242899 ∷ pos 185750 ∷ pos 10000 ∷ negsuc 899999 ∷ [] }

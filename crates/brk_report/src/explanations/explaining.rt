@@ -96,8 +96,9 @@ fn write_account_explanation<W: Write, S: Alter>(
 // Writes the explanation of the holding of an account in a security. Fails with `Refused`
 // (`NoAccount`) if the account does not exist, or (`NoSecurity`) if only the security does not
 // exist, before it writes anything; with `Desk` if a read fails, memory runs out, the security has
-// no last price, a completed trade has no price, or an amount overflows; and with `Write` if the
-// writer fails. If the database is still open, it is unchanged.
+// no last price, a trade that changed a lot does not exist, a completed trade has no price, or an
+// amount or a quantity overflows; and with `Write` if the writer fails. If the database is still
+// open, it is unchanged.
 fn write_holding_explanation<W: Write, S: Alter>(
     alloc: Global,
     desk: &mut Desk<S>,

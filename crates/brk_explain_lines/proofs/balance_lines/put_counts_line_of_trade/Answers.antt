@@ -1,6 +1,6 @@
 use Rattle.brk_explain_columns.proofs.Chains.{more, more2, first2, on_ok}
 use Rattle.std.proofs.Common.{◌≡◌, ◌++◌, ◌∷◌, [], codes, decimal}
-use Rattle.brk_explain_lines.proofs.balance_lines.put_trade_counts_line.Goals as goal
+use Rattle.brk_explain_lines.proofs.balance_lines.put_counts_line_of_trade.Goals as goal
 
 pub returns-clause-ok : goal.returns-clause-ok
 returns-clause-ok c =
