@@ -135,7 +135,7 @@ fn read_batch_name<R: Read>(alloc: Global, records: &mut Reader<R>) -> Result<Ba
 //
 // Fails with `NoEnd` if no record is left, `Read` if the reader fails, or `Desk(Memory)`; no row is
 // then decided.
-fn read_first_row<R: Read>(records: &mut Reader<R>, row: &mut ByteRecord) -> Result<(), BatchFault>
+fn read_record_after_header<R: Read>(records: &mut Reader<R>, row: &mut ByteRecord) -> Result<(), BatchFault>
     requires { IsBatchReader records.old }
     ensures setup { OnOk result (IsBatchReader records.new) }
     ensures read { OnOk result (ReadsOneRecord R.remaining records.old records.new (fields_of row.new)) }
@@ -256,7 +256,7 @@ fn execute_rows_and_write_lines<R: Read, W: Write, C: Clock, D: Rows>(
     let mut counts = Counts::NONE;
     let mut row = ByteRecord::new(alloc);
     let mut after = ByteRecord::new(alloc);
-    read_first_row(records, &mut row)?;
+    read_record_after_header(records, &mut row)?;
     for settled in 0..MAXIMUM_INPUT_BYTES {
         if begins_with_end_field(&row) {
             check_end_record_and_write_end_line(alloc, writer, &row, settled, counts)?;

@@ -55,7 +55,7 @@ impl<S: Alter> Service for DeskService<S> {
     }
 
     /// Returns the name of a view that has the text `name`, or `None` if no view has this name.
-    fn view_named(name: &str) -> Option<ViewName> {
+    fn view_name_from_text(name: &str) -> Option<ViewName> {
         ViewName::from_text(name)
     }
 

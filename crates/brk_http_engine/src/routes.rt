@@ -60,7 +60,7 @@ fn parse_view_route<D: Service>(first: &str, word: &str, view: &str) -> Option<R
     if !has_first_segment(first, word, "ask") {
         return None;
     }
-    match D::view_named(view) {
+    match D::view_name_from_text(view) {
         Some(view) => Some(Route::ToView(view)),
         None => None,
     }

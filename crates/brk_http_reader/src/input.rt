@@ -46,8 +46,8 @@ fn line_end_length_in_bytes(bytes: &[u8]) -> Option<usize>
 /// Returns the length in bytes of the line end at the front of `rest` if `byte` is LF, so that the
 /// two form an empty line. Returns `None` if `byte` is not LF or `rest` does not begin with a line
 /// end.
-fn line_end_length_after_byte(byte: u8, rest: &[u8]) -> Option<usize>
-    ensures { result ≡ spec.line_end_length_after_byte byte rest.now }
+fn line_end_length_after_line_feed(byte: u8, rest: &[u8]) -> Option<usize>
+    ensures { result ≡ spec.line_end_length_after_line_feed byte rest.now }
 {
     if byte == b'\n' {
         line_end_length_in_bytes(rest)
@@ -63,7 +63,7 @@ pub fn head_length_in_bytes(bytes: &[u8]) -> Option<usize>
     ensures within { IfSome result (λ n. n ≤ length bytes.now) }
 {
     for (i, byte) in bytes.iter().enumerate() {
-        match line_end_length_after_byte(*byte, &bytes[i + 1..]) {
+        match line_end_length_after_line_feed(*byte, &bytes[i + 1..]) {
             Some(n) => return Some(i + 1 + n),
             None => {}
         }

@@ -53,7 +53,7 @@ pub fn run_test(rt: &HostRuntime, name: &str) -> Option<Result<(), Fail>> {
         "a_store_fault_is_the_last_reply" => http::streams::a_store_fault_is_the_last_reply(alloc),
         "a_second_creation_is_refused" => made::a_second_creation_is_refused(alloc),
         "creation_preserves_other_tables" => made::creation_preserves_other_tables(alloc),
-        "creation_beside_a_desk_table_is_refused" => made::creation_beside_a_desk_table_is_refused(
+        "creation_fails_beside_a_table_name_in_other_case" => made::creation_fails_beside_a_table_name_in_other_case(
             alloc,
         ),
         "a_sale_reads_only_the_pages_it_needs" => rows_read::a_sale_reads_only_the_pages_it_needs(

@@ -78,7 +78,7 @@ pub fn creation_preserves_other_tables(alloc: Global) -> Result<(), Fail> {
 // then the tables of a store in the database of a connection. Returns `None` if the creation of the
 // store succeeds, and otherwise its fault, with true if no transaction is open after it. Fails
 // without a connection, and if the first table cannot be created.
-fn fault_of_creation_beside_a_desk_table<S: Alter + Drop>(
+fn fault_of_creation_beside_a_table_name_in_other_case<S: Alter + Drop>(
     conn: Option<Connection<S>>,
 ) -> Result<Option<(Fault, bool)>, Fail> {
     let mut conn = expect_connection(conn)?;
@@ -88,8 +88,8 @@ fn fault_of_creation_beside_a_desk_table<S: Alter + Drop>(
 
 /// Checks that creating a store fails with `NotEmpty` in a database that has a table whose name
 /// differs from that of a desk's table only in upper and lower case.
-pub fn creation_beside_a_desk_table_is_refused(alloc: Global) -> Result<(), Fail> {
-    match fault_of_creation_beside_a_desk_table(open_in_memory(alloc))? {
+pub fn creation_fails_beside_a_table_name_in_other_case(alloc: Global) -> Result<(), Fail> {
+    match fault_of_creation_beside_a_table_name_in_other_case(open_in_memory(alloc))? {
         None => Err("made beside a table of its own name")?,
         Some((fault, _)) => expect(
             fault == Fault::Damaged(Condition::NotEmpty),
