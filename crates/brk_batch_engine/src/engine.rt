@@ -210,9 +210,11 @@ fn execute_row_and_write_line<W: Write, C: Clock, D: Rows>(
     requires settled { settled < 67108864 }
     requires counted { counts.ok + counts.again + counts.no ≡ settled }
     ensures disk_was_clean { D.meets_disk_assumption desk.new → D.meets_disk_assumption desk.old }
-    ensures ok { IfOk result (RowIsDecidedAndWritten D.meets_disk_assumption D.represents D.crash_exposes_only D.acts D.step C.gives (D.form (fields_of row.now)) name.now settled desk.old desk.new
+    ensures ok { IfOk result (RowIsDecidedAndWritten D.meets_disk_assumption D.represents D.crash_exposes_only D.acts D.step C.gives
+        (D.form (fields_of row.now)) name.now settled desk.old desk.new
         (record { clock = clock.old; later = clock.new; old = W.contents writer.old; new = W.contents writer.new }) counts) }
-    ensures err { IfErr result (RowEndsBatchWith D.meets_disk_assumption D.represents D.crash_exposes_only D.acts D.step C.gives (D.form (fields_of row.now)) name.now settled desk.old desk.new
+    ensures err { IfErr result (RowEndsBatchWith D.meets_disk_assumption D.represents D.crash_exposes_only D.acts D.step C.gives
+        (D.form (fields_of row.now)) name.now settled desk.old desk.new
         (record { clock = clock.old; later = clock.new; old = W.contents writer.old; new = W.contents writer.new })) }
 {
     let n = settled + 1;
@@ -291,9 +293,11 @@ pub fn execute_batch_on_desk<R: Read + Drop, W: Write, C: Clock, D: Rows>(
 ) -> Result<Counts, BatchFault>
     ensures changed_only_by_calls { ChangesOnlyByRowCalls D.acts D.form C.gives (option_map input_text (R.remaining reader)) desk.old desk.new
         (record { clock = clock.old; later = clock.new; old = W.contents writer.old; new = W.contents writer.new }) result }
-    ensures refines_model { BatchRefinesModel D.meets_disk_assumption D.represents D.form D.step C.gives (option_map input_text (R.remaining reader)) desk.old desk.new
+    ensures refines_model { BatchRefinesModel D.meets_disk_assumption D.represents D.form D.step C.gives
+        (option_map input_text (R.remaining reader)) desk.old desk.new
         (record { clock = clock.old; later = clock.new; old = W.contents writer.old; new = W.contents writer.new }) result }
-    ensures crash_safe { IsBatchCrashSafe D.meets_disk_assumption D.represents D.crash_exposes_only D.form D.step C.gives (option_map input_text (R.remaining reader)) desk.old desk.new
+    ensures crash_safe { IsBatchCrashSafe D.meets_disk_assumption D.represents D.crash_exposes_only D.form D.step C.gives
+        (option_map input_text (R.remaining reader)) desk.old desk.new
         (record { clock = clock.old; later = clock.new; old = W.contents writer.old; new = W.contents writer.new }) result }
 {
     let mut records = new_record_reader(alloc, reader);

@@ -59,8 +59,8 @@ pub(crate) fn parse_update_or_movement_command(
     kind: &[u8],
     fields: &[&[u8]],
 ) -> Planned<Command>
-    ensures read { IfOk result (λ read. ParsesAs abstract_command read (parse_by_first_field (update_row_parsers ++ movement_and_settlement_day_row_parsers) (kind.now
-        ∷ texts_of_fields fields.now))) }
+    ensures read { IfOk result (λ read. ParsesAs abstract_command read
+        (parse_by_first_field (update_row_parsers ++ movement_and_settlement_day_row_parsers) (kind.now ∷ texts_of_fields fields.now))) }
     ensures fault { OnErr result (result ≡ Err Memory) }
 {
     if kind == b"upname".as_slice() {

@@ -44,7 +44,8 @@ fn plan_estimate_over_lots<S: Alter>(
     // The number of lots read, also if the call fails.
     ensures few_rows_read { OrderReadsAtMostOneLotMore (terms_of_order order.now found.now)
         (AreLotsBeforeReads S.Store lots.old lots.new) (number_of_rows_read lots.old + 15) (number_of_rows_read lots.new) }
-    ensures no_lot_read { is_trade_closing_lots (terms_of_order order.now found.now).side (terms_of_order order.now found.now).held ≡ false → lots.new ≡ lots.old }
+    ensures no_lot_read { is_trade_closing_lots (terms_of_order order.now found.now).side (terms_of_order order.now found.now).held ≡ false
+        → lots.new ≡ lots.old }
 
     // The only faults are `Memory` and `Store`.
     ensures fault { IfErr result IsCallFault }

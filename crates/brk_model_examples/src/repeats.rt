@@ -181,7 +181,8 @@ pub fn headers_and_end_records_are_checked()
     ensures no_count { (result_of_batch_input setting_base twenty_clock_readings (codes "batch,C\nend\n")).ending ≡ BadEnd }
     ensures row_before_wrong_end { (result_of_batch_input setting_base twenty_clock_readings (codes "batch,C\nbroker,2,Cy\nend,2\n")).text
         ≡ text_with_line_ends (codes "1,ok,1709251200016" ∷ []) }
-    ensures records_after_end { (result_of_batch_input setting_base twenty_clock_readings (codes "batch,C\nbroker,2,Cy\nend,1\nbroker,3,Di\n")).ending ≡ CorrectEnd }
+    ensures records_after_end { (result_of_batch_input setting_base twenty_clock_readings
+        (codes "batch,C\nbroker,2,Cy\nend,1\nbroker,3,Di\n")).ending ≡ CorrectEnd }
     ensures brokers_after_end { map {B = ℕ} (λ b. b.id) (result_of_batch_input setting_base twenty_clock_readings
         (codes "batch,C\nbroker,2,Cy\nend,1\nbroker,3,Di\n")).base.brokers ≡ 1 ∷ 2 ∷ [] }
 {}
