@@ -53,10 +53,10 @@ fn count_rows_of_first<S: Alter>(conn: &mut Connection<S>) -> Result<i64, Fail> 
     )
 }
 
-// Creates the table FIRST, with one row whose column B is 1, and then the tables of a store in the
-// database of a connection. Returns the number of rows of FIRST whose column B is 1 after the
-// creation. Fails without a connection, if the tables cannot be created, and if the rows cannot be
-// counted.
+// Creates the table FIRST, with one row whose column B is 1, and the view SEEN of this table, and
+// then the tables of a store in the database of a connection. Returns the number of rows of FIRST
+// whose column B is 1 after the creation. Fails without a connection, if the table, the view or the
+// store cannot be created, and if the rows cannot be counted.
 fn row_count_of_first_after_creation<S: Alter + Drop>(
     conn: Option<Connection<S>>,
 ) -> Result<i64, Fail> {
@@ -68,7 +68,8 @@ fn row_count_of_first_after_creation<S: Alter + Drop>(
     count_rows_of_first(&mut conn)
 }
 
-/// Checks that creating a store does not change another table of the database.
+/// Checks that, after the creation of a store, another table of the database still has exactly one
+/// row with the value of its column B.
 pub fn creation_preserves_other_tables(alloc: Global) -> Result<(), Fail> {
     let count = row_count_of_first_after_creation(open_in_memory(alloc))?;
     expect(count == 1, "other rows")
