@@ -37,8 +37,8 @@ pub fn add_account<S: Alter>(tx: &mut Transaction<'_, S>, account: &Account) -> 
     )
 }
 
-/// Returns the account with the id `id`, or `None` if there is none. Changes nothing. Fails with
-/// `Store` only.
+/// Returns the account with the id `id`, or `None` if there is none. Changes nothing if it
+/// succeeds. Fails with `Store` only.
 pub fn account_by_id<S: Alter>(
     tx: &mut Transaction<'_, S>,
     id: Id,
@@ -56,7 +56,7 @@ pub fn account_by_id<S: Alter>(
 }
 
 /// Returns the accounts of the customer with the id `customer`, sorted by id, ascending. Changes
-/// nothing. Fails with `Memory` or `Store` only.
+/// nothing if it succeeds. Fails with `Memory` or `Store` only.
 pub fn accounts_of_customer<S: Alter>(
     tx: &mut Transaction<'_, S>,
     alloc: Global,

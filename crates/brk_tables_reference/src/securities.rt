@@ -55,8 +55,8 @@ pub fn add_last_trade<S: Alter>(
     )
 }
 
-/// Returns the security with the symbol `symbol`, or `None` if there is none. Changes nothing.
-/// Fails with `Store` only.
+/// Returns the security with the symbol `symbol`, or `None` if there is none. Changes nothing if it
+/// succeeds. Fails with `Store` only.
 pub fn security_by_symbol<S: Alter>(
     tx: &mut Transaction<'_, S>,
     symbol: &Symbol,
