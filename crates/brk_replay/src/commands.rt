@@ -207,7 +207,8 @@ fn execute_statement_command(
 
 // Writes the explanation that `words` requests. Appends the lines that were written and, if the
 // explanation failed, `no` and the number of its refusal, or `! fault`. If `words` requests no
-// explanation, appends only the refusal 18. Fails only if memory runs out.
+// explanation, appends only the refusal 18. If memory runs out while `words` is parsed, appends
+// only `! fault`. Fails only if memory runs out.
 fn execute_explain_command(
     alloc: Global,
     out: &mut String,

@@ -133,12 +133,12 @@ pub fn plan_estimate<L: LotSource>(
         (EstimatesCheckedOrder order.now found.now (AreLotsOfFaithfulSource (L.reads_faithfully source.new) (L.remaining source.old)))
         (λ refusal. first_refusal (order_checks found.now) ≡ Some refusal)) }
     ensures refused { IfOk result (λ planned. OnErr planned (source.new ≡ source.old)) }
-    // It reads at most one lot more than the order would touch, also if it fails.
+    // It reads at most one lot more than the order would close or reduce, also if it fails.
     ensures asked { OrderReadsAtMostOneLotMore (terms_of_order order.now found.now)
         (AreLotsOfFaithfulSource (L.reads_faithfully source.new) (L.remaining source.old)) (L.asked source.old) (L.asked source.new) }
     // It reads no lot if the account holds no shares that the order would close.
     ensures reads_no_lot { is_trade_closing_lots (terms_of_order order.now found.now).side (terms_of_order order.now found.now).held ≡ false → source.new ≡ source.old }
-    // A fault of the source is never ignored, and is returned unchanged.
+    // At `Ok` the source counted no fault; a fault is that of a call of the source.
     ensures faulted { IfOk result (λ planned. L.faulted source.new ≡ L.faulted source.old) }
     ensures fault { IfErr result (λ fault. (before : L) × L.fails before fault source.new) }
     ensures rest { (ls : List Lot) → AreLotsOfFaithfulSource (L.reads_faithfully source.new) (L.remaining source.old) ls
@@ -153,7 +153,7 @@ pub fn plan_estimate<L: LotSource>(
 }
 
 // Returns the id of the next trade: `last` plus 1, or 1 if there are no trades. Returns `None` if
-// no free id exists.
+// no free id exists, because `last` is the greatest id.
 fn next_free_trade_id(last: Option<Id>) -> Option<Id>
     ensures { MatchOption result
         (first_refusal (free_trade_id_check last ∷ []) ≡ Some (Range limit.Trades))
@@ -188,9 +188,9 @@ fn executor_name(alloc: Global, executor: &Executor) -> Result<String, AllocErro
     Ok(name)
 }
 
-// Returns the TRADE row of a new order with the terms, their commission in cents, the id, the
-// stamp, the symbol and the executor's name that are passed: in its first status, without a price,
-// with tax 0.
+// Returns the TRADE row of a new order with the terms, the commission, the id, the stamp, the
+// symbol and the executor's name that are passed: in its first status, without a price, with tax 0.
+// `commission` must be the commission of the terms, in cents.
 fn create_trade_row_with_texts(
     order: &Order,
     terms: &Terms,
@@ -222,9 +222,9 @@ fn create_trade_row_with_texts(
     }
 }
 
-// Returns the TRADE row of a new order with the terms, their commission in cents, the id and the
-// stamp that are passed: in its first status, without a price, with tax 0. Fails if memory runs
-// out.
+// Returns the TRADE row of a new order with the terms, the commission, the id and the stamp that
+// are passed: in its first status, without a price, with tax 0. `commission` must be the commission
+// of the terms, in cents. Fails if memory runs out.
 fn create_order_trade_row(
     alloc: Global,
     order: &Order,
@@ -288,9 +288,10 @@ fn create_new_trade_changes(
     Ok(changes)
 }
 
-// Returns the row changes of an accepted order with the placement, its commission in cents, the id
-// and the stamp that are passed: its TRADE row, its first TRADE_HISTORY row and its request, if
-// any, are added, and the last stamp is set. Fails if memory runs out.
+// Returns the row changes of an accepted order with the placement, the commission, the id and the
+// stamp that are passed: its TRADE row, its first TRADE_HISTORY row and its request, if any, are
+// added, and the last stamp is set. `commission` must be the commission of the placement's terms,
+// in cents. Fails if memory runs out.
 fn create_order_changes(
     alloc: Global,
     order: &Order,
@@ -333,12 +334,12 @@ pub fn plan_order<L: LotSource>(
         (IsOrderPlan order.now found.now (AreLotsOfFaithfulSource (L.reads_faithfully source.new) (L.remaining source.old)) last now)
         (λ refusal. first_refusal (order_checks found.now ++ free_trade_id_check found.now.last_trade ∷ later_stamp_check last now ∷ []) ≡ Some refusal)) }
     ensures refused { IfOk result (λ planned. OnErr planned (source.new ≡ source.old)) }
-    // It reads at most one lot more than the order would touch, also if it fails.
+    // It reads at most one lot more than the order would close or reduce, also if it fails.
     ensures asked { OrderReadsAtMostOneLotMore (terms_of_order order.now found.now)
         (AreLotsOfFaithfulSource (L.reads_faithfully source.new) (L.remaining source.old)) (L.asked source.old) (L.asked source.new) }
     // It reads no lot if the account holds no shares that the order would close.
     ensures reads_no_lot { is_trade_closing_lots (terms_of_order order.now found.now).side (terms_of_order order.now found.now).held ≡ false → source.new ≡ source.old }
-    // A fault of the source is never ignored, and is returned unchanged.
+    // At `Ok` the source counted no fault; a fault is `Memory` or that of a call of the source.
     ensures faulted { IfOk result (λ planned. L.faulted source.new ≡ L.faulted source.old) }
     ensures fault { IfErr result (λ fault. (fault ≡ Fault.Memory) ⊎ ((before : L) × L.fails before fault source.new)) }
     ensures rest { (ls : List Lot) → AreLotsOfFaithfulSource (L.reads_faithfully source.new) (L.remaining source.old) ls
