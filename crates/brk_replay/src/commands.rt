@@ -62,9 +62,9 @@ impl Place {
     }
 }
 
-/// Adopts the database of a connection. Returns its desk and `Ok` if the database passes the audit,
-/// and otherwise the database without a desk and the fault: `Damaged` with the first condition that
-/// fails, `Memory` or `Store`.
+/// Adopts the database of a connection, which upgrades an older schema. Returns its desk and `Ok`
+/// if the adoption succeeds, and otherwise the database without a desk and the fault: `Damaged`
+/// with the first condition that fails, `Memory` or `Store`.
 pub fn adopt_database(alloc: Global, conn: Connection<MemStore>) -> (Place, Result<(), Fault>) {
     match Store::adopt(alloc, conn) {
         Ok(store) => (Place::Open(Desk::new(store)), Ok(())),

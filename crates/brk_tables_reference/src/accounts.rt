@@ -17,7 +17,8 @@ use sqlite::{Alter, Transaction};
 use std::alloc::Global;
 
 /// Inserts the row of an account (CUSTOMER_ACCOUNT), whose balance is its opening balance, in
-/// cents. Fails with `Store` only, also if the id exists.
+/// cents. Fails with `Store` only, also if the id exists, or if the customer or the broker of the
+/// account does not exist.
 pub fn add_account<S: Alter>(tx: &mut Transaction<'_, S>, account: &Account) -> Result<(), Fault>
     ensures same_reference { tx.new.conn.ghost_name ≡ tx.old.conn.ghost_name }
     ensures step { WritesDeskTables S.Store tx.old tx.new result (tables_with_account (abstract_account account.now)) }

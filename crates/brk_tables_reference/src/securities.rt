@@ -34,7 +34,7 @@ pub fn add_security<S: Alter>(tx: &mut Transaction<'_, S>, security: &Security) 
 }
 
 /// Inserts the last trade of a security on the market (LAST_TRADE): its stamp, price and volume.
-/// Fails with `Store` only, also if the security has a last trade.
+/// Fails with `Store` only, also if the security has a last trade, or does not exist.
 pub fn add_last_trade<S: Alter>(
     tx: &mut Transaction<'_, S>,
     last_trade: &LastTrade,

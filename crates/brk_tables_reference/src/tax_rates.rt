@@ -33,7 +33,8 @@ pub fn add_tax_rate<S: Alter>(tx: &mut Transaction<'_, S>, tax: &Tax) -> Result<
 }
 
 /// Inserts the row of CUSTOMER_TAXRATE for a tax that a customer pays: the ids of the customer and
-/// of the tax rate. Fails with `Store` only, also if the row exists.
+/// of the tax rate. Fails with `Store` only, also if the row exists, or if the customer or the tax
+/// rate does not exist.
 pub fn add_customer_tax<S: Alter>(
     tx: &mut Transaction<'_, S>,
     pays: &CustomerTax,

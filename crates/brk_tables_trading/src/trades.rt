@@ -20,7 +20,8 @@ use brk_tables_schema::values::{
 use sqlite::{Alter, Transaction};
 use std::alloc::Global;
 
-/// Inserts the row of a trade (TRADE). Fails with `Store` only, also if the id exists.
+/// Inserts the row of a trade (TRADE). Fails with `Store` only, also if the id exists, or if the
+/// security or the account of the trade does not exist.
 pub fn add_trade<S: Alter>(tx: &mut Transaction<'_, S>, trade: &TradeRow) -> Result<(), Fault>
     ensures same_reference { tx.new.conn.ghost_name ≡ tx.old.conn.ghost_name }
     ensures step { WritesDeskTables S.Store tx.old tx.new result (tables_with_trade (abstract_trade_row trade.now)) }
