@@ -327,9 +327,9 @@ const CUT_INPUTS: [(&[u8], u64, &[u8]); 2] = [
     (b"batch,C\n", 0, b""),
 ];
 
-/// Checks that a row without a record after it is refused with 18, and that a batch without an end
-/// record fails with `NoEnd`, after the lines of its rows, if it has any. Fails if not, and if
-/// memory runs out.
+/// Checks, for the two inputs of `CUT_INPUTS`, that a row without a record after it is refused with
+/// 18, and that the batch fails with `NoEnd` after the lines of its rows, if it has any. Fails if
+/// not, and if memory runs out.
 pub fn the_last_row_of_a_cut_input_is_refused(alloc: Global) -> Result<(), Fail> {
     for (text, rows, lines) in &CUT_INPUTS {
         let wanted = batch_fault_result(*rows, FaultKind::NoEnd);
@@ -361,8 +361,9 @@ const HEADERS: [&[u8]; 2] = [
     b"batch,1234567890123456789012345678901234567890\nend,0\n",
 ];
 
-/// Checks that a batch with a missing or malformed header fails with `BadHeader` and writes
-/// nothing, and that two correct headers are accepted. Fails if not, and if memory runs out.
+/// Checks that each batch of `WRONG_HEADERS`, whose header is missing or malformed, fails with
+/// `BadHeader` and writes nothing, and that the two correct headers of `HEADERS` are accepted.
+/// Fails if not, and if memory runs out.
 pub fn a_batch_with_a_wrong_header_is_refused(alloc: Global) -> Result<(), Fail> {
     for text in &WRONG_HEADERS {
         let wanted = batch_fault_result(0, FaultKind::BadHeader);
@@ -383,8 +384,8 @@ const WRONG_ENDS: [&[u8]; 5] = [
     b"batch,A\nput,1,2\nend,",
 ];
 
-/// Checks that a batch whose end record is malformed or has a wrong count fails with `BadEnd`,
-/// after the lines of its rows. Fails if not, and if memory runs out.
+/// Checks that each batch of `WRONG_ENDS`, whose end record is malformed or has a wrong count,
+/// fails with `BadEnd` after the line of its row. Fails if not, and if memory runs out.
 pub fn a_wrong_end_record_is_a_fault(alloc: Global) -> Result<(), Fail> {
     for text in &WRONG_ENDS {
         let wanted = batch_fault_result(1, FaultKind::BadEnd);
@@ -476,8 +477,8 @@ const DESK_FAULTS: [(&[u8], Fault); 2] = [
     (b"batch,A\nput,1,2\nparse,,,,,,,,\nend,2\n", Fault::Memory),
 ];
 
-/// Checks that a fault of the desk, in a call or while a row is parsed, ends the batch after the
-/// lines of the rows before. Fails if not, and if memory runs out.
+/// Checks that the fault `Store` of a call of the desk and the fault `Memory` of the parsing of a
+/// row each end the batch after the line of the row before. Fails if not, and if memory runs out.
 pub fn a_fault_of_the_desk_ends_the_batch(alloc: Global) -> Result<(), Fail> {
     for (text, fault) in &DESK_FAULTS {
         let wanted = batch_fault_result(1, FaultKind::Desk(*fault));
