@@ -1,5 +1,5 @@
-//! The parts of the explanations of an account and of a broker over which the desk walks. None of
-//! them changes the desk.
+//! The parts of the explanations of an account and of a broker over which the desk walks. If the
+//! database is still open, none of them changes it.
 
 ghost use Rattle.std.specs.Prelude.{IfErr, length};
 ghost use Rattle.brk_report.specs.ExplanationParts.{WritesCountedLines, account_cash_lines, broker_trade_lines, account_lot_lines};
