@@ -20,8 +20,8 @@ pub(crate) trait Formed {
         ensures { result ≡ form (abstract_schema schema) (abstract_sheets sheets.now) self.now };
 }
 
-/// Returns true if each of `rows` passes the check of its table (`is_row_well_formed`) by the limits
-/// of the schema and the records in `sheets`. The tables of `sheets` must be sorted by key.
+/// Returns true if each of `rows` passes the check of its table (`is_row_well_formed`), by the
+/// limits of the schema and the records in `sheets`. The tables of `sheets` must be sorted by key.
 pub(crate) fn are_rows_well_formed<R: Formed>(schema: Schema, sheets: &Sheets, rows: &[R]) -> bool
     requires { HasSortedKeys sheets.now }
     ensures { result ≡ list_all (R.form (abstract_schema schema) (abstract_sheets sheets.now)) rows.now }
