@@ -195,7 +195,7 @@ fn read_record_after_row<R: Read, W: Write, D: Rows>(
 // counts with its answer added. `settled` must be less than 67,108,864 and equal the sum of the
 // counts.
 //
-// Fails with `Desk`, `Memory` or `Store`, and nothing written, if the row is not decided; with
+// Fails with `Desk(Memory)` or `Desk(Store)`, and nothing written, if the row is not decided; with
 // `Write` or `Desk(Memory)` if the row is decided and its line could not be written.
 fn execute_row_and_write_line<W: Write, C: Clock, D: Rows>(
     alloc: Global,
