@@ -224,8 +224,8 @@ pub fn charge_amount_in_column(row: &Row, at: usize) -> Result<ChargeAmount, Dec
     ChargeAmount::new(u32_in_column(row, at)?).ok_or(DecodeError::Form)
 }
 
-/// Reads an amount of either sign, of at most 10^17 cents, from the column `at`. Fails with `Form`,
-/// only if the column is missing or malformed, or with `Memory`.
+/// Reads an amount in cents, from -10^17 to 10^17, from the column `at`. Fails with `Form`, only if
+/// the column is missing or malformed, or with `Memory`.
 pub fn cents_in_column(row: &Row, at: usize) -> Result<Cents, DecodeError>
     ensures value { IfOk result (λ cents. column row.now at ≡ Int cents) }
     ensures form { result ≡ Err Formless → at < length row.now → is_cents_cell (column row.now at) ≡ false }
