@@ -337,8 +337,9 @@ fn job_of_subcommand(
     })
 }
 
-// Converts an error of the argument parser into a usage fault: `Memory` if memory ran out, `Help`
-// with the text if help or the version was requested, otherwise `Words` with the error's text.
+// Converts an error of the argument parser into a usage fault: `Memory` if memory ran out, also if
+// it runs out for the text, `Help` with the text if help or the version was requested, otherwise
+// `Words` with the error's text.
 fn usage_fault_of_error(alloc: Global, error: &Error) -> UsageFault {
     let kind = error.kind();
     if kind == ErrorKind::OutOfMemory {
