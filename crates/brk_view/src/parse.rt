@@ -34,8 +34,8 @@ fn parse_submitted_trades_query(arguments: &[&[u8]]) -> Result<Query, Refusal>
 }
 
 // Parses the query of an order's estimate, whose arguments are the ten fields of the order. Refuses
-// a wrong number of arguments with `BadText`, and fields that are malformed, out of range or, for
-// the price, do not fit the type, with the first that applies of `BadText`, `BadQty`, `BadPrice`
+// a wrong number of arguments with `BadText`, and fields that are malformed or out of range, or a
+// price that does not fit the type, with the first that applies of `BadText`, `BadQty`, `BadPrice`
 // and `BadType`. Fails with `Memory` only.
 fn parse_estimate_query(alloc: Global, arguments: &[&[u8]]) -> Planned<Query>
     ensures read { IfOk result (λ read. ParsesAs abstract_query read (read_and_wrap EstimateOf read_order (texts_of_fields arguments.now))) }
