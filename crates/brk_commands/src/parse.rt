@@ -94,7 +94,8 @@ fn parse_charge_command(fields: &[&[u8]]) -> Result<Command, Refusal>
 
 // Parses the command that adds a commission band from the fields TIER, TYPE, EXCHANGE, FROM, TO and
 // RATE of a row. Refuses a wrong number of fields with `BadText`, and malformed fields with the
-// first that applies of `BadText`, `BadQty` and `BadType`. Fails with `Memory` only.
+// first that applies of `BadText`, `BadQty` (also if FROM is greater than TO) and `BadType`. Fails
+// with `Memory` only.
 fn parse_band_command(alloc: Global, fields: &[&[u8]]) -> Planned<Command>
     ensures read { IfOk result (λ read. ParsesAs abstract_command read (read_and_wrap AddBand read_commission_band (texts_of_fields fields.now))) }
     ensures fault { OnErr result (result ≡ Err Memory) }
