@@ -131,7 +131,8 @@ fn parse_customer_tax_command(fields: &[&[u8]]) -> Result<Command, Refusal>
 
 // Parses a command of the kind `kind`, other than `broker`, `customer` and `account`, from the
 // fields after the kind. Refuses an unknown kind, these three, or a wrong number of fields, with
-// `BadText`, and malformed fields with the refusal of their format check. Fails with `Memory` only.
+// `BadText`, malformed fields with the refusal of their format check, and otherwise more than 20
+// ticks or ids with `TooMany`. Fails with `Memory` only.
 fn parse_command_except_parties(alloc: Global, kind: &[u8], fields: &[&[u8]]) -> Planned<Command>
     ensures read { IfOk result (λ read. ParsesAs abstract_command read (parse_by_first_field (other_reference_row_parsers ++ order_row_parsers
         ++ result_row_parsers ++ update_row_parsers ++ movement_and_settlement_day_row_parsers) (kind.now
@@ -160,8 +161,8 @@ fn parse_command_except_parties(alloc: Global, kind: &[u8], fields: &[&[u8]]) ->
 }
 
 // Parses a command of the kind `kind` from the fields after it. Refuses an unknown kind, or a wrong
-// number of fields, with `BadText`, and malformed fields with the refusal of their format check.
-// Fails with `Memory` only.
+// number of fields, with `BadText`, malformed fields with the refusal of their format check, and
+// otherwise more than 20 ticks or ids with `TooMany`. Fails with `Memory` only.
 fn parse_command_of_kind(alloc: Global, kind: &[u8], fields: &[&[u8]]) -> Planned<Command>
     ensures read { IfOk result (λ read. ParsesAs abstract_command read (parse_by_first_field row_parsers (kind.now ∷ texts_of_fields fields.now))) }
     ensures fault { OnErr result (result ≡ Err Memory) }

@@ -36,9 +36,10 @@ pub enum NextRequest {
 /// buffer.
 ///
 /// Returns `Ended` if no byte is left, and `Broken` with a problem if no request can be read:
-/// `TooLarge` if the head has no end within 16,384 bytes, or `BadRequest` if the input ends within
-/// the head, or if the head is malformed or has more than 100 fields; otherwise the problem with
-/// the body length (`facts_from_fields`), or `BadRequest` if the input ends within the body.
+/// `TooLarge` if there are at least 16,384 bytes and the first 16,384 do not contain the end of a
+/// head; `BadRequest` if the input ends earlier within the head, or if the head is malformed or has
+/// more than 100 fields; otherwise the problem with the body length (`facts_from_fields`), or
+/// `BadRequest` if the input ends within the body.
 ///
 /// Fails with `Read` if the reader fails, or with `Memory` if memory runs out.
 pub fn read_next_request<R: Read>(
