@@ -206,8 +206,9 @@ pub fn lots_form_a_position()
 {}
 
 /// Proves that the holding summary of an existing account in an existing symbol has the quantity
-/// that the base computes, and that there is no row if that quantity is 0, if the base satisfies
-/// the books invariant.
+/// that the base computes, that there is no row if that quantity is 0 (`row`), and that the
+/// quantity of the row, or 0 without a row, is the quantity that the base computes (`number`), if
+/// the base satisfies the books invariant.
 pub fn summary_rows_match_the_base()
     ensures row { (base : Base) (account : ℕ) (symbol : Text) → BooksInvariant base → is_some (account_with_id base account) ≡ true
         → is_some (security_with_symbol base symbol) ≡ true
