@@ -59,8 +59,9 @@ fn plan_result_over_lots<S: Alter>(
 
 // Plans the result of the trade in `found`, completed at `price`, from these facts and from the
 // lots of its position: returns its plan, or the refusal. If `found` is `None`, the trade does not
-// exist, and it returns the refusal `NoTrade`. Changes nothing. Fails with `Memory` or `Store`
-// only; with `Store` also if one of the lots that it reads has no shares.
+// exist, and it returns the refusal `NoTrade`. If the database is still open, it is unchanged.
+// Fails with `Memory` or `Store` only; with `Store` also if one of the lots that it reads has no
+// shares.
 fn plan_result_from_facts<S: Alter>(
     alloc: Global,
     store: &mut Store<S>,
@@ -90,7 +91,7 @@ fn plan_result_from_facts<S: Alter>(
 }
 
 /// Decides on the result of a trade at the clock reading `now` (Trade-Result): returns its plan, or
-/// the refusal. Changes nothing.
+/// the refusal. If the database is still open, it is unchanged.
 ///
 /// Fails with `Memory` or `Store` only; with `Store` also if the trade exists and its account,
 /// customer, broker or security or one of the customer's taxes does not, the tax rates total more
