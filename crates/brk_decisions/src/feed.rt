@@ -21,8 +21,8 @@ use sqlite::Alter;
 use std::alloc::Global;
 
 // Returns the quote of a tick's symbol: its last trade, and its pending requests that a price from
-// the lowest to the highest price of this symbol's ticks in `ticks` can trigger, read by one
-// statement for each trade type. Returns `None` if the symbol has no last trade. If the database is
+// the lowest to the highest price of `tick` and of its symbol's ticks in `ticks` can trigger,
+// sorted by trade, ascending. Returns `None` if the symbol has no last trade. If the database is
 // still open, it is unchanged. Fails with `Memory` or `Store` only.
 fn read_quote_of_tick<S: Alter>(
     alloc: Global,

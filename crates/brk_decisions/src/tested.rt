@@ -24,7 +24,7 @@ use std::alloc::Global;
 /// The facts that the checks of an order test, if its account exists.
 #[derive(Clone, Copy)]
 pub struct OrderCheckFacts {
-    /// The last price of the order's security, in cents, or `None` if the security does not exist.
+    /// The last price of the order's security, in cents, or `None` if it has no last trade.
     pub last_price: Option<Price>,
     /// True if the order's executor may order for the account.
     pub is_permitted: bool,
@@ -106,8 +106,8 @@ pub(crate) fn read_commission_rate_of_band<S: Alter>(
 }
 
 // Returns the commission rate of an order for a customer tier, in hundredths of a percent, or
-// `None` if no band has its quantity or its security does not exist. If the database is still open,
-// it is unchanged. Fails with `Memory` or `Store` only.
+// `None` if no band has its quantity. If its security does not exist, the result may have any
+// value. If the database is still open, it is unchanged. Fails with `Memory` or `Store` only.
 fn read_commission_rate_of_order<S: Alter>(
     alloc: Global,
     store: &mut Store<S>,
@@ -137,8 +137,8 @@ fn read_commission_rate_of_order<S: Alter>(
 
 // Returns the facts that the checks of an order test, for an order of the customer `customer`,
 // whose account exists: the last price, whether the executor may order, the charge and the
-// commission rate. If the database is still open, it is unchanged. Fails with `Memory` or `Store`
-// only.
+// commission rate, which may have any value if the security of the order does not exist. If the
+// database is still open, it is unchanged. Fails with `Memory` or `Store` only.
 pub(crate) fn read_order_check_facts<S: Alter>(
     alloc: Global,
     store: &mut Store<S>,

@@ -34,7 +34,8 @@ pub(crate) fn view_of_submitted_trades<S: Alter>(
 // account; or the refusal of the order. Accepts no order. If the database is still open, it is
 // unchanged. Fails with `Memory` or `Store` only; with `Store` also if the account's customer or
 // one of the customer's taxes does not exist, the tax rates total more than the greatest rate, a
-// held symbol has no last price, a sum overflows, or a lot that was read has no shares.
+// held symbol has no last price, a sum overflows, a lot that was read has no shares, or the number
+// of lots read exceeds 32 bits.
 pub(crate) fn view_of_estimate<S: Alter>(
     alloc: Global,
     store: &mut Store<S>,
