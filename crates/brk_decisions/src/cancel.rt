@@ -26,7 +26,8 @@ fn read_trade_status<S: Alter>(store: &mut Store<S>, trade: Id) -> Result<Option
 }
 
 /// Decides on the cancel of a trade at the clock reading `now`: returns its plan, or the refusal.
-/// If the database is still open, it is unchanged.
+/// It is the decision of the model if the tables are those of a base that satisfies the books
+/// invariant. If the database is still open, it is unchanged.
 ///
 /// Fails with `Memory` or `Store` only.
 pub fn decide_cancel<S: Alter>(

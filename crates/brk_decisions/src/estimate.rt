@@ -56,7 +56,8 @@ fn plan_estimate_over_lots<S: Alter>(
 
 /// Returns the estimated figures of an order, in cents (Trade-Order): its price, the buy and the
 /// sell value of the shares that it would close, the tax, the commission, the charge and the
-/// account's assets; or the refusal. If the database is still open, it is unchanged.
+/// account's assets; or the refusal. They are those of the model if the tables are those of a base
+/// that satisfies the books invariant. If the database is still open, it is unchanged.
 ///
 /// Fails with `Memory` or `Store` only; with `Store` also if the account's customer or one of the
 /// customer's taxes does not exist, the tax rates total more than the greatest rate, a held symbol

@@ -76,8 +76,9 @@ fn read_last_stamp_and_quotes<S: Alter>(
     Ok((last, quotes))
 }
 
-/// Decides on a feed of ticks at the clock reading `now`: returns its plan, or the refusal. If the
-/// database is still open, it is unchanged.
+/// Decides on a feed of ticks at the clock reading `now`: returns its plan, or the refusal. It is
+/// the decision of the model if the tables are those of a base that satisfies the books invariant.
+/// If the database is still open, it is unchanged.
 ///
 /// Fails with `Memory` or `Store` only.
 pub fn decide_feed<S: Alter>(

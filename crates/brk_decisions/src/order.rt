@@ -60,7 +60,8 @@ fn plan_order_over_lots<S: Alter>(
 }
 
 /// Decides on an order at the clock reading `now` (Trade-Order): returns its plan, or the refusal.
-/// If the database is still open, it is unchanged.
+/// It is the decision of the model if the tables are those of a base that satisfies the books
+/// invariant. If the database is still open, it is unchanged.
 ///
 /// Fails with `Memory` or `Store` only; with `Store` also if the account's customer or one of the
 /// customer's taxes does not exist, the tax rates total more than the greatest rate, a held symbol

@@ -94,7 +94,8 @@ fn plan_result_from_facts<S: Alter>(
 }
 
 /// Decides on the result of a trade at the clock reading `now` (Trade-Result): returns its plan, or
-/// the refusal. If the database is still open, it is unchanged.
+/// the refusal. It is the decision of the model if the tables are those of a base that satisfies
+/// the books invariant. If the database is still open, it is unchanged.
 ///
 /// Fails with `Memory` or `Store` only; with `Store` also if the trade exists and its account,
 /// customer, broker or security or one of the customer's taxes does not, the tax rates total more

@@ -81,7 +81,8 @@ fn read_posting_facts<S: Alter>(store: &mut Store<S>) -> Result<Posting, Fault>
 
 // Returns the facts that decide on a result of the trade `trade`: the trade, whose quantity is at
 // least 1 share, and what the tables have on its account, customer, broker, security and cash row.
-// If the database is still open, it is unchanged. Fails with `Memory` or `Store` only; with `Store`
+// If a check of the result fails, the facts that are needed only after it may have any value. If
+// the database is still open, it is unchanged. Fails with `Memory` or `Store` only; with `Store`
 // also if its account, customer, broker or security or one of the customer's taxes does not exist,
 // the tax rates total more than the greatest rate, a total of the broker is out of range, or no
 // number is left for a cash row.
@@ -114,7 +115,8 @@ fn read_result_facts_of_trade<S: Alter>(
 }
 
 /// Returns the facts that decide on a result of the trade with the id `trade`, whose quantity is at
-/// least 1 share, or `None` if the trade does not exist. If the database is still open, it is
+/// least 1 share, or `None` if the trade does not exist. If a check of the result fails, the facts
+/// that are needed only after it may have any value. If the database is still open, it is
 /// unchanged. Fails with `Memory` or `Store` only; with `Store` also if its account, customer,
 /// broker or security or one of the customer's taxes does not exist, the tax rates total more than
 /// the greatest rate, a total of the broker is out of range, or no number is left for a cash row.

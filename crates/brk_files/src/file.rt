@@ -19,8 +19,7 @@ use std::io::ErrorKind;
 pub type FileDesk = Store<FileStore<File>>;
 
 // Closes the files of a connection. At `Ok`, under the disk assumption, the database file contains
-// the last commit even without its log. Fails with `Store` only; it then closes the files that are
-// left and ignores an error of this.
+// the last commit even without its log. Fails with `Store` only; the files are then dropped.
 fn close_connection(conn: Connection<FileStore<File>>) -> Result<(), Fault>
     ensures closed { OnOk result (HasLastCommitInFile conn) }
     ensures fault { OnErr result (result ≡ Err fault.Store) }

@@ -23,8 +23,9 @@ use sqlite::Alter;
 use std::alloc::Global;
 
 // Returns a trade with the rows that other tables contain for it: its settlement and its cash row,
-// each if it exists, and its history. If the database is still open, it is unchanged. Fails with
-// `Memory` or `Store` only.
+// each if it exists, and its history. These rows are specified only if the tables are those of a
+// base that satisfies the books invariant and the audit invariant. If the database is still open,
+// it is unchanged. Fails with `Memory` or `Store` only.
 fn read_all_rows_of_trade<S: Alter>(
     alloc: Global,
     store: &mut Store<S>,
@@ -40,8 +41,9 @@ fn read_all_rows_of_trade<S: Alter>(
 }
 
 // Returns the trades `trades`, in order, each with its settlement and its cash row, if they exist,
-// and its history. If the database is still open, it is unchanged. Fails with `Memory` or `Store`
-// only.
+// and its history. These rows are specified only if the tables are those of a base that satisfies
+// the books invariant and the audit invariant. If the database is still open, it is unchanged.
+// Fails with `Memory` or `Store` only.
 fn read_all_rows_of_trades<S: Alter>(
     alloc: Global,
     store: &mut Store<S>,
