@@ -53,9 +53,9 @@ fn customer_pays_tax<S: Alter>(store: &mut Store<S>, customer: Id, tax: Id) -> R
     Ok(store.customer_tax(customer, tax)?.is_some())
 }
 
-// Returns the taxes that a customer pays, with their rates, sorted by id, ascending. If the
-// database is still open, it is unchanged. Fails with `Memory` or `Store` only; with `Store` also
-// if one of the taxes does not exist.
+// Returns the taxes that a customer pays, with their rates, in the order of the rows of
+// CUSTOMER_TAXRATE. If the database is still open, it is unchanged. Fails with `Memory` or `Store`
+// only; with `Store` also if one of the taxes does not exist.
 fn read_taxes_of_customer<S: Alter>(
     alloc: Global,
     store: &mut Store<S>,

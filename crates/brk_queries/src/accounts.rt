@@ -35,8 +35,8 @@ fn read_balance_and_market_value<S: Alter>(
     })
 }
 
-// Returns the balances and the market values of all accounts of a customer, in cents, sorted by the
-// account's id, ascending. If the database is still open, it is unchanged. Fails with `Memory` or
+// Returns the balances and the market values of all accounts of a customer, in cents, in the order
+// of the table of accounts. If the database is still open, it is unchanged. Fails with `Memory` or
 // `Store` only; with `Store` also if a held symbol has no last price or a sum overflows.
 fn read_balances_and_market_values<S: Alter>(
     alloc: Global,

@@ -26,7 +26,7 @@ fn require_last_status_stamp<S: Alter>(store: &mut Store<S>, trade: Id) -> Resul
     }
 }
 
-// Returns all changes of a lot, sorted by trade id, ascending, each with the stamp of the last
+// Returns all changes of a lot, in the order of HOLDING_HISTORY, each with the stamp of the last
 // status of the trade that made it. If the database is still open, it is unchanged. Fails with
 // `Memory` or `Store` only; with `Store` also if one of these trades does not exist.
 fn read_stamped_changes_of_lot<S: Alter>(
