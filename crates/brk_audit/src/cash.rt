@@ -24,8 +24,8 @@ use std::alloc::Global;
 use std::collections::BTreeMap;
 
 // Returns true if the row of CASH_TRANSACTION has the id and the stamp of the completed trade, and
-// its settlement amount at the tax status `tax_status`. A missing price counts as 0. A missing
-// price counts as 0. The name of the row is not compared.
+// its settlement amount at the tax status `tax_status`. A missing price counts as 0. The name of
+// the row is not compared.
 fn is_cash_transaction_of_trade(cash: &CashRow, trade: &TradeRow, tax_status: TaxStatus) -> bool
     ensures { IsTrue result
         ↔ ((cash.now.trade ≡ trade.now.id) × (cash.now.stamp ≡ trade.now.stamp)
