@@ -169,8 +169,8 @@ fn read_tax_facts<S: Alter>(store: &mut Store<S>, id: Id) -> Result<ReferenceFac
 }
 
 /// Returns the facts that decide on a new reference record. A fact that records of its kind do not
-/// need is false, 0 or `None`. Changes nothing. Fails with `Memory` or `Store` only; with `Store`
-/// also if the record is a tax of a customer who already pays a tax that does not exist.
+/// need may have any value. Changes nothing. Fails with `Memory` or `Store` only; with `Store` also
+/// if the record is a tax of a customer who already pays a tax that does not exist.
 pub(crate) fn read_reference_facts<S: Alter>(
     alloc: Global,
     store: &mut Store<S>,

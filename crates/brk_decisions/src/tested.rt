@@ -106,8 +106,8 @@ pub(crate) fn read_commission_rate_of_band<S: Alter>(
 }
 
 // Returns the commission rate of an order for a customer tier, in hundredths of a percent, or
-// `None` if no band has its quantity or its security does not exist. Changes nothing. Fails with
-// `Memory` or `Store` only.
+// `None` if no band has its quantity. The rate is specified only if the order's security exists.
+// Changes nothing. Fails with `Memory` or `Store` only.
 fn read_commission_rate_of_order<S: Alter>(
     alloc: Global,
     store: &mut Store<S>,

@@ -89,8 +89,8 @@ fn read_sector_requests_of_broker<S: Alter>(
 
 // Appends to `found` the id and the name of the broker in the row `row` and its volume in the
 // sector: the sum, in cents, of quantity times bid price over its pending requests for securities
-// in the sector. Appends nothing if it has no such request. `requests` must be all pending
-// requests. Changes no table. Fails with `Memory` or `Store` only.
+// in the sector. Appends nothing if it has no such request. This is specified only if `requests`
+// has all pending requests. Changes no table. Fails with `Memory` or `Store` only.
 fn append_broker_volume<S: Alter>(
     alloc: Global,
     store: &mut Store<S>,
@@ -118,8 +118,8 @@ fn append_broker_volume<S: Alter>(
 }
 
 // Appends to `found` the volumes in the sector, in cents, of the brokers with the name `name` that
-// have a pending request for a security in it, in the order of the table. `requests` must be all
-// pending requests. Changes no table. Fails with `Memory` or `Store` only.
+// have a pending request for a security in it, in the order of the table. This is specified only if
+// `requests` has all pending requests. Changes no table. Fails with `Memory` or `Store` only.
 fn append_volumes_of_brokers_named<S: Alter>(
     alloc: Global,
     store: &mut Store<S>,
