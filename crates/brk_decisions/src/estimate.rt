@@ -22,10 +22,10 @@ use sqlite::Alter;
 use std::alloc::Global;
 
 // Plans the estimate of an order from the facts `found` in the tables and from `lots`, the lots of
-// the position: returns the estimate, or the refusal. It reads at most 16 lots more than the order
-// would close or reduce, also if it fails, and no lot if it refuses the order or the order closes
-// no held shares. Fails with `Memory` or `Store` only; with `Store` also if one of the lots that it
-// reads has no shares.
+// the position: returns the estimate, or the refusal. If these lots form a position, it reads at
+// most 16 lots more than the order would close or reduce, also if it fails. It reads no lot if it
+// refuses the order or the order closes no held shares. Fails with `Memory` or `Store` only; with
+// `Store` also if one of the lots that it reads has no shares.
 fn plan_estimate_over_lots<S: Alter>(
     order: &Order,
     found: &OrderPlanFacts,

@@ -168,9 +168,9 @@ pub fn last_row_of_cut_input_is_refused()
     ensures header_alone { (result_of_batch_input setting_base twenty_clock_readings (codes "batch,C\n")).ending ≡ NoEnd }
 {}
 
-/// Shows that an input without a record and a batch with a malformed header end with `BadHeader`,
-/// and a batch with a wrong or malformed end record with `BadEnd`. The row before a wrong end record
-/// is accepted. A batch with a record after its correct end record ends with `CorrectEnd`, and the
+/// Shows that an empty input and a batch with a malformed header end with `BadHeader`, and a batch
+/// with a wrong or malformed end record with `BadEnd`. The row before a wrong end record is
+/// accepted. A batch with a record after its correct end record ends with `CorrectEnd`, and the
 /// record is not executed.
 pub fn headers_and_end_records_are_checked()
     ensures empty_input { (result_of_batch_input setting_base twenty_clock_readings []).ending ≡ BadHeader }

@@ -16,7 +16,7 @@ use brk_view::{View, recent};
 use sqlite::Alter;
 use std::alloc::Global;
 
-// Appends the status changes `rows` (of TRADE_HISTORY) to `history`. Fails with `Memory` only.
+// Appends the status changes `rows` (of TRADE_HISTORY) to `history`. Fails if memory runs out.
 fn append_history_rows(history: &mut Vec<HistoryRow>, rows: &[HistoryRow]) -> Result<(), Fault>
     ensures added { OnOk result (history.new.items ≡ history.old.items ++ rows.now) }
     ensures fault { IfErr result IsCallFault }
