@@ -217,9 +217,9 @@ fn move_rows_are_numbered_by_stamp(moves: &[MoveRow]) -> bool
 
 /// Returns true if the rows, which must satisfy `Form` of `schema` and `Status`, satisfy the
 /// condition `Cash` of `schema`: the cash rows of trades are exactly the rows of the completed cash
-/// trades, whose names are not compared. In schema 1 they are in CASH_TRANSACTION. In later schemas
-/// they are in CASH_MOVE, which also has the deposits and withdrawals and is numbered from 1 by
-/// ascending stamp, and CASH_TRANSACTION is empty. Fails with `Memory` only.
+/// trades. In schema 1 they are in CASH_TRANSACTION. In later schemas they are in CASH_MOVE, which
+/// also has the deposits and withdrawals and is numbered from 1 by ascending stamp, and
+/// CASH_TRANSACTION is empty. Fails with `Memory` only.
 pub(crate) fn cash_condition_holds(
     alloc: Global,
     schema: Schema,

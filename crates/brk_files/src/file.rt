@@ -18,8 +18,9 @@ use std::io::ErrorKind;
 /// A desk's store in a file, which its connection locks for this program only.
 pub type FileDesk = Store<FileStore<File>>;
 
-// Closes the files of a connection. At `Ok` the database file contains the last commit even without
-// its log. Fails with `Store` only; the files are then also closed.
+// Closes the files of a connection. At `Ok`, under the disk assumption, the database file contains
+// the last commit even without its log, and a crash exposes only this commit. Fails with `Store`
+// only.
 fn close_connection(conn: Connection<FileStore<File>>) -> Result<(), Fault>
     ensures closed { OnOk result (HasLastCommitInFile conn) }
     ensures fault { OnErr result (result ≡ Err fault.Store) }
@@ -33,9 +34,9 @@ fn close_connection(conn: Connection<FileStore<File>>) -> Result<(), Fault>
     }
 }
 
-/// Closes the file of a desk. At `Ok` the database file contains the last commit even without its
-/// log; before that, a part of the committed data may be only in the log beside it. Fails with
-/// `Store` only.
+/// Closes the file of a desk. At `Ok`, under the disk assumption, the database file contains the
+/// last commit even without its log, and a crash exposes only this commit; before that, a part of
+/// the committed data may be only in the log beside it. Fails with `Store` only.
 pub fn close_desk_file(store: FileDesk) -> Result<(), Fault>
     ensures closed { OnOk result (HasLastCommitInFile store) }
     ensures fault { OnErr result (result ≡ Err fault.Store) }

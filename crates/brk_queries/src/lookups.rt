@@ -23,7 +23,9 @@ use sqlite::Alter;
 use std::alloc::Global;
 
 // Returns a trade with the rows that other tables contain for it: its settlement and its cash row,
-// each if it exists, and its history. Changes nothing. Fails with `Memory` or `Store` only.
+// each if it exists, and its history. The rows are specified only in the tables of a base that
+// satisfies the books invariant and the audit invariant. Changes nothing. Fails with `Memory` or
+// `Store` only.
 fn read_all_rows_of_trade<S: Alter>(
     alloc: Global,
     store: &mut Store<S>,
@@ -39,7 +41,8 @@ fn read_all_rows_of_trade<S: Alter>(
 }
 
 // Returns the trades `trades`, in order, each with its settlement and its cash row, if they exist,
-// and its history. Changes nothing. Fails with `Memory` or `Store` only.
+// and its history. The rows are specified only in the tables of a base that satisfies the books
+// invariant and the audit invariant. Changes nothing. Fails with `Memory` or `Store` only.
 fn read_all_rows_of_trades<S: Alter>(
     alloc: Global,
     store: &mut Store<S>,
