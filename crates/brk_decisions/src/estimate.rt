@@ -25,7 +25,8 @@ use std::alloc::Global;
 // the position: returns the estimate, or the refusal. If these lots form a position, it reads at
 // most 16 lots more than the order would close or reduce, also if it fails. It reads no lot if it
 // refuses the order or the order closes no held shares. Fails with `Memory` or `Store` only; with
-// `Store` also if one of the lots that it reads has no shares.
+// `Store` also if one of the lots that it reads has no shares, or if the number of rows that
+// `lots` has read exceeds 32 bits.
 fn plan_estimate_over_lots<S: Alter>(
     order: &Order,
     found: &OrderPlanFacts,

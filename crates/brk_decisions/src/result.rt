@@ -28,7 +28,8 @@ use std::alloc::Global;
 // `lots`, the lots of its position: returns its plan, or the refusal. If these lots match the
 // account's holding summary, it reads at most 16 lots more than the trade closes or reduces, also
 // if it fails. It reads no lot if the trade closes no held shares. Fails with `Memory` or `Store`
-// only; with `Store` also if one of the lots that it reads has no shares.
+// only; with `Store` also if one of the lots that it reads has no shares, or if the number of rows
+// that `lots` has read exceeds 32 bits.
 fn plan_result_over_lots<S: Alter>(
     alloc: Global,
     found: &ResultPlanFacts,
