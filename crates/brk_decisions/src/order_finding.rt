@@ -82,10 +82,10 @@ fn read_estimate_facts_with_account<S: Alter>(
 }
 
 /// Returns the facts that decide on the estimate of an order: those of its account, its customer
-/// and its security. If the order's account does not exist, each fact is `None`, false or 0.
-/// Changes nothing. Fails with `Memory` or `Store` only; with `Store` also if the account's
-/// customer or one of the customer's taxes does not exist, the tax rates total more than the
-/// greatest rate, a held symbol has no last price, or a sum overflows.
+/// and its security. If the order's account does not exist, the fact of the account is `None`, and
+/// the other facts may have any value. Changes nothing. Fails with `Memory` or `Store` only; with
+/// `Store` also if the account's customer or one of the customer's taxes does not exist, the tax
+/// rates total more than the greatest rate, a held symbol has no last price, or a sum overflows.
 pub(crate) fn read_estimate_facts<S: Alter>(
     alloc: Global,
     store: &mut Store<S>,

@@ -137,7 +137,8 @@ fn read_commission_rate_of_order<S: Alter>(
 
 // Returns the facts that the checks of an order test, for an order of the customer `customer`,
 // whose account exists: the last price, whether the executor may order, the charge and the
-// commission rate. Changes nothing. Fails with `Memory` or `Store` only.
+// commission rate. The rate is specified only if the order's security exists. Changes nothing.
+// Fails with `Memory` or `Store` only.
 pub(crate) fn read_order_check_facts<S: Alter>(
     alloc: Global,
     store: &mut Store<S>,
