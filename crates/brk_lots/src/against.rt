@@ -29,8 +29,8 @@ pub fn is_trade_closing_lots(side: Side, held: i64) -> bool
 /// Returns the effect of a trade that closes no lot: it opens a lot of all its shares
 /// (Trade-Result). The buy value and the sell value of the closed shares are 0.
 ///
-/// The effect is specified only over the lots of a position that `trade` did not open, and only if
-/// the trade closes none of them (`is_trade_closing_lots`), which the caller checks.
+/// The effect is specified only over the lots of a position, none of which `trade` opened, and only
+/// if the trade closes none of them (`is_trade_closing_lots`), which the caller checks.
 pub fn open_lot_without_closing(
     alloc: Global,
     side: Side,
