@@ -151,8 +151,8 @@ fn execute_batch_command(
 }
 
 // Serves the input as a stream of HTTP requests on the desk at the timestamp with the canonical
-// text `moment`, or at 0 if `moment` is no such text. Appends the replies, and then `! done` and the
-// number of replies or, if the stream failed, `! fault`. Fails only if memory runs out.
+// text `moment`, or at 0 if `moment` is no such text. Appends the replies, and then `! done` and
+// the number of replies or, if the stream failed, `! fault`. Fails only if memory runs out.
 fn execute_http_command(
     alloc: Global,
     out: &mut String,
