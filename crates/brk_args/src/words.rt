@@ -17,7 +17,8 @@ fn optional_file_argument<'a>(alloc: Global) -> Arg<'a> {
     )
 }
 
-// Returns the required argument `--db` for the path of a desk's file, which must exist.
+// Returns the required argument `--db` for the path of a desk's file. It does not check that the
+// file exists.
 fn required_file_argument<'a>(alloc: Global) -> Arg<'a> {
     Arg::new(alloc, "db")
         .long("db")
@@ -38,7 +39,8 @@ fn timestamp_argument<'a>(alloc: Global) -> Arg<'a> {
         )
 }
 
-// Returns a required argument for a day, with this name and this help text.
+// Returns a required argument for a day, with this name and this help text. It accepts any text:
+// `parse_day_argument` checks it.
 fn day_argument<'a>(alloc: Global, name: &'static str, help: &'static str) -> Arg<'a> {
     Arg::new(alloc, name)
         .long(name)
@@ -231,7 +233,8 @@ fn path_of_db_option(
     }
 }
 
-// Returns the timestamp that the option `--at` gives, or `None` without this option.
+// Returns the timestamp that the option `--at` gives, or `None` without this option or if its
+// number is not within the limits of a stamp.
 fn timestamp_of_at_option(matches: &ArgMatches<'_>) -> Option<Stamp> {
     matches.get_one::<i64>("at").and_then(Stamp::new)
 }
@@ -243,8 +246,9 @@ fn parse_day_argument(matches: &ArgMatches<'_>, name: &str) -> Result<Day, Usage
     parse_day(text.as_bytes()).ok_or(UsageFault::Day)
 }
 
-// Returns the statement job that the arguments request. Fails with `Day` if the text of `--from` or
-// `--to` is not a day, with `Memory`, or with `Words` and an empty text if there is no account.
+// Returns the statement job that the arguments request. Fails with `Words` and an empty text if the
+// account is missing or not an id, with `Day` if the text of `--from` or `--to` is missing or is
+// not a day, or with `Memory`.
 fn statement_job(alloc: Global, matches: &ArgMatches<'_>) -> Result<Job, UsageFault> {
     let Some(account) = matches.get_one::<u64>("account").and_then(Id::new) else {
         return Err(UsageFault::Words(String::new(alloc)));
@@ -304,8 +308,8 @@ fn explain_job(alloc: Global, matches: &ArgMatches<'_>) -> Result<Job, UsageFaul
 }
 
 // Returns the job of the subcommand `name` with its arguments `matches`: a batch for any name other
-// than those of the other five subcommands. Fails with `Day`, `Words` or `Memory` for a statement,
-// and otherwise with `Memory` only.
+// than those of the other five subcommands. Fails with `Day`, `Words` or `Memory` for a statement
+// (`statement_job`), and otherwise with `Memory` only.
 fn job_of_subcommand(
     alloc: Global,
     name: &str,
@@ -333,8 +337,9 @@ fn job_of_subcommand(
     })
 }
 
-// Converts an error of the argument parser into a usage fault: `Memory` if memory ran out, `Help`
-// with the text if help or the version was requested, otherwise `Words` with the error's text.
+// Converts an error of the argument parser into a usage fault: `Memory` if memory ran out, also if
+// it runs out for the text, `Help` with the text if help or the version was requested, otherwise
+// `Words` with the error's text.
 fn usage_fault_of_error(alloc: Global, error: &Error) -> UsageFault {
     let kind = error.kind();
     if kind == ErrorKind::OutOfMemory {
@@ -363,8 +368,8 @@ pub fn non_utf8_argument_fault(alloc: Global) -> UsageFault {
 /// request.
 ///
 /// Fails with `Help` and its text if help or the version was requested, with `Day` if a day of a
-/// statement is malformed, with `Words` and the error text if the arguments are wrong, or with
-/// `Memory`.
+/// statement is malformed, with `Words` and the error text, which may be empty, if the arguments
+/// are wrong, or with `Memory`.
 pub fn read_words(words: Vec<String>) -> Result<Job, UsageFault> {
     let alloc = *words.allocator();
     let command = command_with_subcommands(alloc)?;

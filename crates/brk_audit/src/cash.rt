@@ -24,7 +24,8 @@ use std::alloc::Global;
 use std::collections::BTreeMap;
 
 // Returns true if the row of CASH_TRANSACTION has the id and the stamp of the completed trade, and
-// its settlement amount at the tax status `tax_status`. The name of the row is not compared.
+// its settlement amount at the tax status `tax_status`. A missing price counts as 0. The name of
+// the row is not compared.
 fn is_cash_transaction_of_trade(cash: &CashRow, trade: &TradeRow, tax_status: TaxStatus) -> bool
     ensures { IsTrue result
         ↔ ((cash.now.trade ≡ trade.now.id) × (cash.now.stamp ≡ trade.now.stamp)
@@ -44,7 +45,8 @@ fn is_completed_cash_trade_row(trade: &TradeRow) -> bool
 
 // Returns the rows of CASH_TRANSACTION after the row of `trade`, or all rows if `trade` is not a
 // completed cash trade. Returns `None` if `trade` is a completed cash trade and `cash` does not
-// begin with its row. Names of rows are not compared.
+// begin with its row. Names of rows are not compared. An account that `terms` does not contain
+// counts as `Untaxed`.
 fn cash_transactions_after_trade<'a>(
     cash: &'a [CashRow],
     trade: &TradeRow,
@@ -70,7 +72,8 @@ fn cash_transactions_after_trade<'a>(
 }
 
 // Returns true if the rows of CASH_TRANSACTION are exactly the rows of the completed cash trades,
-// in the order of the trades. Names of rows are not compared.
+// in the order of the trades. Names of rows are not compared. An account that `terms` does not
+// contain counts as `Untaxed`.
 fn are_cash_transactions_of_trades(
     cash: &[CashRow],
     trades: &[TradeRow],
@@ -132,7 +135,8 @@ fn posted_figures_of_move_rows(
 }
 
 // Returns true if the figures of a row of CASH_MOVE are the account, the id and the stamp of the
-// completed trade, and its settlement amount at the tax status `tax_status`.
+// completed trade, and its settlement amount at the tax status `tax_status`. A missing price counts
+// as 0.
 fn has_figures_of_trade(row: CashMoveFigures, trade: &TradeRow, tax_status: TaxStatus) -> bool
     ensures { IsTrue result
         ↔ ((row.account ≡ trade.now.account) × (row.trade ≡ trade.now.id) × (row.stamp ≡ trade.now.stamp)
@@ -146,7 +150,7 @@ fn has_figures_of_trade(row: CashMoveFigures, trade: &TradeRow, tax_status: TaxS
 
 // Returns the figures in `rows` after the figures of `trade`, or all of `rows` if `trade` is not a
 // completed cash trade. Returns `None` if `trade` is a completed cash trade and `rows` does not
-// begin with its figures.
+// begin with its figures. An account that `terms` does not contain counts as `Untaxed`.
 fn posted_figures_after_trade<'a>(
     rows: &'a [CashMoveFigures],
     trade: &TradeRow,
@@ -172,7 +176,7 @@ fn posted_figures_after_trade<'a>(
 }
 
 // Returns true if the figures of rows of CASH_MOVE are exactly the figures of the completed cash
-// trades, in the order of the trades.
+// trades, in the order of the trades. An account that `terms` does not contain counts as `Untaxed`.
 fn cash_move_figures_match_trades(
     rows: &[CashMoveFigures],
     trades: &[TradeRow],

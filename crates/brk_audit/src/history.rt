@@ -66,7 +66,7 @@ fn lot_changes_of_trades(alloc: Global, done: &[&TradeRow]) -> Result<Vec<DealTo
     Ok(rows)
 }
 
-// Returns the order of two lot changes by lot, then by trade.
+// Returns `Less` if and only if the first lot change is before the second, by lot, then by trade.
 fn compare_lot_changes(one: &DealTouch, other: &DealTouch) -> Ordering
     ensures { is_lt result ≡ is_row_key_less holding_history_key (abstract_deal_touch one.now) (abstract_deal_touch other.now) }
 {

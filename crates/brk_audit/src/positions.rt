@@ -31,7 +31,8 @@ fn collect_completed_trades(alloc: Global, trades: &[TradeRow]) -> Result<Vec<&T
     Ok(done)
 }
 
-// Returns the order of two trades by account, then by symbol, then by stamp.
+// Returns `Less` if and only if the first trade is before the second, by account, then by symbol,
+// then by stamp.
 fn compare_trades_by_position(one: &TradeRow, other: &TradeRow) -> Ordering
     ensures { is_lt result ≡ is_before_by_position (abstract_trade_row one.now) (abstract_trade_row other.now) }
 {

@@ -53,7 +53,8 @@ fn is_pending(status: Status) -> bool
 }
 
 // Returns the requests after the request of `trade`, or all requests if `trade` is not pending.
-// Returns `None` if `trade` is pending and `requests` does not begin with its request.
+// Returns `None` if `trade` is pending and `requests` does not begin with its request. The broker
+// of an account that `terms` does not contain is 0.
 fn requests_after_trade<'a>(
     requests: &'a [RequestRow],
     trade: &TradeRow,
@@ -79,7 +80,7 @@ fn requests_after_trade<'a>(
 }
 
 // Returns true if the requests are exactly the requests of the pending trades, in the order of the
-// trades.
+// trades. The broker of an account that `terms` does not contain is 0.
 fn requests_match_trades(
     requests: &[RequestRow],
     trades: &[TradeRow],

@@ -30,8 +30,8 @@ fn is_due_day_of_completion(day: Day, rule: Option<Day>, stamp: Stamp) -> bool
 }
 
 // Returns true if the settlement has the id of the completed trade, its due day by the settlement
-// day `rule`, and its settlement amount at the tax status `tax_status`. The settlement text is not
-// compared.
+// day `rule`, and its settlement amount at the tax status `tax_status`. A missing price counts as
+// 0. The settlement text is not compared.
 fn settlement_matches_trade(
     settlement: &SettlementRow,
     trade: &TradeRow,
@@ -48,7 +48,8 @@ fn settlement_matches_trade(
 
 // Returns the settlements after the settlement of `trade`, or all settlements if `trade` is not
 // completed. Returns `None` if `trade` is completed and `settlements` does not begin with its
-// settlement. Settlement texts are not compared.
+// settlement. Settlement texts are not compared. An account that `terms` does not contain counts as
+// `Untaxed`.
 fn settlements_after_trade<'a>(
     settlements: &'a [SettlementRow],
     trade: &TradeRow,
@@ -81,7 +82,8 @@ fn settlements_after_trade<'a>(
 }
 
 // Returns true if the settlements are exactly the settlements of the completed trades, in the order
-// of the trades. Settlement texts are not compared.
+// of the trades. Settlement texts are not compared. An account that `terms` does not contain counts
+// as `Untaxed`.
 fn settlements_match_trades(
     settlements: &[SettlementRow],
     trades: &[TradeRow],

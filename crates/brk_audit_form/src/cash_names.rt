@@ -160,8 +160,8 @@ fn is_move_row_well_formed(alloc: Global, sheets: &Sheets, row: &MoveRow) -> Res
     )
 }
 
-/// Returns true if each row of CASH_TRANSACTION is well-formed (`is_cash_transaction_well_formed`). The
-/// tables must be sorted by key. Fails with `Memory` only.
+/// Returns true if each row of CASH_TRANSACTION is well-formed (`is_cash_transaction_well_formed`).
+/// The tables must be sorted by key. Fails with `Memory` only.
 pub(crate) fn are_cash_transactions_well_formed(
     alloc: Global,
     sheets: &Sheets,

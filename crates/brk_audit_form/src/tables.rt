@@ -28,8 +28,8 @@ fn has_sorted_reference_tables(sheets: &Sheets) -> bool
         && has_sorted_unique_keys(&sheets.customer_taxes)
 }
 
-// Returns true if each table of trades, lots, settlements and cash is sorted by key, ascending, and
-// no key occurs twice in a table.
+// Returns true if each table of trades, holdings, settlements and cash is sorted by key, ascending,
+// and no key occurs twice in a table.
 fn has_sorted_trading_tables(sheets: &Sheets) -> bool
     ensures { result ≡ trading_tables_are_sorted sheets.now }
 {

@@ -54,7 +54,8 @@ impl Formed for TradeRow {
 
     // Returns true if the id, the quantity, the bid, the charge, the commission and the tax are
     // within their limits, the stamp is at most the last stamp, the account and the security exist,
-    // and the row has a price, within its limits, if and only if its trade has a completion.
+    // and the row has a price, within its limits, if and only if its trade has a completion. The
+    // executor is not checked.
     fn is_row_well_formed(&self, schema: Schema, sheets: &Sheets) -> bool {
         is_id_within_limits(self.id)
             && is_quantity_within_limits(schema, self.qty)
@@ -124,7 +125,8 @@ impl Formed for SummaryRow {
 impl Formed for LotChange {
     ghost form = { λ schema tables row. form.is_well_formed_holding_history_row tables (of.abstract_lot_change_row row) };
 
-    // Returns true if the trade that opened the lot and the trade that changed it exist.
+    // Returns true if the trade that opened the lot and the trade that changed it exist. The
+    // quantities are not checked.
     fn is_row_well_formed(&self, _schema: Schema, sheets: &Sheets) -> bool {
         has_trade(sheets, self.lot) && has_trade(sheets, self.trade)
     }

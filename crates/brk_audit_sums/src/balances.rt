@@ -84,7 +84,8 @@ impl KeyedSum for Balances {
     ghost has_sum = { λ sums row. row.balance ≡ row.account.opening +ℤ sum_at_key nat_cmp sums row.account.id };
 
     // Returns the settlement amount, in cents, as a posting at the account of the trade, or `None`
-    // if the trade is not a completed cash trade.
+    // if the trade is not a completed cash trade. The tax status is `Untaxed` if the map `terms`
+    // does not contain the account.
     fn posting_of_trade(
         terms: &BTreeMap<u64, AccountTerms>,
         trade: &TradeRow,
@@ -98,7 +99,7 @@ impl KeyedSum for Balances {
     }
 
     // Returns true if the balance of the account is its opening balance plus the sum at the
-    // account's id.
+    // account's id, or plus 0 if the map `sums` does not contain the id.
     fn row_has_sum(sums: &BTreeMap<u64, i128>, row: &AccountRow) -> bool {
         let moved = sum_or_zero_at_key(sums, row.account.id.get());
         balance_equals_opening_plus_moved(row.balance.get(), row.account.opening.get(), moved)

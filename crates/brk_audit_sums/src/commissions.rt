@@ -32,7 +32,8 @@ impl KeyedSum for Commissions {
     ghost has_sum = { λ sums row. pos row.commissions ≡ sum_at_key nat_cmp sums row.broker.id };
 
     // Returns the commission, in cents, as a posting at the broker of the trade's account, or
-    // `None` if the trade is not completed.
+    // `None` if the trade is not completed. The broker is 0 if the map `terms` does not contain the
+    // account.
     fn posting_of_trade(
         terms: &BTreeMap<u64, AccountTerms>,
         trade: &TradeRow,
@@ -40,7 +41,8 @@ impl KeyedSum for Commissions {
         posting_at_broker(terms, trade, trade.commission.get() as i64)
     }
 
-    // Returns true if the commission total of the broker is the sum at the broker's id.
+    // Returns true if the commission total of the broker is the sum at the broker's id, or 0 if the
+    // map `sums` does not contain the id.
     fn row_has_sum(sums: &BTreeMap<u64, i128>, row: &BrokerRow) -> bool {
         i128::from(row.commissions) == sum_or_zero_at_key(sums, row.broker.id.get())
     }

@@ -31,7 +31,7 @@ impl KeyedSum for TradeCounts {
     ghost has_sum = { λ sums row. row.trades ≡ sum_at_key nat_cmp sums row.broker.id };
 
     // Returns 1 as a posting at the broker of the trade's account, or `None` if the trade is not
-    // completed.
+    // completed. The broker is 0 if the map `terms` does not contain the account.
     fn posting_of_trade(
         terms: &BTreeMap<u64, AccountTerms>,
         trade: &TradeRow,
@@ -39,7 +39,8 @@ impl KeyedSum for TradeCounts {
         posting_at_broker(terms, trade, 1)
     }
 
-    // Returns true if the trade count of the broker is the sum at the broker's id.
+    // Returns true if the trade count of the broker is the sum at the broker's id, or 0 if the map
+    // `sums` does not contain the id.
     fn row_has_sum(sums: &BTreeMap<u64, i128>, row: &BrokerRow) -> bool {
         i128::from(row.trades) == sum_or_zero_at_key(sums, row.broker.id.get())
     }

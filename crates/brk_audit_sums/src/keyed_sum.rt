@@ -38,7 +38,7 @@ pub(crate) trait KeyedSum {
     ) -> Option<KeyedAmount<u64>>
         ensures { result ≡ posting_of terms.now (abstract_trade_row trade.now) };
 
-    /// Returns true if the total of the row follows from the sum at its key in `sums`.
+    /// Returns true if the total of the row follows from the sum at its key in `sums` (`has_sum`).
     fn row_has_sum(sums: &BTreeMap<u64, i128>, row: &Self::Total) -> bool
         ensures { IsTrue result ↔ has_sum sums.now row.now };
 }

@@ -15,7 +15,7 @@ ghost use Rattle.brk_audit_theorems.specs.Told.{HasValidHistories, base_sorted_b
 
 /// Proves that the base that is read from rows that pass the audit of a schema satisfies the books
 /// invariant, and that the rows are the tables of this base in that schema. For the books
-/// invariant, the conditions `Form` and `Status` suffice.
+/// invariant, the condition `Form` of some schema and the condition `Status` suffice.
 pub fn passing_rows_are_tables_of_their_base()
     ensures order { (schema : Schema) (rows : Tables) → IsTrue (satisfies_form_condition schema rows) → IsTrue (satisfies_status_condition rows)
         → BooksInvariant (base_of_tables rows) }
@@ -26,7 +26,7 @@ pub fn passing_rows_are_tables_of_their_base()
 /// Proves, for a base that satisfies the books invariant and has valid histories, that its tables
 /// describe this base with reference records and stored replies sorted by key, and that the tables
 /// of the described base equal its tables. Its tables satisfy the condition `Status`, and, if they
-/// satisfy `Form`, pass the audit of schema 3.
+/// satisfy the condition `Form` of schema 3, pass the audit of schema 3.
 pub fn tables_of_valid_base_pass_the_audit()
     ensures base { (base : Base) → BooksInvariant base → HasValidHistories base → base_of_tables (sheets base) ≡ base_sorted_by_keys base }
     ensures tables { (base : Base) → BooksInvariant base → HasValidHistories base → sheets (base_of_tables (sheets base)) ≡ sheets base }

@@ -10,10 +10,10 @@ ghost use Rattle.brk_model.specs.Sheets.{sheets};
 ghost use Rattle.brk_audit_theorems.specs.Upgrade.{UpgradedRowsMatchTheirBase, HasLimitsWithinThirdSchema};
 ghost use Rattle.brk_audit_theorems.specs.Passing.{PassesAudit};
 
-/// Proves that the upgrade of rows that pass the audit of a schema, whose limits are at most the
-/// limits of the third schema (`HasLimitsWithinThirdSchema`), equals the tables of the base that
-/// the rows describe. The upgraded rows pass the audit of the third schema. The first and the
-/// second schema have such limits.
+/// Proves, for rows that pass the audit of the first or the second schema, or of a schema whose
+/// limits are at most the limits of the third (`HasLimitsWithinThirdSchema`), that their upgrade
+/// (`tables_with_merged_cash_rows`) equals the tables of the base that the rows describe. The
+/// upgraded rows describe this base too, and pass the audit of the third schema.
 pub fn upgraded_rows_are_tables_of_their_base()
     ensures first { (rows : Tables) → PassesAudit first_schema rows → UpgradedRowsMatchTheirBase rows }
     ensures second { (rows : Tables) → PassesAudit second_schema rows → UpgradedRowsMatchTheirBase rows }

@@ -46,7 +46,8 @@ IsFailedCallCrashSafe {S = S} meets_disk_assumption represents crash_exposes_onl
 -- the row, which refines `step`, both for `represents false` and for `represents true`.
 abbrev pub RowHasAnswer : {D S X C : Type 0} → (D → Type 0) → (Bool → D → S → Type 0) → RowCallRelation D X → RowStep S X → (C → ℕ → C → Type 0) → ReadResult X
     → Text → ℕ → Answer → D → D → C → C → Type 0
-RowHasAnswer meets_disk_assumption represents acts step gives (Err refusal) batch n answer old new clock later = (answer ≡ Refused refusal) × (new ≡ old) × (later ≡ clock)
+RowHasAnswer meets_disk_assumption represents acts step gives (Err refusal) batch n answer old new clock later =
+    (answer ≡ Refused refusal) × (new ≡ old) × (later ≡ clock)
 RowHasAnswer meets_disk_assumption represents acts step gives (Ok command) batch n answer old new clock later =
     (moment : ℕ) × gives clock moment later × acts old moment (command, record { batch = batch; row = n }) (Did answer) new
     × ((sure : Bool) → CallRefinesStep meets_disk_assumption (represents sure) step old new moment command (record { batch = batch; row = n }) answer)

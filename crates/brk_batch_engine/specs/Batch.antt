@@ -249,9 +249,9 @@ IsBatchCrashSafe {S = S} meets_disk_assumption represents crash_exposes_only for
 
 -- The postcondition of a run of a batch: the desk changed only by the calls of its rows, the batch
 -- refines the model, and it is crash-safe.
-pub record BatchPost {D S X C : Type 0} (meets_disk_assumption : D → Type 0) (represents : D → S → Type 0) (crash_exposes_only : D → S → S → Type 0) (acts : RowCallRelation D X)
-    (form : Fields → ReadResult X) (step : RowStep S X)
-    (gives : C → ℕ → C → Type 0) (text : Option Text) (first last : D) (outside : ClockAndWriterChange C) (result : Result Counts BatchFault) : Type 0 where
+pub record BatchPost {D S X C : Type 0} (meets_disk_assumption : D → Type 0) (represents : D → S → Type 0) (crash_exposes_only : D → S → S → Type 0)
+    (acts : RowCallRelation D X) (form : Fields → ReadResult X) (step : RowStep S X) (gives : C → ℕ → C → Type 0) (text : Option Text)
+    (first last : D) (outside : ClockAndWriterChange C) (result : Result Counts BatchFault) : Type 0 where
   pub changed_only_by_calls : ChangesOnlyByRowCalls acts form gives text first last outside result
   pub refines_model : BatchRefinesModel meets_disk_assumption represents form step gives text first last outside result
   pub crash_safe : IsBatchCrashSafe meets_disk_assumption represents crash_exposes_only form step gives text first last outside result

@@ -65,39 +65,45 @@ NextRecordEndsBatchWith rem reader settled old new fault =
 -- The row is decided and its line was written: the row has an answer, the line of the answer was
 -- appended to the writer's content, and the counts `more` are `counts` with this answer added. The
 -- clause on the line is vacuous if the writer's content before is unknown.
-pub record RowIsDecidedAndWritten {D S X C : Type 0} (meets_disk_assumption : D → Type 0) (represents : D → S → Type 0) (crash_exposes_only : D → S → S → Type 0) (acts : RowCallRelation D X) (step : RowStep S X)
-    (gives : C → ℕ → C → Type 0) (read : ReadResult X) (batch : Text) (settled : ℕ) (first last : D) (outside : ClockAndWriterChange C) (counts more : Counts) : Type 0 where
+pub record RowIsDecidedAndWritten {D S X C : Type 0} (meets_disk_assumption : D → Type 0) (represents : D → S → Type 0)
+    (crash_exposes_only : D → S → S → Type 0) (acts : RowCallRelation D X) (step : RowStep S X) (gives : C → ℕ → C → Type 0)
+    (read : ReadResult X) (batch : Text) (settled : ℕ) (first last : D) (outside : ClockAndWriterChange C) (counts more : Counts) : Type 0 where
   pub answer : Answer
-  pub given : RowHasAnswer meets_disk_assumption (RepresentsDurably represents crash_exposes_only) acts step gives read batch (settled + 1) answer first last outside.clock outside.later
+  pub given : RowHasAnswer meets_disk_assumption (RepresentsDurably represents crash_exposes_only) acts step gives read batch (settled + 1)
+      answer first last outside.clock outside.later
   pub written : Appends outside.old outside.new (answer_line (settled + 1) answer)
   pub counted : more ≡ counts_with_answer counts answer
 
 -- The row was not decided, and the batch ended with `fault`, a fault of the desk, `Memory` or
 -- `Store`: the row failed (`RowFailsWith`), the desk represents the bases that it represented
 -- before, and nothing was written.
-pub record RowIsNotDecided {D S X C : Type 0} (meets_disk_assumption : D → Type 0) (represents : D → S → Type 0) (crash_exposes_only : D → S → S → Type 0) (acts : RowCallRelation D X) (step : RowStep S X)
-    (gives : C → ℕ → C → Type 0) (read : ReadResult X) (batch : Text) (settled : ℕ) (first last : D) (outside : ClockAndWriterChange C) (fault : BatchFault) : Type 0 where
+pub record RowIsNotDecided {D S X C : Type 0} (meets_disk_assumption : D → Type 0) (represents : D → S → Type 0)
+    (crash_exposes_only : D → S → S → Type 0) (acts : RowCallRelation D X) (step : RowStep S X) (gives : C → ℕ → C → Type 0)
+    (read : ReadResult X) (batch : Text) (settled : ℕ) (first last : D) (outside : ClockAndWriterChange C) (fault : BatchFault) : Type 0 where
   pub cause : Fault
   pub is : fault ≡ record { rows = settled; kind = kinds.Desk cause }
-  pub failed : RowFailsWith meets_disk_assumption represents crash_exposes_only acts step gives read batch (settled + 1) cause first last outside.clock outside.later
+  pub failed : RowFailsWith meets_disk_assumption represents crash_exposes_only acts step gives read batch (settled + 1)
+      cause first last outside.clock outside.later
   pub may_fail : IsCallFault cause
   pub represented : PreservesRepresentedBases meets_disk_assumption represents first last
   pub unwritten : outside.new ≡ outside.old
 
 -- The row has an answer, but writing its line failed (`LineWriteFailsWith`), and the batch ended
 -- with `fault`: a prefix of the line was written, perhaps all of it, or nothing.
-pub record RowLineWriteFails {D S X C : Type 0} (meets_disk_assumption : D → Type 0) (represents : D → S → Type 0) (crash_exposes_only : D → S → S → Type 0) (acts : RowCallRelation D X) (step : RowStep S X)
-    (gives : C → ℕ → C → Type 0) (read : ReadResult X) (batch : Text) (settled : ℕ) (first last : D) (outside : ClockAndWriterChange C) (fault : BatchFault) : Type 0 where
+pub record RowLineWriteFails {D S X C : Type 0} (meets_disk_assumption : D → Type 0) (represents : D → S → Type 0)
+    (crash_exposes_only : D → S → S → Type 0) (acts : RowCallRelation D X) (step : RowStep S X) (gives : C → ℕ → C → Type 0)
+    (read : ReadResult X) (batch : Text) (settled : ℕ) (first last : D) (outside : ClockAndWriterChange C) (fault : BatchFault) : Type 0 where
   pub answer : Answer
-  pub given : RowHasAnswer meets_disk_assumption (RepresentsDurably represents crash_exposes_only) acts step gives read batch (settled + 1) answer first last outside.clock outside.later
+  pub given : RowHasAnswer meets_disk_assumption (RepresentsDurably represents crash_exposes_only) acts step gives read batch (settled + 1)
+      answer first last outside.clock outside.later
   pub kind : FaultKind
   pub is : fault ≡ record { rows = settled + 1; kind = kind }
   pub part : LineWriteFailsWith outside.old outside.new (answer_line (settled + 1) answer) kind
 
 -- The batch ended with `fault` at the row after the decided rows: the row was not decided, or it
 -- was decided and writing its line failed.
-abbrev pub RowEndsBatchWith : {D S X C : Type 0} → (D → Type 0) → (D → S → Type 0) → (D → S → S → Type 0) → RowCallRelation D X → RowStep S X → (C → ℕ → C → Type 0)
-    → ReadResult X → Text → ℕ → D → D → ClockAndWriterChange C → BatchFault → Type 0
+abbrev pub RowEndsBatchWith : {D S X C : Type 0} → (D → Type 0) → (D → S → Type 0) → (D → S → S → Type 0) → RowCallRelation D X → RowStep S X
+    → (C → ℕ → C → Type 0) → ReadResult X → Text → ℕ → D → D → ClockAndWriterChange C → BatchFault → Type 0
 RowEndsBatchWith meets_disk_assumption represents crash_exposes_only acts step gives read batch settled first last outside fault =
     RowIsNotDecided meets_disk_assumption represents crash_exposes_only acts step gives read batch settled first last outside fault
     ⊎ RowLineWriteFails meets_disk_assumption represents crash_exposes_only acts step gives read batch settled first last outside fault

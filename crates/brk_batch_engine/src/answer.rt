@@ -57,8 +57,8 @@ pub fn execute_row<C: Clock, D: Rows>(
 
     // At an error: the represented bases, the crash safety of the failed call, and the faults.
     ensures represented_at_error { OnErr result (PreservesRepresentedBases D.meets_disk_assumption D.represents desk.old desk.new) }
-    ensures failed { IfErr result (λ fault. RowFailsWith D.meets_disk_assumption D.represents D.crash_exposes_only D.acts D.step C.gives (D.form (fields_of row.now)) batch.now n fault
-        desk.old desk.new clock.old clock.new) }
+    ensures failed { IfErr result (λ fault. RowFailsWith D.meets_disk_assumption D.represents D.crash_exposes_only D.acts D.step C.gives
+        (D.form (fields_of row.now)) batch.now n fault desk.old desk.new clock.old clock.new) }
     ensures fault { IfErr result IsCallFault }
 {
     let Ok(fields) = record_fields(alloc, row) else {

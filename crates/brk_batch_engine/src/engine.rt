@@ -135,7 +135,7 @@ fn read_batch_name<R: Read>(alloc: Global, records: &mut Reader<R>) -> Result<Ba
 //
 // Fails with `NoEnd` if no record is left, `Read` if the reader fails, or `Desk(Memory)`; no row is
 // then decided.
-fn read_first_row<R: Read>(records: &mut Reader<R>, row: &mut ByteRecord) -> Result<(), BatchFault>
+fn read_record_after_header<R: Read>(records: &mut Reader<R>, row: &mut ByteRecord) -> Result<(), BatchFault>
     requires { IsBatchReader records.old }
     ensures setup { OnOk result (IsBatchReader records.new) }
     ensures read { OnOk result (ReadsOneRecord R.remaining records.old records.new (fields_of row.new)) }
@@ -195,7 +195,7 @@ fn read_record_after_row<R: Read, W: Write, D: Rows>(
 // counts with its answer added. `settled` must be less than 67,108,864 and equal the sum of the
 // counts.
 //
-// Fails with `Desk`, `Memory` or `Store`, and nothing written, if the row is not decided; with
+// Fails with `Desk(Memory)` or `Desk(Store)`, and nothing written, if the row is not decided; with
 // `Write` or `Desk(Memory)` if the row is decided and its line could not be written.
 fn execute_row_and_write_line<W: Write, C: Clock, D: Rows>(
     alloc: Global,
@@ -210,9 +210,11 @@ fn execute_row_and_write_line<W: Write, C: Clock, D: Rows>(
     requires settled { settled < 67108864 }
     requires counted { counts.ok + counts.again + counts.no ≡ settled }
     ensures disk_was_clean { D.meets_disk_assumption desk.new → D.meets_disk_assumption desk.old }
-    ensures ok { IfOk result (RowIsDecidedAndWritten D.meets_disk_assumption D.represents D.crash_exposes_only D.acts D.step C.gives (D.form (fields_of row.now)) name.now settled desk.old desk.new
+    ensures ok { IfOk result (RowIsDecidedAndWritten D.meets_disk_assumption D.represents D.crash_exposes_only D.acts D.step C.gives
+        (D.form (fields_of row.now)) name.now settled desk.old desk.new
         (record { clock = clock.old; later = clock.new; old = W.contents writer.old; new = W.contents writer.new }) counts) }
-    ensures err { IfErr result (RowEndsBatchWith D.meets_disk_assumption D.represents D.crash_exposes_only D.acts D.step C.gives (D.form (fields_of row.now)) name.now settled desk.old desk.new
+    ensures err { IfErr result (RowEndsBatchWith D.meets_disk_assumption D.represents D.crash_exposes_only D.acts D.step C.gives
+        (D.form (fields_of row.now)) name.now settled desk.old desk.new
         (record { clock = clock.old; later = clock.new; old = W.contents writer.old; new = W.contents writer.new })) }
 {
     let n = settled + 1;
@@ -256,7 +258,7 @@ fn execute_rows_and_write_lines<R: Read, W: Write, C: Clock, D: Rows>(
     let mut counts = Counts::NONE;
     let mut row = ByteRecord::new(alloc);
     let mut after = ByteRecord::new(alloc);
-    read_first_row(records, &mut row)?;
+    read_record_after_header(records, &mut row)?;
     for settled in 0..MAXIMUM_INPUT_BYTES {
         if begins_with_end_field(&row) {
             check_end_record_and_write_end_line(alloc, writer, &row, settled, counts)?;
@@ -291,9 +293,11 @@ pub fn execute_batch_on_desk<R: Read + Drop, W: Write, C: Clock, D: Rows>(
 ) -> Result<Counts, BatchFault>
     ensures changed_only_by_calls { ChangesOnlyByRowCalls D.acts D.form C.gives (option_map input_text (R.remaining reader)) desk.old desk.new
         (record { clock = clock.old; later = clock.new; old = W.contents writer.old; new = W.contents writer.new }) result }
-    ensures refines_model { BatchRefinesModel D.meets_disk_assumption D.represents D.form D.step C.gives (option_map input_text (R.remaining reader)) desk.old desk.new
+    ensures refines_model { BatchRefinesModel D.meets_disk_assumption D.represents D.form D.step C.gives
+        (option_map input_text (R.remaining reader)) desk.old desk.new
         (record { clock = clock.old; later = clock.new; old = W.contents writer.old; new = W.contents writer.new }) result }
-    ensures crash_safe { IsBatchCrashSafe D.meets_disk_assumption D.represents D.crash_exposes_only D.form D.step C.gives (option_map input_text (R.remaining reader)) desk.old desk.new
+    ensures crash_safe { IsBatchCrashSafe D.meets_disk_assumption D.represents D.crash_exposes_only D.form D.step C.gives
+        (option_map input_text (R.remaining reader)) desk.old desk.new
         (record { clock = clock.old; later = clock.new; old = W.contents writer.old; new = W.contents writer.new }) result }
 {
     let mut records = new_record_reader(alloc, reader);

@@ -83,7 +83,8 @@ pub trait Rows {
             (asked command.now) (abstract_key key.now) (abstract_answer told answer)) }
         ensures err { OnErr result (PreservesRepresentedBases meets_disk_assumption represents desk.old desk.new) }
         // After a failed call, a crash exposes only the base before or the base after the command.
-        ensures stop { OnErr result (IsFailedCallCrashSafe meets_disk_assumption represents crash_exposes_only step desk.old desk.new now (asked command.now) (abstract_key key.now)) }
+        ensures stop { OnErr result (IsFailedCallCrashSafe meets_disk_assumption represents crash_exposes_only step desk.old desk.new now
+            (asked command.now) (abstract_key key.now)) }
         ensures fault { IfErr result IsCallFault };
 
     /// Returns the fields of a reply, joined by commas. Fails only if memory runs out.

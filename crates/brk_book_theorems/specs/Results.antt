@@ -76,7 +76,8 @@ opening_holding_history_row lot = record { lot = lot.trade; trade = lot.trade; b
 -- The tables with the lots `opened` added in order, each with the account and the symbol of the
 -- trade `r` and with its row of HOLDING_HISTORY. A trade opens at most one lot.
 abbrev pub tables_with_lots_opened : TradeRow → List Lot → Tables → Tables
-tables_with_lots_opened r opened t = fold (λ t lot. tables_with_lot_change (opening_holding_history_row lot) (tables_with_lot (holding_row_of_lot r lot) t)) t opened
+tables_with_lots_opened r opened t =
+    fold (λ t lot. tables_with_lot_change (opening_holding_history_row lot) (tables_with_lot (holding_row_of_lot r lot) t)) t opened
 
 -- ---- its summary, which has no row if it is 0
 

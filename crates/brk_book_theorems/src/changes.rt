@@ -31,9 +31,9 @@ pub fn empty_base_has_no_rows()
     ensures { sheets empty_base ≡ tables_without_rows }
 {}
 
-/// Proves that an accepted command that adds a record of reference data adds one row and sets the
-/// last stamp. A security adds two rows: one of SECURITY and one of LAST_TRADE. No other row
-/// changes, if the base satisfies the books invariant.
+/// Proves, if the base satisfies the books invariant, that an accepted command that adds a record
+/// of reference data adds one row, or for a security two rows, one of SECURITY and one of
+/// LAST_TRADE, and sets the last stamp. No other row changes.
 pub fn reference_records_add_only_their_rows()
     // Brokers, customers, accounts and permissions.
     ensures broker { (base : Base) (now : ℕ) (b : Broker) → HasTableEffect base now (AddBroker b) (tables_with_broker b) }
@@ -52,9 +52,9 @@ pub fn reference_records_add_only_their_rows()
     ensures customer_tax { (base : Base) (now : ℕ) (x : CustomerTax) → HasTableEffect base now (AddCustomerTax x) (tables_with_customer_tax x) }
 {}
 
-/// Proves that an accepted order adds its row of TRADE, one row of TRADE_HISTORY and, if it is
-/// pending, one row of TRADE_REQUEST with the broker of its account, and sets the last stamp. No
-/// other row changes, if the base satisfies the books invariant.
+/// Proves, if the base satisfies the books invariant, that an accepted order adds its row of TRADE,
+/// one row of TRADE_HISTORY and, if it is pending, one row of TRADE_REQUEST with the broker of its
+/// account, and sets the last stamp. No other row changes.
 pub fn orders_change_only_their_rows()
     ensures { (base : Base) (now : ℕ) (o : Order)
         → HasTableEffect base now (PlaceOrder o)
@@ -62,17 +62,17 @@ pub fn orders_change_only_their_rows()
         (not (is_market_type (trade_type_of_order o.order_type))) (broker_id_of_account base o.account)) }
 {}
 
-/// Proves that an accepted cancel sets its trade's status, adds a row of TRADE_HISTORY, deletes the
-/// trade's row of TRADE_REQUEST, and sets the last stamp. No other row changes, if the base
-/// satisfies the books invariant.
+/// Proves, if the base satisfies the books invariant, that an accepted cancel sets its trade's
+/// status, adds a row of TRADE_HISTORY, deletes the trade's row of TRADE_REQUEST, and sets the last
+/// stamp. No other row changes.
 pub fn cancels_change_only_their_rows()
     ensures { (base : Base) (now id : ℕ) → HasTableEffect base now (CancelTrade id) (tables_after_cancel (stamp_of_next_command base now) id) }
 {}
 
-/// Proves that an accepted feed, tick by tick, updates the row of LAST_TRADE of the tick's symbol
-/// and submits the trades whose requests the tick's price triggers, and then sets the last stamp.
-/// No other row changes, if the base satisfies the books invariant. The submitted trades are the
-/// triggered trades of the model.
+/// Proves, if the base satisfies the books invariant, that an accepted feed, tick by tick, updates
+/// the row of LAST_TRADE of the tick's symbol and submits the trades whose requests the tick's
+/// price triggers, and then sets the last stamp. No other row changes (`rows`). The ids of the
+/// submitted trades are those of the triggered trades of the model (`triggered`).
 pub fn feeds_change_only_their_rows()
     ensures rows { (base : Base) (now : ℕ) (ticks : List Tick)
         → HasTableEffect base now (FeedTicks ticks) (tables_after_feed (stamp_of_next_command base now) ticks) }
@@ -80,19 +80,20 @@ pub fn feeds_change_only_their_rows()
         → triggered_trade_ids (stamp_of_next_command base now) base ticks ≡ trade_ids_triggered_by_feed (stamp_of_next_command base now) ticks (sheets base) }
 {}
 
-/// Proves that an accepted result completes its trade and adds the completion to TRADE_HISTORY. It
-/// reduces or deletes the lots that the trade closes and adds the lot that the trade opens, each
-/// with a row of HOLDING_HISTORY. It adds, sets or deletes the summary, adds the settlement, adds
-/// the cash row of a cash trade and sets the balance of its account, sets the broker totals, and
-/// sets the last stamp. No other row changes, if the base satisfies the books invariant.
+/// Proves, if the base satisfies the books invariant and the trade exists, that an accepted result
+/// completes its trade and adds the completion to TRADE_HISTORY. It reduces or deletes the lots
+/// that the trade closes and adds the lot that the trade opens, each with a row of HOLDING_HISTORY.
+/// It adds, sets or deletes the summary, adds the settlement, adds the cash row of a cash trade and
+/// sets the balance of its account, sets the broker totals, and sets the last stamp. No other row
+/// changes.
 pub fn results_change_only_their_rows()
     ensures { (base : Base) (now id price : ℕ) (t : Trade) → trade_with_id base id ≡ Some t
         → HasTableEffect base now (CompleteTrade id price) (tables_after_result (result_rows_of_trade base (stamp_of_next_command base now) price t)) }
 {}
 
-/// Proves that an accepted deposit or withdrawal adds a cash row with the next number, sets the
-/// balance of its account, and sets the last stamp. No other row changes, if the base satisfies the
-/// books invariant.
+/// Proves, if the base satisfies the books invariant, that an accepted deposit or withdrawal adds a
+/// cash row with the next number, sets the balance of its account, and sets the last stamp. No
+/// other row changes.
 pub fn movements_change_only_their_rows()
     ensures deposit { (base : Base) (now account amount : ℕ)
         → HasTableEffect base now (DepositCash account amount)
@@ -102,9 +103,9 @@ pub fn movements_change_only_their_rows()
         (tables_after_movement base (withdrawal_movement (stamp_of_next_command base now) account amount)) }
 {}
 
-/// Proves that an accepted command that sets the settlement day changes only that day and the last
-/// stamp, if the base satisfies the books invariant. It does not change the due day of a trade that
-/// is already completed.
+/// Proves, if the base satisfies the books invariant, that an accepted command that sets the
+/// settlement day changes only that day and the last stamp (`row`), and that the new day does not
+/// change the due day of a trade of the base that is already completed (`due_days`).
 pub fn settlement_day_changes_only_its_row()
     ensures row { (base : Base) (now day : ℕ) → HasTableEffect base now (SetOneDay day) (tables_with_settlement_day day) }
     ensures due_days { (base : Base) (now day : ℕ) → BooksInvariant base → refusal_of_command base now (SetOneDay day) ≡ None

@@ -171,7 +171,7 @@ pub fn account_permissions_match_the_base()
 
 /// Proves that the commission band in the tables for a tier, a trade type, an exchange and a
 /// quantity equals the commission band of the base for them, if the base satisfies the books
-/// invariant. Both are `None` if no band contains the quantity.
+/// invariant. If one of the two is `None`, so is the other.
 pub fn commission_bands_match_the_base()
     ensures { (base : Base) (tier : ℕ) (kind : TradeType) (exchange : Text) (qty : ℕ) → BooksInvariant base
         → commission_band_of_quantity (sheets base) tier kind exchange qty ≡ commission_band_for_quantity base tier kind exchange qty }
@@ -206,8 +206,9 @@ pub fn lots_form_a_position()
 {}
 
 /// Proves that the holding summary of an existing account in an existing symbol has the quantity
-/// that the base computes, and that there is no row if that quantity is 0, if the base satisfies
-/// the books invariant.
+/// that the base computes, that there is no row if that quantity is 0 (`row`), and that the
+/// quantity of the row, or 0 without a row, is the quantity that the base computes (`number`), if
+/// the base satisfies the books invariant.
 pub fn summary_rows_match_the_base()
     ensures row { (base : Base) (account : ℕ) (symbol : Text) → BooksInvariant base → is_some (account_with_id base account) ≡ true
         → is_some (security_with_symbol base symbol) ≡ true
@@ -225,8 +226,9 @@ pub fn balances_equal_cash_row_sums()
         → r.balance ≡ r.opening +ℤ total_by (λ r. r.amount) (move_rows_of_account (sheets base) id) }
 {}
 
-/// Proves that the totals of a broker's row equal the number of completed trades of the broker's
-/// accounts and the sum of their commissions, if the base satisfies the books invariant.
+/// Proves that the totals of a broker's row equal the number of the rows of TRADE that are
+/// completed trades of the broker's accounts and the sum of their commissions, in cents, if the
+/// base satisfies the books invariant.
 pub fn broker_totals_equal_trade_sums()
     ensures trades { (base : Base) (id : ℕ) (r : BrokerRow) → BooksInvariant base → find (λ r. r.id == id) (sheets base).brokers ≡ Some r
         → r.trades ≡ pos (length (completed_trade_rows_of_broker (sheets base) id)) }

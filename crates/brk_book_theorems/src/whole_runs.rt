@@ -68,18 +68,20 @@ pub fn lot_sums_match_deals()
 {}
 
 /// Proves that the broker totals, balances and summaries in the tables of a base match the rows
-/// that they count (`TableSumsMatchTheirRows`), if the base satisfies the books invariant, and also
-/// after any run from such a base.
+/// that they count, that each lot has a summary, that the lots of an account in a symbol form a
+/// position, and that the changes of each lot form a chain (`TableSumsMatchTheirRows`), if the base
+/// satisfies the books invariant, and also after any run from such a base.
 pub fn table_sums_match_their_rows()
     ensures base { (base : Base) → BooksInvariant base → TableSumsMatchTheirRows (sheets base) }
     ensures run { (base after : Base) (calls : List (ℕ × Call)) (outcomes : List Outcome)
         → BooksInvariant base → Run base calls outcomes after → TableSumsMatchTheirRows (sheets after) }
 {}
 
-/// Proves that an accepted result, with or without a key, records the tax on exactly the shares
-/// that it closes, at the rates of the base before it, if that base satisfies the books invariant.
-/// Any run preserves this tax, and the trade's row of TRADE has this tax. After a run, the rows
-/// have the taxes of all results that the run accepted.
+/// Proves that an accepted result, with or without a key, records the tax on the gain of exactly
+/// the shares that it closes, at the rates of the base before it, if that base satisfies the books
+/// invariant. Any run from a base that satisfies the invariant preserves the tax of a completed
+/// trade, and the trade's row of TRADE has this tax. After such a run, the row of the trade of each
+/// result that the run accepted has the tax of its completion.
 pub fn results_are_taxed_on_closed_shares()
     // An accepted result records the tax, as a command and as a call with or without a key.
     ensures taxed { (base : Base) (now id price : ℕ) (t : Trade)
@@ -101,8 +103,9 @@ pub fn results_are_taxed_on_closed_shares()
 
 /// Proves that a run from the empty base, or from a base that satisfies the books invariant,
 /// reaches a base that satisfies the books invariant. The sums in the tables of the base reached
-/// match their rows, and each accepted result of the run was taxed on exactly the shares that it
-/// closed.
+/// match their rows (`TableSumsMatchTheirRows`), and the row of the trade of each accepted result
+/// of the run has the tax on the gain of exactly the shares that the result closed
+/// (`RecordsTaxesOfResults`).
 pub fn runs_preserve_sums_and_taxes()
     ensures run { (base after : Base) (calls : List (ℕ × Call)) (outcomes : List Outcome)
         → BooksInvariant base → Run base calls outcomes after → IsRunWithSumsAndTaxes base calls outcomes after }

@@ -10,11 +10,11 @@ use std::process::ExitCode;
 // The reason why the program fails.
 #[derive(Clone, Copy)]
 enum Failed {
-    // Standard input cannot be read, or is not UTF-8.
+    // Standard input cannot be read, is not UTF-8 or does not fit in memory.
     Input,
     // Standard output cannot be written.
     Output,
-    // Out of memory.
+    // Memory ran out during the replay.
     Memory,
 }
 
@@ -30,8 +30,8 @@ impl Failed {
 }
 
 // Reads a transcript from standard input and writes its replay to standard output. Fails with
-// `Input` if the input cannot be read or is not UTF-8, with `Output` if the replay cannot be
-// written, and with `Memory` if memory runs out.
+// `Input` if the input cannot be read, is not UTF-8 or does not fit in memory, with `Memory` if
+// memory runs out during the replay, and with `Output` if the replay cannot be written.
 fn replay_standard_input(rt: &HostRuntime) -> Result<(), Failed> {
     let Ok(text) = io::read_to_string(rt.alloc(), rt.reader()) else {
         return Err(Failed::Input);
@@ -46,7 +46,8 @@ fn replay_standard_input(rt: &HostRuntime) -> Result<(), Failed> {
 }
 
 // Runs the program: replays the transcript, writes the reason of a failure to standard error, and
-// returns the exit status, 0 without a failure and otherwise 1.
+// returns the exit status, 0 without a failure and otherwise 1. A failure to write to standard
+// error is ignored.
 fn main(rt: HostRuntime) -> ExitCode {
     match replay_standard_input(&rt) {
         Ok(()) => ExitCode::SUCCESS,

@@ -94,7 +94,8 @@ fn parse_charge_command(fields: &[&[u8]]) -> Result<Command, Refusal>
 
 // Parses the command that adds a commission band from the fields TIER, TYPE, EXCHANGE, FROM, TO and
 // RATE of a row. Refuses a wrong number of fields with `BadText`, and malformed fields with the
-// first that applies of `BadText`, `BadQty` and `BadType`. Fails with `Memory` only.
+// first that applies of `BadText`, `BadQty` (also if FROM is greater than TO) and `BadType`. Fails
+// with `Memory` only.
 fn parse_band_command(alloc: Global, fields: &[&[u8]]) -> Planned<Command>
     ensures read { IfOk result (λ read. ParsesAs abstract_command read (read_and_wrap AddBand read_commission_band (texts_of_fields fields.now))) }
     ensures fault { OnErr result (result ≡ Err Memory) }
@@ -129,8 +130,9 @@ fn parse_customer_tax_command(fields: &[&[u8]]) -> Result<Command, Refusal>
 }
 
 // Parses a command of the kind `kind`, other than `broker`, `customer` and `account`, from the
-// fields after the kind. Refuses an unknown kind, and these three, with `BadText`, and malformed
-// fields with the refusal of their format check. Fails with `Memory` only.
+// fields after the kind. Refuses an unknown kind, these three, or a wrong number of fields, with
+// `BadText`, malformed fields with the refusal of their format check, and otherwise more than 20
+// ticks or ids with `TooMany`. Fails with `Memory` only.
 fn parse_command_except_parties(alloc: Global, kind: &[u8], fields: &[&[u8]]) -> Planned<Command>
     ensures read { IfOk result (λ read. ParsesAs abstract_command read (parse_by_first_field (other_reference_row_parsers ++ order_row_parsers
         ++ result_row_parsers ++ update_row_parsers ++ movement_and_settlement_day_row_parsers) (kind.now
@@ -158,8 +160,9 @@ fn parse_command_except_parties(alloc: Global, kind: &[u8], fields: &[&[u8]]) ->
     parse_trade_or_cash_command(alloc, kind, fields)
 }
 
-// Parses a command of the kind `kind` from the fields after it. Refuses an unknown kind with
-// `BadText`, and malformed fields with the refusal of their format check. Fails with `Memory` only.
+// Parses a command of the kind `kind` from the fields after it. Refuses an unknown kind, or a wrong
+// number of fields, with `BadText`, malformed fields with the refusal of their format check, and
+// otherwise more than 20 ticks or ids with `TooMany`. Fails with `Memory` only.
 fn parse_command_of_kind(alloc: Global, kind: &[u8], fields: &[&[u8]]) -> Planned<Command>
     ensures read { IfOk result (λ read. ParsesAs abstract_command read (parse_by_first_field row_parsers (kind.now ∷ texts_of_fields fields.now))) }
     ensures fault { OnErr result (result ≡ Err Memory) }
@@ -178,9 +181,10 @@ fn parse_command_of_kind(alloc: Global, kind: &[u8], fields: &[&[u8]]) -> Planne
 
 /// Parses the command of a row from its fields, the kind first.
 ///
-/// Refuses an unknown kind, or no field at all, with `BadText` (18), and malformed fields with the
-/// first format check that fails: `BadText` (18), `BadQty` (8), `BadPrice` (9), `BadType` (7), or
-/// `TooMany` (20) for more than 20 ticks or ids. Fails with `Memory` only.
+/// Refuses an unknown kind, or no field at all, with `BadText` (18). Refuses a wrong number of
+/// fields, or malformed fields, with the first format check that fails: `BadText` (18), also for a
+/// wrong number, `BadQty` (8), `BadPrice` (9), `BadType` (7), or `TooMany` (20) for more than 20
+/// ticks or ids. Fails with `Memory` only.
 pub fn parse_row(alloc: Global, fields: &[&[u8]]) -> Planned<Command>
     ensures read { IfOk result (λ read. ParsesAs abstract_command read (parse_by_first_field row_parsers (texts_of_fields fields.now))) }
     ensures fault { OnErr result (result ≡ Err Memory) }

@@ -32,7 +32,7 @@ fn parse_settlement_day_command(fields: &[&[u8]]) -> Result<Command, Refusal>
 }
 
 // Parses a command of the kind `deposit`, `withdraw` or `oneday` from the fields after the kind.
-// Refuses any other kind, and malformed fields, with `BadText`.
+// Refuses any other kind, malformed fields, or a wrong number of them, with `BadText`.
 pub(crate) fn parse_movement_or_settlement_day(
     kind: &[u8],
     fields: &[&[u8]],

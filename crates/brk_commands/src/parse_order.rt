@@ -14,8 +14,8 @@ use std::alloc::Global;
 
 // Parses the command of an order from the fields ACCOUNT, TYPE, SYMBOL, QTY, PRICE, CASH, END,
 // FIRST, LAST and TAXID of a row. Refuses a wrong number of fields with `BadText`, and malformed
-// fields with the first that applies of `BadText`, `BadQty`, `BadPrice` and `BadType`. Fails with
-// `Memory` only.
+// fields with the first that applies of `BadText`, `BadQty`, `BadPrice` (also if PRICE is not empty
+// for a market type, or is empty for another known type) and `BadType`. Fails with `Memory` only.
 fn parse_order_command(alloc: Global, fields: &[&[u8]]) -> Planned<Command>
     ensures read { IfOk result (λ read. ParsesAs abstract_command read (read_and_wrap PlaceOrder read_order (texts_of_fields fields.now))) }
     ensures fault { OnErr result (result ≡ Err Memory) }
@@ -65,8 +65,9 @@ fn parse_completion_command(fields: &[&[u8]]) -> Result<Command, Refusal>
 
 // Parses a command of a kind that adds no reference record from the fields after the kind: `order`,
 // `feed`, `cancel`, `result`, `upname`, `upcash`, `uptext`, `deposit`, `withdraw` or `oneday`.
-// Refuses any other kind with `BadText`, and malformed fields with the refusal of their format
-// check. Fails with `Memory` only.
+// Refuses any other kind, or a wrong number of fields, with `BadText`, malformed fields with the
+// refusal of their format check, and otherwise more than 20 ticks or ids with `TooMany`. Fails with
+// `Memory` only.
 pub(crate) fn parse_trade_or_cash_command(
     alloc: Global,
     kind: &[u8],

@@ -29,7 +29,7 @@ fn parse_executor_update_command(alloc: Global, fields: &[&[u8]]) -> Planned<Com
 }
 
 // Parses the command that updates settlement texts from the fields ACCOUNT, FROM and TO of a row.
-// Refuses malformed fields, or a wrong number of them, with `BadText`.
+// Refuses malformed fields, or a wrong number of them, with `BadText`. FROM may be later than TO.
 fn parse_cash_type_update_command(fields: &[&[u8]]) -> Result<Command, Refusal>
     ensures { ParsesAs abstract_command result (read_cash_type_update (texts_of_fields fields.now)) }
 {
@@ -40,7 +40,8 @@ fn parse_cash_type_update_command(fields: &[&[u8]]) -> Result<Command, Refusal>
 }
 
 // Parses the command that updates cash texts from the fields SYMBOL, FROM and TO of a row. Refuses
-// malformed fields, or a wrong number of them, with `BadText`. Fails with `Memory` only.
+// malformed fields, or a wrong number of them, with `BadText`. FROM may be later than TO. Fails
+// with `Memory` only.
 fn parse_cash_text_update_command(alloc: Global, fields: &[&[u8]]) -> Planned<Command>
     ensures read { IfOk result (λ read. ParsesAs abstract_command read (read_cash_name_update (texts_of_fields fields.now))) }
     ensures fault { OnErr result (result ≡ Err Memory) }
@@ -52,15 +53,15 @@ fn parse_cash_text_update_command(alloc: Global, fields: &[&[u8]]) -> Planned<Co
 }
 
 // Parses a command of the kind `upname`, `upcash`, `uptext`, `deposit`, `withdraw` or `oneday` from
-// the fields after the kind. Refuses any other kind with `BadText`, and malformed fields with the
-// refusal of their format check. Fails with `Memory` only.
+// the fields after the kind. Refuses any other kind, malformed fields, or a wrong number of them,
+// with `BadText`, and otherwise more than 20 ids with `TooMany`. Fails with `Memory` only.
 pub(crate) fn parse_update_or_movement_command(
     alloc: Global,
     kind: &[u8],
     fields: &[&[u8]],
 ) -> Planned<Command>
-    ensures read { IfOk result (λ read. ParsesAs abstract_command read (parse_by_first_field (update_row_parsers ++ movement_and_settlement_day_row_parsers) (kind.now
-        ∷ texts_of_fields fields.now))) }
+    ensures read { IfOk result (λ read. ParsesAs abstract_command read
+        (parse_by_first_field (update_row_parsers ++ movement_and_settlement_day_row_parsers) (kind.now ∷ texts_of_fields fields.now))) }
     ensures fault { OnErr result (result ≡ Err Memory) }
 {
     if kind == b"upname".as_slice() {

@@ -43,9 +43,10 @@ fn prove_command_and_key_meet_formats(command: &Command, key: Option<&Key>)
 /// - `Refused` with the first reason that applies, if the command is refused.
 ///
 /// Fails with `Memory` or `Store` only; with `Store` also if the `sqlite` crate runs out of memory,
-/// a row that another row requires does not exist, a lot has no shares, a number or a sum is out of
-/// range, or no number is left for a cash row; none of these closes the store. A refusal, a stored
-/// reply or a fault changes nothing in a store that is still open, and records no key.
+/// a row that it reads is malformed, a row that another row requires does not exist, a lot has no
+/// shares, a number or a sum is out of range, or no number is left for a cash row; none of these
+/// closes the store. A refusal, a stored reply or a fault changes nothing in a store that is still
+/// open, and records no key.
 ///
 /// A crash after the call exposes a state that a crash before the call could expose, or the tables
 /// after the command; after `Done` only the latter.

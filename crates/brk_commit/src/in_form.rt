@@ -119,7 +119,7 @@ fn prove_reference_meets_audit_formats(reference: &Reference)
     }
 }
 
-// Proves that the quantity and the price of an order, if it has one, are within their limits. Does
+// Proves that the quantity of an order, and its price, if it has one, are within their limits. Does
 // nothing at run time.
 fn prove_order_meets_audit_formats(order: &Order)
     ensures { OrderMeetsAuditFormats (abstract_order order.now) }

@@ -26,8 +26,9 @@ use sqlite::Alter;
 use std::alloc::Global;
 
 // Returns the row of KEPT under the key `key`, which has the stored request and the stored reply,
-// or `None` if there is no key or no such row. Changes nothing. Fails with `Memory` or `Store`
-// only.
+// or `None` if there is no key or no such row. If the database is still open, it is unchanged.
+// Without a key the store is unchanged, and the function does not fail. Fails with `Memory` or
+// `Store` only; with `Store` also if the row is malformed.
 pub(crate) fn read_stored_reply<S: Alter>(
     store: &mut Store<S>,
     key: Option<&Key>,

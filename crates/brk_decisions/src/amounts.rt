@@ -40,9 +40,9 @@ pub struct ValuedSummaries {
     pub value: Wide,
 }
 
-// Returns the sum of the tax rates that a customer pays, in hundred-thousandths. Changes nothing.
-// Fails with `Memory` or `Store` only; with `Store` also if one of the customer's taxes does not
-// exist, or if the sum exceeds the greatest rate.
+// Returns the sum of the tax rates that a customer pays, in hundred-thousandths. If the database is
+// still open, it is unchanged. Fails with `Memory` or `Store` only; with `Store` also if one of the
+// customer's taxes does not exist, or if the sum exceeds the greatest rate.
 pub(crate) fn read_tax_rate_sum<S: Alter>(
     alloc: Global,
     store: &mut Store<S>,
@@ -72,8 +72,8 @@ fn add_market_value(amount: Wide, row: &SummaryRow, price: Price) -> Option<Wide
 }
 
 // Returns an amount in cents plus the market value of a holding summary at the last price of its
-// symbol. Changes nothing. Fails with `Memory` or `Store` only; with `Store` also if the symbol has
-// no last price or the sum overflows.
+// symbol. If the database is still open, it is unchanged. Fails with `Memory` or `Store` only; with
+// `Store` also if the symbol has no last price or the sum overflows.
 fn add_value_at_last_price<S: Alter>(
     store: &mut Store<S>,
     amount: Wide,
@@ -89,9 +89,9 @@ fn add_value_at_last_price<S: Alter>(
     }
 }
 
-// Returns the holding summaries of an account, and their market value at last prices. Changes
-// nothing. Fails with `Memory` or `Store` only; with `Store` also if a held symbol has no last
-// price or the sum overflows.
+// Returns the holding summaries of an account, in the order of the table, and their market value at
+// last prices, in cents. If the database is still open, it is unchanged. Fails with `Memory` or
+// `Store` only; with `Store` also if a held symbol has no last price or the sum overflows.
 fn read_valued_summaries<S: Alter>(
     alloc: Global,
     store: &mut Store<S>,
@@ -110,8 +110,8 @@ fn read_valued_summaries<S: Alter>(
 }
 
 /// Returns the market value of an account's holdings at last prices, in cents. Shares that were
-/// sold short count below 0. Changes nothing. Fails with `Memory` or `Store` only; with `Store`
-/// also if a held symbol has no last price or the sum overflows.
+/// sold short count below 0. If the database is still open, it is unchanged. Fails with `Memory` or
+/// `Store` only; with `Store` also if a held symbol has no last price or the sum overflows.
 pub fn read_holdings_value<S: Alter>(
     alloc: Global,
     store: &mut Store<S>,
@@ -136,9 +136,9 @@ fn add_balance_to_value(balance: Cents, worth: Wide) -> Option<Wide>
 
 // Returns an account's balance plus the market value of its holdings, in cents, and the number of
 // shares of a security that it holds, below 0 if it sold them short, or `None` if it has no summary
-// of the security. Reads the account's summaries once for both. Changes nothing. Fails with
-// `Memory` or `Store` only; with `Store` also if a held symbol has no last price or the sum
-// overflows.
+// of the security. Reads the account's summaries once for both. If the database is still open, it
+// is unchanged. Fails with `Memory` or `Store` only; with `Store` also if a held symbol has no last
+// price or the sum overflows.
 fn read_assets_and_shares<S: Alter>(
     alloc: Global,
     store: &mut Store<S>,
@@ -157,10 +157,10 @@ fn read_assets_and_shares<S: Alter>(
     }
 }
 
-// Returns the amounts that the estimate of an order of an account needs. Changes nothing. Fails
-// with `Memory` or `Store` only; with `Store` also if one of the customer's taxes does not exist,
-// their rates total more than the greatest rate, a held symbol has no last price, or a sum
-// overflows.
+// Returns the amounts that the estimate of an order of an account needs. If the database is still
+// open, it is unchanged. Fails with `Memory` or `Store` only; with `Store` also if one of the
+// customer's taxes does not exist, their rates total more than the greatest rate, a held symbol has
+// no last price, or a sum overflows.
 pub(crate) fn read_estimate_amounts<S: Alter>(
     alloc: Global,
     store: &mut Store<S>,

@@ -13,8 +13,8 @@ use brk_trade::{Plan, plan_cancel};
 use sqlite::Alter;
 use std::alloc::Global;
 
-// Returns the status of a trade, or `None` if the trade does not exist. Changes nothing. Fails with
-// `Memory` or `Store` only.
+// Returns the status of a trade, or `None` if the trade does not exist. If the database is still
+// open, it is unchanged. Fails with `Memory` or `Store` only.
 fn read_trade_status<S: Alter>(store: &mut Store<S>, trade: Id) -> Result<Option<Status>, Fault>
     ensures read { ReadPost S.Store store.old store.new result (λ status t. status ≡ option_map (λ r. r.status) (trade_row_with_id t trade)) }
     ensures fault { IfErr result IsCallFault }
@@ -26,7 +26,8 @@ fn read_trade_status<S: Alter>(store: &mut Store<S>, trade: Id) -> Result<Option
 }
 
 /// Decides on the cancel of a trade at the clock reading `now`: returns its plan, or the refusal.
-/// Changes nothing.
+/// It is the decision of the model if the tables are those of a base that satisfies the books
+/// invariant. If the database is still open, it is unchanged.
 ///
 /// Fails with `Memory` or `Store` only.
 pub fn decide_cancel<S: Alter>(

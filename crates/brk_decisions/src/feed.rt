@@ -21,9 +21,9 @@ use sqlite::Alter;
 use std::alloc::Global;
 
 // Returns the quote of a tick's symbol: its last trade, and its pending requests that a price from
-// the lowest to the highest price of this symbol's ticks in `ticks` can trigger, read by one
-// statement for each trade type. Returns `None` if the symbol has no last trade. Changes nothing.
-// Fails with `Memory` or `Store` only.
+// the lowest to the highest price of `tick` and of its symbol's ticks in `ticks` can trigger,
+// sorted by trade, ascending. Returns `None` if the symbol has no last trade. If the database is
+// still open, it is unchanged. Fails with `Memory` or `Store` only.
 fn read_quote_of_tick<S: Alter>(
     alloc: Global,
     store: &mut Store<S>,
@@ -53,7 +53,8 @@ fn read_quote_of_tick<S: Alter>(
 
 // Returns the stamp of the last accepted command, or `None` if there is none, and one quote for
 // each symbol of `ticks` that has a last trade: this trade, and the pending requests that the ticks
-// of the symbol can trigger. Changes nothing. Fails with `Memory` or `Store` only.
+// of the symbol can trigger. If the database is still open, it is unchanged. Fails with `Memory` or
+// `Store` only.
 fn read_last_stamp_and_quotes<S: Alter>(
     alloc: Global,
     store: &mut Store<S>,
@@ -75,8 +76,9 @@ fn read_last_stamp_and_quotes<S: Alter>(
     Ok((last, quotes))
 }
 
-/// Decides on a feed of ticks at the clock reading `now`: returns its plan, or the refusal. Changes
-/// nothing.
+/// Decides on a feed of ticks at the clock reading `now`: returns its plan, or the refusal. It is
+/// the decision of the model if the tables are those of a base that satisfies the books invariant.
+/// If the database is still open, it is unchanged.
 ///
 /// Fails with `Memory` or `Store` only.
 pub fn decide_feed<S: Alter>(

@@ -30,8 +30,8 @@ pub(crate) const NO_REFERENCE_FACTS: ReferenceFacts = ReferenceFacts {
     rates: None,
 };
 
-// Returns true if the broker with the id `id` exists. Changes nothing. Fails with `Memory` or
-// `Store` only.
+// Returns true if the broker with the id `id` exists. If the database is still open, it is
+// unchanged. Fails with `Memory` or `Store` only.
 fn broker_exists<S: Alter>(store: &mut Store<S>, id: Id) -> Result<bool, Fault>
     ensures read { ReadPost S.Store store.old store.new result (λ there t. there ≡ has_broker t id) }
     ensures fault { IfErr result IsCallFault }
@@ -39,8 +39,8 @@ fn broker_exists<S: Alter>(store: &mut Store<S>, id: Id) -> Result<bool, Fault>
     Ok(store.broker(id)?.is_some())
 }
 
-// Returns true if the customer with the id `id` exists. Changes nothing. Fails with `Memory` or
-// `Store` only.
+// Returns true if the customer with the id `id` exists. If the database is still open, it is
+// unchanged. Fails with `Memory` or `Store` only.
 pub(crate) fn customer_exists<S: Alter>(store: &mut Store<S>, id: Id) -> Result<bool, Fault>
     ensures read { ReadPost S.Store store.old store.new result (λ there t. there ≡ has_customer t id) }
     ensures fault { IfErr result IsCallFault }
@@ -48,8 +48,8 @@ pub(crate) fn customer_exists<S: Alter>(store: &mut Store<S>, id: Id) -> Result<
     Ok(store.customer(id)?.is_some())
 }
 
-// Returns true if a customer with the tax id `tax_id` exists. Changes nothing. Fails with `Memory`
-// or `Store` only.
+// Returns true if a customer with the tax id `tax_id` exists. If the database is still open, it is
+// unchanged. Fails with `Memory` or `Store` only.
 fn tax_id_exists<S: Alter>(store: &mut Store<S>, tax_id: &TaxId) -> Result<bool, Fault>
     ensures read { ReadPost S.Store store.old store.new result (λ there t. there ≡ contains_tax_id t tax_id.now) }
     ensures fault { IfErr result IsCallFault }
@@ -57,8 +57,8 @@ fn tax_id_exists<S: Alter>(store: &mut Store<S>, tax_id: &TaxId) -> Result<bool,
     Ok(store.customer_by_tax_id(tax_id)?.is_some())
 }
 
-// Returns true if the account with the id `id` exists. Changes nothing. Fails with `Memory` or
-// `Store` only.
+// Returns true if the account with the id `id` exists. If the database is still open, it is
+// unchanged. Fails with `Memory` or `Store` only.
 pub(crate) fn account_exists<S: Alter>(store: &mut Store<S>, id: Id) -> Result<bool, Fault>
     ensures read { ReadPost S.Store store.old store.new result (λ there t. there ≡ has_account t id) }
     ensures fault { IfErr result IsCallFault }
@@ -66,8 +66,8 @@ pub(crate) fn account_exists<S: Alter>(store: &mut Store<S>, id: Id) -> Result<b
     Ok(store.account(id)?.is_some())
 }
 
-// Returns the number of accounts of a customer. Changes nothing. Fails with `Memory` or `Store`
-// only.
+// Returns the number of accounts of a customer. If the database is still open, it is unchanged.
+// Fails with `Memory` or `Store` only.
 fn count_accounts<S: Alter>(
     alloc: Global,
     store: &mut Store<S>,
@@ -79,8 +79,8 @@ fn count_accounts<S: Alter>(
     Ok(store.accounts_of_customer(alloc, customer)?.len())
 }
 
-// Returns the fact that decides on a new broker: whether a broker with its id exists. Changes
-// nothing. Fails with `Memory` or `Store` only.
+// Returns the fact that decides on a new broker: whether a broker with its id exists. If the
+// database is still open, it is unchanged. Fails with `Memory` or `Store` only.
 fn read_broker_facts<S: Alter>(
     store: &mut Store<S>,
     broker: &Broker,
@@ -96,7 +96,8 @@ fn read_broker_facts<S: Alter>(
 }
 
 // Returns the facts that decide on a new customer: whether a customer with its id exists, and
-// whether one with its tax id exists. Changes nothing. Fails with `Memory` or `Store` only.
+// whether one with its tax id exists. If the database is still open, it is unchanged. Fails with
+// `Memory` or `Store` only.
 fn read_customer_facts<S: Alter>(
     store: &mut Store<S>,
     customer: &Customer,
@@ -115,8 +116,8 @@ fn read_customer_facts<S: Alter>(
 }
 
 // Returns the facts that decide on a new account: whether an account with its id, its customer and
-// its broker exist, and the number of accounts of its customer. Changes nothing. Fails with
-// `Memory` or `Store` only.
+// its broker exist, and the number of accounts of its customer. If the database is still open, it
+// is unchanged. Fails with `Memory` or `Store` only.
 fn read_account_facts<S: Alter>(
     alloc: Global,
     store: &mut Store<S>,
@@ -139,8 +140,8 @@ fn read_account_facts<S: Alter>(
     })
 }
 
-// Returns the fact that decides on a new security: whether a security with its symbol exists.
-// Changes nothing. Fails with `Memory` or `Store` only.
+// Returns the fact that decides on a new security: whether a security with its symbol exists. If
+// the database is still open, it is unchanged. Fails with `Memory` or `Store` only.
 fn read_new_security_facts<S: Alter>(
     store: &mut Store<S>,
     symbol: &Symbol,
@@ -155,8 +156,8 @@ fn read_new_security_facts<S: Alter>(
     })
 }
 
-// Returns the fact that decides on a new tax: whether a tax with its id exists. Changes nothing.
-// Fails with `Memory` or `Store` only.
+// Returns the fact that decides on a new tax: whether a tax with its id exists. If the database is
+// still open, it is unchanged. Fails with `Memory` or `Store` only.
 fn read_tax_facts<S: Alter>(store: &mut Store<S>, id: Id) -> Result<ReferenceFacts, Fault>
     ensures read { ReadPost S.Store store.old store.new result (λ found t. found.same_id ≡ contains_tax_rate t id) }
     ensures fault { IfErr result IsCallFault }
@@ -169,8 +170,9 @@ fn read_tax_facts<S: Alter>(store: &mut Store<S>, id: Id) -> Result<ReferenceFac
 }
 
 /// Returns the facts that decide on a new reference record. A fact that records of its kind do not
-/// need is false, 0 or `None`. Changes nothing. Fails with `Memory` or `Store` only; with `Store`
-/// also if the record is a tax of a customer who already pays a tax that does not exist.
+/// need may have any value. If the database is still open, it is unchanged. Fails with `Memory` or
+/// `Store` only; with `Store` also if the record is a tax of a customer who already pays a tax that
+/// does not exist.
 pub(crate) fn read_reference_facts<S: Alter>(
     alloc: Global,
     store: &mut Store<S>,

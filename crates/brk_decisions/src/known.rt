@@ -15,8 +15,8 @@ use brk_store::Store;
 use brk_trade::BrokerTotals;
 use sqlite::Alter;
 
-// Returns the customer with the id `id`. Changes nothing. Fails with `Memory` or `Store` only; with
-// `Store` also if there is none.
+// Returns the customer with the id `id`. If the database is still open, it is unchanged. Fails with
+// `Memory` or `Store` only; with `Store` also if there is none.
 pub(crate) fn require_customer<S: Alter>(store: &mut Store<S>, id: Id) -> Result<Customer, Fault>
     ensures read { ReadPost S.Store store.old store.new result (λ customer t. IsCustomerWithId t id customer) }
     ensures fault { IfErr result IsCallFault }
@@ -27,8 +27,8 @@ pub(crate) fn require_customer<S: Alter>(store: &mut Store<S>, id: Id) -> Result
     }
 }
 
-// Returns the row of the account with the id `id`. Changes nothing. Fails with `Memory` or `Store`
-// only; with `Store` also if there is none.
+// Returns the row of the account with the id `id`. If the database is still open, it is unchanged.
+// Fails with `Memory` or `Store` only; with `Store` also if there is none.
 pub(crate) fn require_account<S: Alter>(store: &mut Store<S>, id: Id) -> Result<AccountRow, Fault>
     ensures read { ReadPost S.Store store.old store.new result (λ account t. IsAccountWithId t id account) }
     ensures fault { IfErr result IsCallFault }
@@ -40,8 +40,8 @@ pub(crate) fn require_account<S: Alter>(store: &mut Store<S>, id: Id) -> Result<
 }
 
 // Returns the totals of the broker with the id `id`: the number of its completed trades and their
-// commissions in cents. Changes nothing. Fails with `Memory` or `Store` only; with `Store` also if
-// there is no such broker or a total is out of range.
+// commissions in cents. If the database is still open, it is unchanged. Fails with `Memory` or
+// `Store` only; with `Store` also if there is no such broker or a total is out of range.
 pub(crate) fn require_broker_totals<S: Alter>(
     store: &mut Store<S>,
     id: Id,
@@ -55,8 +55,9 @@ pub(crate) fn require_broker_totals<S: Alter>(
     }
 }
 
-// Returns the last price of a symbol on the market, in cents. Changes nothing. Fails with `Memory`
-// or `Store` only; with `Store` also if the symbol has no last trade.
+// Returns the last price of a symbol on the market, in cents. If the database is still open, it is
+// unchanged. Fails with `Memory` or `Store` only; with `Store` also if the symbol has no last
+// trade.
 pub(crate) fn require_last_price<S: Alter>(
     store: &mut Store<S>,
     symbol: &Symbol,
@@ -70,8 +71,8 @@ pub(crate) fn require_last_price<S: Alter>(
     }
 }
 
-// Returns the security with the symbol `symbol`. Changes nothing. Fails with `Memory` or `Store`
-// only; with `Store` also if there is none.
+// Returns the security with the symbol `symbol`. If the database is still open, it is unchanged.
+// Fails with `Memory` or `Store` only; with `Store` also if there is none.
 pub(crate) fn require_security<S: Alter>(
     store: &mut Store<S>,
     symbol: &Symbol,

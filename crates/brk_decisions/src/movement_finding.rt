@@ -13,8 +13,8 @@ use sqlite::Alter;
 
 /// Returns the facts that decide on a deposit or a withdrawal: the balance of the account (`None`
 /// if the account does not exist), whether the greatest number of movements is reached, and the
-/// number of the next cash row. Changes nothing. Fails with `Memory` or `Store` only; with `Store`
-/// also if no number is left for a cash row.
+/// number of the next cash row. If the database is still open, it is unchanged. Fails with `Memory`
+/// or `Store` only; with `Store` also if no number is left for a cash row.
 pub(crate) fn read_movement_facts<S: Alter>(
     store: &mut Store<S>,
     movement: &Movement,

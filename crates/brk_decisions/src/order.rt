@@ -27,7 +27,7 @@ use std::alloc::Global;
 // returns its plan, or the refusal. It reads at most 16 lots more than the order would close or
 // reduce, also if it fails, and no lot if it refuses the order or the order closes no held shares.
 // Fails with `Memory` or `Store` only; with `Store` also if one of the lots that it reads has no
-// shares.
+// shares, or if the number of lots read exceeds 32 bits.
 fn plan_order_over_lots<S: Alter>(
     alloc: Global,
     order: &Order,
@@ -36,7 +36,9 @@ fn plan_order_over_lots<S: Alter>(
     last: Option<Stamp>,
     now: Stamp,
 ) -> Planned<Plan>
-    // The source borrows the same store; reads change neither its rows nor what a crash exposes.
+    // The source borrows the same store. The reads change none of its rows; if the database is
+    // still open after them, it is unchanged; and a crash after them exposes only states that a
+    // crash before them could expose.
     ensures same_reference { (borrowed_store lots.new).ghost_name ≡ (borrowed_store lots.old).ghost_name }
     ensures store_unchanged { IsUnchangedByReads S.Store (borrowed_store lots.old).now (borrowed_store lots.new).now }
 
@@ -49,7 +51,8 @@ fn plan_order_over_lots<S: Alter>(
     // The number of lots read, also if the call fails.
     ensures few_rows_read { OrderReadsAtMostOneLotMore (terms_of_order order.now found.now)
         (AreLotsBeforeReads S.Store lots.old lots.new) (number_of_rows_read lots.old + 15) (number_of_rows_read lots.new) }
-    ensures no_lot_read { is_trade_closing_lots (terms_of_order order.now found.now).side (terms_of_order order.now found.now).held ≡ false → lots.new ≡ lots.old }
+    ensures no_lot_read { is_trade_closing_lots (terms_of_order order.now found.now).side (terms_of_order order.now found.now).held ≡ false
+        → lots.new ≡ lots.old }
 
     // The only faults are `Memory` and `Store`.
     ensures fault { IfErr result IsCallFault }
@@ -58,11 +61,13 @@ fn plan_order_over_lots<S: Alter>(
 }
 
 /// Decides on an order at the clock reading `now` (Trade-Order): returns its plan, or the refusal.
-/// Changes nothing.
+/// It is the decision of the model if the tables are those of a base that satisfies the books
+/// invariant. If the database is still open, it is unchanged.
 ///
 /// Fails with `Memory` or `Store` only; with `Store` also if the account's customer or one of the
 /// customer's taxes does not exist, the tax rates total more than the greatest rate, a held symbol
-/// has no last price, a sum overflows, or one of the lots that it reads has no shares.
+/// has no last price, a sum overflows, one of the lots that it reads has no shares, or the number
+/// of lots read exceeds 32 bits.
 pub fn decide_order<S: Alter>(
     alloc: Global,
     store: &mut Store<S>,

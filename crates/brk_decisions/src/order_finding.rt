@@ -63,9 +63,10 @@ fn order_facts_with_account(
 // Returns the facts that decide on the estimate of an order whose account is `account`: its broker
 // and tax status, the last price of the order's security, whether the executor may order, the
 // charge, the commission rate and the sum of the tax rates, the account's assets and its shares of
-// the security. Changes nothing. Fails with `Memory` or `Store` only; with `Store` also if the
-// account's customer or one of the customer's taxes does not exist, the tax rates total more than
-// the greatest rate, a held symbol has no last price, or a sum overflows.
+// the security. If a check of the order fails, the facts that are needed only after it may have any
+// value. If the database is still open, it is unchanged. Fails with `Memory` or `Store` only; with
+// `Store` also if the account's customer or one of the customer's taxes does not exist, the tax
+// rates total more than the greatest rate, a held symbol has no last price, or a sum overflows.
 fn read_estimate_facts_with_account<S: Alter>(
     alloc: Global,
     store: &mut Store<S>,
@@ -82,10 +83,11 @@ fn read_estimate_facts_with_account<S: Alter>(
 }
 
 /// Returns the facts that decide on the estimate of an order: those of its account, its customer
-/// and its security. If the order's account does not exist, each fact is `None`, false or 0.
-/// Changes nothing. Fails with `Memory` or `Store` only; with `Store` also if the account's
-/// customer or one of the customer's taxes does not exist, the tax rates total more than the
-/// greatest rate, a held symbol has no last price, or a sum overflows.
+/// and its security. If the order's account does not exist, the account is `None`. If a check of
+/// the order fails, the facts that are needed only after it may have any value. If the database is
+/// still open, it is unchanged. Fails with `Memory` or `Store` only; with `Store` also if the
+/// account's customer or one of the customer's taxes does not exist, the tax rates total more than
+/// the greatest rate, a held symbol has no last price, or a sum overflows.
 pub(crate) fn read_estimate_facts<S: Alter>(
     alloc: Global,
     store: &mut Store<S>,
@@ -104,9 +106,11 @@ pub(crate) fn read_estimate_facts<S: Alter>(
 }
 
 /// Returns the facts that decide on an order: the facts for its estimate, and the greatest trade
-/// id, or `None` if there is no trade. Changes nothing. Fails with `Memory` or `Store` only; with
-/// `Store` also if the account's customer or one of the customer's taxes does not exist, the tax
-/// rates total more than the greatest rate, a held symbol has no last price, or a sum overflows.
+/// id, or `None` if there is no trade. If a check of the order fails, the facts that are needed
+/// only after it may have any value. If the database is still open, it is unchanged. Fails with
+/// `Memory` or `Store` only; with `Store` also if the account's customer or one of the customer's
+/// taxes does not exist, the tax rates total more than the greatest rate, a held symbol has no last
+/// price, or a sum overflows.
 pub(crate) fn read_order_facts<S: Alter>(
     alloc: Global,
     store: &mut Store<S>,

@@ -28,7 +28,8 @@ use std::alloc::Global;
 // `lots`, the lots of its position: returns its plan, or the refusal. If these lots match the
 // account's holding summary, it reads at most 16 lots more than the trade closes or reduces, also
 // if it fails. It reads no lot if the trade closes no held shares. Fails with `Memory` or `Store`
-// only; with `Store` also if one of the lots that it reads has no shares.
+// only; with `Store` also if one of the lots that it reads has no shares, or if the number of lots
+// read exceeds 32 bits.
 fn plan_result_over_lots<S: Alter>(
     alloc: Global,
     found: &ResultPlanFacts,
@@ -37,7 +38,9 @@ fn plan_result_over_lots<S: Alter>(
     last: Option<Stamp>,
     now: Stamp,
 ) -> Planned<Plan>
-    // The source borrows the same store; reads change neither its rows nor what a crash exposes.
+    // The source borrows the same store. The reads change none of its rows; if the database is
+    // still open after them, it is unchanged; and a crash after them exposes only states that a
+    // crash before them could expose.
     ensures same_reference { (borrowed_store lots.new).ghost_name ≡ (borrowed_store lots.old).ghost_name }
     ensures store_unchanged { IsUnchangedByReads S.Store (borrowed_store lots.old).now (borrowed_store lots.new).now }
 
@@ -59,8 +62,9 @@ fn plan_result_over_lots<S: Alter>(
 
 // Plans the result of the trade in `found`, completed at `price`, from these facts and from the
 // lots of its position: returns its plan, or the refusal. If `found` is `None`, the trade does not
-// exist, and it returns the refusal `NoTrade`. Changes nothing. Fails with `Memory` or `Store`
-// only; with `Store` also if one of the lots that it reads has no shares.
+// exist, and it returns the refusal `NoTrade`. If the database is still open, it is unchanged.
+// Fails with `Memory` or `Store` only; with `Store` also if one of the lots that it reads has no
+// shares, or if the number of lots read exceeds 32 bits.
 fn plan_result_from_facts<S: Alter>(
     alloc: Global,
     store: &mut Store<S>,
@@ -90,12 +94,13 @@ fn plan_result_from_facts<S: Alter>(
 }
 
 /// Decides on the result of a trade at the clock reading `now` (Trade-Result): returns its plan, or
-/// the refusal. Changes nothing.
+/// the refusal. It is the decision of the model if the tables are those of a base that satisfies
+/// the books invariant. If the database is still open, it is unchanged.
 ///
 /// Fails with `Memory` or `Store` only; with `Store` also if the trade exists and its account,
 /// customer, broker or security or one of the customer's taxes does not, the tax rates total more
 /// than the greatest rate, a total of the broker is out of range, no number is left for a cash row,
-/// or one of the lots that it reads has no shares.
+/// one of the lots that it reads has no shares, or the number of lots read exceeds 32 bits.
 pub fn decide_result<S: Alter>(
     alloc: Global,
     store: &mut Store<S>,

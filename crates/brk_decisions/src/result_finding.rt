@@ -28,9 +28,9 @@ pub struct SecurityFacts {
 }
 
 // Returns the facts of a trade's security that decide on its result: the name, and the commission
-// rate of the trade for the customer tier `tier`, or `None` if no band has the trade's quantity.
-// Changes nothing. Fails with `Memory` or `Store` only; with `Store` also if the security does not
-// exist.
+// rate of the trade for the customer tier `tier`, or `None` if no band has the trade's quantity. If
+// the database is still open, it is unchanged. Fails with `Memory` or `Store` only; with `Store`
+// also if the security does not exist.
 fn read_security_facts<S: Alter>(
     alloc: Global,
     store: &mut Store<S>,
@@ -67,8 +67,9 @@ pub struct Posting {
     pub next: MoveId,
 }
 
-// Returns the settlement day, or `None` if none is set, and the number of the next cash row.
-// Changes nothing. Fails with `Memory` or `Store` only; with `Store` also if no number is left.
+// Returns the settlement day, or `None` if none is set, and the number of the next cash row. If the
+// database is still open, it is unchanged. Fails with `Memory` or `Store` only; with `Store` also
+// if no number is left.
 fn read_posting_facts<S: Alter>(store: &mut Store<S>) -> Result<Posting, Fault>
     ensures read { ReadPost S.Store store.old store.new result (λ posting t. PostingFactsMatchTables t posting) }
     ensures fault { IfErr result IsCallFault }
@@ -80,9 +81,11 @@ fn read_posting_facts<S: Alter>(store: &mut Store<S>) -> Result<Posting, Fault>
 
 // Returns the facts that decide on a result of the trade `trade`: the trade, whose quantity is at
 // least 1 share, and what the tables have on its account, customer, broker, security and cash row.
-// Changes nothing. Fails with `Memory` or `Store` only; with `Store` also if its account, customer,
-// broker or security or one of the customer's taxes does not exist, the tax rates total more than
-// the greatest rate, a total of the broker is out of range, or no number is left for a cash row.
+// If a check of the result fails, the facts that are needed only after it may have any value. If
+// the database is still open, it is unchanged. Fails with `Memory` or `Store` only; with `Store`
+// also if its account, customer, broker or security or one of the customer's taxes does not exist,
+// the tax rates total more than the greatest rate, a total of the broker is out of range, or no
+// number is left for a cash row.
 fn read_result_facts_of_trade<S: Alter>(
     alloc: Global,
     store: &mut Store<S>,
@@ -112,10 +115,11 @@ fn read_result_facts_of_trade<S: Alter>(
 }
 
 /// Returns the facts that decide on a result of the trade with the id `trade`, whose quantity is at
-/// least 1 share, or `None` if the trade does not exist. Changes nothing. Fails with `Memory` or
-/// `Store` only; with `Store` also if its account, customer, broker or security or one of the
-/// customer's taxes does not exist, the tax rates total more than the greatest rate, a total of the
-/// broker is out of range, or no number is left for a cash row.
+/// least 1 share, or `None` if the trade does not exist. If a check of the result fails, the facts
+/// that are needed only after it may have any value. If the database is still open, it is
+/// unchanged. Fails with `Memory` or `Store` only; with `Store` also if its account, customer,
+/// broker or security or one of the customer's taxes does not exist, the tax rates total more than
+/// the greatest rate, a total of the broker is out of range, or no number is left for a cash row.
 pub(crate) fn read_result_facts<S: Alter>(
     alloc: Global,
     store: &mut Store<S>,

@@ -34,8 +34,8 @@ fn shares_of_optional_summary(summary: Option<SummaryRow>) -> Option<i64>
 }
 
 // Returns the number of shares of a security that an account holds in total, below 0 if it sold
-// them short, or `None` if it has no summary of the security. Changes nothing. Fails with `Memory`
-// or `Store` only.
+// them short, or `None` if it has no summary of the security. If the database is still open, it is
+// unchanged. Fails with `Memory` or `Store` only.
 pub(crate) fn read_summary_shares<S: Alter>(
     store: &mut Store<S>,
     account: Id,

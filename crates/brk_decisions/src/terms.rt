@@ -19,8 +19,8 @@ use brk_trade::ReferenceFacts;
 use sqlite::Alter;
 use std::alloc::Global;
 
-// Returns true if the account has a permission for the tax id `tax_id`. Changes nothing. Fails with
-// `Memory` or `Store` only.
+// Returns true if the account has a permission for the tax id `tax_id`. If the database is still
+// open, it is unchanged. Fails with `Memory` or `Store` only.
 fn permission_exists<S: Alter>(
     store: &mut Store<S>,
     account: Id,
@@ -33,7 +33,7 @@ fn permission_exists<S: Alter>(
 }
 
 // Returns the rate of the tax with the id `tax`, in hundred-thousandths, or `None` if the tax does
-// not exist. Changes nothing. Fails with `Memory` or `Store` only.
+// not exist. If the database is still open, it is unchanged. Fails with `Memory` or `Store` only.
 fn read_rate_of_tax<S: Alter>(store: &mut Store<S>, tax: Id) -> Result<Option<TaxRate>, Fault>
     ensures read { ReadPost S.Store store.old store.new result (λ rate t. rate ≡ rate_of_tax_rate_with_id t tax) }
     ensures fault { IfErr result IsCallFault }
@@ -45,7 +45,7 @@ fn read_rate_of_tax<S: Alter>(store: &mut Store<S>, tax: Id) -> Result<Option<Ta
 }
 
 // Returns true if CUSTOMER_TAXRATE has a row of the customer and the tax: the customer pays the
-// tax. Changes nothing. Fails with `Memory` or `Store` only.
+// tax. If the database is still open, it is unchanged. Fails with `Memory` or `Store` only.
 fn customer_pays_tax<S: Alter>(store: &mut Store<S>, customer: Id, tax: Id) -> Result<bool, Fault>
     ensures read { ReadPost S.Store store.old store.new result (λ there t. there ≡ contains_customer_tax t customer tax) }
     ensures fault { IfErr result IsCallFault }
@@ -53,9 +53,9 @@ fn customer_pays_tax<S: Alter>(store: &mut Store<S>, customer: Id, tax: Id) -> R
     Ok(store.customer_tax(customer, tax)?.is_some())
 }
 
-// Returns the taxes that a customer pays, with their rates, sorted by id, ascending. Changes
-// nothing. Fails with `Memory` or `Store` only; with `Store` also if one of the taxes does not
-// exist.
+// Returns the taxes that a customer pays, with their rates, in the order of the rows of
+// CUSTOMER_TAXRATE. If the database is still open, it is unchanged. Fails with `Memory` or `Store`
+// only; with `Store` also if one of the taxes does not exist.
 fn read_taxes_of_customer<S: Alter>(
     alloc: Global,
     store: &mut Store<S>,
@@ -77,8 +77,8 @@ fn read_taxes_of_customer<S: Alter>(
 }
 
 // Returns the sum of the tax rates that a customer pays, in hundred-thousandths, or `None` if the
-// sum exceeds the greatest rate. Changes nothing. Fails with `Memory` or `Store` only; with `Store`
-// also if one of the taxes does not exist.
+// sum exceeds the greatest rate. If the database is still open, it is unchanged. Fails with
+// `Memory` or `Store` only; with `Store` also if one of the taxes does not exist.
 pub(crate) fn read_tax_rate_sum_within_limit<S: Alter>(
     alloc: Global,
     store: &mut Store<S>,
@@ -93,7 +93,8 @@ pub(crate) fn read_tax_rate_sum_within_limit<S: Alter>(
 }
 
 // Returns the facts that decide on a new permission: whether its account exists, and whether this
-// account has a permission for its tax id. Changes nothing. Fails with `Memory` or `Store` only.
+// account has a permission for its tax id. If the database is still open, it is unchanged. Fails
+// with `Memory` or `Store` only.
 pub(crate) fn read_permission_facts<S: Alter>(
     store: &mut Store<S>,
     permission: &Permission,
@@ -112,7 +113,7 @@ pub(crate) fn read_permission_facts<S: Alter>(
 }
 
 // Returns the fact that decides on a new charge: whether a charge of its trade type and customer
-// tier exists. Changes nothing. Fails with `Memory` or `Store` only.
+// tier exists. If the database is still open, it is unchanged. Fails with `Memory` or `Store` only.
 pub(crate) fn read_charge_facts<S: Alter>(
     store: &mut Store<S>,
     charge: &Charge,
@@ -128,8 +129,8 @@ pub(crate) fn read_charge_facts<S: Alter>(
 }
 
 // Returns the fact that decides on a new commission band: whether it shares a quantity with an
-// existing band of its tier, trade type and exchange. Changes nothing. Fails with `Memory` or
-// `Store` only.
+// existing band of its tier, trade type and exchange. If the database is still open, it is
+// unchanged. Fails with `Memory` or `Store` only.
 pub(crate) fn read_band_facts<S: Alter>(
     alloc: Global,
     store: &mut Store<S>,
@@ -148,9 +149,9 @@ pub(crate) fn read_band_facts<S: Alter>(
 
 // Returns the facts that decide on a new tax of a customer: whether the customer exists, whether
 // the customer already pays this tax, the rate of the tax (`None` if the tax does not exist), and
-// the sum of the rates that the customer pays (`None` if it exceeds the greatest rate). Changes
-// nothing. Fails with `Memory` or `Store` only; with `Store` also if one of the taxes that the
-// customer pays does not exist.
+// the sum of the rates that the customer pays (`None` if it exceeds the greatest rate). If the
+// database is still open, it is unchanged. Fails with `Memory` or `Store` only; with `Store` also
+// if one of the taxes that the customer pays does not exist.
 pub(crate) fn read_customer_tax_facts<S: Alter>(
     alloc: Global,
     store: &mut Store<S>,

@@ -24,7 +24,7 @@ use std::alloc::Global;
 /// The facts that the checks of an order test, if its account exists.
 #[derive(Clone, Copy)]
 pub struct OrderCheckFacts {
-    /// The last price of the order's security, in cents, or `None` if the security does not exist.
+    /// The last price of the order's security, in cents, or `None` if it has no last trade.
     pub last_price: Option<Price>,
     /// True if the order's executor may order for the account.
     pub is_permitted: bool,
@@ -37,7 +37,7 @@ pub struct OrderCheckFacts {
 }
 
 // Returns the last price of a symbol on the market, in cents, or `None` if the symbol has no last
-// trade. Changes nothing. Fails with `Memory` or `Store` only.
+// trade. If the database is still open, it is unchanged. Fails with `Memory` or `Store` only.
 pub(crate) fn read_last_price<S: Alter>(
     store: &mut Store<S>,
     symbol: &Symbol,
@@ -52,8 +52,8 @@ pub(crate) fn read_last_price<S: Alter>(
 }
 
 // Returns true if an executor may order for an account of a customer: the executor has the names
-// and the tax id of the customer, or those of the account's permission for this tax id. Changes
-// nothing. Fails with `Memory` or `Store` only.
+// and the tax id of the customer, or those of the account's permission for this tax id. If the
+// database is still open, it is unchanged. Fails with `Memory` or `Store` only.
 fn is_executor_permitted<S: Alter>(
     store: &mut Store<S>,
     account: Id,
@@ -70,8 +70,8 @@ fn is_executor_permitted<S: Alter>(
     Ok(permitted(customer, permission.as_slice(), executor))
 }
 
-// Returns the charge of a trade type and a customer tier, in cents, or `None` if there is none.
-// Changes nothing. Fails with `Memory` or `Store` only.
+// Returns the charge of a trade type and a customer tier, in cents, or `None` if there is none. If
+// the database is still open, it is unchanged. Fails with `Memory` or `Store` only.
 fn read_charge_of_type_and_tier<S: Alter>(
     store: &mut Store<S>,
     kind: TradeType,
@@ -87,8 +87,8 @@ fn read_charge_of_type_and_tier<S: Alter>(
 }
 
 // Returns the commission rate of the band of a quantity for a customer tier, a trade type and an
-// exchange, in hundredths of a percent, or `None` if no band has this quantity. Changes nothing.
-// Fails with `Memory` or `Store` only.
+// exchange, in hundredths of a percent, or `None` if no band has this quantity. If the database is
+// still open, it is unchanged. Fails with `Memory` or `Store` only.
 pub(crate) fn read_commission_rate_of_band<S: Alter>(
     alloc: Global,
     store: &mut Store<S>,
@@ -106,8 +106,8 @@ pub(crate) fn read_commission_rate_of_band<S: Alter>(
 }
 
 // Returns the commission rate of an order for a customer tier, in hundredths of a percent, or
-// `None` if no band has its quantity or its security does not exist. Changes nothing. Fails with
-// `Memory` or `Store` only.
+// `None` if no band has its quantity. If its security does not exist, the result may have any
+// value. If the database is still open, it is unchanged. Fails with `Memory` or `Store` only.
 fn read_commission_rate_of_order<S: Alter>(
     alloc: Global,
     store: &mut Store<S>,
@@ -137,7 +137,8 @@ fn read_commission_rate_of_order<S: Alter>(
 
 // Returns the facts that the checks of an order test, for an order of the customer `customer`,
 // whose account exists: the last price, whether the executor may order, the charge and the
-// commission rate. Changes nothing. Fails with `Memory` or `Store` only.
+// commission rate, which may have any value if the security of the order does not exist. If the
+// database is still open, it is unchanged. Fails with `Memory` or `Store` only.
 pub(crate) fn read_order_check_facts<S: Alter>(
     alloc: Global,
     store: &mut Store<S>,

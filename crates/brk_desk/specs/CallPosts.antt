@@ -118,7 +118,8 @@ pub record RunPost {S : Type 0} (g : Ghosts S) (old new : Held S) (calls : List 
   pub fault : AllByRecursion FailsOnlyWithMemoryOrStore outcomes
   -- If no outcome is `Done` and the database is open after the calls, it was open before and is
   -- unchanged.
-  pub unchanged_if_open : HasCleanDisk (state g new) → IsTrue (state g new).is_open → OutcomesAcknowledgeNothing outcomes → WasOpenAndIsUnchanged (state g old) (state g new)
+  pub unchanged_if_open : HasCleanDisk (state g new) → IsTrue (state g new).is_open → OutcomesAcknowledgeNothing outcomes
+      → WasOpenAndIsUnchanged (state g old) (state g new)
   -- If the store is open after the calls, it was open before.
   pub was_open : HasCleanDisk (state g new) → IsTrue (state g new).is_open → IsTrue (state g old).is_open
   -- Crash safety: a crash after the calls exposes a state that a crash before them could expose or,

@@ -47,8 +47,8 @@ pub fn store_represents_base_of_audited_rows<S: Alter>()
 
 /// Proves that a connection to a database with the tables of the base `after` represents `after`,
 /// if a crash after a run may expose `after` (`CrashMayExposeBase`), its texts are UTF-8, the calls
-/// of the run are well-formed, and the base before the run satisfies the books invariant and the
-/// audit invariant.
+/// of the run meet the formats of the audit (`CallMeetsAuditFormats`), and the base before the run
+/// satisfies the books invariant and the audit invariant.
 pub fn reopened_store_represents_exposed_base<S: Alter>()
     ensures { (base : Base) (calls : List (ℕ × Call)) (outcomes : List Outcome) (after : Base) (trees : Trees) (conn : Held S) → BooksInvariant base
         → AuditInvariant base

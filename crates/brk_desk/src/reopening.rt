@@ -65,7 +65,8 @@ pub fn recovery_never_reports_damage<S: Alter>()
         → CreatePost S.Store before at_crash created
         → HasCleanDisk (state S.Store at_crash) → (state S.Store at_crash).may_leave trees → IsNewConnectionToDiskContent S.Store trees reopened
         → AdoptPost S.Store reopened adopted result
-        → HasCleanDisk (state S.Store adopted) → (state S.Store before).may_leave trees ⊎ FindsBaseWithoutDamage S.Store adopted result (λ base. base ≡ empty_base) }
+        → HasCleanDisk (state S.Store adopted)
+        → (state S.Store before).may_leave trees ⊎ FindsBaseWithoutDamage S.Store adopted result (λ base. base ≡ empty_base) }
     // Suppose that a store represents a base and that a crash exposes only the tables of this base
     // (`RepresentsDurableBase`), as after a creation or an adoption. After a crash that follows a
     // call of this store, the adopted store represents the base before the command or the base

@@ -132,8 +132,8 @@ pub fn ending_after_close(ending: Ending, closed: Result<(), Fault>) -> Ending
 }
 
 // Sends to `errors` the error line of a report that is refused or ended early: the number of the
-// refusal, or the error line of the fault of the desk or of the writer. If the sink fails, it has
-// received a prefix of the line, perhaps all of it.
+// refusal, or the error line of the fault of the desk or of the writer. Fails only if the sink
+// fails, which has then received a prefix of the line, perhaps all of it.
 fn send_report_error_line<S: Sink>(fault: &ReportFault, errors: &mut S) -> Result<(), NotWritten>
     ensures ok { OnOk result (Appends (S.contents errors.old) (S.contents errors.new) (spec.error_line_of_report fault.now)) }
     ensures err { OnErr result (SinkFailsWithinText S.contents S.fails errors.old errors.new (spec.error_line_of_report fault.now)) }
@@ -149,7 +149,7 @@ fn send_report_error_line<S: Sink>(fault: &ReportFault, errors: &mut S) -> Resul
 }
 
 // Sends to `errors` the error text or line of arguments that request no job, or nothing for help.
-// If the sink fails, it has received a prefix of the text, perhaps all of it.
+// Fails only if the sink fails, which has then received a prefix of the text, perhaps all of it.
 fn send_usage_error_text<S: Sink>(fault: &UsageFault, errors: &mut S) -> Result<(), NotWritten>
     ensures ok { OnOk result (Appends (S.contents errors.old) (S.contents errors.new) (spec.error_line_of_usage fault.now)) }
     ensures err { OnErr result (SinkFailsWithinText S.contents S.fails errors.old errors.new (spec.error_line_of_usage fault.now)) }
@@ -163,8 +163,8 @@ fn send_usage_error_text<S: Sink>(fault: &UsageFault, errors: &mut S) -> Result<
 }
 
 /// Sends to `errors` the error line or text of an ending, or nothing for a job that is done, for
-/// help and for a closed pipe. If the sink fails, it has received a prefix of the line, perhaps all
-/// of it.
+/// help and for a closed pipe. Fails only if the sink fails, which has then received a prefix of
+/// the line, perhaps all of it.
 pub fn send_error_line<S: Sink>(ending: &Ending, errors: &mut S) -> Result<(), NotWritten>
     ensures ok { OnOk result (Appends (S.contents errors.old) (S.contents errors.new) (spec.error_line ending.now)) }
     ensures err { OnErr result (SinkFailsWithinText S.contents S.fails errors.old errors.new (spec.error_line ending.now)) }

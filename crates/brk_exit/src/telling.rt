@@ -23,8 +23,8 @@ pub fn fault_error_line(fault: Fault) -> ErrorLineParts<'static>
     }
 }
 
-/// Sends an error line to a sink: its two parts and a line feed. If the sink fails, it has received
-/// a prefix of these bytes, perhaps all of them.
+/// Sends an error line to a sink: its two parts and a line feed. Fails only if the sink fails,
+/// which has then received a prefix of these bytes, perhaps all of them.
 pub fn send_line<S: Sink>(sink: &mut S, line: ErrorLineParts<'_>) -> Result<(), NotWritten>
     ensures ok { OnOk result (Appends (S.contents sink.old) (S.contents sink.new) (spec.bytes_of_error_line line.entry)) }
     ensures err { OnErr result (SinkFailsWithinText S.contents S.fails sink.old sink.new (spec.bytes_of_error_line line.entry)) }

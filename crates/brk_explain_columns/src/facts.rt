@@ -26,8 +26,8 @@ pub fn put_label(out: &mut Vec<u8>, label: &str) -> Result<(), Fault>
     Ok(())
 }
 
-/// Appends to `out` a label, left-aligned in 15 places, a space, and a text. Fails with `Memory`
-/// only.
+/// Appends to `out` a label, left-aligned in 15 places (a longer one whole), a space, and a text.
+/// Fails with `Memory` only.
 #[tactic(auto, unfolding(brk_explain_model::specs::Texts::labeled_text))]
 pub fn put_labeled_text(out: &mut Vec<u8>, label: &str, text: &[u8]) -> Result<(), Fault>
     ensures ok { OnOk result (out.new.items ≡ out.old.items ++ texts.labeled_text label.now text.now) }
@@ -37,8 +37,8 @@ pub fn put_labeled_text(out: &mut Vec<u8>, label: &str, text: &[u8]) -> Result<(
     put_text(out, text)
 }
 
-/// Appends to `out` a label, left-aligned in 15 places, a space, and a number in decimal digits,
-/// right-aligned in 22 places. Fails with `Memory` only.
+/// Appends to `out` a label, left-aligned in 15 places (a longer one whole), a space, and a number
+/// in decimal digits, right-aligned in 22 places. Fails with `Memory` only.
 #[tactic(auto, unfolding(brk_explain_model::specs::Texts::labeled_number, brk_explain_model::specs::Texts::labeled_value))]
 pub fn put_labeled_number(out: &mut Vec<u8>, label: &str, n: u64) -> Result<(), Fault>
     ensures ok { OnOk result (out.new.items ≡ out.old.items ++ texts.labeled_number label.now n) }
@@ -49,7 +49,8 @@ pub fn put_labeled_number(out: &mut Vec<u8>, label: &str, n: u64) -> Result<(), 
 }
 
 /// Appends to `out` a label, left-aligned in 15 places, a space, and an amount in cents, written
-/// with two decimal places and right-aligned in 22 places. Fails with `Memory` only.
+/// with two decimal places and right-aligned in 22 places. A longer label or amount is appended
+/// whole. Fails with `Memory` only.
 #[tactic(auto, unfolding(brk_explain_model::specs::Texts::labeled_amount, brk_explain_model::specs::Texts::labeled_value))]
 pub fn put_labeled_amount(
     alloc: Global,
@@ -64,8 +65,8 @@ pub fn put_labeled_amount(
     put_cents_column(alloc, out, 22, amount)
 }
 
-/// Appends to `out` the line of a label, left-aligned in 15 places, a space, and a text, with its
-/// line feed. Fails with `Memory` only.
+/// Appends to `out` the line of a label, left-aligned in 15 places (a longer one whole), a space,
+/// and a text, with its line feed. Fails with `Memory` only.
 pub fn put_labeled_text_line(out: &mut Vec<u8>, label: &str, text: &[u8]) -> Result<(), Fault>
     ensures ok { OnOk result (out.new.items ≡ out.old.items ++ line_with_line_feed (texts.labeled_text label.now text.now)) }
     ensures fault { OnErr result (result ≡ Err Memory) }
@@ -75,7 +76,8 @@ pub fn put_labeled_text_line(out: &mut Vec<u8>, label: &str, text: &[u8]) -> Res
 }
 
 /// Appends to `out` the line of a label, left-aligned in 15 places, a space, and a text `value`,
-/// right-aligned in 22 places, with its line feed. Fails with `Memory` only.
+/// right-aligned in 22 places, with its line feed. A longer label or text is appended whole. Fails
+/// with `Memory` only.
 #[tactic(auto, unfolding(brk_explain_model::specs::Texts::labeled_value))]
 pub fn put_labeled_value_line(out: &mut Vec<u8>, label: &str, value: &[u8]) -> Result<(), Fault>
     ensures ok { OnOk result (out.new.items ≡ out.old.items ++ line_with_line_feed (texts.labeled_value label.now value.now)) }
@@ -86,8 +88,9 @@ pub fn put_labeled_value_line(out: &mut Vec<u8>, label: &str, value: &[u8]) -> R
     end_line(out)
 }
 
-/// Appends to `out` the line of a label, left-aligned in 15 places, a space, and a number in
-/// decimal digits, right-aligned in 22 places, with its line feed. Fails with `Memory` only.
+/// Appends to `out` the line of a label, left-aligned in 15 places (a longer one whole), a space,
+/// and a number in decimal digits, right-aligned in 22 places, with its line feed. Fails with
+/// `Memory` only.
 pub fn put_labeled_number_line(out: &mut Vec<u8>, label: &str, n: u64) -> Result<(), Fault>
     ensures ok { OnOk result (out.new.items ≡ out.old.items ++ line_with_line_feed (texts.labeled_number label.now n)) }
     ensures fault { OnErr result (result ≡ Err Memory) }
@@ -96,8 +99,9 @@ pub fn put_labeled_number_line(out: &mut Vec<u8>, label: &str, n: u64) -> Result
     end_line(out)
 }
 
-/// Appends to `out` the line of a label, left-aligned in 15 places, a space, and a number that may
-/// be below 0, right-aligned in 22 places, with its line feed. Fails with `Memory` only.
+/// Appends to `out` the line of a label, left-aligned in 15 places (a longer one whole), a space,
+/// and a number in decimal digits, with a minus sign if it is below 0, right-aligned in 22 places,
+/// with its line feed. Fails with `Memory` only.
 #[tactic(auto, unfolding(brk_explain_model::specs::Texts::labeled_value))]
 pub fn put_labeled_integer_line(out: &mut Vec<u8>, label: &str, n: i64) -> Result<(), Fault>
     ensures ok { OnOk result (out.new.items ≡ out.old.items ++ line_with_line_feed (texts.labeled_value label.now (signed_decimal n))) }
@@ -109,8 +113,8 @@ pub fn put_labeled_integer_line(out: &mut Vec<u8>, label: &str, n: i64) -> Resul
 }
 
 /// Appends to `out` the line of a label, left-aligned in 15 places, a space, and an amount in
-/// cents, written with two decimal places and right-aligned in 22 places, with its line feed. Fails
-/// with `Memory` only.
+/// cents, written with two decimal places and right-aligned in 22 places, with its line feed. A
+/// longer label or amount is appended whole. Fails with `Memory` only.
 pub fn put_labeled_amount_line(
     alloc: Global,
     out: &mut Vec<u8>,
@@ -124,8 +128,8 @@ pub fn put_labeled_amount_line(
     end_line(out)
 }
 
-/// Appends to `out` the line of a label, left-aligned in 15 places, a space, and a day in the
-/// format YYYY-MM-DD, with its line feed. Fails with `Memory` only.
+/// Appends to `out` the line of a label, left-aligned in 15 places (a longer one whole), a space,
+/// and a day in the format YYYY-MM-DD, with its line feed. Fails with `Memory` only.
 #[tactic(auto, unfolding(brk_explain_model::specs::Texts::labeled_text))]
 pub fn put_labeled_day_line(out: &mut Vec<u8>, label: &str, day: Day) -> Result<(), Fault>
     ensures ok { OnOk result (out.new.items ≡ out.old.items ++ line_with_line_feed (texts.labeled_text label.now (day_text day))) }

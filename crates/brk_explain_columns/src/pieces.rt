@@ -77,8 +77,8 @@ pub fn put_text_and_number(out: &mut Vec<u8>, text: &str, n: u64) -> Result<(), 
     put_number(out, n)
 }
 
-/// Appends to `out` the title line of an explanation: a text, an id, the text `, times in UTC`, and
-/// a line feed. Fails with `Memory` only.
+/// Appends to `out` the title line of an explanation: a text, directly after it an id in decimal
+/// digits, the text `, times in UTC`, and a line feed. Fails with `Memory` only.
 pub fn put_title_line(out: &mut Vec<u8>, text: &str, id: Id) -> Result<(), Fault>
     ensures ok { OnOk result (out.new.items ≡ out.old.items ++ line_with_line_feed (text.now ++ decimal id ++ codes ", times in UTC")) }
     ensures fault { OnErr result (result ≡ Err Memory) }

@@ -70,7 +70,7 @@ fn put_counts_line_of_trade(
     lots: usize,
     cash: u64,
 ) -> Result<(), Fault>
-    ensures ok { OnOk result (out.new.items ≡ out.old.items ++ line_with_line_feed (lines.trade_counts_line statuses lots cash)) }
+    ensures ok { OnOk result (out.new.items ≡ out.old.items ++ line_with_line_feed (lines.counts_line_of_trade statuses lots cash)) }
     ensures fault { OnErr result (result ≡ Err Memory) }
 {
     put_text_and_number(out, "Statuses ", statuses as u64)?;
@@ -82,14 +82,14 @@ fn put_counts_line_of_trade(
 /// Appends to `out` the last line of the explanation of the completed trade `order` with the
 /// results `details`: the numbers of its status changes, of the lots of which it closed shares, and
 /// of the account's earlier cash rows. Fails with `Memory` only.
-#[tactic(auto, unfolding(brk_explain_model::specs::TradeLines::trade_counts_lines))]
+#[tactic(auto, unfolding(brk_explain_model::specs::TradeLines::counts_lines_of_trade))]
 pub(crate) fn put_counts_of_completed_trade(
     out: &mut Vec<u8>,
     order: &OrderDetails,
     details: &ResultDetails,
 ) -> Result<(), Fault>
     ensures ok { OnOk result (out.new.items
-        ≡ out.old.items ++ text_of_lines (lines.trade_counts_lines (abstract_order_details order.now) (abstract_result_details details.now))) }
+        ≡ out.old.items ++ text_of_lines (lines.counts_lines_of_trade (abstract_order_details order.now) (abstract_result_details details.now))) }
     ensures fault { OnErr result (result ≡ Err Memory) }
 {
     put_counts_line_of_trade(

@@ -211,8 +211,8 @@ unfoldable pub commission_band_line : Option Band → Text
 commission_band_line None = labeled_value (codes "Band now") (codes "none")
 commission_band_line (Some b) = labeled_number (codes "Band now") b.rate ++ band_unit_and_bounds_text b ++ band_tier_and_exchange_text b
 
--- The line of the commission at the rate of the current commission band, in cents, or of `none` if
--- there is no such commission.
+-- The line of a trade's commission at the rate of the current commission band, from its amount in
+-- cents, or with `none` if there is no such commission.
 unfoldable pub current_commission_line : Option ℕ → Text
 current_commission_line None = labeled_value (codes "Commission now") (codes "none")
 current_commission_line (Some amount) = labeled_amount (codes "Commission now") (pos amount)
@@ -265,22 +265,22 @@ trade_balance_lines o r =
 -- The last line of the explanation of a completed trade, with the numbers of its status changes
 -- (`statuses`), of the lots of which it closed shares (`lots`), and of the cash rows of its account
 -- before its completion (`cash`).
-abbrev pub trade_counts_line : ℕ → ℕ → ℕ → Text
-trade_counts_line statuses lots cash =
+abbrev pub counts_line_of_trade : ℕ → ℕ → ℕ → Text
+counts_line_of_trade statuses lots cash =
     codes "Statuses " ++ decimal statuses ++ codes ", lots closed " ++ decimal lots ++ codes ", cash rows before " ++ decimal cash
 
 -- The last line of the explanation of a completed trade, as a list of one: the numbers of its
 -- status changes, of the lots of which it closed shares, and of the account's cash rows before its
 -- completion.
-unfoldable pub trade_counts_lines : OrderDetails → ResultDetails → List Text
-trade_counts_lines o r = trade_counts_line (length o.statuses) (length r.closings) r.cash_rows ∷ []
+unfoldable pub counts_lines_of_trade : OrderDetails → ResultDetails → List Text
+counts_lines_of_trade o r = counts_line_of_trade (length o.statuses) (length r.closings) r.cash_rows ∷ []
 
 -- The lines after the status changes of a completed trade: lots and gain, tax, commission,
 -- settlement, due day, balance and counts.
 unfoldable pub completed_trade_lines : OrderDetails → ResultDetails → List Text
 completed_trade_lines o r =
     lot_and_gain_lines o r ++ trade_tax_lines o r ++ band_and_commission_lines o r ++ trade_settlement_lines o r ++ due_day_lines o r ++ trade_balance_lines o r
-    ++ trade_counts_lines o r
+    ++ counts_lines_of_trade o r
 
 -- The lines after the status changes of a trade: `completed_trade_lines` if it has results,
 -- otherwise `uncompleted_trade_lines`.

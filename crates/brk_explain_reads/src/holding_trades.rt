@@ -118,8 +118,8 @@ fn push_trade_and_lot(held: &mut TradesAndLots, one: TradeAndLot) -> Result<(), 
 
 /// Returns the completed trades of an account in a security, in the order of completion, and the
 /// lots that they opened with their later changes, in the order of opening. Writes nothing. Fails
-/// with `Memory` or `Store`; with `Store` also if a trade that changed a lot does not exist or has
-/// no price.
+/// with `Memory` or `Store`; with `Store` also if a later trade that changed one of these lots does
+/// not exist or has no price.
 pub(crate) fn read_trades_and_lots_of_holding<S: Alter>(
     alloc: Global,
     store: &mut Store<S>,

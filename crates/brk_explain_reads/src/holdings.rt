@@ -85,8 +85,8 @@ fn holding_details_of_parts(
 /// account does not exist, and with `NoSecurity` if only the security does not exist.
 ///
 /// Fails with `Memory` or `Store` only; with `Store` also if the security has no last price, or if
-/// a trade that changed a lot does not exist or has no price. If the database is still open, it is
-/// unchanged, whatever the result.
+/// a later trade that changed one of these lots does not exist or has no price. If the database is
+/// still open, it is unchanged, whatever the result.
 pub fn read_holding_details<S: Alter>(
     alloc: Global,
     store: &mut Store<S>,

@@ -17,10 +17,12 @@ use std::alloc::Global;
 
 // Returns the results of the completed trade of `order`: the trade's price, closings, opened lot,
 // settlement and cash row, the number of the account's earlier cash rows and the sum of their
-// amounts, the current tax rates and commission band, and the settlement day. Writes nothing. Fails
-// with `Memory` or `Store`; with `Store` also if the trade or a trade that opened the lot of a
-// closing has no price, if a row that another row requires does not exist, or if the number or the
-// sum overflows.
+// amounts, the current tax rates and commission band, and the settlement day. The results are
+// specified only if `order` has the rows and the status changes of its trade. Writes nothing.
+//
+// Fails with `Memory` or `Store`; with `Store` also if the trade or a trade that opened the lot of
+// a closing has no price, if a row that another row requires does not exist, or if the number or
+// the sum overflows.
 pub(crate) fn read_result_of_trade<S: Alter>(
     alloc: Global,
     store: &mut Store<S>,

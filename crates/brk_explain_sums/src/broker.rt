@@ -77,8 +77,8 @@ pub fn trade_commission_text(alloc: Global, row: &TradeRow, total: Wide) -> Resu
     Ok(line)
 }
 
-// Appends to `out` the last line of the explanation of a broker: the numbers of its accounts and of
-// their completed trades. Fails with `Memory` only.
+// Appends to `out` the last line of the explanation of a broker: `accounts` as the number of its
+// accounts, and `trades` as the number of their completed trades. Fails with `Memory` only.
 fn put_broker_counts_line(out: &mut Vec<u8>, accounts: usize, trades: u64) -> Result<(), Fault>
     ensures ok { OnOk result (out.new.items ≡ out.old.items ++ line_with_line_feed (lines.broker_counts_line accounts trades)) }
     ensures fault { OnErr result (result ≡ Err Memory) }
@@ -89,8 +89,8 @@ fn put_broker_counts_line(out: &mut Vec<u8>, accounts: usize, trades: u64) -> Re
 }
 
 // Appends to `out` the last lines of the explanation of a broker: the commission total and the
-// trade count in its row, and the numbers of its accounts and of their completed trades. Fails with
-// `Memory` only.
+// trade count in its row, `accounts` as the number of its accounts, and `trades` as the number of
+// their completed trades. Fails with `Memory` only.
 #[tactic(auto, unfolding(brk_explain_model::specs::BrokerLines::broker_total_lines))]
 fn put_broker_totals(
     alloc: Global,
@@ -109,8 +109,8 @@ fn put_broker_totals(
 }
 
 /// Returns the last lines of the explanation of a broker: the commission total and the trade count
-/// in its row, and the numbers of its accounts and of their completed trades. Fails with `Memory`
-/// only.
+/// in its row, `accounts` as the number of its accounts, and `trades` as the number of their
+/// completed trades. Fails with `Memory` only.
 pub fn broker_total_text(
     alloc: Global,
     row: &BrokerRow,

@@ -67,7 +67,7 @@ fn put_lot_columns_header(out: &mut Vec<u8>) -> Result<(), Fault>
 
 // Appends to `out` all lines of the explanation of a holding: its header, its completed trades, its
 // lots with their changes, and its totals. Fails with `Memory` or `Store`; with `Store` if an
-// amount or a quantity overflows or a trade has no price.
+// amount, a quantity or a number of lots or changes overflows, or if a trade has no price.
 #[tactic(auto, unfolding(brk_explain_model::specs::HoldingLines::holding_lines_from_trades_and_lots))]
 fn put_holding_lines(
     alloc: Global,
@@ -88,8 +88,8 @@ fn put_holding_lines(
 }
 
 /// Returns all lines of the explanation of a holding as one text, each line with its line feed.
-/// Fails with `Memory` or `Store`; with `Store` if an amount or a quantity overflows or a trade has
-/// no price.
+/// Fails with `Memory` or `Store`; with `Store` if an amount, a quantity or a number of lots or
+/// changes overflows, or if a trade has no price.
 pub fn holding_explanation_text(alloc: Global, details: &HoldingDetails) -> Result<Vec<u8>, Fault>
     ensures text { IfOk result (λ text. text.items ≡ text_of_lines (lines_of_holding_details details.now)) }
     ensures fault { IfErr result IsCallFault }

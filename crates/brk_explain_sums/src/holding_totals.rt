@@ -87,7 +87,8 @@ fn put_holding_counts_line(
 /// Appends to `out` the last lines of the explanation of a holding: purchases, sales, realised
 /// gain, cost basis, the quantity `shares`, the last price `price`, the market value, the
 /// unrealised gain, and the numbers of trades, lots, open lots and changes. Fails with `Memory` or
-/// `Store`; with `Store` if an amount or a number overflows or a trade has no price.
+/// `Store`; with `Store` if an amount or a number of lots or changes overflows, or if a trade has
+/// no price.
 #[tactic(auto, unfolding(brk_explain_model::specs::HoldingLines::holding_total_lines))]
 pub(crate) fn put_holding_total_lines(
     alloc: Global,

@@ -1,5 +1,5 @@
-//! The realised gains, remaining costs and counts of lots and of their changes. A sum that
-//! overflows is the fault `Store`: no row of a store that passed its audit leads to one.
+//! The realised gains, remaining costs and counts of lots and of their changes. A product or a sum
+//! that overflows is the fault `Store`, and so is a missing price of the trade that opened a lot.
 
 ghost use Rattle.std.specs.Prelude.{◌≡◌, ◌+◌, ◌-ℤ◌, IfErr, IfOk, if◌then◌else◌, length, map, not, pos};
 ghost use Rattle.brk_explain_model.specs.Holdings as holdings;

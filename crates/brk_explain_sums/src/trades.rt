@@ -1,5 +1,5 @@
-//! The quantities and values of completed trades, and their totals. A trade without a price and a
-//! sum that overflows are the fault `Store`: no row of a store that passed its audit leads to one.
+//! The quantities and values of completed trades, and their totals. A trade without a price, and a
+//! product or a sum that overflows, are the fault `Store`.
 
 ghost use Rattle.std.specs.Prelude.{◌≡◌, ◌+ℤ◌, IfErr, IfOk, if◌then◌else◌, int_lt, map, pos};
 ghost use Rattle.brk_changes.specs.Rows.{abstract_trade_row};
@@ -44,7 +44,7 @@ pub(crate) fn signed_value_of_trade(row: &TradeRow) -> Result<Wide, Fault>
 }
 
 /// Returns the quantity `held` before a trade plus the quantity of the trade if it is a purchase,
-/// or minus it if it is a sale. Fails with `Store` if the sum overflows.
+/// or minus it if it is a sale. Fails with `Store` if the result overflows.
 pub(crate) fn quantity_held_after_trade(held: i64, row: &TradeRow) -> Result<i64, Fault>
     ensures held { IfOk result (λ after. after ≡ held +ℤ holdings.signed_quantity_of_trade (abstract_trade_row row.now)) }
     ensures fault { IfErr result IsCallFault }

@@ -18,8 +18,8 @@ use std::io::ErrorKind;
 /// A desk's store in a file, which its connection locks for this program only.
 pub type FileDesk = Store<FileStore<File>>;
 
-// Closes the files of a connection. At `Ok` the database file contains the last commit even without
-// its log. Fails with `Store` only; the files are then also closed.
+// Closes the files of a connection. At `Ok`, under the disk assumption, the database file contains
+// the last commit even without its log. Fails with `Store` only; the files are then dropped.
 fn close_connection(conn: Connection<FileStore<File>>) -> Result<(), Fault>
     ensures closed { OnOk result (HasLastCommitInFile conn) }
     ensures fault { OnErr result (result ≡ Err fault.Store) }
@@ -33,9 +33,9 @@ fn close_connection(conn: Connection<FileStore<File>>) -> Result<(), Fault>
     }
 }
 
-/// Closes the file of a desk. At `Ok` the database file contains the last commit even without its
-/// log; before that, a part of the committed data may be only in the log beside it. Fails with
-/// `Store` only.
+/// Closes the file of a desk. At `Ok`, under the disk assumption, the database file contains the
+/// last commit even without its log; before that, a part of the committed data may be only in the
+/// log beside it. Fails with `Store` only.
 pub fn close_desk_file(store: FileDesk) -> Result<(), Fault>
     ensures closed { OnOk result (HasLastCommitInFile store) }
     ensures fault { OnErr result (result ≡ Err fault.Store) }
@@ -68,9 +68,9 @@ fn adopt_connection<S: Alter>(
     Store::adopt(alloc, conn)
 }
 
-// Adopts the database of a connection as a store. If the adoption fails, closes the file and fails
-// with the fault of the adoption: `Damaged` with the first condition that fails, `Memory` or
-// `Store`.
+// Adopts the database of a connection as a store. If the adoption fails, closes the file, ignores
+// an error of this, and fails with the fault of the adoption: `Damaged` with the first condition
+// that fails, `Memory` or `Store`.
 fn adopt_or_close_connection(
     rt: &HostRuntime,
     conn: Connection<FileStore<File>>,
@@ -113,8 +113,8 @@ pub fn open_or_create_desk_file(rt: &HostRuntime, path: &str) -> Result<FileDesk
     }
 }
 
-// Returns true if no file exists at the path, or if the file is empty, so that opening it would
-// create a database. Returns false if the file cannot be examined.
+// Returns true if no file is found at the path, or if a regular file of 0 bytes is. Returns false
+// otherwise, also if the file cannot be examined for another reason than that it is not found.
 fn is_missing_or_empty(rt: &HostRuntime, path: &str) -> bool {
     match fs::metadata(rt, path) {
         Ok(found) => found.is_file() && found.len() == 0,
@@ -122,7 +122,7 @@ fn is_missing_or_empty(rt: &HostRuntime, path: &str) -> bool {
     }
 }
 
-/// Opens the desk in the file at `path`, and upgrades a file of an older schema. Creates nothing.
+/// Opens the desk in the file at `path`, and upgrades a file of an older schema. Creates no desk.
 /// Fails with `Damaged(Schema)` if the file is missing or empty, with `Damaged` and the first
 /// condition that fails if it does not pass the audit, or with `Memory` or `Store`.
 pub fn open_desk_file(rt: &HostRuntime, path: &str) -> Result<FileDesk, Fault>

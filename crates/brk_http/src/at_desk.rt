@@ -48,25 +48,25 @@ impl<S: Alter> Service for DeskService<S> {
 
     ghost shown = { records_of_view };
 
-    /// Parses the fields of a row: returns a command, or the refusal of a malformed row. Fails only
-    /// if memory runs out.
+    /// Parses the fields of a row: returns a command, or the refusal of a malformed row. Fails with
+    /// `Memory` only.
     fn parse_row(alloc: Global, row: &[&[u8]]) -> Planned<Command> {
         parse_row(alloc, row)
     }
 
     /// Returns the name of a view that has the text `name`, or `None` if no view has this name.
-    fn view_named(name: &str) -> Option<ViewName> {
+    fn view_name_from_text(name: &str) -> Option<ViewName> {
         ViewName::from_text(name)
     }
 
     /// Parses the arguments of a view: returns a query, or the refusal of a malformed query. Fails
-    /// only if memory runs out.
+    /// with `Memory` only.
     fn parse_query(alloc: Global, view: ViewName, arguments: &[&[u8]]) -> Planned<Query> {
         parse_query_of_view(alloc, view, arguments)
     }
 
-    /// Executes a command by `Desk::call`, under its key or without one, and returns its answer.
-    /// Fails with the fault of the desk.
+    /// Executes a command at the clock reading `now` by `Desk::call`, under its key or without one,
+    /// and returns its answer. Fails with `Memory` or `Store` only.
     fn call(
         desk: &mut Desk<S>,
         alloc: Global,
@@ -77,8 +77,8 @@ impl<S: Alter> Service for DeskService<S> {
         desk.call(alloc, now, command, key)
     }
 
-    /// Executes a query by `Desk::ask`, and returns its view or its refusal. Fails with the fault
-    /// of the desk.
+    /// Executes a query by `Desk::ask`, and returns its view or its refusal. Fails with `Memory` or
+    /// `Store` only.
     fn ask(desk: &mut Desk<S>, alloc: Global, query: &Query) -> Planned<View> {
         desk.ask(alloc, query)
     }

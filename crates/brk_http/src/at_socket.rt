@@ -63,13 +63,14 @@ impl<C: Clock, S: Alter> StreamServer for SocketServer<C, S> {
 
     ghost serves = { DeskServesStream S.Store };
 
-    /// Serves the requests of a TCP stream, and returns the number of replies, or the fault that
-    /// ended the stream.
+    /// Serves the requests of a TCP stream, and returns the number of replies. Fails with the fault
+    /// that ended the stream, `Read`, `Write` or `Memory`, and the number of replies before it.
     ///
     /// The contract says only that the desk changed by a sequence of its calls, how many calls
-    /// there are at most, and that there are at most 1,000 replies (`ServesStreamByCalls`). Tested
-    /// only: the time limits, which fail with `Read` before any request if they cannot be set, and
-    /// the draining of the socket after the last reply.
+    /// there are at most, and that there are at most 1,000 replies, fewer before a fault
+    /// (`ServesStreamByCalls`). Tested only: the time limits, which fail with `Read` before any
+    /// request if they cannot be set, and the draining of the socket after the last reply, whose
+    /// failure is ignored.
     fn serve_accepted_stream(
         alloc: Global,
         stream: TcpStream,

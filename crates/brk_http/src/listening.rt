@@ -15,8 +15,9 @@ use std::net::TcpStream;
 /// `Write`, counts as one, and the next one is served. (An idle stream ends with `Read` or `Write`
 /// after `STREAM_TIMEOUT_SECONDS`; this is only tested.)
 ///
-/// Fails with `Stream` at the first stream that ended because memory ran out, and with `Net` if no
-/// stream could be accepted. No stream is accepted after a fault.
+/// Fails with `Stream` at the first stream that ended because memory ran out, and with `Net` at the
+/// first accept that failed for another reason than that the peer broke off. No stream is accepted
+/// after a fault.
 pub fn serve_on<L: Listener<Stream = TcpStream>, C: Clock, S: Alter>(
     alloc: Global,
     listener: &mut L,

@@ -21,8 +21,8 @@ use sqlite::Alter;
 use std::alloc::Global;
 use std::io::{Read, Write};
 
-/// Serves the requests of a stream, at most 1,000, and returns their number. No request is executed
-/// after a reply that was not written.
+/// Serves the requests of a stream, at most 1,000, and returns the number of replies. No request is
+/// executed after a reply that was not written.
 ///
 /// `POST /rows` and `POST /rows/BATCH/N` with a JSON list of texts execute a row, without a key or
 /// with the key (BATCH, N), under which it is accepted at most once. `POST /ask/VIEW` executes a
@@ -30,9 +30,10 @@ use std::io::{Read, Write};
 /// a reply with `Connection: close`. A fault of the desk is answered with status 503, and this
 /// reply is the last one.
 ///
-/// Fails with `Read`, `Write` or `Memory` at the request after those that were answered. After
-/// `Read` that request was not executed. After `Write` a part of its reply may have been written.
-/// After `Write` or `Memory` it may have been executed: retry it under its key.
+/// Fails with `Read`, `Write` or `Memory`, and the number of replies before it, at the request
+/// after those that were answered. After `Read` that request was not executed. After `Write` a part
+/// of its reply may have been written. After `Write` or `Memory` it may have been executed: retry
+/// it under its key.
 ///
 /// For any reader the contract limits the number of requests and of calls. It specifies the
 /// requests and the replies only for a reader whose content is specified; the content of a socket

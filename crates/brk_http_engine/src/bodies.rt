@@ -24,8 +24,8 @@ fn texts_of_values(alloc: Global, values: &[Value]) -> Result<Option<Vec<String>
     Ok(Some(texts))
 }
 
-/// Parses a body as a JSON list of strings. Returns their texts, or `None` if the body is anything
-/// else. Fails only if memory runs out.
+/// Parses a body as a JSON list of strings in UTF-8. Returns their texts, or `None` if the body is
+/// anything else. Fails only if memory runs out.
 #[tactic(auto, using(crate::proofs::BodyLemmas::no_value))]
 pub fn texts_of_body(alloc: Global, body: &[u8]) -> Result<Option<Vec<String>>, AllocError>
     ensures { IfOk result (λ found. option_map bytes_of_texts found ≡ spec.texts_of_body body.now) }

@@ -26,7 +26,7 @@ pub enum Route<V> {
 }
 
 // Parses `batch` as a batch name and `n` as a row number. Returns the key with both, or `None` if
-// one of them is malformed. Fails with `Memory` only.
+// one of them is malformed or the number is out of range. Fails with `Memory` only.
 fn key_of_batch_row(alloc: Global, batch: &[u8], n: &[u8]) -> Result<Option<Key>, Fault>
     ensures key { IfOk result (λ key. option_map abstract_key key ≡ key_of_batch_row batch.now (read_id n.now)) }
     ensures fault { OnErr result (result ≡ Err Memory) }
@@ -60,7 +60,7 @@ fn parse_view_route<D: Service>(first: &str, word: &str, view: &str) -> Option<R
     if !has_first_segment(first, word, "ask") {
         return None;
     }
-    match D::view_named(view) {
+    match D::view_name_from_text(view) {
         Some(view) => Some(Route::ToView(view)),
         None => None,
     }
@@ -118,9 +118,9 @@ fn route_of_segments<D: Service>(
     }
 }
 
-/// Returns the route of a request target, or `None` if the target is not UTF-8 or has no route. The
-/// router must have exactly the three routes, and no view may have an empty name. Fails with
-/// `Memory` only.
+/// Returns the route of a request target, or `None` if the target is not UTF-8 or has no route.
+/// Nothing in the target is decoded. The router must have exactly the three routes, and no view may
+/// have an empty name. Fails with `Memory` only.
 #[tactic(auto, unfolding(brk_http_model::specs::Routes::route_of_target))]
 pub fn route_of_target<D: Service>(
     alloc: Global,

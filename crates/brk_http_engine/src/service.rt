@@ -65,7 +65,7 @@ pub trait Service {
         ensures fault { OnErr result (result ≡ Err Memory) };
 
     /// Returns the name of a view that has the text `name`, or `None` if no view has this name.
-    fn view_named(name: &str) -> Option<Self::ViewName>
+    fn view_name_from_text(name: &str) -> Option<Self::ViewName>
         ensures { MatchOption result
             (list_any (λ v. bytes_eq v name.now) forms.views ≡ Bool.false)
             (λ view. (view_text view ≡ name.now) × (list_any (λ v. bytes_eq v name.now) forms.views ≡ Bool.true)) };

@@ -73,8 +73,9 @@ fn serve_with_router<R: Read + Drop, W: Write, C: Clock, D: Service>(
 /// view may have an empty name.
 ///
 /// Each request makes at most one call of the desk. Fails with the fault, `Read`, `Write` or
-/// `Memory`, and the number of replies before it. After a fault of memory or of the writer, the
-/// next request may have been executed; after a fault of the reader it was not.
+/// `Memory`, and the number of replies before it; with `Memory` and 0 also if the router cannot be
+/// created. If the content of the reader is specified: after a fault of memory or of the writer,
+/// the next request may have been executed; after a fault of the reader it was not.
 pub fn serve_requests<R: Read + Drop, W: Write, C: Clock, D: Service>(
     alloc: Global,
     reader: R,

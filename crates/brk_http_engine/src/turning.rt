@@ -78,8 +78,9 @@ enum OutOfMemoryPoint {
 // one call of the desk. `done` must be less than 1,000, the positions must be within the buffer,
 // the router must have exactly the three routes, and no view may have an empty name.
 //
-// Fails with `Before` if memory ran out before the execution, and with `After` if it ran out after
-// it.
+// Fails with `Before` if memory ran out before the desk was called or the clock was read, and with
+// `After` if it ran out after the request was executed. A fault of the desk, also `Memory`, is no
+// failure: the reply reports it.
 fn execute_and_format_reply<C: Clock, D: Service>(
     alloc: Global,
     router: &Router<RouteKind>,
@@ -126,8 +127,11 @@ fn execute_and_format_reply<C: Clock, D: Service>(
 /// if no input is left, `Closed` if the reply is the last of the stream, otherwise `Open`. A
 /// request that cannot be read is not executed: the reply names its problem and is the last.
 ///
-/// Fails with `Read`, and the request was then not executed, or with `Memory` or `Write`, and the
-/// request may then have been executed.
+/// Fails with `Read` if the reader fails, with `Memory` if memory runs out, or with `Write` if the
+/// writer fails or accepts no byte. If the content of the reader is specified: at `Read` no request
+/// was executed and nothing was written; at `Memory` nothing was written, and the request may have
+/// been executed; at `Write` the request was executed or could not be read, and a prefix of its
+/// reply was written, perhaps all of it.
 pub fn serve_next_request<R: Read, W: Write, C: Clock, D: Service>(
     alloc: Global,
     router: &Router<RouteKind>,

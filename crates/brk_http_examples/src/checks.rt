@@ -13,8 +13,10 @@ ghost use Rattle.brk_http_model.specs.declared.head_end.HeadEnd.TheVariants.{At,
 ghost use Rattle.brk_http_model.specs.declared.problem.RequestProblem.TheVariants.{BadRequest, NotAllowed, NotFound, NotImplemented, TooLarge};
 ghost use Rattle.brk_http_examples.specs.Streams.{get_request, post_request};
 
-/// Shows that a head ends with its first empty line, which must end within the limit. For an input
-/// without such a line the result is `Nothing`, `Cut` or `TooLong`.
+/// Shows four heads that end with their first empty line, whose lines end with CR LF or with a line
+/// feed alone; one of them ends exactly at its limit. No bytes are `Nothing`, and bytes that end
+/// before an empty line are `Cut`. A head whose empty line ends beyond the limit is `TooLong`, and
+/// so are as many bytes as the limit without an empty line.
 pub fn head_ends_at_first_empty_line()
     ensures first { head_end (codes "GET / HTTP/1.1\r\n\r\nGET") ≡ At 18 }
     ensures line_feeds { head_end (codes "a\n\nb\r\n\r\n") ≡ At 3 }
@@ -26,10 +28,10 @@ pub fn head_ends_at_first_empty_line()
     ensures no_empty_line { head_end_within 4 (codes "\0\0\0\0") ≡ TooLong }
 {}
 
-/// Shows that Content-Length states the length of a body, which is 0 without this field, and that a
-/// value above 65536, of ten digits, with a sign or without bytes, and a second Content-Length are
-/// problems. The case of letters in the names of fields is ignored, and a Transfer-Encoding is a
-/// problem whatever the length.
+/// Shows that the length of a body is 0 without Content-Length, the number in a field
+/// `content-LENGTH` with leading zeros, and the number 65536. The number 65537 and a number of ten
+/// digits are `TooLarge`, a number with a sign, a value without bytes and a second Content-Length
+/// are `BadRequest`, and a Transfer-Encoding after a malformed Content-Length is `NotImplemented`.
 pub fn content_length_states_body_length()
     ensures no_field { body_length_of_fields ((codes "Host", codes "x") ∷ []) ≡ Ok 0 }
     ensures leading_zeros { body_length_of_fields ((codes "content-LENGTH", codes "000000012") ∷ []) ≡ Ok 12 }
@@ -42,10 +44,11 @@ pub fn content_length_states_body_length()
     ensures transfer_encoding { body_length_of_fields ((codes "Content-Length", codes "x") ∷ (codes "Transfer-Encoding", []) ∷ []) ≡ Err NotImplemented }
 {}
 
-/// Shows that `/rows`, `/rows/BATCH/N` and `/ask/VIEW` have routes, and that targets with an
-/// unknown view, a malformed row number, an encoded byte, an empty batch name, nothing after
-/// `/rows/`, a query string or a host have none. Shows also the parts of a text that is split at its
-/// commas.
+/// Shows the routes of `/rows`, of a row under a key with the row number 1000000000000, and of the
+/// view `lots`. Shows that nine targets have none: one with an unknown view, three with a malformed
+/// row number, and one each with an encoded byte, with an empty batch name, with nothing after
+/// `/rows/`, with a query string and with a host. Shows also the parts of the text `1,SBMT,,`,
+/// split at its commas.
 pub fn routes_of_request_targets()
     ensures row_without_key { route_of_target model_parsers.views (codes "/rows") ≡ Some (ToRow None) }
     ensures row_with_key { route_of_target model_parsers.views (codes "/rows/A.b-c_1/1000000000000")
@@ -63,9 +66,9 @@ pub fn routes_of_request_targets()
     ensures split_text { split_at_byte 44 (codes "1,SBMT,,") ≡ codes "1" ∷ codes "SBMT" ∷ [] ∷ [] ∷ [] }
 {}
 
-/// Shows that JSON lists of texts are read, with white space and escaped characters, and that no
-/// other body is: no bytes, a list with a number or a list in it, an object, a lone surrogate,
-/// bytes that are not UTF-8, and a byte order mark.
+/// Shows that two JSON lists are read, an empty one with white space and one of two texts with
+/// escaped characters, and that seven other bodies are not: no bytes, a list with a number or a
+/// list in it, an object, a lone surrogate, bytes that are not UTF-8, and a byte order mark.
 pub fn json_lists_of_texts_are_read()
     ensures empty_list { texts_of_body (codes " [ ] ") ≡ Some [] }
     ensures escaped_characters { texts_of_body (codes "[\"\\u0041\\n\",\"\"]") ≡ Some ((65 ∷ 10 ∷ []) ∷ [] ∷ []) }
@@ -78,7 +81,9 @@ pub fn json_lists_of_texts_are_read()
     ensures byte_order_mark { texts_of_body (239 ∷ 187 ∷ 191 ∷ 91 ∷ 93 ∷ []) ≡ None }
 {}
 
-/// Shows that the route is checked before the method, and the method before the body.
+/// Shows three requests: a GET request for an unknown view is `NotFound`, a GET request for a known
+/// view, without a body, is `NotAllowed`, and a POST request for a known view with a malformed body
+/// is `BadRequest`. Thus the route is checked before the method, and the method before the body.
 pub fn route_is_checked_before_method_and_body()
     ensures route { demand_of_request model_parsers (get_request (codes "/ask/nope")) ≡ ResponseOnly (FromProblem NotFound) }
     ensures method { demand_of_request model_parsers (get_request (codes "/ask/lots")) ≡ ResponseOnly (FromProblem NotAllowed) }

@@ -16,8 +16,9 @@ pub fn row_is_accepted_once_per_key()
         ∷ expected_reply_bytes (codes "409 Conflict") [] (codes "13") (codes "{\"no\":[\"15\"]}") ∷ []) }
 {}
 
-/// Shows that a stream continues after a view, a refusal, an unknown target, a wrong method and a
-/// malformed body: each of these five requests has its reply.
+/// Shows the replies to five requests of one stream, after each of which but the last the stream
+/// continues: a query, a refused query, a request with an unknown target, one with a wrong method
+/// and one with a malformed body.
 pub fn stream_continues_after_refusals()
     ensures { HasRepliesInSetting
         (post_request (codes "/ask/submitted") (codes "[]")
@@ -32,8 +33,7 @@ pub fn stream_continues_after_refusals()
         ∷ expected_reply_bytes (codes "400 Bad Request") [] (codes "23") (codes "{\"error\":\"bad request\"}") ∷ []) }
 {}
 
-/// Shows that a request that asks to close its stream has the last reply: the next request has
-/// none.
+/// Shows a request that asks to close its stream and has the last reply: the next request has none.
 pub fn stream_ends_after_close_request()
     ensures { HasRepliesInSetting
         (closing_request (get_request (codes "/rows")) ∷ post_request (codes "/rows") (codes "[]") ∷ [])

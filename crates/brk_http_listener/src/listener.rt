@@ -16,8 +16,8 @@ pub trait Listener {
 
     /// Waits for the next stream of a peer, accepts it and returns it.
     ///
-    /// Fails with `Aborted` if the peer broke it off, and with `Failed` if no stream can be
-    /// accepted.
+    /// Fails with `Aborted` if the peer broke the stream off before it was accepted, and with
+    /// `Failed` if the accept failed for another reason.
     fn accept_next(&mut self) -> Result<Self::Stream, AcceptFault>
         ensures { accepts self.old result self.new };
 }
@@ -26,7 +26,8 @@ impl Listener for TcpListener {
     type Stream = TcpStream;
 
     /// Waits for the next TCP stream, accepts it and returns it. Fails with `Aborted` if the peer
-    /// broke the stream off, and otherwise with `Failed`.
+    /// broke the stream off before it was accepted, and with `Failed` if the accept failed for
+    /// another reason.
     fn accept_next(&mut self) -> Result<TcpStream, AcceptFault> {
         match self.accept() {
             Ok((stream, _)) => Ok(stream),

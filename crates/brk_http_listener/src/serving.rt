@@ -7,7 +7,8 @@ use brk_http_engine::FaultKind;
 use std::alloc::Global;
 
 // Accepts the next stream of a listener and serves it to its end. A stream that its peer broke off
-// is not served. A fault of the stream's reader or writer is no failure here.
+// before it was accepted is not served, and is no failure here. Nor is a fault of the stream's
+// reader or writer.
 //
 // Fails with `Stream` if the stream ended because memory ran out, and with `Net` if no stream could
 // be accepted.
@@ -36,7 +37,8 @@ fn serve_next_stream<L: Listener, H: StreamServer<Stream = L::Stream>>(
 }
 
 /// Accepts and serves `streams` streams of a listener, in sequence: each is served to its end
-/// before the next one is accepted. A stream that its peer breaks off counts as one.
+/// before the next one is accepted. A stream that its peer broke off before it was accepted counts
+/// as one, and so does one that a fault of its reader or writer ended early.
 ///
 /// Fails with `Stream` at the first stream that ended because memory ran out, and with `Net` if no
 /// stream could be accepted. No stream is accepted after a fault.

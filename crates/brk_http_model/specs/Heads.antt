@@ -17,8 +17,8 @@ leading_line_end_length (b ∷ c ∷ bytes) = if b == 10 then Some 1 else (if b 
 
 -- The length of the line end (LF or CR LF) with which `bytes` begin, if the byte `b` before them is
 -- an LF; none if `b` is no LF or `bytes` begin with no line end.
-abbrev pub line_end_length_after_byte : ℕ → Text → Option ℕ
-line_end_length_after_byte b bytes = if b == 10 then leading_line_end_length bytes else None
+abbrev pub line_end_length_after_line_feed : ℕ → Text → Option ℕ
+line_end_length_after_line_feed b bytes = if b == 10 then leading_line_end_length bytes else None
 
 -- The first number plus 1 if there is one, otherwise `further` plus 1; none if there is neither.
 abbrev pub first_present_plus_one : Option ℕ → Option ℕ → Option ℕ
@@ -29,7 +29,7 @@ first_present_plus_one (Some n) further = Some (n + 1)
 -- no empty line.
 unfoldable pub head_length : Text → Option ℕ
 head_length [] = None
-head_length (b ∷ bytes) = first_present_plus_one (line_end_length_after_byte b bytes) (head_length bytes)
+head_length (b ∷ bytes) = first_present_plus_one (line_end_length_after_line_feed b bytes) (head_length bytes)
 
 -- The end of the head of an input of `len` bytes: `At n` if the first empty line ends after `n`
 -- bytes (`Some n`). Without an empty line (`None`) it is `Nothing` for an empty input, `TooLong`

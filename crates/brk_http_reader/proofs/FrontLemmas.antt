@@ -3,7 +3,7 @@ use Rattle.std.proofs.Common.{◌≡◌, ℕ, zero, suc, ◌+◌, ◌<◌, ◌�
 use Rattle.std.specs.Prelude.{◌==◌, ◌&&◌, nat_le, if◌then◌else◌}
 use Rattle.std.specs.Io.KnownBytes.{Consumes, IsAtEnd}
 use Rattle.std.proofs.lemmas.List.{append-nil, take_all, length-append, take-append-le}
-use Rattle.brk_http_model.specs.Heads.{leading_line_end_length, first_present_plus_one, line_end_length_after_byte, head_length, head_end_within}
+use Rattle.brk_http_model.specs.Heads.{leading_line_end_length, first_present_plus_one, line_end_length_after_line_feed, head_length, head_end_within}
 use Rattle.std.proofs.lemmas.Bool.Decides.{nat_tests}
 use Rattle.brk_http_reader.specs.Moves.{ReadsIntoBuffer}
 use Rattle.brk_http_model.specs.declared.head_end.HeadEnd.TheVariants.{Nothing, TooLong, Cut, At}
@@ -29,7 +29,7 @@ pub head_len-nil : head_length [] ≡ None
 unfolding head_length
 head_len-nil = refl
 
-pub head_len-cons : (b : ℕ) (bytes : List ℕ) → head_length (b ∷ bytes) ≡ first_present_plus_one (line_end_length_after_byte b bytes) (head_length bytes)
+pub head_len-cons : (b : ℕ) (bytes : List ℕ) → head_length (b ∷ bytes) ≡ first_present_plus_one (line_end_length_after_line_feed b bytes) (head_length bytes)
 unfolding head_length
 head_len-cons b bytes = refl
 
@@ -66,7 +66,7 @@ within_further None None len p q = tt
 pub head_len_within : (bytes : List ℕ) → IfSome (head_length bytes) (λ n. n ≤ length bytes)
 head_len_within [] = rw head_len-nil tt
 head_len_within (b ∷ bytes) =
-    rw head_len-cons (within_further (line_end_length_after_byte b bytes) (head_length bytes) (length bytes) (here_within (b == 10) bytes) (head_len_within bytes))
+    rw head_len-cons (within_further (line_end_length_after_line_feed b bytes) (head_length bytes) (length bytes) (here_within (b == 10) bytes) (head_len_within bytes))
 
 -- ---- in a longer text
 
@@ -100,7 +100,7 @@ head_len-append (b ∷ c ∷ []) more n found =
 head_len-append (b ∷ c ∷ d ∷ bytes) more n found =
     let f = rw (head_len-cons b (c ∷ d ∷ bytes)) at found in
     rw (head_len-cons b (c ∷ d ∷ (bytes ++ more)))
-    (further_same (line_end_length_after_byte b (c ∷ d ∷ bytes)) (head_length (c ∷ d ∷ bytes)) (head_length (c ∷ d ∷ (bytes ++ more))) n
+    (further_same (line_end_length_after_line_feed b (c ∷ d ∷ bytes)) (head_length (c ∷ d ∷ bytes)) (head_length (c ∷ d ∷ (bytes ++ more))) n
     (head_len-append (c ∷ d ∷ bytes) more) f)
 
 -- ---- what a reader moves
@@ -124,7 +124,7 @@ moved_all a b x y l e (p, h, f) = moved b (subst (λ o. Consumes o b p) e h)
 
 -- ---- a step of the search
 
-pub found_here : (i n b : ℕ) (bytes rest : List ℕ) → drop i bytes ≡ b ∷ rest → line_end_length_after_byte b rest ≡ Some n
+pub found_here : (i n b : ℕ) (bytes rest : List ℕ) → drop i bytes ≡ b ∷ rest → line_end_length_after_line_feed b rest ≡ Some n
     → option_plus i (head_length (drop i bytes)) ≡ head_length bytes → Some (i + 1 + n) ≡ head_length bytes
 found_here i n b bytes rest cut found all =
     let e : head_length (drop i bytes) ≡ Some (n + 1) = rw (cut, head_len-cons, found) refl in
@@ -132,7 +132,7 @@ found_here i n b bytes rest cut found all =
     let g : i + 1 + n ≡ n + 1 + i = omega arith in
     rw g f
 
-pub passed_here : (i b : ℕ) (bytes rest : List ℕ) → drop i bytes ≡ b ∷ rest → line_end_length_after_byte b rest ≡ None
+pub passed_here : (i b : ℕ) (bytes rest : List ℕ) → drop i bytes ≡ b ∷ rest → line_end_length_after_line_feed b rest ≡ None
     → option_plus i (head_length (drop i bytes)) ≡ head_length bytes → option_plus (i + 1) (head_length rest) ≡ head_length bytes
 passed_here i b bytes rest cut none all =
     let e : head_length (drop i bytes) ≡ first_present_plus_one None (head_length rest) = rw (cut, head_len-cons, none) refl in

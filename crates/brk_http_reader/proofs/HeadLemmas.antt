@@ -4,7 +4,7 @@ use Rattle.std.specs.Prelude.{◌==◌, ◌&&◌, if◌then◌else◌, nat_le}
 use Rattle.std.specs.List.{flat_map}
 use Rattle.std.proofs.lemmas.List.{length-append, nil_from_length}
 use Rattle.httparse.specs.Grammar.{LineEnd, crlf, lf, print_end, Field, print_field, print_section, RequestHead, print_request, ReadsRequest}
-use Rattle.brk_http_model.specs.Heads.{leading_line_end_length, first_present_plus_one, line_end_length_after_byte, head_length}
+use Rattle.brk_http_model.specs.Heads.{leading_line_end_length, first_present_plus_one, line_end_length_after_line_feed, head_length}
 use Rattle.brk_http_reader.proofs.FrontLemmas.{head_len-cons, head_len-nil}
 use Rattle.brk_http_model.specs.Heads.{head_end_within}
 use Rattle.brk_http_model.specs.declared.head_end.HeadEnd.TheVariants.{Nothing, TooLong, Cut, At}
@@ -68,7 +68,7 @@ short [] = tt
 short (b ∷ []) = short_one (b == 10)
 short (b ∷ c ∷ bytes) = short_two (b == 10) (b == 13) (c == 10)
 
-short_after : (b : ℕ) (bytes : List ℕ) → IfSome (line_end_length_after_byte b bytes) (λ n. n ≤ 2)
+short_after : (b : ℕ) (bytes : List ℕ) → IfSome (line_end_length_after_line_feed b bytes) (λ n. n ≤ 2)
 short_after b bytes = by (b == 10)
   where
     by : (t : Bool) → IfSome (if t then leading_line_end_length bytes else None) (λ n. n ≤ 2)
@@ -92,7 +92,7 @@ first_by [] rest e = rw (head_len-cons 10 (print_end e ++ rest), begins_end e re
 first_by (b ∷ before) rest e =
     let two : 2 ≤ length (before ++ 10 ∷ print_end e) = omega (arith, length-append before (10 ∷ print_end e), end_some e) in
     rw (head_len-cons b ((before ++ 10 ∷ print_end e) ++ rest))
-    (further_most (line_end_length_after_byte b ((before ++ 10 ∷ print_end e) ++ rest)) (head_length ((before ++ 10 ∷ print_end e) ++ rest)) (length (before ++ 10 ∷ print_end e))
+    (further_most (line_end_length_after_line_feed b ((before ++ 10 ∷ print_end e) ++ rest)) (head_length ((before ++ 10 ∷ print_end e) ++ rest)) (length (before ++ 10 ∷ print_end e))
     (short_after b ((before ++ 10 ∷ print_end e) ++ rest)) two (first_by before rest e))
 
 -- in the bytes up to the first empty line a head is all
@@ -123,7 +123,7 @@ begins-take [] k e = cc
 begins-take (b ∷ []) k e = one_take b k (b == 10) refl e
 begins-take (b ∷ c ∷ bytes) k e = two_take b c k bytes (b == 10) (b == 13 && c == 10) refl refl e
 
-after-take : (b : ℕ) (bytes : List ℕ) (k : ℕ) → line_end_length_after_byte b bytes ≡ Some k → line_end_length_after_byte b (take k bytes) ≡ Some k
+after-take : (b : ℕ) (bytes : List ℕ) (k : ℕ) → line_end_length_after_line_feed b bytes ≡ Some k → line_end_length_after_line_feed b (take k bytes) ≡ Some k
 after-take b bytes k e = by (b == 10) e
   where
     by : (t : Bool) → (if t then leading_line_end_length bytes else None) ≡ Some k → (if t then leading_line_end_length (take k bytes) else None) ≡ Some k
@@ -148,7 +148,7 @@ begins-take-none (b ∷ []) (suc (suc k)) e = e
 begins-take-none (b ∷ c ∷ bytes) (suc zero) e = one_none b (b == 10) (b == 13 && c == 10) refl e
 begins-take-none (b ∷ c ∷ bytes) (suc (suc k)) e = e
 
-after-take-none : (b : ℕ) (bytes : List ℕ) (k : ℕ) → line_end_length_after_byte b bytes ≡ None → line_end_length_after_byte b (take k bytes) ≡ None
+after-take-none : (b : ℕ) (bytes : List ℕ) (k : ℕ) → line_end_length_after_line_feed b bytes ≡ None → line_end_length_after_line_feed b (take k bytes) ≡ None
 after-take-none b bytes k e = by (b == 10) e
   where
     by : (t : Bool) → (if t then leading_line_end_length bytes else None) ≡ None → (if t then leading_line_end_length (take k bytes) else None) ≡ None
@@ -159,9 +159,9 @@ pub head_len-take : (xs : List ℕ) (n : ℕ) → head_length xs ≡ Some n → 
 head_len-take [] n e = let f = rw head_len-nil at e in cc
 head_len-take (b ∷ bytes) n e =
     let f = rw (head_len-cons b bytes) at e in
-    by (line_end_length_after_byte b bytes) (head_length bytes) refl refl f (λ m. head_len-take bytes m)
+    by (line_end_length_after_line_feed b bytes) (head_length bytes) refl refl f (λ m. head_len-take bytes m)
   where
-    by : (x y : Option ℕ) → line_end_length_after_byte b bytes ≡ x → head_length bytes ≡ y → first_present_plus_one x y ≡ Some n
+    by : (x y : Option ℕ) → line_end_length_after_line_feed b bytes ≡ x → head_length bytes ≡ y → first_present_plus_one x y ≡ Some n
         → ((m : ℕ) → head_length bytes ≡ Some m → head_length (take m bytes) ≡ Some m) → head_length (take n (b ∷ bytes)) ≡ Some n
     by (Some k) y p q f ih =
         let g : k + 1 ≡ n = cc in

@@ -36,7 +36,7 @@ fn is_either_true(a: bool, b: bool) -> bool
 /// Parses the head with which the bytes `front` begin. Returns the positions of its method and
 /// target, which are within `front`, its close flag, and its body length, at most 65,536 bytes, or
 /// the problem with the fields that give it. Returns `None` if `front` does not begin with a head
-/// of at most 100 fields.
+/// of at most 100 fields, and does not return `None` if `front` is exactly such a head.
 pub fn parse_head(front: &[u8]) -> Option<HeadFacts>
     ensures within { IfSome result (λ facts. IsWithin (length front.now) facts.method × IsWithin (length front.now) facts.target) }
     ensures small { IfSome result (λ facts. IfOk facts.len (λ n. n ≤ most_body_bytes)) }

@@ -46,8 +46,8 @@ fn line_end_length_in_bytes(bytes: &[u8]) -> Option<usize>
 /// Returns the length in bytes of the line end at the front of `rest` if `byte` is LF, so that the
 /// two form an empty line. Returns `None` if `byte` is not LF or `rest` does not begin with a line
 /// end.
-fn line_end_length_after_byte(byte: u8, rest: &[u8]) -> Option<usize>
-    ensures { result ≡ spec.line_end_length_after_byte byte rest.now }
+fn line_end_length_after_line_feed(byte: u8, rest: &[u8]) -> Option<usize>
+    ensures { result ≡ spec.line_end_length_after_line_feed byte rest.now }
 {
     if byte == b'\n' {
         line_end_length_in_bytes(rest)
@@ -63,7 +63,7 @@ pub fn head_length_in_bytes(bytes: &[u8]) -> Option<usize>
     ensures within { IfSome result (λ n. n ≤ length bytes.now) }
 {
     for (i, byte) in bytes.iter().enumerate() {
-        match line_end_length_after_byte(*byte, &bytes[i + 1..]) {
+        match line_end_length_after_line_feed(*byte, &bytes[i + 1..]) {
             Some(n) => return Some(i + 1 + n),
             None => {}
         }
@@ -74,7 +74,8 @@ pub fn head_length_in_bytes(bytes: &[u8]) -> Option<usize>
 /// Reads at most 1,024 bytes, by one read, and appends them to the buffer. Returns false at the end
 /// of the input, otherwise true.
 ///
-/// Fails with `Read` if the reader fails, or with `Memory`.
+/// Fails with `Read` if the reader fails, or with `Memory` if memory runs out. No clause states
+/// what the buffer and the reader then contain.
 pub fn read_into_buffer<R: Read>(reader: &mut R, buffer: &mut Vec<u8>) -> Result<bool, InputFault>
     ensures moves { OnOk result (ReadsIntoBuffer (R.remaining reader.old) (R.remaining reader.new) buffer.old.items buffer.new.items) }
     ensures more { result ≡ Ok true → length buffer.old.items < length buffer.new.items }
@@ -89,9 +90,12 @@ pub fn read_into_buffer<R: Read>(reader: &mut R, buffer: &mut Vec<u8>) -> Result
 }
 
 /// Reads until the buffer begins with a whole head, has 16,384 bytes without the end of a head, or
-/// the input has ended. Returns the position at which the head ends, which is within the buffer, or
-/// the reason why it has no end: no byte was left, the head is too long, or the input ended within
-/// it.
+/// the input has ended. Returns `At` with the position at which the head ends, which is within the
+/// buffer, or the reason why it has no end: `Nothing` if no byte was left, `TooLong` if there are
+/// at least 16,384 bytes and the first 16,384 do not contain its end, or `Cut` if the input ended
+/// earlier.
+///
+/// Fails with `Read` if the reader fails, or with `Memory` if memory runs out.
 pub fn read_head<R: Read>(reader: &mut R, buffer: &mut Vec<u8>) -> Result<HeadEnd, InputFault>
     ensures moves { OnOk result (ReadsIntoBuffer (R.remaining reader.old) (R.remaining reader.new) buffer.old.items buffer.new.items) }
     ensures within { IfOk result (λ end. HeadEndIsWithin end (length buffer.new.items)) }
@@ -119,7 +123,7 @@ pub fn read_head<R: Read>(reader: &mut R, buffer: &mut Vec<u8>) -> Result<HeadEn
 /// Reads until the buffer has at least `len` bytes, and returns true. Returns false if the input
 /// ends before the buffer has so many bytes.
 ///
-/// Fails with `Read` or `Memory`.
+/// Fails with `Read` if the reader fails, or with `Memory` if memory runs out.
 pub fn read_to_length<R: Read>(
     reader: &mut R,
     buffer: &mut Vec<u8>,

@@ -32,10 +32,16 @@ pub enum NextRequest {
 }
 
 /// Reads the request with which the buffer and the input after it begin into the buffer, up to the
-/// end of its body, and returns the positions of its parts, which are within the buffer.
+/// end of its body or beyond it, and returns the positions of its parts, which are within the
+/// buffer.
 ///
-/// Returns `Ended` if no byte is left, and `Broken` with a problem if no request can be read. Fails
-/// with `Read` or `Memory`.
+/// Returns `Ended` if no byte is left, and `Broken` with a problem if no request can be read:
+/// `TooLarge` if there are at least 16,384 bytes and the first 16,384 do not contain the end of a
+/// head; `BadRequest` if the input ends earlier within the head, or if the head is malformed or has
+/// more than 100 fields; otherwise the problem with the body length (`facts_from_fields`), or
+/// `BadRequest` if the input ends within the body.
+///
+/// Fails with `Read` if the reader fails, or with `Memory` if memory runs out.
 pub fn read_next_request<R: Read>(
     reader: &mut R,
     buffer: &mut Vec<u8>,

@@ -57,8 +57,8 @@ impl<S: Alter> Rows for DeskRows<S> {
         parse_row(alloc, row)
     }
 
-    /// Executes a command under its key by `Desk::call`, and returns its answer. Fails with
-    /// `Memory` or `Store`.
+    /// Executes a command under its key at the clock reading `now`, by `Desk::call`, and returns
+    /// its answer. Fails with `Memory` or `Store`.
     fn call(
         desk: &mut Desk<S>,
         alloc: Global,

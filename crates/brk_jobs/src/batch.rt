@@ -6,9 +6,9 @@ use brk_money::Stamp;
 use sqlite::Alter;
 use std::io::{Read, Write};
 
-/// Executes a batch from `input` on a desk, and writes its lines to `output`. The timestamps are
-/// `at`, or readings of the machine's clock. Returns `Done`, also if rows were refused, or `Batch`
-/// with the fault if the batch ended early.
+/// Executes a batch from `input` on a desk, and writes its lines to `output`. Each clock reading is
+/// `at`, or a reading of the machine's clock if `at` is `None`. Returns `Done`, also if rows were
+/// refused, or `Batch` with the fault if a fault ended the batch.
 pub(crate) fn execute_batch_job<R: Read + Drop, W: Write, S: Alter>(
     rt: &HostRuntime,
     at: Option<Stamp>,

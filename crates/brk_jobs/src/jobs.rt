@@ -20,14 +20,15 @@ fn write_help_text<W: Write>(text: String, output: &mut W) -> Ending {
 enum Place<'a> {
     /// In memory.
     Memory,
-    /// In the file at a path, created if it is missing or empty.
+    /// In the file at a path; a desk is created if the file is missing or empty or has no table of
+    /// a desk.
     FileOrNewFile(&'a str),
     /// In the file at a path, which must exist.
     ExistingFile(&'a str),
 }
 
-// Returns the place of a desk for an optional path: a file that is created if it is missing or
-// empty, or memory if there is no path.
+// Returns the place of a desk for an optional path: the file at the path (`FileOrNewFile`), or
+// memory if there is no path.
 fn place_of_optional_file(db: &Option<String>) -> Place<'_> {
     match db {
         Some(path) => Place::FileOrNewFile(path.as_str()),
@@ -35,9 +36,8 @@ fn place_of_optional_file(db: &Option<String>) -> Place<'_> {
     }
 }
 
-// Returns the place of the desk of a job: for a batch and for serving, the file of the job, created
-// if it is missing or empty, or memory without a file; for any other job, its file, which must
-// exist.
+// Returns the place of the desk of a job: for a batch and for serving, the file of the job
+// (`FileOrNewFile`), or memory without a file; for any other job, its file (`ExistingFile`).
 fn place_of_job(job: &Job) -> Place<'_> {
     match job {
         Job::Batch { db, .. } => place_of_optional_file(db),
@@ -49,9 +49,10 @@ fn place_of_job(job: &Job) -> Place<'_> {
     }
 }
 
-// Opens or creates the desk of a job, executes the job, closes the desk, and returns the outcome of
-// the job, or `Open` with the fault if the desk cannot be opened, created or closed. After an audit
-// that passed, writes `ok` and a line feed, and returns `Output` if that fails.
+// Opens or creates the desk of a job, executes the job, closes the file of the desk, if it has one,
+// and returns the outcome of the job. Returns `Open` with the fault if the desk cannot be opened or
+// created, or if the outcome is `Done` and the file cannot be closed. After an audit that passed
+// and this close, writes `ok` and a line feed to `output`, and returns `Output` if that fails.
 fn execute_job<R: Read + Drop, W: Write>(
     rt: &HostRuntime,
     job: &Job,
@@ -82,9 +83,12 @@ fn execute_job<R: Read + Drop, W: Write>(
 }
 
 /// Parses the command-line arguments `words`, the program's own name first, executes the job that
-/// they request, and returns the outcome of the job; `Usage` if they request help, the version or
-/// no job, and `Output` if the help or the version cannot be written. A batch is read from `input`.
-/// The output of the job, also help, is written to `output`.
+/// they request, and returns the outcome of the job (`execute_job`). A batch is read from `input`,
+/// and the output of the job is written to `output`.
+///
+/// If the arguments request help or the version, writes its text to `output` and returns `Usage`
+/// with the text, or `Output` if the writer fails. Otherwise returns `Usage` with the fault if they
+/// are wrong, if a day is malformed, or if memory runs out before they are parsed.
 pub fn execute_requested_job<R: Read + Drop, W: Write>(
     rt: &HostRuntime,
     words: Vec<String>,

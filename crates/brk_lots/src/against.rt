@@ -29,8 +29,8 @@ pub fn is_trade_closing_lots(side: Side, held: i64) -> bool
 /// Returns the effect of a trade that closes no lot: it opens a lot of all its shares
 /// (Trade-Result). The buy value and the sell value of the closed shares are 0.
 ///
-/// The caller checks with `is_trade_closing_lots` that the trade closes no lot. No lot of the position
-/// may have been opened by `trade`.
+/// The effect is specified only over the lots of a position, none of which `trade` opened, and only
+/// if the trade closes none of them (`is_trade_closing_lots`), which the caller checks.
 pub fn open_lot_without_closing(
     alloc: Global,
     side: Side,
@@ -52,8 +52,8 @@ pub fn open_lot_without_closing(
     }
 }
 
-/// Returns the buy value and the sell value of the closed shares of an order that closes no share:
-/// both are 0. The caller checks with `is_trade_closing_lots` that the order closes no lot.
+/// Returns a buy value and a sell value of 0. They are the values of the closed shares of an order
+/// that closes no lot of a position (`is_trade_closing_lots`), which the caller checks.
 pub fn zero_closing_values() -> Values
     ensures values { (d : model.Deal) (ls : List Lot) → IsPositionInAnyOrder ls → is_trade_closing_lots d.side (lot_quantity_sum ls) ≡ false
         → result ≡ closing_values_of_deal d (shares_of_lots ls) }

@@ -194,7 +194,8 @@ has_price_exactly_if is_done price = if is_done then option_map_or is_price pric
 -- True if the TRADE row has a price within its limits and its trade has a TRADE_HISTORY row with
 -- the status `Completed`, or it has no price and its trade has no such row.
 abbrev pub has_price_matching_completion : Tables → TradeRow → Bool
-has_price_matching_completion t row = has_price_exactly_if (list_any (λ h. is_same_trade_status h.status Completed) (history_rows_with_trade_id t row.id)) row.price
+has_price_matching_completion t row =
+    has_price_exactly_if (list_any (λ h. is_same_trade_status h.status Completed) (history_rows_with_trade_id t row.id)) row.price
 
 -- True if the numbers of a trade are within their limits in the schema `schema`: its id, its
 -- quantity, its bid, its charge, its commission and its tax.

@@ -45,7 +45,8 @@ base_after_command_unstamped base stamp (CompleteTrade id price) = base_after_re
 base_after_command_unstamped base stamp (ChangeExecutors ids) = base_with_updated_executors ids base
 base_after_command_unstamped base stamp (ChangeCashTypes account first last) =
     base_with_updated_cash_types (selected_trade_ids_of_account base account first last) base
-base_after_command_unstamped base stamp (ChangeCashNames symbol first last) = base_with_updated_cash_names (selected_trade_ids_of_symbol base symbol first last) base
+base_after_command_unstamped base stamp (ChangeCashNames symbol first last) =
+    base_with_updated_cash_names (selected_trade_ids_of_symbol base symbol first last) base
 base_after_command_unstamped base stamp (DepositCash account amount) = base_after_movement base (deposit_movement stamp account amount)
 base_after_command_unstamped base stamp (WithdrawCash account amount) = base_after_movement base (withdrawal_movement stamp account amount)
 base_after_command_unstamped base stamp (SetOneDay day) = base_with_settlement_day base day

@@ -8,8 +8,8 @@ use Rattle.brk_model.specs.Records.{Trade}
 use Rattle.brk_model.specs.Base.{Base, last_status_stamp_of_trade, completed_trades, base_with_updated_trades}
 use Rattle.brk_model.specs.Results.{cash_row_name}
 
--- The updated executor name: each " X " in `name` becomes a space if `name` contains one, otherwise
--- each space becomes " X ".
+-- The updated executor name: if `name` contains " X ", each occurrence of it, taken from the left
+-- without overlap, becomes a space; otherwise each space becomes " X ".
 abbrev pub updated_executor_name : Text → Text
 updated_executor_name name =
     if contains_text (codes " X ") name then replace_text (codes " X ") (codes " ") name else replace_text (codes " ") (codes " X ") name

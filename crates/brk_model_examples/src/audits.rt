@@ -17,8 +17,10 @@ ghost use Rattle.brk_model_examples.specs.Bought.{tables_with_second_cash_row_of
 ghost use Rattle.brk_model_examples.specs.Bought.{tables_with_trade_above_older_limit, tables_with_band_above_older_limit};
 ghost use Rattle.brk_model_examples.specs.Bought.{tables_with_settlement_day_after_completion, tables_with_settlement_day_at_completion, tables_with_movement};
 
-/// Shows that the tables after the first purchase pass the audit of each of the three schemas, and
-/// that they pass with a settlement day after the completion, with a deposit or with a withdrawal.
+/// Shows that the tables after the first purchase pass the audit of the third and of the second
+/// schema, and those with the cash row in CASH_TRANSACTION that of the first. Shows also that they
+/// pass the audit of the third schema with a settlement day after the completion or with a deposit,
+/// and that of the second with a withdrawal.
 pub fn tables_of_a_base_pass_audit()
     ensures third { IsAuditResult third_schema tables_after_first_purchase None }
     ensures second { IsAuditResult second_schema tables_after_first_purchase None }
@@ -29,7 +31,8 @@ pub fn tables_of_a_base_pass_audit()
 {}
 
 /// Shows the condition that an audit in the third schema returns for each of 21 changes of the
-/// tables after the first purchase. If two conditions fail, the audit returns the first.
+/// tables after the first purchase. After the last change two conditions fail, and the audit
+/// returns the first.
 pub fn audit_returns_first_failed_condition()
     ensures no_quantity { IsAuditResult third_schema tables_with_zero_trade_quantity (Some condition.Form) }
     ensures no_last_trade { IsAuditResult third_schema tables_without_last_trade (Some condition.Form) }
@@ -54,9 +57,10 @@ pub fn audit_returns_first_failed_condition()
     ensures two_changes { IsAuditResult third_schema tables_without_lots_and_summaries (Some condition.Lots) }
 {}
 
-/// Shows that tables fail an audit if the name of a movement is unknown or does not fit the sign of
-/// its amount, if its amount is 0, if its stamp is after the last stamp or equals the stamp of a
-/// completion, or if a cash row with a smaller number has a later stamp.
+/// Shows the condition that an audit in the third schema returns for the tables after the first
+/// purchase with one movement: `Form` if the movement is a deposit of an amount below 0 or of 0,
+/// has the name `deposit`, or has a stamp after the last stamp; `Status` if its stamp equals the
+/// stamp of the completion; and `Cash` if the cash row with the smaller number has a later stamp.
 pub fn audit_checks_movement_rows()
     ensures other_sign { IsAuditResult third_schema (tables_with_movement 1709251200018 (negsuc 9999) (codes "Deposit")) (Some condition.Form) }
     ensures nothing_moved { IsAuditResult third_schema (tables_with_movement 1709251200018 (pos 0) (codes "Deposit")) (Some condition.Form) }
@@ -66,9 +70,11 @@ pub fn audit_checks_movement_rows()
     ensures before_it { IsAuditResult third_schema (tables_with_movement 1709251200005 (pos 10000) (codes "Deposit")) (Some condition.Cash) }
 {}
 
-/// Shows that an audit applies the limits of quantities of the given schema, and that tables fail
-/// it if they have a settlement day in a schema without one, or cash rows in a table that does not
-/// hold the cash rows of the schema.
+/// Shows that tables with a trade or a band whose quantity is above the limit of the second schema
+/// fail its audit with `Form`, and that the tables with this band pass the audit of the third.
+/// Tables with a settlement day fail the audit of the second schema with `Form`, tables with a row
+/// of CASH_MOVE that of the first with `Form`, and tables whose cash row is in CASH_TRANSACTION
+/// that of the second with `Cash`.
 pub fn audit_applies_limits_of_schema()
     ensures quantity { IsAuditResult second_schema tables_with_trade_above_older_limit (Some condition.Form) }
     ensures band { IsAuditResult second_schema tables_with_band_above_older_limit (Some condition.Form) }

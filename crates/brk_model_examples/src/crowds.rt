@@ -7,8 +7,8 @@ ghost use Rattle.brk_model_examples.specs.Batches.{base_after_batch, BatchOutput
 ghost use Rattle.brk_model_examples.specs.Crowds.{setting_with_fifty_one_pending_trades, first_fields_of_view, trade_ids_of_view};
 ghost use Rattle.brk_model_examples.specs.Crowds.{setting_with_twenty_one_margin_purchases};
 
-/// Shows that the view `recent` returns the last ten trades of an account, and the view `status`
-/// the last fifty.
+/// Shows, for an account with fifty-one pending trades, that the view `recent` has the ids of the
+/// last ten, and the view `status` those of the last fifty, the last first.
 pub fn views_return_last_trades()
     ensures ten { trade_ids_of_view (view_by_name_and_arguments setting_with_fifty_one_pending_trades (codes "recent") (codes "100" ∷ []))
         ≡ codes "51" ∷ codes "50" ∷ codes "49" ∷ codes "48" ∷ codes "47" ∷ codes "46" ∷ codes "45" ∷ codes "44" ∷ codes "43" ∷ codes "42" ∷ [] }
@@ -18,7 +18,9 @@ pub fn views_return_last_trades()
         ∷ 25 ∷ 24 ∷ 23 ∷ 22 ∷ 21 ∷ 20 ∷ 19 ∷ 18 ∷ 17 ∷ 16 ∷ 15 ∷ 14 ∷ 13 ∷ 12 ∷ 11 ∷ 10 ∷ 9 ∷ 8 ∷ 7 ∷ 6 ∷ 5 ∷ 4 ∷ 3 ∷ 2 ∷ []) }
 {}
 
-/// Shows that the lookups by account and by symbol return the first twenty trades from a stamp on.
+/// Shows, for fifty-one pending trades, that the lookup by account from the stamp of the third
+/// trade on has the ids of twenty trades, from the third on, and the lookup by symbol from the
+/// stamp 0 on those of the first twenty.
 pub fn lookups_return_first_twenty_trades()
     ensures by_account { trade_ids_of_view (view_by_name_and_arguments setting_with_fifty_one_pending_trades (codes "accounttrades")
         (codes "100" ∷ codes "1709251200018" ∷ codes "1709251200066" ∷ []))
@@ -28,8 +30,8 @@ pub fn lookups_return_first_twenty_trades()
         ≡ map (λ n. decimal n) (range_with_len 1 20) }
 {}
 
-/// Shows that `upcash` updates the first twenty of twenty-one completed trades, and replies with
-/// the number 20.
+/// Shows that `upcash` updates the cash types of the first twenty of twenty-one completed margin
+/// trades, and replies with the number 20.
 pub fn update_changes_first_twenty_trades()
     ensures reply { BatchOutputsLines setting_with_twenty_one_margin_purchases (codes "upcash,100,0,253402300799999" ∷ [])
         (codes "1,ok,1709251200058,20"
@@ -38,7 +40,8 @@ pub fn update_changes_first_twenty_trades()
         ≡ replicate 20 (codes "Margin Account") ++ codes "Margin" ∷ [] }
 {}
 
-/// Shows that the view `lots` returns the first twenty changes of the lots that a sale touched.
+/// Shows that the view `lots` returns the id of a sale that closes twenty-one lots, and the first
+/// twenty changes of these lots.
 pub fn lots_view_returns_first_twenty_changes()
     ensures { view_by_name_and_arguments (base_after_batch setting_with_twenty_one_margin_purchases
         (codes "order,100,TMS,ABC,21,,cash,fifo,Ann,Lee,T10"

@@ -10,9 +10,10 @@ ghost use Rattle.brk_model_examples.specs.Batches.{BatchOutputsLines};
 ghost use Rattle.brk_model_examples.specs.Setting.{setting_base};
 
 /// Shows that a row with several malformed fields is refused by the first failed check in the
-/// sequence text, quantity, price, type; that the price must fit the type; and that the number of
-/// ticks is checked last. A feed without ticks, a row of an unknown kind and a row without fields
-/// are refused with `BadText`.
+/// sequence text, quantity, price, type; that a market order with a price and a limit order without
+/// one are refused with `BadPrice`; and that a feed of 21 ticks is refused with `TooMany`, but with
+/// `BadPrice` if the price of one of them is malformed. A feed without ticks, a row of an unknown
+/// kind and a row without fields are refused with `BadText`.
 pub fn refusals_follow_format_check_order()
     ensures text_first { parse_row (codes "charge" ∷ codes "TMX" ∷ codes "9" ∷ codes "5.00" ∷ []) ≡ Err BadText }
     ensures qty_then { parse_row (codes "order" ∷ codes "1" ∷ codes "TMX" ∷ codes "ABC" ∷ codes "0" ∷ codes "x" ∷ codes "cash" ∷ codes "fifo" ∷ codes "A"
@@ -32,8 +33,9 @@ pub fn refusals_follow_format_check_order()
     ensures no_field { parse_row [] ≡ Err BadText }
 {}
 
-/// Shows that canonical texts parse as an amount or a number, and that other texts do not: minus
-/// zero, a leading zero, one decimal place, a plus sign, and no bytes.
+/// Shows four canonical texts that parse as an amount or a number, and six other texts that do not:
+/// minus zero, an amount with a leading zero, one decimal place, two zeros, a plus sign, and no
+/// bytes.
 pub fn values_have_one_canonical_text()
     ensures cents { cents_of_text (codes "10000.00") ≡ Some (pos 1000000) }
     ensures minus { cents_of_text (codes "-0.01") ≡ Some (negsuc 0) }
@@ -47,7 +49,8 @@ pub fn values_have_one_canonical_text()
     ensures empty { decimal_number_of_text [] ≡ None }
 {}
 
-/// Shows that an account is refused with 18 if the text of its opening balance is not canonical.
+/// Shows that an account is refused with 18 for three texts of its opening balance that are not
+/// canonical.
 pub fn noncanonical_opening_balance_is_refused()
     ensures { BatchOutputsLines setting_base
         (codes "account,101,10,1,Main,1,-0.00"

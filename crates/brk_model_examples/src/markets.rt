@@ -44,9 +44,10 @@ pub fn feed_triggers_pending_trades()
         (codes "feed,ABC,10.01,100,ABC,9.50,200" ∷ []))).history) ≡ 1 ∷ 2 ∷ [] }
 {}
 
-/// Shows that a cancel is refused unless its trade exists and is pending, and that a feed is
-/// refused if a security does not exist or a tick is incomplete. Shows also the submitted trades
-/// and an estimate after a cancel and a feed.
+/// Shows that the cancel of a pending trade is accepted, that the cancel of a canceled or a
+/// submitted trade is refused with 13 and that of an unknown trade with 5, and that a feed is
+/// refused with 4 if a security does not exist and with 18 if a tick is incomplete. Shows also the
+/// submitted trades and an estimate after a cancel and a feed.
 pub fn cancel_needs_pending_trade()
     ensures lines { BatchOutputsLines base_with_pending_orders
         (codes "cancel,1"

@@ -168,9 +168,10 @@ pub fn last_row_of_cut_input_is_refused()
     ensures header_alone { (result_of_batch_input setting_base twenty_clock_readings (codes "batch,C\n")).ending ≡ NoEnd }
 {}
 
-/// Shows that a batch with a malformed header ends with `BadHeader`, and one with a wrong end
-/// record with `BadEnd`. The row before a wrong end record is accepted. A batch with a record after
-/// its correct end record ends with `CorrectEnd`, and the record is not executed.
+/// Shows that an input without bytes and two batches with a malformed header end with `BadHeader`,
+/// and four batches with a wrong end record with `BadEnd`. The row before a wrong end record is
+/// accepted. A batch with a record after its correct end record ends with `CorrectEnd`, and the
+/// record is not executed.
 pub fn headers_and_end_records_are_checked()
     ensures empty_input { (result_of_batch_input setting_base twenty_clock_readings []).ending ≡ BadHeader }
     ensures no_name { (result_of_batch_input setting_base twenty_clock_readings (codes "batch,\nend,0\n")).ending ≡ BadHeader }
@@ -181,7 +182,8 @@ pub fn headers_and_end_records_are_checked()
     ensures no_count { (result_of_batch_input setting_base twenty_clock_readings (codes "batch,C\nend\n")).ending ≡ BadEnd }
     ensures row_before_wrong_end { (result_of_batch_input setting_base twenty_clock_readings (codes "batch,C\nbroker,2,Cy\nend,2\n")).text
         ≡ text_with_line_ends (codes "1,ok,1709251200016" ∷ []) }
-    ensures records_after_end { (result_of_batch_input setting_base twenty_clock_readings (codes "batch,C\nbroker,2,Cy\nend,1\nbroker,3,Di\n")).ending ≡ CorrectEnd }
+    ensures records_after_end { (result_of_batch_input setting_base twenty_clock_readings
+        (codes "batch,C\nbroker,2,Cy\nend,1\nbroker,3,Di\n")).ending ≡ CorrectEnd }
     ensures brokers_after_end { map {B = ℕ} (λ b. b.id) (result_of_batch_input setting_base twenty_clock_readings
         (codes "batch,C\nbroker,2,Cy\nend,1\nbroker,3,Di\n")).base.brokers ≡ 1 ∷ 2 ∷ [] }
 {}

@@ -24,8 +24,9 @@ pub fn half_cents_round_up()
     ensures loss { tax (negsuc 9999) 20000 ≡ 0 }
 {}
 
-/// Shows that a stop-loss is triggered at its bid or below, a limit sell at its bid or above, a
-/// limit buy at its bid or below, and a market type never.
+/// Shows, for one bid each and the prices 0.01 below it, at it and 0.01 above it, that a stop-loss
+/// and a limit buy are triggered at the bid and below it, and a limit sell at the bid and above it.
+/// A trade of a market type is not triggered at its bid.
 pub fn bid_price_triggers_trade()
     ensures stop_loss { map (is_triggering_price StopLoss 950) (949 ∷ 950 ∷ 951 ∷ []) ≡ true ∷ true ∷ false ∷ [] }
     ensures limit_sell { map (is_triggering_price LimitSell 1050) (1049 ∷ 1050 ∷ 1051 ∷ []) ≡ false ∷ true ∷ true ∷ [] }

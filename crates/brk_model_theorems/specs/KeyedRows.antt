@@ -37,7 +37,8 @@ IsUnusedKey base key = stored_row_with_key base key ≡ None
 
 -- Some run of calls that accepts no row under the key leads from `base` to `later`.
 abbrev pub RunNotAcceptingKeyLeadsTo : Key → Base → Base → Type 0
-RunNotAcceptingKeyLeadsTo key base later = (calls : List (ℕ × Call)) × (outcomes : List Outcome) × Run base calls outcomes later × AcceptsNothingUnderKey key calls outcomes
+RunNotAcceptingKeyLeadsTo key base later =
+    (calls : List (ℕ × Call)) × (outcomes : List Outcome) × Run base calls outcomes later × AcceptsNothingUnderKey key calls outcomes
 
 -- If `step` accepts the command over `base` at the clock reading `now`, `keyed_step` accepts it
 -- under the key, with the reply of `step`, which is then stored under the key. Vacuous if `step`

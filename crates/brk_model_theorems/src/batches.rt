@@ -29,8 +29,9 @@ pub fn rows_are_answered_by_their_calls()
         → RowsAreAnswered form step_of_row name base moments rows answers after × (length answers ≡ length rows) }
 {}
 
-/// Proves that `result_of_batch_input` computes the specified result of an input with the first `n` clock
-/// readings, for some `n`, if there are at least as many clock readings as the input has records.
+/// Proves that `result_of_batch_input` computes the specified result of an input with the first `n`
+/// clock readings, for some `n`, if there are at least as many clock readings as the input has
+/// records.
 pub fn batch_computes_the_specified_result()
     ensures { (base : Base) (moments : List ℕ) (input : List ℕ) → length (records default_config (input_text input)) ≤ length moments
         → (n : ℕ) × IsResultOfBatch parse_row step_of_row base (take n moments) input (result_of_batch_input base moments input) }

@@ -13,8 +13,8 @@ pub fn form_condition_holds_iff_all_parts_hold()
     ensures whole { (schema : Schema) (t : Tables) → SatisfiesFormParts schema t → satisfies_form_condition schema t ≡ true }
 {}
 
-/// Proves that tables satisfy `has_tables_sorted_by_unique_key` if and only if every table that has
-/// a key is sorted by it, strictly ascending.
+/// Proves that tables satisfy `has_tables_sorted_by_unique_key` if and only if each table except
+/// DESK and SETTLE_RULE is sorted by its key, strictly ascending.
 pub fn tables_are_sorted_iff_each_table_is_sorted()
     ensures parts { (t : Tables) → has_tables_sorted_by_unique_key t ≡ true → HasSortedTables t }
     ensures whole { (t : Tables) → HasSortedTables t → has_tables_sorted_by_unique_key t ≡ true }

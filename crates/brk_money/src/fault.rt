@@ -62,9 +62,10 @@ impl Condition {
 /// The reason why a call failed. A fault says nothing about the books.
 #[derive(Clone, Copy, Debug, PartialEq, Eq)]
 pub enum Fault {
-    /// Out of memory.
+    /// An allocation of the desk's own code was refused.
     Memory,
-    /// The database or its disk failed, or its rows are malformed or contradict each other.
+    /// The database or its disk failed, its rows are malformed or contradict each other, or the
+    /// `sqlite` crate or the decoding of a row ran out of memory.
     Store,
     /// The database fails this condition of a desk's tables; returned only when tables are created,
     /// adopted, upgraded or audited.

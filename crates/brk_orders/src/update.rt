@@ -42,7 +42,8 @@ pub fn parse_update_of_executor_names(alloc: Global, fields: &[&[u8]]) -> Planne
 }
 
 /// Parses an update of cash types (SE_CASH_TYPE) from the fields ACCOUNT, FROM and TO, the last two
-/// of them stamps in milliseconds since 1970-01-01 UTC.
+/// of them stamps in milliseconds since 1970-01-01 UTC. FROM may be later than TO; the span is then
+/// empty.
 ///
 /// Refuses with `BadText` (18) if there are not exactly three fields, or if one is malformed or out
 /// of range. Never allocates.
@@ -66,7 +67,8 @@ pub fn parse_update_of_cash_types(fields: &[&[u8]]) -> Result<Update, Refusal>
 }
 
 /// Parses an update of cash names, the texts of cash rows, from the fields SYMBOL, FROM and TO, the
-/// last two of them stamps in milliseconds since 1970-01-01 UTC.
+/// last two of them stamps in milliseconds since 1970-01-01 UTC. FROM may be later than TO; the
+/// span is then empty.
 ///
 /// Refuses with `BadText` (18) if there are not exactly three fields, or if one is malformed or out
 /// of range. Fails with `Memory` only.

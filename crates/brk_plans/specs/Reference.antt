@@ -47,8 +47,8 @@ is_sum_above_greatest_tax_rate (Some rates) rate = nat_lt greatest_tax_rate (rat
 -- of the customer's rates, this tax included, does not exceed the greatest rate (`TaxSum`).
 abbrev pub customer_tax_checks : ReferenceFacts → List RefusalCheck
 customer_tax_checks found =
-    (not found.customer, NoCustomer) ∷ (is_none found.rate, NoTax) ∷ duplicate_check found.same_id ∷ (is_sum_above_greatest_tax_rate found.rates found.rate, TaxSum)
-    ∷ []
+    (not found.customer, NoCustomer) ∷ (is_none found.rate, NoTax) ∷ duplicate_check found.same_id
+    ∷ (is_sum_above_greatest_tax_rate found.rates found.rate, TaxSum) ∷ []
 
 -- The checks of a new record of reference data against the facts `found`. An account, a permission,
 -- a band and a tax of a customer have the checks of their kind. Any other record must have a new

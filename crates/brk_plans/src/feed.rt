@@ -142,8 +142,8 @@ fn requests_not_triggered(
 
 // Returns the quote after the tick. Appends the row changes of the tick to `changes`, and the ids
 // of the trades that it triggers to `ids`. A tick of another symbol changes nothing. Refuses with
-// `Range(Volume)`, and appends nothing, if the volume would exceed its limit. Fails with `Memory`
-// only.
+// `Range(Volume)` if the volume would exceed its limit. Fails with `Memory` only; a part of the row
+// changes and of the ids may then be appended.
 fn apply_tick_to_quote(
     alloc: Global,
     stamp: Stamp,

@@ -17,8 +17,8 @@ use sqlite::Alter;
 use std::alloc::Global;
 
 // Returns the id and the balance of an account, and the market value of its holdings at last
-// prices, both in cents. Changes nothing. Fails with `Memory` or `Store` only; with `Store` also if
-// a held symbol has no last price or the sum overflows.
+// prices, both in cents. If the database is still open, it is unchanged. Fails with `Memory` or
+// `Store` only; with `Store` also if a held symbol has no last price or the sum overflows.
 fn read_balance_and_market_value<S: Alter>(
     alloc: Global,
     store: &mut Store<S>,
@@ -35,9 +35,9 @@ fn read_balance_and_market_value<S: Alter>(
     })
 }
 
-// Returns the balances and the market values of all accounts of a customer, in cents, sorted by the
-// account's id, ascending. Changes nothing. Fails with `Memory` or `Store` only; with `Store` also
-// if a held symbol has no last price or a sum overflows.
+// Returns the balances and the market values of all accounts of a customer, in cents, in the order
+// of the table of accounts. If the database is still open, it is unchanged. Fails with `Memory` or
+// `Store` only; with `Store` also if a held symbol has no last price or a sum overflows.
 fn read_balances_and_market_values<S: Alter>(
     alloc: Global,
     store: &mut Store<S>,
@@ -58,8 +58,8 @@ fn read_balances_and_market_values<S: Alter>(
 
 // Returns the view of the balances and the market values of the accounts of the customer with the
 // id `customer`, sorted by market value, then by id, ascending. Refuses with `NoCustomer` if there
-// is no such customer. Changes nothing. Fails with `Memory` or `Store` only; with `Store` also if a
-// held symbol has no last price or a sum overflows.
+// is no such customer. If the database is still open, it is unchanged. Fails with `Memory` or
+// `Store` only; with `Store` also if a held symbol has no last price or a sum overflows.
 pub(crate) fn view_of_account_values<S: Alter>(
     alloc: Global,
     store: &mut Store<S>,
@@ -78,8 +78,8 @@ pub(crate) fn view_of_account_values<S: Alter>(
 
 // Returns the view of the balances and the market values of the accounts of the customer with the
 // tax id `tax_id`, sorted by market value, then by id, ascending. Refuses with `NoCustomer` if
-// there is no such customer. Changes nothing. Fails with `Memory` or `Store` only; with `Store`
-// also if a held symbol has no last price or a sum overflows.
+// there is no such customer. If the database is still open, it is unchanged. Fails with `Memory` or
+// `Store` only; with `Store` also if a held symbol has no last price or a sum overflows.
 pub(crate) fn view_of_account_values_by_tax_id<S: Alter>(
     alloc: Global,
     store: &mut Store<S>,

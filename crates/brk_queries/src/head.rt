@@ -23,9 +23,9 @@ pub struct StatementHead {
 }
 
 /// Returns the name and the opening balance of an account, and the market value of its holdings at
-/// last prices, both amounts in cents, or `None` if the account does not exist. Changes nothing.
-/// Fails with `Memory` or `Store` only; with `Store` also if a held symbol has no last price or the
-/// sum overflows.
+/// last prices, both amounts in cents, or `None` if the account does not exist. If the database is
+/// still open, it is unchanged. Fails with `Memory` or `Store` only; with `Store` also if a held
+/// symbol has no last price or the sum overflows.
 pub fn read_statement_head<S: Alter>(
     alloc: Global,
     store: &mut Store<S>,

@@ -18,11 +18,13 @@ use sqlite::Alter;
 use std::alloc::Global;
 
 /// Executes a query: reads the rows that it selects and returns them as a view, or returns the
-/// refusal of the query.
+/// refusal of the query. The result is that of the model if the tables are those of a base that
+/// satisfies the books invariant and the audit invariant.
 ///
 /// Fails with `Memory` or `Store` only; with `Store` also if a row that another row requires does
-/// not exist, a lot has no shares, or a sum overflows or exceeds its limit. If the database is
-/// still open, it is unchanged, whatever the result.
+/// not exist, a lot that was read has no shares, the number of lots read exceeds 32 bits, or a sum
+/// overflows or exceeds its limit. If the database is still open, it is unchanged, whatever the
+/// result.
 pub fn view_of_query<S: Alter>(alloc: Global, store: &mut Store<S>, query: &Query) -> Planned<View>
     ensures read { ReadPost S.Store store.old store.new result (AnswersQueryAsModel (abstract_query query.now)) }
     ensures fault { IfErr result IsCallFault }

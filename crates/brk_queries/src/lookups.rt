@@ -23,7 +23,9 @@ use sqlite::Alter;
 use std::alloc::Global;
 
 // Returns a trade with the rows that other tables contain for it: its settlement and its cash row,
-// each if it exists, and its history. Changes nothing. Fails with `Memory` or `Store` only.
+// each if it exists, and its history. These rows are specified only if the tables are those of a
+// base that satisfies the books invariant and the audit invariant. If the database is still open,
+// it is unchanged. Fails with `Memory` or `Store` only.
 fn read_all_rows_of_trade<S: Alter>(
     alloc: Global,
     store: &mut Store<S>,
@@ -39,7 +41,9 @@ fn read_all_rows_of_trade<S: Alter>(
 }
 
 // Returns the trades `trades`, in order, each with its settlement and its cash row, if they exist,
-// and its history. Changes nothing. Fails with `Memory` or `Store` only.
+// and its history. These rows are specified only if the tables are those of a base that satisfies
+// the books invariant and the audit invariant. If the database is still open, it is unchanged.
+// Fails with `Memory` or `Store` only.
 fn read_all_rows_of_trades<S: Alter>(
     alloc: Global,
     store: &mut Store<S>,
@@ -59,8 +63,8 @@ fn read_all_rows_of_trades<S: Alter>(
 }
 
 // Returns the view of the trades with the ids in `trades`, the oldest first, each with its
-// settlement, cash row and history. Refuses with `NoTrade` if one of the trades does not exist.
-// Changes nothing. Fails with `Memory` or `Store` only.
+// settlement, cash row and history. Refuses with `NoTrade` if one of the trades does not exist. If
+// the database is still open, it is unchanged. Fails with `Memory` or `Store` only.
 pub(crate) fn view_of_trades_by_ids<S: Alter>(
     alloc: Global,
     store: &mut Store<S>,
@@ -81,7 +85,8 @@ pub(crate) fn view_of_trades_by_ids<S: Alter>(
 
 // Returns the view of the first 20 trades of an account whose stamps are in `span`, both ends
 // included, the oldest first, each with its settlement, cash row and history. Refuses with
-// `NoAccount` if the account does not exist. Changes nothing. Fails with `Memory` or `Store` only.
+// `NoAccount` if the account does not exist. If the database is still open, it is unchanged. Fails
+// with `Memory` or `Store` only.
 pub(crate) fn view_of_account_trades<S: Alter>(
     alloc: Global,
     store: &mut Store<S>,
@@ -101,8 +106,8 @@ pub(crate) fn view_of_account_trades<S: Alter>(
 
 // Returns the view of the first 20 trades of a symbol whose stamps are in `span`, both ends
 // included, the oldest first, each with its settlement, cash row and history. Refuses with
-// `NoSecurity` if the security does not exist. Changes nothing. Fails with `Memory` or `Store`
-// only.
+// `NoSecurity` if the security does not exist. If the database is still open, it is unchanged.
+// Fails with `Memory` or `Store` only.
 pub(crate) fn view_of_symbol_trades<S: Alter>(
     alloc: Global,
     store: &mut Store<S>,

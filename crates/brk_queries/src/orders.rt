@@ -15,8 +15,8 @@ use brk_view::{View, submitted};
 use sqlite::Alter;
 use std::alloc::Global;
 
-// Returns the view of all submitted trades, sorted by id, ascending. Never refuses. Changes
-// nothing. Fails with `Memory` or `Store` only.
+// Returns the view of all submitted trades, sorted by id, ascending. Never refuses. If the database
+// is still open, it is unchanged. Fails with `Memory` or `Store` only.
 pub(crate) fn view_of_submitted_trades<S: Alter>(
     alloc: Global,
     store: &mut Store<S>,
@@ -31,10 +31,11 @@ pub(crate) fn view_of_submitted_trades<S: Alter>(
 
 // Returns the view of the estimated figures of an order: its price, the buy and the sell value of
 // the shares that it would close, the tax, the commission, the charge and the assets of the
-// account; or the refusal of the order. Accepts no order and changes nothing. Fails with `Memory`
-// or `Store` only; with `Store` also if the account's customer or one of the customer's taxes does
-// not exist, the tax rates total more than the greatest rate, a held symbol has no last price, a
-// sum overflows, or a lot that was read has no shares.
+// account; or the refusal of the order. Accepts no order. If the database is still open, it is
+// unchanged. Fails with `Memory` or `Store` only; with `Store` also if the account's customer or
+// one of the customer's taxes does not exist, the tax rates total more than the greatest rate, a
+// held symbol has no last price, a sum overflows, a lot that was read has no shares, or the number
+// of lots read exceeds 32 bits.
 pub(crate) fn view_of_estimate<S: Alter>(
     alloc: Global,
     store: &mut Store<S>,

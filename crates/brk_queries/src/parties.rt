@@ -14,8 +14,8 @@ use brk_store::Store;
 use brk_view::{AccountStatus, TradeStatus};
 use sqlite::Alter;
 
-// Returns the customer with the id `id`. Changes nothing. Fails with `Memory` or `Store` only; with
-// `Store` also if there is no such customer.
+// Returns the customer with the id `id`. If the database is still open, it is unchanged. Fails with
+// `Memory` or `Store` only; with `Store` also if there is no such customer.
 fn require_customer_with_id<S: Alter>(store: &mut Store<S>, id: Id) -> Result<Customer, Fault>
     ensures read { ReadPost S.Store store.old store.new result (λ customer t. Some (abstract_customer customer) ≡ find (λ c. c.id == id) t.customers) }
     ensures fault { IfErr result IsCallFault }
@@ -26,8 +26,8 @@ fn require_customer_with_id<S: Alter>(store: &mut Store<S>, id: Id) -> Result<Cu
     }
 }
 
-// Returns the name of the broker with the id `id`. Changes nothing. Fails with `Memory` or `Store`
-// only; with `Store` also if there is no such broker.
+// Returns the name of the broker with the id `id`. If the database is still open, it is unchanged.
+// Fails with `Memory` or `Store` only; with `Store` also if there is no such broker.
 fn require_broker_name<S: Alter>(store: &mut Store<S>, id: Id) -> Result<Name, Fault>
     ensures read { ReadPost S.Store store.old store.new result (λ name t. name ≡ broker_name_with_id t id) }
     ensures fault { IfErr result IsCallFault }
@@ -39,8 +39,8 @@ fn require_broker_name<S: Alter>(store: &mut Store<S>, id: Id) -> Result<Name, F
 }
 
 // Returns the status of the account in the row `row`: the names of its customer and its broker, and
-// the trades `trades`. Changes nothing. Fails with `Memory` or `Store` only; with `Store` also if
-// the customer or the broker does not exist.
+// the trades `trades`. If the database is still open, it is unchanged. Fails with `Memory` or
+// `Store` only; with `Store` also if the customer or the broker does not exist.
 pub(crate) fn read_account_status<S: Alter>(
     store: &mut Store<S>,
     row: &AccountRow,

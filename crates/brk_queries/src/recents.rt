@@ -16,7 +16,7 @@ use brk_view::{View, recent};
 use sqlite::Alter;
 use std::alloc::Global;
 
-// Appends the status changes `rows` (of TRADE_HISTORY) to `history`. Fails with `Memory` only.
+// Appends the status changes `rows` (of TRADE_HISTORY) to `history`. Fails if memory runs out.
 fn append_history_rows(history: &mut Vec<HistoryRow>, rows: &[HistoryRow]) -> Result<(), Fault>
     ensures added { OnOk result (history.new.items ≡ history.old.items ++ rows.now) }
     ensures fault { IfErr result IsCallFault }
@@ -28,8 +28,8 @@ fn append_history_rows(history: &mut Vec<HistoryRow>, rows: &[HistoryRow]) -> Re
 }
 
 // Returns the last ten trades of an account, or all if it has fewer, the most recent first, and
-// their status changes (of TRADE_HISTORY), trade by trade in this order. Changes nothing. Fails
-// with `Memory` or `Store` only.
+// their status changes (of TRADE_HISTORY), trade by trade in this order. If the database is still
+// open, it is unchanged. Fails with `Memory` or `Store` only.
 fn read_recent_trades_with_history<S: Alter>(
     alloc: Global,
     store: &mut Store<S>,
@@ -50,8 +50,8 @@ fn read_recent_trades_with_history<S: Alter>(
 }
 
 // Returns the view of the last ten trades of an account, the most recent first, with their status
-// changes. Refuses with `NoAccount` if the account does not exist. Changes nothing. Fails with
-// `Memory` or `Store` only.
+// changes. Refuses with `NoAccount` if the account does not exist. If the database is still open,
+// it is unchanged. Fails with `Memory` or `Store` only.
 pub(crate) fn view_of_recent_trades<S: Alter>(
     alloc: Global,
     store: &mut Store<S>,

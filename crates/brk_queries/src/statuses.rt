@@ -19,8 +19,8 @@ use brk_view::{TradeStatus, View, status};
 use sqlite::Alter;
 use std::alloc::Global;
 
-// Returns the trade `trade` with its security. Changes nothing. Fails with `Memory` or `Store`
-// only; with `Store` also if the security does not exist.
+// Returns the trade `trade` with its security. If the database is still open, it is unchanged.
+// Fails with `Memory` or `Store` only; with `Store` also if the security does not exist.
 fn read_trade_with_security<S: Alter>(
     store: &mut Store<S>,
     trade: TradeRow,
@@ -60,8 +60,9 @@ fn security_of_symbol(statuses: &[TradeStatus], symbol: &Symbol) -> Result<Optio
 }
 
 // Returns the last fifty trades of an account, or all if it has fewer, the most recent first, each
-// with its security. Reads the security of each symbol once. Changes nothing. Fails with `Memory`
-// or `Store` only; with `Store` also if one of the securities does not exist.
+// with its security. Reads the security of each symbol once. If the database is still open, it is
+// unchanged. Fails with `Memory` or `Store` only; with `Store` also if one of the securities does
+// not exist.
 fn read_recent_trades_with_securities<S: Alter>(
     alloc: Global,
     store: &mut Store<S>,
@@ -87,8 +88,8 @@ fn read_recent_trades_with_securities<S: Alter>(
 
 // Returns the view of the names of an account's customer and broker, and of its last fifty trades,
 // the most recent first, with their securities. Refuses with `NoAccount` if the account does not
-// exist. Changes nothing. Fails with `Memory` or `Store` only; with `Store` also if the customer,
-// the broker or one of the securities does not exist.
+// exist. If the database is still open, it is unchanged. Fails with `Memory` or `Store` only; with
+// `Store` also if the customer, the broker or one of the securities does not exist.
 pub(crate) fn view_of_account_status<S: Alter>(
     alloc: Global,
     store: &mut Store<S>,

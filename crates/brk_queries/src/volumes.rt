@@ -20,8 +20,8 @@ use brk_view::{BrokerNames, BrokerVolume, View, broker_volume, total_bid_value_o
 use sqlite::Alter;
 use std::alloc::Global;
 
-// Returns true if the security with the symbol `symbol` exists and is in the sector `sector`.
-// Changes nothing. Fails with `Memory` or `Store` only.
+// Returns true if the security with the symbol `symbol` exists and is in the sector `sector`. If
+// the database is still open, it is unchanged. Fails with `Memory` or `Store` only.
 fn is_security_in_sector<S: Alter>(
     store: &mut Store<S>,
     symbol: &Symbol,
@@ -37,7 +37,8 @@ fn is_security_in_sector<S: Alter>(
 }
 
 // Appends the pending request `row` to `found` if `row` is one of the broker `broker` and its
-// security exists and is in the sector. Changes no table. Fails with `Memory` or `Store` only.
+// security exists and is in the sector. If the database is still open, it is unchanged. Fails with
+// `Memory` or `Store` only.
 fn append_request_if_of_broker_in_sector<S: Alter>(
     store: &mut Store<S>,
     sector: &Name,
@@ -68,7 +69,7 @@ fn append_request_if_of_broker_in_sector<S: Alter>(
 }
 
 // Returns the requests in `requests` that are of the broker and for a security in the sector, in
-// order. Changes nothing. Fails with `Memory` or `Store` only.
+// order. If the database is still open, it is unchanged. Fails with `Memory` or `Store` only.
 fn read_sector_requests_of_broker<S: Alter>(
     alloc: Global,
     store: &mut Store<S>,
@@ -89,8 +90,9 @@ fn read_sector_requests_of_broker<S: Alter>(
 
 // Appends to `found` the id and the name of the broker in the row `row` and its volume in the
 // sector: the sum, in cents, of quantity times bid price over its pending requests for securities
-// in the sector. Appends nothing if it has no such request. `requests` must be all pending
-// requests. Changes no table. Fails with `Memory` or `Store` only.
+// in the sector. Appends nothing if it has no such request. What it appends is specified only if
+// `requests` are all pending requests, in the order of the table. If the database is still open, it
+// is unchanged. Fails with `Memory` or `Store` only.
 fn append_broker_volume<S: Alter>(
     alloc: Global,
     store: &mut Store<S>,
@@ -118,8 +120,9 @@ fn append_broker_volume<S: Alter>(
 }
 
 // Appends to `found` the volumes in the sector, in cents, of the brokers with the name `name` that
-// have a pending request for a security in it, in the order of the table. `requests` must be all
-// pending requests. Changes no table. Fails with `Memory` or `Store` only.
+// have a pending request for a security in it, in the order of the table. What it appends is
+// specified only if `requests` are all pending requests, in the order of the table. If the database
+// is still open, it is unchanged. Fails with `Memory` or `Store` only.
 fn append_volumes_of_brokers_named<S: Alter>(
     alloc: Global,
     store: &mut Store<S>,
@@ -140,8 +143,8 @@ fn append_volumes_of_brokers_named<S: Alter>(
 }
 
 // Returns the volumes in the sector, in cents, of the brokers with the names `names` that have a
-// pending request for a security in it, in the order of the names. Reads all requests once. Changes
-// nothing. Fails with `Memory` or `Store` only.
+// pending request for a security in it, in the order of the names. Reads all requests once. If the
+// database is still open, it is unchanged. Fails with `Memory` or `Store` only.
 fn read_volumes_of_brokers_named<S: Alter>(
     alloc: Global,
     store: &mut Store<S>,
@@ -162,7 +165,8 @@ fn read_volumes_of_brokers_named<S: Alter>(
 
 // Returns the view of the volumes in the sector, in cents, of the brokers with the names `names`
 // that have a pending request for a security in it, sorted by volume, descending, then by name and
-// id, ascending. Never refuses. Changes nothing. Fails with `Memory` or `Store` only.
+// id, ascending. Never refuses. If the database is still open, it is unchanged. Fails with `Memory`
+// or `Store` only.
 pub(crate) fn view_of_broker_volumes<S: Alter>(
     alloc: Global,
     store: &mut Store<S>,

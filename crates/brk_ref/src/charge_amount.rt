@@ -35,7 +35,7 @@ impl ChargeAmount {
         }
     }
 
-    /// Returns the charge in cents.
+    /// Returns the charge in cents, 0 to 1,000,000.
     pub fn get(self) -> u32
         ensures value { result ≡ self }
         ensures high { self ≤ ChargeAmount.GREATEST }

@@ -35,7 +35,7 @@ impl MovedAmount {
         }
     }
 
-    /// Returns the amount in cents.
+    /// Returns the amount in cents, 1 to 10^17.
     pub fn get(self) -> u64
         ensures value { result ≡ self }
         ensures low { 1 ≤ self }

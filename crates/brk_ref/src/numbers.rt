@@ -10,8 +10,8 @@ use crate::charge_amount::ChargeAmount;
 use crate::moved_amount::MovedAmount;
 use brk_money::{Cents, Id, Price, Qty, Rate, TaxRate, TaxStatus, parse_cents, parse_whole_number};
 
-/// Parses an id, 1 to 10^12 in decimal digits. Returns `None` if the bytes are malformed or the
-/// number is out of range.
+/// Parses an id, 1 to 10^12, from its canonical text in decimal digits. Returns `None` if the bytes
+/// are not the canonical text of a number, or if the number is out of range.
 pub fn parse_id(bytes: &[u8]) -> Option<Id>
     ensures { ok_or result BadText ≡ read_id bytes.now }
 {
@@ -21,8 +21,8 @@ pub fn parse_id(bytes: &[u8]) -> Option<Id>
     Id::new(number)
 }
 
-/// Parses a tax status from its number, 0 to 2 in decimal digits. Returns `None` if the bytes are
-/// malformed or the number is out of range.
+/// Parses a tax status from the canonical text of its number, 0 to 2. Returns `None` if the bytes
+/// are not the canonical text of a number, or if the number is out of range.
 pub fn parse_tax_status(bytes: &[u8]) -> Option<TaxStatus>
     ensures { ok_or result BadText ≡ read_tax_status bytes.now }
 {
@@ -40,8 +40,8 @@ pub fn parse_opening_balance(bytes: &[u8]) -> Option<Cents>
     parse_cents(bytes)
 }
 
-/// Parses a quantity of shares, 1 to 9,999,999 in decimal digits. Returns `None` if the bytes are
-/// malformed or the number is out of range.
+/// Parses a quantity of shares, 1 to 9,999,999, from its canonical text in decimal digits. Returns
+/// `None` if the bytes are not the canonical text of a number, or if the number is out of range.
 pub fn parse_qty(bytes: &[u8]) -> Option<Qty>
     ensures { ok_or result BadQty ≡ read_quantity bytes.now }
 {
@@ -51,8 +51,9 @@ pub fn parse_qty(bytes: &[u8]) -> Option<Qty>
     Qty::new(number as u32)
 }
 
-/// Parses a commission rate, 0 to 10,000 hundredths of a percent in decimal digits. Returns `None`
-/// if the bytes are malformed or the number is out of range.
+/// Parses a commission rate, 0 to 10,000 hundredths of a percent, from its canonical text in
+/// decimal digits. Returns `None` if the bytes are not the canonical text of a number, or if the
+/// number is out of range.
 pub fn parse_commission_rate(bytes: &[u8]) -> Option<Rate>
     ensures { ok_or result BadText ≡ read_commission_rate bytes.now }
 {
@@ -62,8 +63,9 @@ pub fn parse_commission_rate(bytes: &[u8]) -> Option<Rate>
     Rate::new(number as u32)
 }
 
-/// Parses a tax rate, 0 to 100,000 hundred-thousandths in decimal digits. Returns `None` if the
-/// bytes are malformed or the number is out of range.
+/// Parses a tax rate, 0 to 100,000 hundred-thousandths, from its canonical text in decimal digits.
+/// Returns `None` if the bytes are not the canonical text of a number, or if the number is out of
+/// range.
 pub fn parse_tax_rate(bytes: &[u8]) -> Option<TaxRate>
     ensures { ok_or result BadText ≡ read_tax_rate_number bytes.now }
 {

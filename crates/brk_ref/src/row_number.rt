@@ -32,7 +32,7 @@ impl RowNumber {
         }
     }
 
-    /// Returns the number of the row within its batch.
+    /// Returns the number of the row within its batch, 1 to 10^12.
     pub fn get(self) -> u64
         ensures value { result ≡ self }
         ensures low { 1 ≤ self }

@@ -32,8 +32,8 @@ impl Tier {
         }
     }
 
-    /// Parses a tier from its number, 1 to 3. Returns `None` if the bytes are malformed or the
-    /// number is out of range.
+    /// Parses a tier from the canonical text of its number, 1 to 3. Returns `None` if the bytes are
+    /// not the canonical text of a number, or if the number is out of range.
     pub fn parse(bytes: &[u8]) -> Option<Tier>
         ensures { ok_or result BadText ≡ read_tier bytes.now }
     {

@@ -40,7 +40,7 @@ impl Volume {
         Volume(0)
     }
 
-    /// Returns the number of shares.
+    /// Returns the number of shares, 0 to 10^17.
     pub fn get(self) -> u64
         ensures value { result ≡ self }
         ensures high { self ≤ Volume.GREATEST }

@@ -62,9 +62,9 @@ impl Place {
     }
 }
 
-/// Adopts the database of a connection. Returns its desk and `Ok` if the database passes the audit,
-/// and otherwise the database without a desk and the fault: `Damaged` with the first condition that
-/// fails, `Memory` or `Store`.
+/// Adopts the database of a connection, which upgrades an older schema. Returns its desk and `Ok`
+/// if the adoption succeeds, and otherwise the database without a desk and the fault: `Damaged`
+/// with the first condition that fails, `Memory` or `Store`.
 pub fn adopt_database(alloc: Global, conn: Connection<MemStore>) -> (Place, Result<(), Fault>) {
     match Store::adopt(alloc, conn) {
         Ok(store) => (Place::Open(Desk::new(store)), Ok(())),
@@ -151,8 +151,8 @@ fn execute_batch_command(
 }
 
 // Serves the input as a stream of HTTP requests on the desk at the timestamp with the canonical
-// text `moment`, or at 0 if `moment` is no such text. Appends the replies, and then `! done` and the
-// number of replies or, if the stream failed, `! fault`. Fails only if memory runs out.
+// text `moment`, or at 0 if `moment` is no such text. Appends the replies, and then `! done` and
+// the number of replies or, if the stream failed, `! fault`. Fails only if memory runs out.
 fn execute_http_command(
     alloc: Global,
     out: &mut String,
@@ -207,7 +207,8 @@ fn execute_statement_command(
 
 // Writes the explanation that `words` requests. Appends the lines that were written and, if the
 // explanation failed, `no` and the number of its refusal, or `! fault`. If `words` requests no
-// explanation, appends only the refusal 18. Fails only if memory runs out.
+// explanation, appends only the refusal 18. If memory runs out while `words` is parsed, appends
+// only `! fault`. Fails only if memory runs out.
 fn execute_explain_command(
     alloc: Global,
     out: &mut String,

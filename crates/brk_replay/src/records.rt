@@ -97,9 +97,9 @@ fn form_of_printed_view(word: &str) -> Form {
 }
 
 /// Prints a view of a desk: `words` contains the format and the name of the view, separated by a
-/// space, and the input lines are the arguments of the view. Appends the printed text and, if
-/// printing failed, `no` and the number of the refusal, or `! fault`. Fails only if memory runs
-/// out.
+/// space, and the input lines are the arguments of the view. If `words` has no space, it is the
+/// format, and the name is empty. Appends the printed text and, if printing failed, `no` and the
+/// number of the refusal, or `! fault`. Fails only if memory runs out.
 pub fn execute_print_command(
     alloc: Global,
     out: &mut String,
@@ -126,9 +126,10 @@ pub fn execute_print_command(
     }
 }
 
-// Appends the value of the column at index `at` of a row, after a bar unless `at` is 0. A value
-// that is neither a whole number nor text, for example a null, is written as `\x00`. Fails only if
-// memory runs out.
+// Appends the value of the column at index `at` of a row, after a bar unless `at` is 0. A whole
+// number is written in decimal digits, and a text with the escapes of a record. Any other value,
+// for example a null, and the value of a missing column are written as `\x00`. Fails only if memory
+// runs out.
 fn append_cell_text(out: &mut String, row: &Row, at: usize) -> Result<(), OutOfMemory> {
     if at > 0 {
         out.push_str("|")?;

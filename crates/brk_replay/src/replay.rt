@@ -239,7 +239,7 @@ impl<'a> Replay<'a> {
 }
 
 /// Executes the commands of a transcript, and returns the transcript with their new output lines in
-/// place of the old ones.
+/// place of the old ones. A line feed that is missing at the end of the transcript is added.
 ///
 /// Fails only if memory runs out.
 pub fn replay_transcript(rt: &HostRuntime, text: &str) -> Result<String, OutOfMemory> {

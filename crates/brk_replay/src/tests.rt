@@ -6,7 +6,8 @@ use std::process::Termination;
 use std::test::Fail;
 
 // Runs the test `name` of `brk_tests_unit` or, if that has none of this name, of `brk_tests`.
-// Returns `None` if neither has a test of this name, and the failure of the test if it fails.
+// Returns the result of the test, which is its failure if it fails, or `None` if neither has a test
+// of this name.
 fn run_test(rt: &HostRuntime, name: &str) -> Option<Result<(), Fail>> {
     match brk_tests_unit::run_test(rt, name) {
         None => brk_tests::run_test(rt, name),

@@ -214,5 +214,5 @@ IsCompilationOutcome text false schema = understood schema text ≡ Err NoSuchTa
 
 -- The statement `text` compiles in the schema, and `has` is true if and only if the columns of its
 -- result have exactly the names `names`, in order.
-abbrev pub MatchesResultColumns : List ℕ → List (List ℕ) → Bool → Schema → Type 0
-MatchesResultColumns text names has schema = (c : Compiled) × (understood schema text ≡ Ok c) × (IsTrue has ↔ column_names c ≡ names)
+abbrev pub IsResultColumnCheckOutcome : List ℕ → List (List ℕ) → Bool → Schema → Type 0
+IsResultColumnCheckOutcome text names has schema = (c : Compiled) × (understood schema text ≡ Ok c) × (IsTrue has ↔ column_names c ≡ names)

@@ -2,7 +2,7 @@
 
 ghost use Rattle.std.specs.Prelude.{◌≡◌, ◌↔◌, ℕ, List, IsTrue, map};
 ghost use Rattle.std.specs.Borrow.{Bor};
-ghost use Rattle.brk_sql.specs.Desk.{MatchesResultColumns};
+ghost use Rattle.brk_sql.specs.Desk.{IsResultColumnCheckOutcome};
 ghost use Rattle.brk_sql.specs.Model.{IsConnectionStep};
 
 use sqlite::{Alter, Error, Transaction};
@@ -34,7 +34,7 @@ pub fn statement_has_columns<S: Alter>(
 ) -> Result<bool, Error>
     ensures same_reference { tx.new.conn.ghost_name ≡ tx.old.conn.ghost_name }
     ensures step { IsConnectionStep S.Store tx.old tx.new result (λ has old new. IsTrue old.is_open × (new.now ≡ old.now)
-        × MatchesResultColumns text.now (map (λ (name : Bor (List ℕ)). name.now) names.now) has old.now.schema) }
+        × IsResultColumnCheckOutcome text.now (map (λ (name : Bor (List ℕ)). name.now) names.now) has old.now.schema) }
 {
     let statement = tx.prepare(text)?;
     Ok(columns_have_names(statement.column_names(), names))

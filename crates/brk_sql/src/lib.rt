@@ -32,7 +32,7 @@ pub fn numbers_strictly_ascend(numbers: &[i64]) -> bool
 }
 
 /// Returns the numbers in column `at` of the rows, in the order of the rows. Fails if a row has no
-/// such column or no INTEGER in it, or if memory is exhausted.
+/// such column or no INTEGER in it, or if memory runs out.
 pub fn integers_in_column(alloc: Global, rows: &[Row], at: usize) -> Result<Vec<i64>, Error>
     ensures { IfOk result (λ all. map Int all.items ≡ map (λ r. column r at) rows.now) }
 {

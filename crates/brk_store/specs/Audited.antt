@@ -87,7 +87,8 @@ AuditAnswerSatisfies (Err Store) P = ⊤
 -- tables, for example an empty one, satisfies this premise. Vacuous if the disk assumption fails,
 -- or once the database is closed.
 abbrev pub ConnectionTablesWithDeskNamesAreDeskTables : {S : Type 0} → Ghosts S → Held S → Type 0
-ConnectionTablesWithDeskNamesAreDeskTables g held = HasCleanDisk (state g held) → IsTrue (state g held).is_open → TablesWithDeskNamesAreDeskTables (state g held).now
+ConnectionTablesWithDeskNamesAreDeskTables g held =
+    HasCleanDisk (state g held) → IsTrue (state g held).is_open → TablesWithDeskNamesAreDeskTables (state g held).now
 
 -- If the current database of the connection `held` has all tables of schema 3, by name and with
 -- exactly their column names, they are defined as a desk defines them, with its types, keys and
@@ -148,7 +149,8 @@ pub record AdoptPost {S : Type 0} (g : Ghosts S) (old new : Held S) (result : Re
   -- `Ok` is returned only if the rows pass the audit, and `Damaged` only with the first condition
   -- that fails. Vacuous if some read up to the return of the call did not return what was written,
   -- or if the old database does not satisfy `ConnectionTablesWithDeskNamesAreDeskTables`.
-  pub answered : HasCleanDisk (state g new) → ConnectionTablesWithDeskNamesAreDeskTables g old → AuditAnswerSatisfies result (IsDatabaseAuditResult (state g old).now)
+  pub answered : HasCleanDisk (state g new) → ConnectionTablesWithDeskNamesAreDeskTables g old
+      → AuditAnswerSatisfies result (IsDatabaseAuditResult (state g old).now)
   -- `Ok` and `Damaged` are returned only if the database was open before the call.
   pub was_open : HasCleanDisk (state g new) → AuditAnswerSatisfies result (λ _. IsTrue (state g old).is_open)
   -- At `Ok` the store holds rows that pass the audit of schema 3, with texts in UTF-8. Vacuous if

@@ -62,7 +62,9 @@ fn first_failing_condition<S: Alter>(
 }
 
 // Audits the database by the conditions of schema 3 in a transaction, which ends without a commit.
-// Fails with `Damaged` and the first condition that fails, or with `Memory` or `Store`.
+// The connection must be in autocommit mode, and is so after the call. Fails with `Damaged` and the
+// first condition that fails, or with `Memory` or `Store`. The result is specified only if the
+// database satisfies `ConnectionTablesWithThirdSchemaNamesAreDeskTables`.
 fn audit_database<S: Alter>(conn: &mut Connection<S>, alloc: Global) -> Result<(), Fault>
     requires { conn.old.in_transaction ≡ false }
     ensures mode { conn.new.in_transaction ≡ false }

@@ -22,7 +22,7 @@ impl<R, E, F: FnMut(&R) -> Result<(), E>> Visitor<R, E> for ClosureVisitor<F> {
 
     ghost stops = { λ p item e q. CalledAt F.FnMut p.call item (Err e) q.call };
 
-    /// Calls the closure with the record. Fails with the closure's error.
+    /// Calls the closure with the record, and returns its result. Fails with the closure's error.
     fn visit(&mut self, item: &R) -> Result<(), E> {
         (self.call)(item)
     }
@@ -51,7 +51,8 @@ impl<E, F: FnMut(&str, &Lot) -> Result<(), E>> Visitor<HoldingRow, E> for LotClo
 
     ghost stops = { λ p item e q. IsClosureCallWithLot F.FnMut p.call item (Err e) q.call };
 
-    /// Calls the closure with the symbol and the lot of the row. Fails with the closure's error.
+    /// Calls the closure with the symbol and the lot of the row, and returns its result. Fails with
+    /// the closure's error.
     fn visit(&mut self, item: &HoldingRow) -> Result<(), E> {
         let lot = Lot {
             trade: item.trade,

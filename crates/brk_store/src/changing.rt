@@ -16,8 +16,10 @@ use brk_tables_create::Table;
 use brk_tables_schema::calls::statement_compiles;
 use sqlite::{Alter, Connection, Transaction};
 
-// Applies one change to its row within the transaction, by one SQL statement. Fails with `Store`
-// only, also if the row to add exists or breaks another constraint of its table.
+// Applies one change to the tables of a desk within the transaction, by one SQL statement. A change
+// that updates or deletes a row that does not exist changes nothing. Fails with `Store` only, also
+// if the row to add exists or breaks another constraint of its table, or if the `sqlite` crate runs
+// out of memory.
 fn apply_change<S: Alter>(tx: &mut Transaction<'_, S>, change: &Change) -> Result<(), Fault>
     ensures same_reference { tx.new.conn.ghost_name ≡ tx.old.conn.ghost_name }
     ensures step { IsTransactionStep (state S.Store tx.old.conn.now) (state S.Store tx.new.conn.now) result
@@ -93,7 +95,8 @@ fn apply_change<S: Alter>(tx: &mut Transaction<'_, S>, change: &Change) -> Resul
 }
 
 // Applies the changes in order within the transaction, up to the first that fails. Fails with
-// `Store` only. What is applied within the transaction at a failure is then not specified.
+// `Store` only, as `apply_change` does. What is applied within the transaction at a failure is then
+// not specified.
 fn apply_each_change<S: Alter>(tx: &mut Transaction<'_, S>, changes: &[Change]) -> Result<(), Fault>
     ensures same_reference { tx.new.conn.ghost_name ≡ tx.old.conn.ghost_name }
     ensures step { IsTransactionStep (state S.Store tx.old.conn.now) (state S.Store tx.new.conn.now) result
@@ -106,9 +109,10 @@ fn apply_each_change<S: Alter>(tx: &mut Transaction<'_, S>, changes: &[Change]) 
     Ok(())
 }
 
-/// Applies the changes in order in one transaction and commits it. If it fails, the open database
-/// is unchanged. Fails with `Store` only, also if a row to add exists or breaks another constraint
-/// of its table.
+/// Applies the changes in order in one transaction and commits it. The connection must be in
+/// autocommit mode, and is so after the call. If the call fails, a database that is still open is
+/// unchanged. Fails with `Store` only, also if a row to add exists or breaks another constraint of
+/// its table, or if the `sqlite` crate runs out of memory.
 pub(crate) fn apply_changes_in_transaction<S: Alter>(
     conn: &mut Connection<S>,
     changes: &[Change],
@@ -131,9 +135,10 @@ pub(crate) fn apply_changes_in_transaction<S: Alter>(
     }
 }
 
-/// Creates the tables of schema 3 in one transaction and commits it. If it fails, the open database
-/// is unchanged. Fails with `Store`; or with `Damaged(NotEmpty)`, only if a table with the name of
-/// a desk's table exists.
+/// Creates the tables of schema 3 in one transaction and commits it. The connection must be in
+/// autocommit mode, and is so after the call. If the call fails, a database that is still open is
+/// unchanged. Fails with `Store`, also if the `sqlite` crate runs out of memory; or with
+/// `Damaged(NotEmpty)`, only if a table with the name of a desk's table exists.
 pub(crate) fn create_tables_in_transaction<S: Alter>(conn: &mut Connection<S>) -> Result<(), Fault>
     requires { conn.old.in_transaction ≡ false }
     ensures mode { conn.new.in_transaction ≡ false }

@@ -1,5 +1,6 @@
 //! Reads for the views of an account's trades. Each read begins a transaction and ends it without a
-//! commit (no clause states this).
+//! commit (no clause states this). A read fails with `Store` also if a row is malformed or if the
+//! `sqlite` crate runs out of memory.
 
 ghost use Rattle.std.specs.Prelude.{◌≡◌, ◌==◌, IfErr, map, take};
 ghost use Rattle.brk_changes.specs.Rows.{abstract_history_row, abstract_trade_row};

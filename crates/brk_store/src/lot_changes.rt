@@ -1,5 +1,6 @@
 //! Reads of lot changes, sorted by lot and then by trade. Each read begins a transaction and ends
-//! it without a commit (no clause states this).
+//! it without a commit (no clause states this). A read fails with `Store` also if a row is
+//! malformed or if the `sqlite` crate runs out of memory.
 
 ghost use Rattle.std.specs.Prelude.{◌==◌, IfErr};
 ghost use Rattle.brk_changes.specs.Rows.{abstract_lot_change_row};

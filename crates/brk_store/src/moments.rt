@@ -1,5 +1,7 @@
 //! Reads of trades of any status by the stamps of their last status. Each read begins a transaction
-//! and ends it without a commit (no clause states this).
+//! and ends it without a commit (no clause states this). A read fails with `Store` also if a row is
+//! malformed or if the `sqlite` crate runs out of memory, and a read of a single row also if its
+//! decoding does.
 
 ghost use Rattle.std.specs.Prelude.{◌≡◌, ◌==◌, ◌&&◌, Err, IfErr, OnErr, bytes_eq, filter, map, nat_le, option_map, option_to_list, take};
 ghost use Rattle.brk_money.specs.declared.fault.Fault.TheVariants as fault;

@@ -151,9 +151,10 @@ impl<S: Alter> Store<S> {
     /// Returns a source of the lots of an account in a security, the newest first if `lifo`,
     /// otherwise the oldest first. It has read no row yet.
     ///
-    /// A call of the source may fail, with `Memory` or `Store` only; `Store` may also mean that a
-    /// lot of the next page has no shares, or that the number of rows read exceeds 32 bits. The
-    /// remaining lots and the open database are then unchanged, so the call may be retried.
+    /// A call of the source may fail, with `Memory` or `Store` only; `Store` may also mean that the
+    /// next page has more than 16 rows or a lot without shares, or that the number of rows read
+    /// exceeds 32 bits. The remaining lots and the open database are then unchanged, so the call
+    /// may be retried.
     ///
     /// A crash after its reads exposes only states that a crash before them could expose.
     pub fn lot_pages<'a>(
@@ -321,9 +322,10 @@ impl<S: Alter> LotSource for Pages<'_, S, Page> {
     ghost fails = { λ _ fault _. IsCallFault fault };
 
     /// Returns the next lot, or `None` if no lot remains. Fails with `Memory` or `Store` only;
-    /// `Store` may also mean that the next page has a lot without shares, or that the number of
-    /// rows read exceeds 32 bits. The remaining lots are then unchanged. If the database is still
-    /// open, it is unchanged. At most 15 rows more are read than lots are returned (`rows_read`).
+    /// `Store` may also mean that the next page has more than 16 rows or a lot without shares, or
+    /// that the number of rows read exceeds 32 bits. The remaining lots are then unchanged. If the
+    /// database is still open, it is unchanged. At most 15 rows more are read than lots are
+    /// returned (`rows_read`).
     fn next(&mut self) -> Result<Option<Lot>, Fault> {
         match self.page.rows.get(self.page.returned) {
             Some(row) => {

@@ -61,8 +61,9 @@ impl<S: Alter> Store<S> {
     /// Errors return the connection; a database that is still open is unchanged. The fault
     /// `Damaged(NotEmpty)`, which here means no damage but that tables of a desk exist, is returned
     /// only if a table with the name of a desk's table exists; if one exists, the fault is this one
-    /// or `Store`. The fault `Store` is returned also if `conn` is in a transaction, and then the
-    /// connection is unchanged; otherwise the returned connection is in autocommit mode.
+    /// or `Store`. The fault `Store` may also mean that the `sqlite` crate ran out of memory. If
+    /// `conn` is in a transaction, the fault is `Store` and the connection is unchanged; otherwise
+    /// the returned connection is in autocommit mode.
     ///
     /// A crash after the call exposes a state that a crash before the call could expose, or the
     /// tables without rows; after `Ok` only the latter. After an error it may expose the created

@@ -1,5 +1,7 @@
 //! Reads of trades, requests, last trades, lots and summaries. Each read begins a transaction and
-//! ends it without a commit (no clause states this).
+//! ends it without a commit (no clause states this). A read fails with `Store` also if a row is
+//! malformed or if the `sqlite` crate runs out of memory, and a read of a single row also if its
+//! decoding does.
 
 ghost use Rattle.std.specs.Prelude.{◌≡◌, ◌==◌, ◌&&◌, Err, IfErr, OnErr, bytes_eq, map, nat_le, option_map, reverse, slice_get};
 ghost use Rattle.brk_money.specs.declared.fault.Fault.TheVariants as fault;

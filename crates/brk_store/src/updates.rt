@@ -1,5 +1,6 @@
 //! Reads of trades for text updates. Each read begins a transaction and ends it without a commit
-//! (no clause states this).
+//! (no clause states this). A read fails with `Store` also if a row is malformed or if the `sqlite`
+//! crate runs out of memory, and a read of a single row also if its decoding does.
 
 ghost use Rattle.std.specs.Prelude.{◌≡◌, ◌==◌, Err, IfErr, OnErr, map};
 ghost use Rattle.brk_money.specs.declared.fault.Fault.TheVariants as fault;

@@ -15,7 +15,10 @@ use std::alloc::Global;
 
 // Audits the database by the conditions of the schema that it has. If its rows pass this audit and
 // the schema is older than 3, upgrades the tables to schema 3 in the same transaction and commits
-// it. Fails with `Damaged` and the first condition that fails, or with `Memory` or `Store`.
+// it. The connection must be in autocommit mode, and is so after the call. Fails with `Damaged` and
+// the first condition that fails, or with `Memory` or `Store`; a database that is still open is
+// then unchanged. The result is specified only if the database satisfies
+// `ConnectionTablesWithDeskNamesAreDeskTables`.
 fn audit_and_upgrade_database<S: Alter>(
     conn: &mut Connection<S>,
     alloc: Global,

@@ -1,5 +1,7 @@
 //! Walks: reads that pass rows, one at a time, to a visitor (`visit_..`) or to a closure
-//! (`walk_..`). The store is borrowed for the whole walk.
+//! (`walk_..`). The store is borrowed for the whole walk. The fault is `Store` also if a row is
+//! malformed or if the `sqlite` crate runs out of memory, and `Memory` if the decoding of a row
+//! does.
 
 ghost use Rattle.std.specs.Fn.{CalledAt};
 ghost use Rattle.brk_changes.specs.Rows.{abstract_holding_row, abstract_move_row, abstract_trade_row};
@@ -106,7 +108,8 @@ impl<S: Alter> Store<S> {
     /// whatever the result.
     ///
     /// `callable`: the closure must accept every record, at its first and at each later call.
-    /// `called`: the closure is called with each row, in order, until its first error.
+    /// `called`: the closure is called with the rows, in order and one at a time, until its first
+    /// error or a fault.
     ///
     /// A crash after the call exposes only states that a crash before the call could expose.
     pub fn walk_cash<E: From<Fault>, F: FnMut(&MoveRow) -> Result<(), E> + Drop>(
@@ -136,7 +139,8 @@ impl<S: Alter> Store<S> {
     /// whatever the result.
     ///
     /// `callable`: the closure must accept every record, at its first and at each later call.
-    /// `called`: the closure is called with each lot, in order, until its first error.
+    /// `called`: the closure is called with the lots, in order and one at a time, until its first
+    /// error or a fault.
     ///
     /// A crash after the call exposes only states that a crash before the call could expose.
     pub fn walk_lots<E: From<Fault>, F: FnMut(&str, &Lot) -> Result<(), E> + Drop>(

@@ -19,8 +19,8 @@ use brk_tables_schema::values::{
 };
 use sqlite::{Alter, Transaction};
 
-/// Inserts a cash row (CASH_MOVE). Fails with `Store` only, also if its number exists, or if its
-/// trade has a cash row.
+/// Inserts a cash row (CASH_MOVE). Fails with `Store` only, also if its number exists, if its trade
+/// has a cash row, if the row breaks another constraint of the table, or if memory runs out.
 pub fn add_cash_row<S: Alter>(tx: &mut Transaction<'_, S>, row: &MoveRow) -> Result<(), Fault>
     ensures same_reference { tx.new.conn.ghost_name ≡ tx.old.conn.ghost_name }
     ensures step { WritesDeskTables S.Store tx.old tx.new result (tables_with_cash_row (abstract_move_row row.now)) }
@@ -41,7 +41,8 @@ pub fn add_cash_row<S: Alter>(tx: &mut Transaction<'_, S>, row: &MoveRow) -> Res
 }
 
 /// Returns the cash row with the greatest number (CM_ID), or `None` if there is no cash row.
-/// Changes nothing. Fails with `Store` only.
+/// Changes nothing if it succeeds. Fails with `Store` only, also if the row is malformed or memory
+/// runs out.
 pub fn cash_row_with_greatest_number<S: Alter>(
     tx: &mut Transaction<'_, S>,
 ) -> Result<Option<MoveRow>, Fault>
@@ -59,7 +60,7 @@ pub fn cash_row_with_greatest_number<S: Alter>(
 
 /// Returns true if CASH_MOVE has at least 10^12 rows without a trade, which are the deposits and
 /// withdrawals. The query steps over these rows, so its time grows with their number. Changes
-/// nothing. Fails with `Store` only.
+/// nothing if it succeeds. Fails with `Store` only, also if memory runs out.
 pub fn has_maximum_movements<S: Alter>(tx: &mut Transaction<'_, S>) -> Result<bool, Fault>
     ensures same_reference { tx.new.conn.ghost_name ≡ tx.old.conn.ghost_name }
     ensures step { ReadsDeskTables S.Store tx.old tx.new result (λ all t. all ≡ nat_le greatest_id (length (filter (λ r. is_none r.trade) t.moves))) }
@@ -73,8 +74,8 @@ pub fn has_maximum_movements<S: Alter>(tx: &mut Transaction<'_, S>) -> Result<bo
     Ok(!rows.is_empty())
 }
 
-/// Returns the cash row of a trade, or `None` if it has none. Changes nothing. Fails with `Store`
-/// only.
+/// Returns the cash row of a trade, or `None` if it has none. Changes nothing if it succeeds. Fails
+/// with `Store` only, also if the row is malformed or memory runs out.
 pub fn cash_row_by_trade<S: Alter>(
     tx: &mut Transaction<'_, S>,
     trade: Id,
@@ -91,8 +92,8 @@ pub fn cash_row_by_trade<S: Alter>(
     decode_first_row(&rows)
 }
 
-/// Sets the text of the cash row of a trade (CM_NAME). Changes nothing if the trade has no cash
-/// row. Fails with `Store` only.
+/// Sets the text of the cash row of a trade (CM_NAME) to `name`. Changes nothing if the trade has
+/// no cash row. Fails with `Store` only, also if memory runs out.
 pub fn set_cash_row_name<S: Alter>(
     tx: &mut Transaction<'_, S>,
     trade: Id,

@@ -14,7 +14,8 @@ use brk_tables_schema::values::{day_as_parameter, integer_as_parameter};
 use sqlite::{Alter, Row, Transaction};
 
 /// Inserts the settlement day, the first day whose completions settle after one day (SR_DAY), in
-/// days since 1970-01-01. Fails with `Store` only, also if a settlement day is set.
+/// days since 1970-01-01. Fails with `Store` only, also if a settlement day is set or memory runs
+/// out.
 pub fn set_settlement_day<S: Alter>(tx: &mut Transaction<'_, S>, day: Day) -> Result<(), Fault>
     ensures same_reference { tx.new.conn.ghost_name ≡ tx.old.conn.ghost_name }
     ensures step { WritesDeskTables S.Store tx.old tx.new result (tables_with_settlement_day day) }
@@ -38,8 +39,8 @@ fn settlement_day_in_rows(rows: &[Row]) -> Result<Option<Day>, Fault>
 }
 
 /// Returns the settlement day, the first day whose completions settle after one day (SR_DAY), or
-/// `None` if none is set. Changes nothing. Fails with `Store` only, also if SETTLE_RULE has two
-/// rows or more, or a malformed one.
+/// `None` if none is set. Changes nothing if it succeeds. Fails with `Store` only, also if
+/// SETTLE_RULE has two rows or more, or a malformed one, or if memory runs out.
 pub fn settlement_day<S: Alter>(tx: &mut Transaction<'_, S>) -> Result<Option<Day>, Fault>
     ensures same_reference { tx.new.conn.ghost_name ≡ tx.old.conn.ghost_name }
     ensures step { ReadsDeskTables S.Store tx.old tx.new result (λ day t. day ≡ t.rule) }

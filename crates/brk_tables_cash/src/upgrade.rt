@@ -12,8 +12,9 @@ use brk_tables_schema::calls::execute_statement;
 use brk_tables_schema::values::integer_as_parameter;
 use sqlite::{Alter, Transaction};
 
-/// Sets the number of the schema in DESK to 3 (D_SCHEMA). Fails with `Store` only. The effect is
-/// specified only if all tables of a desk in schema 3 exist.
+/// Sets the number of the schema in DESK to 3 (D_SCHEMA). Fails with `Store` only, also if memory
+/// runs out. The effect is specified only if all tables of a desk in schema 3 exist, and DESK has
+/// the number of some schema.
 pub fn set_schema_number_to_three<S: Alter>(tx: &mut Transaction<'_, S>) -> Result<(), Fault>
     ensures same_reference { tx.new.conn.ghost_name ≡ tx.old.conn.ghost_name }
     ensures step { IsConnectionStep S.Store tx.old tx.new result (λ _ a b. SetsSchemaNumberToThree a.now b.now) }
@@ -26,7 +27,8 @@ pub fn set_schema_number_to_three<S: Alter>(tx: &mut Transaction<'_, S>) -> Resu
     )
 }
 
-/// Deletes all rows of CASH_TRANSACTION. Fails with `Store` only.
+/// Deletes all rows of CASH_TRANSACTION. Fails with `Store` only, also if a constraint is broken or
+/// memory runs out. The effect is specified only if all tables of a desk in schema 3 exist.
 pub fn remove_cash_transactions<S: Alter>(tx: &mut Transaction<'_, S>) -> Result<(), Fault>
     ensures same_reference { tx.new.conn.ghost_name ≡ tx.old.conn.ghost_name }
     ensures step { WritesDeskTables S.Store tx.old tx.new result tables_without_cash_transactions }

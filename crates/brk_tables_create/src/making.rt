@@ -15,8 +15,8 @@ use brk_money::Fault;
 use brk_tables_schema::calls::execute_statement;
 use sqlite::{Alter, Transaction};
 
-// Creates the table `table` of a desk, without rows. The rows of existing tables are unchanged.
-// Fails with `Store` only, also if a table with its name exists.
+// Creates the table `table` of a desk, without rows, and leaves the rows of existing tables
+// unchanged. Fails with `Store` only, also if a table with its name exists.
 fn create_desk_table<S: Alter>(tx: &mut Transaction<'_, S>, table: Table) -> Result<(), Fault>
     ensures same_reference { tx.new.conn.ghost_name ≡ tx.old.conn.ghost_name }
     ensures step { IsConnectionStep S.Store tx.old tx.new result (λ _ a b. CreatesTableOfShape a.now b.now (table_definition_at_tree (specified_table table))) }
@@ -25,8 +25,9 @@ fn create_desk_table<S: Alter>(tx: &mut Transaction<'_, S>, table: Table) -> Res
     execute_statement(tx, table.create_table_text(), &[])
 }
 
-// Creates each of `tables`, in order, without rows. The rows of existing tables are unchanged.
-// Fails with `Store` only, also if a table with the name of one of them exists.
+// Creates each of `tables`, in order, without rows, and leaves the rows of existing tables
+// unchanged. Fails with `Store` only, also if a table with the name of one of them exists; the
+// tables before this one may then be created.
 fn create_each_table<S: Alter>(tx: &mut Transaction<'_, S>, tables: &[Table]) -> Result<(), Fault>
     ensures same_reference { tx.new.conn.ghost_name ≡ tx.old.conn.ghost_name }
     ensures step { IsConnectionStep S.Store tx.old tx.new result
@@ -39,8 +40,8 @@ fn create_each_table<S: Alter>(tx: &mut Transaction<'_, S>, tables: &[Table]) ->
     Ok(())
 }
 
-// Inserts the one row of DESK, with the id 1, the schema number 3 and no stamp. Fails with `Store`
-// only, also if the row exists.
+// Executes the statement that inserts the one row of DESK, with the id 1, the schema number 3 and
+// no stamp. Fails with `Store` only, also if DESK does not exist or has a row with the id 1.
 fn add_desk_row<S: Alter>(tx: &mut Transaction<'_, S>) -> Result<(), Fault>
     ensures same_reference { tx.new.conn.ghost_name ≡ tx.old.conn.ghost_name }
     ensures step { IsConnectionStep S.Store tx.old tx.new result (λ _. ExecutesStatement insert_desk_row_text []) }
@@ -53,9 +54,9 @@ fn add_desk_row<S: Alter>(tx: &mut Transaction<'_, S>) -> Result<(), Fault>
     )
 }
 
-/// Creates the tables of schema 3, without rows, except for the one row of DESK. The rows of
-/// existing tables are unchanged. Fails with `Store` only, also if a table with the name of a table
-/// of schema 3 exists.
+/// Creates the tables of schema 3, without rows, except for the one row of DESK, and leaves the
+/// rows of existing tables unchanged. Fails with `Store` only, also if a table with the name of a
+/// table of schema 3 exists; the tables before this one may then be created.
 pub fn create_third_schema_tables<S: Alter>(tx: &mut Transaction<'_, S>) -> Result<(), Fault>
     ensures same_reference { tx.new.conn.ghost_name ≡ tx.old.conn.ghost_name }
     ensures step { IsConnectionStep S.Store tx.old tx.new result (λ _ a b. CreatesDeskTables a.now b.now) }
@@ -66,8 +67,9 @@ pub fn create_third_schema_tables<S: Alter>(tx: &mut Transaction<'_, S>) -> Resu
 }
 
 /// Creates the tables that `schema` does not have and later schemas add, without rows: CASH_MOVE
-/// and SETTLE_RULE for schema 1, SETTLE_RULE for schema 2, none for schema 3. The rows of existing
-/// tables are unchanged. Fails with `Store` only, also if one of the tables to be created exists.
+/// and SETTLE_RULE for schema 1, SETTLE_RULE for schema 2, none for schema 3. Leaves the rows of
+/// existing tables unchanged. Fails with `Store` only, also if one of the tables to be created
+/// exists; the table before it may then be created.
 pub fn create_tables_of_later_schemas<S: Alter>(
     tx: &mut Transaction<'_, S>,
     schema: Schema,

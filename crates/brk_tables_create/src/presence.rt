@@ -18,7 +18,8 @@ use brk_tables_schema::calls::statement_compiles;
 use sqlite::{Alter, Transaction};
 
 // Returns true if a table with the name of `table` exists. If the function returns a value, the
-// database was open and is unchanged. Fails with `Store` only.
+// database was open and is unchanged. Fails with `Store` only, also if the statement of the look-up
+// does not compile for another reason than that no table has this name.
 fn table_exists<S: Alter>(tx: &mut Transaction<'_, S>, table: Table) -> Result<bool, Fault>
     ensures same_reference { tx.new.conn.ghost_name ≡ tx.old.conn.ghost_name }
     ensures step { IsConnectionStep S.Store tx.old tx.new result (λ has a b. IsTrue a.is_open × (b.now ≡ a.now)
@@ -28,8 +29,8 @@ fn table_exists<S: Alter>(tx: &mut Transaction<'_, S>, table: Table) -> Result<b
     statement_compiles(tx, table.existence_probe_text())
 }
 
-// Returns true if a table with the name of one of `tables` exists. Changes nothing. Fails with
-// `Store` only.
+// Returns true if a table with the name of one of `tables` exists. If the function returns a value,
+// the database is unchanged. Fails with `Store` only (`table_exists`).
 fn has_any_of_tables<S: Alter>(tx: &mut Transaction<'_, S>, tables: &[Table]) -> Result<bool, Fault>
     ensures same_reference { tx.new.conn.ghost_name ≡ tx.old.conn.ghost_name }
     ensures step { IsConnectionStep S.Store tx.old tx.new result (λ has a b. (b.now ≡ a.now)
@@ -44,8 +45,8 @@ fn has_any_of_tables<S: Alter>(tx: &mut Transaction<'_, S>, tables: &[Table]) ->
     Ok(false)
 }
 
-// Returns true if, for each of `tables`, a table with its name exists. Changes nothing. Fails with
-// `Store` only.
+// Returns true if, for each of `tables`, a table with its name exists. If the function returns a
+// value, the database is unchanged. Fails with `Store` only (`table_exists`).
 fn has_each_of_tables<S: Alter>(
     tx: &mut Transaction<'_, S>,
     tables: &[Table],
@@ -63,8 +64,8 @@ fn has_each_of_tables<S: Alter>(
     Ok(true)
 }
 
-/// Returns true if the database has a table with the name of some table of a desk. Changes nothing.
-/// Fails with `Store` only.
+/// Returns true if the database has a table with the name of some table of a desk. If the function
+/// returns a value, the database is unchanged. Fails with `Store` only.
 pub fn has_some_desk_table<S: Alter>(tx: &mut Transaction<'_, S>) -> Result<bool, Fault>
     ensures same_reference { tx.new.conn.ghost_name ≡ tx.old.conn.ghost_name }
     ensures step { IsConnectionStep S.Store tx.old tx.new result (λ has a b. (b.now ≡ a.now) × (has ≡ has_table_of_desk a.now.schema)) }
@@ -74,7 +75,8 @@ pub fn has_some_desk_table<S: Alter>(tx: &mut Transaction<'_, S>) -> Result<bool
 }
 
 // Returns true if a table with the name of each table of `there` exists, and none with the name of
-// a table of `absent`. Changes nothing. Fails with `Store` only.
+// a table of `absent`. If the function returns a value, the database is unchanged. Fails with
+// `Store` only (`table_exists`).
 fn has_tables_and_lacks_absent<S: Alter>(
     tx: &mut Transaction<'_, S>,
     there: &[Table],
@@ -94,7 +96,8 @@ fn has_tables_and_lacks_absent<S: Alter>(
 }
 
 // Returns true if a table with the name of each table of `schema` exists, and none with the name of
-// a table that a later schema adds. Changes nothing. Fails with `Store` only.
+// a table that a later schema adds. If the function returns a value, the database is unchanged.
+// Fails with `Store` only (`table_exists`).
 fn has_exactly_tables_of_schema<S: Alter>(
     tx: &mut Transaction<'_, S>,
     schema: Schema,

@@ -17,7 +17,8 @@ use sqlite::{Alter, Transaction};
 use std::alloc::Global;
 
 /// Inserts the row of an account (CUSTOMER_ACCOUNT), whose balance is its opening balance, in
-/// cents. Fails with `Store` only, also if the id exists.
+/// cents. Fails with `Store` only, also if the id exists, or if the customer or the broker of the
+/// account does not exist.
 pub fn add_account<S: Alter>(tx: &mut Transaction<'_, S>, account: &Account) -> Result<(), Fault>
     ensures same_reference { tx.new.conn.ghost_name ≡ tx.old.conn.ghost_name }
     ensures step { WritesDeskTables S.Store tx.old tx.new result (tables_with_account (abstract_account account.now)) }
@@ -37,8 +38,8 @@ pub fn add_account<S: Alter>(tx: &mut Transaction<'_, S>, account: &Account) -> 
     )
 }
 
-/// Returns the account with the id `id`, or `None` if there is none. Changes nothing. Fails with
-/// `Store` only.
+/// Returns the account with the id `id`, or `None` if there is none. Changes nothing if it
+/// succeeds. Fails with `Store` only.
 pub fn account_by_id<S: Alter>(
     tx: &mut Transaction<'_, S>,
     id: Id,
@@ -56,7 +57,7 @@ pub fn account_by_id<S: Alter>(
 }
 
 /// Returns the accounts of the customer with the id `customer`, sorted by id, ascending. Changes
-/// nothing. Fails with `Memory` or `Store` only.
+/// nothing if it succeeds. Fails with `Memory` or `Store` only.
 pub fn accounts_of_customer<S: Alter>(
     tx: &mut Transaction<'_, S>,
     alloc: Global,

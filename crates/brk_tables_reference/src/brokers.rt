@@ -29,8 +29,8 @@ pub fn add_broker<S: Alter>(tx: &mut Transaction<'_, S>, broker: &Broker) -> Res
     )
 }
 
-/// Returns the broker with the id `id`, or `None` if there is none. Changes nothing. Fails with
-/// `Store` only.
+/// Returns the broker with the id `id`, or `None` if there is none. Changes nothing if it succeeds.
+/// Fails with `Store` only.
 pub fn broker_by_id<S: Alter>(
     tx: &mut Transaction<'_, S>,
     id: Id,

@@ -34,7 +34,7 @@ pub fn add_charge<S: Alter>(tx: &mut Transaction<'_, S>, charge: &Charge) -> Res
 }
 
 /// Returns the charge of a trade type and a customer tier, or `None` if there is none. Changes
-/// nothing. Fails with `Store` only.
+/// nothing if it succeeds. Fails with `Store` only.
 pub fn charge_by_type_and_tier<S: Alter>(
     tx: &mut Transaction<'_, S>,
     kind: TradeType,

@@ -32,8 +32,8 @@ pub fn add_customer<S: Alter>(tx: &mut Transaction<'_, S>, customer: &Customer) 
     )
 }
 
-/// Returns the customer with the id `id`, or `None` if there is none. Changes nothing. Fails with
-/// `Store` only.
+/// Returns the customer with the id `id`, or `None` if there is none. Changes nothing if it
+/// succeeds. Fails with `Store` only.
 pub fn customer_by_id<S: Alter>(
     tx: &mut Transaction<'_, S>,
     id: Id,
@@ -50,8 +50,8 @@ pub fn customer_by_id<S: Alter>(
     decode_first_row(&rows)
 }
 
-/// Returns the customer with the tax id `tax_id`, or `None` if there is none. Changes nothing.
-/// Fails with `Store` only.
+/// Returns the customer with the tax id `tax_id`, or `None` if there is none. Changes nothing if it
+/// succeeds. Fails with `Store` only.
 pub fn customer_by_tax_id<S: Alter>(
     tx: &mut Transaction<'_, S>,
     tax_id: &TaxId,

@@ -13,7 +13,8 @@ use brk_tables_schema::values::{id_as_parameter, text_as_parameter};
 use sqlite::{Alter, Transaction};
 
 /// Inserts a row of ACCOUNT_PERMISSION: the permission of a person, identified by tax id, to order
-/// for an account. Fails with `Store` only, also if the account has a permission for this tax id.
+/// for an account. Fails with `Store` only, also if the account has a permission for this tax id,
+/// or does not exist.
 pub fn add_permission<S: Alter>(
     tx: &mut Transaction<'_, S>,
     permission: &Permission,
@@ -35,8 +36,8 @@ pub fn add_permission<S: Alter>(
     )
 }
 
-/// Returns the permission of an account for a tax id, or `None` if there is none. Changes nothing.
-/// Fails with `Store` only.
+/// Returns the permission of an account for a tax id, or `None` if there is none. Changes nothing
+/// if it succeeds. Fails with `Store` only.
 pub fn permission_by_account_and_tax_id<S: Alter>(
     tx: &mut Transaction<'_, S>,
     account: Id,

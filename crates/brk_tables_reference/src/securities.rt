@@ -34,7 +34,7 @@ pub fn add_security<S: Alter>(tx: &mut Transaction<'_, S>, security: &Security) 
 }
 
 /// Inserts the last trade of a security on the market (LAST_TRADE): its stamp, price and volume.
-/// Fails with `Store` only, also if the security has a last trade.
+/// Fails with `Store` only, also if the security has a last trade, or does not exist.
 pub fn add_last_trade<S: Alter>(
     tx: &mut Transaction<'_, S>,
     last_trade: &LastTrade,
@@ -55,8 +55,8 @@ pub fn add_last_trade<S: Alter>(
     )
 }
 
-/// Returns the security with the symbol `symbol`, or `None` if there is none. Changes nothing.
-/// Fails with `Store` only.
+/// Returns the security with the symbol `symbol`, or `None` if there is none. Changes nothing if it
+/// succeeds. Fails with `Store` only.
 pub fn security_by_symbol<S: Alter>(
     tx: &mut Transaction<'_, S>,
     symbol: &Symbol,

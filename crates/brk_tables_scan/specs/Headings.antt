@@ -2,7 +2,7 @@
 use Rattle.std.specs.Prelude.{◌≡◌, ◌⊎◌, ℕ, List, [], ◌∷◌, ◌++◌, codes, map, Bool, true, false}
 use Rattle.std.specs.Borrow.{Bor}
 use Rattle.sqlite_schema.specs.declared.schema.Schema.{Schema}
-use Rattle.brk_sql.specs.Desk.{MatchesResultColumns}
+use Rattle.brk_sql.specs.Desk.{IsResultColumnCheckOutcome}
 use Rattle.brk_tables_schema.specs.Desk.{DeskTable, table_name, table_definition_at_tree}
 use Rattle.brk_tables_scan.specs.Schemas.{table_and_column_names}
 
@@ -27,7 +27,7 @@ heading_of_table w = (select_all_text w, (table_and_column_names (table_definiti
 -- If `has` is true, as it is for an empty list, the result of each statement has exactly the column
 -- names of its heading, in order. If `has` is false, the result of some statement does not have
 -- them. Each statement up to this one compiles in the schema.
-abbrev pub MatchesEachHeading : List Heading → Bool → Schema → Type 0
-MatchesEachHeading [] has schema = has ≡ true
-MatchesEachHeading (h ∷ headings) has schema =
-    (MatchesResultColumns h.0 h.1 false schema × (has ≡ false)) ⊎ (MatchesResultColumns h.0 h.1 true schema × MatchesEachHeading headings has schema)
+abbrev pub AreHeadingCheckOutcomes : List Heading → Bool → Schema → Type 0
+AreHeadingCheckOutcomes [] has schema = has ≡ true
+AreHeadingCheckOutcomes (h ∷ headings) has schema =
+    (IsResultColumnCheckOutcome h.0 h.1 false schema × (has ≡ false)) ⊎ (IsResultColumnCheckOutcome h.0 h.1 true schema × AreHeadingCheckOutcomes headings has schema)

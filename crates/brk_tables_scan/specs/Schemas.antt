@@ -92,7 +92,8 @@ pub record HasDeskDefinitions (desk : Schema) (db : Database) : Type 0 where
   -- No foreign key of a table at their trees changes or deletes rows.
   pub calm : (w : DeskTable) → IsTableOfSchema desk w → (at tree : ℕ) → IsTableAt db.schema (table_definition_at_tree w tree) at
       → HasNoWritingForeignKeysAt db.schema tree
-  pub keyed : (w : DeskTable) → IsTableOfSchema desk w → (at tree : ℕ) → IsTableAt db.schema (table_definition_at_tree w tree) at → HasDistinctRowids (db.trees tree)
+  pub keyed : (w : DeskTable) → IsTableOfSchema desk w → (at tree : ℕ) → IsTableAt db.schema (table_definition_at_tree w tree) at
+      → HasDistinctRowids (db.trees tree)
 
 -- If the database has each table of the schema `desk`, by its name and with exactly its column
 -- names, these tables are defined as a desk defines them (`HasDeskDefinitions`). Vacuous if one of

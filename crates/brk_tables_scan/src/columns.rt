@@ -3,7 +3,7 @@
 ghost use Rattle.std.specs.Prelude.{◌≡◌, ◌↔◌, ◌≤◌, length, map, Err, OnErr, IsTrue};
 ghost use Rattle.brk_money.specs.declared.fault.Fault.TheVariants.{Store};
 ghost use Rattle.brk_sql.specs.Model.{IsConnectionStep};
-ghost use Rattle.brk_tables_scan.specs.Headings.{MatchesEachHeading, heading_of_borrowed_texts, heading_of_table};
+ghost use Rattle.brk_tables_scan.specs.Headings.{AreHeadingCheckOutcomes, heading_of_borrowed_texts, heading_of_table};
 ghost use Rattle.brk_changes.specs.Schemas.{abstract_schema};
 ghost use Rattle.brk_tables_schema.specs.Desk.{tables_in_schema};
 ghost use Rattle.brk_tables_scan.specs.Schemas.{HasTablesOfSchema, LacksTablesOfLaterSchemas};
@@ -16,15 +16,16 @@ use brk_tables_schema::calls::statement_has_columns;
 use sqlite::{Alter, Transaction};
 
 // Returns true if the result of the statement of each heading has exactly the column names of the
-// heading, in order. Checks the headings in order until one does not match. Changes nothing. Fails
-// with `Store` only, also if a checked statement names a table that does not exist.
+// heading, in order. Checks the headings in order until one does not match. If the function returns
+// a value, the database is unchanged. Fails with `Store` only, also if a checked statement does not
+// compile, for example because its table does not exist.
 fn each_heading_matches<S: Alter>(
     tx: &mut Transaction<'_, S>,
     headings: &[(&str, &[&str])],
 ) -> Result<bool, Fault>
     ensures same_reference { tx.new.conn.ghost_name ≡ tx.old.conn.ghost_name }
     ensures step { IsConnectionStep S.Store tx.old tx.new result (λ has a b. (b.now ≡ a.now)
-        × MatchesEachHeading (map heading_of_borrowed_texts headings.now) has a.now.schema) }
+        × AreHeadingCheckOutcomes (map heading_of_borrowed_texts headings.now) has a.now.schema) }
     ensures fault { OnErr result (result ≡ Err Store) }
 {
     for (text, names) in headings {
@@ -35,8 +36,8 @@ fn each_heading_matches<S: Alter>(
     Ok(true)
 }
 
-// Returns how many tables `schema` has. They are the first of all tables, because later schemas add
-// the last ones.
+// Returns how many tables `schema` has, at most 22. They are the first of all tables, because later
+// schemas add the last ones.
 fn table_count(schema: Schema) -> usize
     ensures count { result ≡ length (tables_in_schema (abstract_schema schema)) }
     ensures at_most_all { result ≤ 22 }
@@ -49,12 +50,12 @@ fn table_count(schema: Schema) -> usize
 }
 
 // Returns true if each table of `schema` has exactly its column names, in order. Checks the tables
-// in order until one differs. Changes nothing. Fails with `Store` only, also if a checked table
-// does not exist.
+// in order until one differs. If the function returns a value, the database is unchanged. Fails
+// with `Store` only, also if a checked table does not exist.
 fn tables_have_columns<S: Alter>(tx: &mut Transaction<'_, S>, schema: Schema) -> Result<bool, Fault>
     ensures same_reference { tx.new.conn.ghost_name ≡ tx.old.conn.ghost_name }
     ensures step { IsConnectionStep S.Store tx.old tx.new result (λ has a b. (b.now ≡ a.now)
-        × MatchesEachHeading (map heading_of_table (tables_in_schema (abstract_schema schema))) has a.now.schema) }
+        × AreHeadingCheckOutcomes (map heading_of_table (tables_in_schema (abstract_schema schema))) has a.now.schema) }
     ensures fault { OnErr result (result ≡ Err Store) }
 {
     each_heading_matches(tx, &COLUMNS_OF_ALL_TABLES[..table_count(schema)])

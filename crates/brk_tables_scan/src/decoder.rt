@@ -23,8 +23,8 @@ use brk_tables_schema::rule_row::settlement_day_in_rule_rows;
 use sqlite::Row;
 use std::alloc::Global;
 
-// Decodes all rows, in order, and drops each row once it is decoded. Fails with `Form`, only if one
-// of them is malformed, or with `Memory`.
+// Returns the decoded rows, in order, and drops each raw row once it is decoded. Fails with `Form`,
+// only if a row is malformed, or with `Memory`, if memory runs out.
 fn decode_and_drop_rows<R: Record>(alloc: Global, rows: Vec<Row>) -> Result<Vec<R>, DecodeError>
     ensures value { IfOk result (λ all. map R.cells all.items ≡ rows.items) }
     ensures form { result ≡ Err Formless → list_all (passes_all_cell_checks R.forms) rows.items ≡ false }
@@ -37,7 +37,7 @@ fn decode_and_drop_rows<R: Record>(alloc: Global, rows: Vec<Row>) -> Result<Vec<
 }
 
 // Decodes a row of KEPT, drops its texts and returns its key. Fails with `Form`, only if the row is
-// malformed, or with `Memory`.
+// malformed, or with `Memory`, if memory runs out.
 fn decode_kept_key(row: &Row) -> Result<Key, DecodeError>
     ensures value { IfOk result (λ key. IsKeyOfRawRow key row.now) }
     ensures form { result ≡ Err Formless → passes_all_cell_checks kept_column_cell_checks row.now ≡ false }
@@ -47,7 +47,8 @@ fn decode_kept_key(row: &Row) -> Result<Key, DecodeError>
 }
 
 // Decodes all rows of KEPT, drops each row, with its texts, once it is decoded, and returns their
-// keys, in order. Fails with `Form`, only if one of the rows is malformed, or with `Memory`.
+// keys, in order. Fails with `Form`, only if a row is malformed, or with `Memory`, if memory runs
+// out.
 fn decode_kept_keys(alloc: Global, rows: Vec<Row>) -> Result<Vec<Key>, DecodeError>
     ensures value { IfOk result (λ all. AreKeysOfRawRows all.items rows.items) }
     ensures form { result ≡ Err Formless → list_all (passes_all_cell_checks kept_column_cell_checks) rows.items ≡ false }
@@ -68,7 +69,7 @@ pub(crate) struct Decoder {
 }
 
 impl Decoder {
-    /// Returns a decoder that has decoded no row.
+    /// Returns a decoder that has decoded no row: `are_well_formed` is true.
     pub(crate) fn new() -> Decoder
         ensures { result.are_well_formed ≡ true }
     {
@@ -77,8 +78,9 @@ impl Decoder {
         }
     }
 
-    /// Decodes the rows of a table and drops each once it is decoded. If one of them is malformed,
-    /// sets `are_well_formed` to false and returns no records. Fails with `Memory` only.
+    /// Returns the decoded rows of a table, in order, and drops each raw row once it is decoded. If
+    /// a row is malformed, sets `are_well_formed` to false and returns no records. Fails with
+    /// `Memory` only.
     pub(crate) fn decode<R: Record>(
         &mut self,
         alloc: Global,
@@ -99,8 +101,8 @@ impl Decoder {
         }
     }
 
-    /// Decodes the rows that a read of a table returned (`decode`). Fails with the fault of the
-    /// read, or with `Memory`.
+    /// Returns the decoded rows of a table, of which `read` has the raw rows (`decode`). Fails with
+    /// the fault of `read`, if it is one, or with `Memory`.
     pub(crate) fn decode_read<R: Record>(
         &mut self,
         alloc: Global,
@@ -114,8 +116,8 @@ impl Decoder {
         self.decode(alloc, read?)
     }
 
-    /// Decodes the rows of KEPT, drops each once it is decoded, and returns their keys: no
-    /// condition of an audit reads their texts. If a row is malformed, sets `are_well_formed` to
+    /// Decodes the rows of KEPT, drops each once it is decoded, and returns their keys, in order:
+    /// no condition of an audit reads their texts. If a row is malformed, sets `are_well_formed` to
     /// false and returns no keys. Fails with `Memory` only.
     pub(crate) fn decode_kept_keys(
         &mut self,
@@ -136,9 +138,9 @@ impl Decoder {
         }
     }
 
-    /// Decodes the stamp of the last accepted command from all rows of DESK, or returns `None` if
-    /// none is stored. If there is not exactly one row, well-formed and with the number of
-    /// `schema`, sets `are_well_formed` to false and returns `None`. Fails with `Memory` only.
+    /// Returns the stamp of the last accepted command from all rows of DESK, or `None` if none is
+    /// stored. If there is not exactly one row, well-formed and with the number of `schema`, sets
+    /// `are_well_formed` to false and returns `None`. Fails with `Memory` only.
     pub(crate) fn decode_last_stamp(
         &mut self,
         schema: Schema,
@@ -159,8 +161,8 @@ impl Decoder {
         }
     }
 
-    /// Decodes the settlement day, in days since 1970-01-01, from all rows of SETTLE_RULE, or
-    /// returns `None` if there is no row. If there are two rows or more, or a malformed one, sets
+    /// Returns the settlement day, in days since 1970-01-01, from all rows of SETTLE_RULE, or
+    /// `None` if there is no row. If there are two rows or more, or a malformed one, sets
     /// `are_well_formed` to false and returns `None`. Fails with `Memory` only.
     pub(crate) fn decode_settlement_day(&mut self, rows: Vec<Row>) -> Result<Option<Day>, Fault>
         ensures decoding { IfOk result (λ day. ContinuesDecoding self.old.are_well_formed self.new.are_well_formed

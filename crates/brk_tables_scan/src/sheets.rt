@@ -14,7 +14,8 @@ use std::alloc::Global;
 
 /// Returns the typed rows of the tables of `schema`, each list sorted by key, ascending. Of KEPT it
 /// returns the keys alone, because no condition of an audit reads the texts. Returns `None` only if
-/// a row is malformed or a text is not UTF-8, and only after all tables were read. Changes nothing.
+/// a row is malformed or a text is not UTF-8, and only after all tables were read. If the function
+/// returns a value, the database was open and is unchanged.
 ///
 /// Fails with `Memory` or `Store`. The result is specified only if the database has the schema
 /// `schema` (`database_has_schema`) and its tables are defined as a desk defines them.

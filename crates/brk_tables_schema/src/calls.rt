@@ -8,7 +8,7 @@ ghost use Rattle.sqlite.specs.Listing.{understood};
 ghost use Rattle.sqlite.specs.Values.{bound};
 ghost use Rattle.sqlite_resolve.specs.declared.compiled.Compiled.{Compiled};
 ghost use Rattle.sqlite_schema.specs.declared.schema.Schema.{Schema};
-ghost use Rattle.brk_sql.specs.Desk.{MatchesResultColumns, IsCompilationOutcome};
+ghost use Rattle.brk_sql.specs.Desk.{IsResultColumnCheckOutcome, IsCompilationOutcome};
 ghost use Rattle.brk_sql.specs.Model.{ExecutesStatement, SelectsRows, IsConnectionStep};
 
 use brk_money::Fault;
@@ -74,7 +74,7 @@ pub fn statement_has_columns<S: Alter>(
 ) -> Result<bool, Fault>
     ensures same_reference { tx.new.conn.ghost_name ≡ tx.old.conn.ghost_name }
     ensures step { IsConnectionStep S.Store tx.old tx.new result (λ has a b. IsTrue a.is_open × (b.now ≡ a.now)
-        × MatchesResultColumns text.now (map (λ (name : Bor (List ℕ)). name.now) names.now) has a.now.schema) }
+        × IsResultColumnCheckOutcome text.now (map (λ (name : Bor (List ℕ)). name.now) names.now) has a.now.schema) }
     ensures fault { OnErr result (result ≡ Err Store) }
 {
     match brk_sql::statement_has_columns(tx, text, names) {

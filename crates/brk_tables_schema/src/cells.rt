@@ -139,8 +139,8 @@ pub fn cash_row_id_in_column(row: &Row, at: usize) -> Result<MoveId, DecodeError
     MoveId::new(natural_in_column(row, at)?).ok_or(DecodeError::Form)
 }
 
-/// Reads an id from the column `at`, or returns `None` if the column is null. Fails with `Form`,
-/// only if the column is missing or malformed, or with `Memory`.
+/// Reads an id, from 1 to 10^12, from the column `at`, or returns `None` if the column is null.
+/// Fails with `Form`, only if the column is missing or malformed, or with `Memory`.
 pub fn optional_id_in_column(row: &Row, at: usize) -> Result<Option<Id>, DecodeError>
     ensures value { IfOk result (λ id. column row.now at ≡ optional_natural_as_value id) }
     ensures form { result ≡ Err Formless → at < length row.now → is_null_or_natural_cell is_id (column row.now at) ≡ false }
@@ -161,8 +161,8 @@ pub fn tier_in_column(row: &Row, at: usize) -> Result<Tier, DecodeError>
     Tier::new(natural_in_column(row, at)?).ok_or(DecodeError::Form)
 }
 
-/// Reads an amount in cents that is not below 0 from the column `at`. Fails with `Form`, only if
-/// the column is missing or malformed, or with `Memory`.
+/// Reads an amount, from 0 to 10^17 cents, from the column `at`. Fails with `Form`, only if the
+/// column is missing or malformed, or with `Memory`.
 pub fn amount_in_column(row: &Row, at: usize) -> Result<Amount, DecodeError>
     ensures value { IfOk result (λ amount. column row.now at ≡ Int (pos amount)) }
     ensures form { result ≡ Err Formless → at < length row.now → is_amount_cell (column row.now at) ≡ false }
@@ -170,8 +170,8 @@ pub fn amount_in_column(row: &Row, at: usize) -> Result<Amount, DecodeError>
     Amount::new(natural_in_column(row, at)?).ok_or(DecodeError::Form)
 }
 
-/// Reads a volume, in shares, from the column `at`. Fails with `Form`, only if the column is
-/// missing or malformed, or with `Memory`.
+/// Reads a volume, from 0 to 10^17 shares, from the column `at`. Fails with `Form`, only if the
+/// column is missing or malformed, or with `Memory`.
 pub fn volume_in_column(row: &Row, at: usize) -> Result<Volume, DecodeError>
     ensures value { IfOk result (λ volume. column row.now at ≡ Int (pos volume)) }
     ensures form { result ≡ Err Formless → at < length row.now → is_amount_cell (column row.now at) ≡ false }
@@ -179,8 +179,8 @@ pub fn volume_in_column(row: &Row, at: usize) -> Result<Volume, DecodeError>
     Volume::new(natural_in_column(row, at)?).ok_or(DecodeError::Form)
 }
 
-/// Reads a quantity, in shares, from the column `at`. Fails with `Form`, only if the column is
-/// missing or malformed, or with `Memory`.
+/// Reads a quantity, from 1 to 9,999,999 shares, from the column `at`. Fails with `Form`, only if
+/// the column is missing or malformed, or with `Memory`.
 pub fn quantity_in_column(row: &Row, at: usize) -> Result<Qty, DecodeError>
     ensures value { IfOk result (λ qty. column row.now at ≡ Int (pos qty)) }
     ensures form { result ≡ Err Formless → at < length row.now → is_quantity_cell (column row.now at) ≡ false }
@@ -188,8 +188,8 @@ pub fn quantity_in_column(row: &Row, at: usize) -> Result<Qty, DecodeError>
     Qty::new(u32_in_column(row, at)?).ok_or(DecodeError::Form)
 }
 
-/// Reads the price of a share, in cents, from the column `at`. Fails with `Form`, only if the
-/// column is missing or malformed, or with `Memory`.
+/// Reads the price of a share, from 1 to 9,999,999 cents, from the column `at`. Fails with `Form`,
+/// only if the column is missing or malformed, or with `Memory`.
 pub fn price_in_column(row: &Row, at: usize) -> Result<Price, DecodeError>
     ensures value { IfOk result (λ price. column row.now at ≡ Int (pos price)) }
     ensures form { result ≡ Err Formless → at < length row.now → is_price_cell (column row.now at) ≡ false }
@@ -197,8 +197,8 @@ pub fn price_in_column(row: &Row, at: usize) -> Result<Price, DecodeError>
     Price::new(u32_in_column(row, at)?).ok_or(DecodeError::Form)
 }
 
-/// Reads a commission rate, in hundredths of a percent, from the column `at`. Fails with `Form`,
-/// only if the column is missing or malformed, or with `Memory`.
+/// Reads a commission rate, from 0 to 10,000 hundredths of a percent, from the column `at`. Fails
+/// with `Form`, only if the column is missing or malformed, or with `Memory`.
 pub fn commission_rate_in_column(row: &Row, at: usize) -> Result<Rate, DecodeError>
     ensures value { IfOk result (λ rate. column row.now at ≡ Int (pos rate)) }
     ensures form { result ≡ Err Formless → at < length row.now → is_commission_rate_cell (column row.now at) ≡ false }
@@ -206,8 +206,8 @@ pub fn commission_rate_in_column(row: &Row, at: usize) -> Result<Rate, DecodeErr
     Rate::new(u32_in_column(row, at)?).ok_or(DecodeError::Form)
 }
 
-/// Reads a tax rate, in hundred-thousandths, from the column `at`. Fails with `Form`, only if the
-/// column is missing or malformed, or with `Memory`.
+/// Reads a tax rate, from 0 to 100,000 hundred-thousandths, from the column `at`. Fails with
+/// `Form`, only if the column is missing or malformed, or with `Memory`.
 pub fn tax_rate_in_column(row: &Row, at: usize) -> Result<TaxRate, DecodeError>
     ensures value { IfOk result (λ rate. column row.now at ≡ Int (pos rate)) }
     ensures form { result ≡ Err Formless → at < length row.now → is_tax_rate_cell (column row.now at) ≡ false }
@@ -215,8 +215,8 @@ pub fn tax_rate_in_column(row: &Row, at: usize) -> Result<TaxRate, DecodeError>
     TaxRate::new(u32_in_column(row, at)?).ok_or(DecodeError::Form)
 }
 
-/// Reads a charge, in cents, from the column `at`. Fails with `Form`, only if the column is missing
-/// or malformed, or with `Memory`.
+/// Reads a charge, from 0 to 1,000,000 cents, from the column `at`. Fails with `Form`, only if the
+/// column is missing or malformed, or with `Memory`.
 pub fn charge_amount_in_column(row: &Row, at: usize) -> Result<ChargeAmount, DecodeError>
     ensures value { IfOk result (λ amount. column row.now at ≡ Int (pos amount)) }
     ensures form { result ≡ Err Formless → at < length row.now → is_charge_cell (column row.now at) ≡ false }
@@ -224,8 +224,8 @@ pub fn charge_amount_in_column(row: &Row, at: usize) -> Result<ChargeAmount, Dec
     ChargeAmount::new(u32_in_column(row, at)?).ok_or(DecodeError::Form)
 }
 
-/// Reads an amount in cents, of either sign, from the column `at`. Fails with `Form`, only if the
-/// column is missing or malformed, or with `Memory`.
+/// Reads an amount in cents, from -10^17 to 10^17, from the column `at`. Fails with `Form`, only if
+/// the column is missing or malformed, or with `Memory`.
 pub fn cents_in_column(row: &Row, at: usize) -> Result<Cents, DecodeError>
     ensures value { IfOk result (λ cents. column row.now at ≡ Int cents) }
     ensures form { result ≡ Err Formless → at < length row.now → is_cents_cell (column row.now at) ≡ false }
@@ -233,8 +233,8 @@ pub fn cents_in_column(row: &Row, at: usize) -> Result<Cents, DecodeError>
     Cents::new(integer_in_column(row, at)?).ok_or(DecodeError::Form)
 }
 
-/// Reads a stamp, in milliseconds since 1970-01-01 UTC, from the column `at`. Fails with `Form`,
-/// only if the column is missing or malformed, or with `Memory`.
+/// Reads a stamp, in milliseconds since 1970-01-01 UTC, from 0 to the greatest stamp, from the
+/// column `at`. Fails with `Form`, only if the column is missing or malformed, or with `Memory`.
 pub fn stamp_in_column(row: &Row, at: usize) -> Result<Stamp, DecodeError>
     ensures value { IfOk result (λ stamp. column row.now at ≡ Int (pos stamp)) }
     ensures form { result ≡ Err Formless → at < length row.now → is_stamp_cell (column row.now at) ≡ false }
@@ -242,8 +242,8 @@ pub fn stamp_in_column(row: &Row, at: usize) -> Result<Stamp, DecodeError>
     Stamp::new(integer_in_column(row, at)?).ok_or(DecodeError::Form)
 }
 
-/// Reads a day, as the number of days since 1970-01-01, from the column `at`. Fails with `Form`,
-/// only if the column is missing or malformed, or with `Memory`.
+/// Reads a day, as the number of days since 1970-01-01, from 0 to the greatest day, from the column
+/// `at`. Fails with `Form`, only if the column is missing or malformed, or with `Memory`.
 pub fn day_in_column(row: &Row, at: usize) -> Result<Day, DecodeError>
     ensures value { IfOk result (λ day. column row.now at ≡ Int (pos day)) }
     ensures form { result ≡ Err Formless → at < length row.now → is_day_cell (column row.now at) ≡ false }
@@ -251,9 +251,9 @@ pub fn day_in_column(row: &Row, at: usize) -> Result<Day, DecodeError>
     Day::new(read_column(row, at)?).ok_or(DecodeError::Form)
 }
 
-/// Reads a stamp, in milliseconds since 1970-01-01 UTC, from the column `at`, or returns `None` if
-/// the column is null. Fails with `Form`, only if the column is missing or malformed, or with
-/// `Memory`.
+/// Reads a stamp, in milliseconds since 1970-01-01 UTC, from 0 to the greatest stamp, from the
+/// column `at`, or returns `None` if the column is null. Fails with `Form`, only if the column is
+/// missing or malformed, or with `Memory`.
 pub fn optional_stamp_in_column(row: &Row, at: usize) -> Result<Option<Stamp>, DecodeError>
     ensures value { IfOk result (λ stamp. column row.now at ≡ optional_natural_as_value stamp) }
     ensures form { result ≡ Err Formless → at < length row.now → is_null_or_stamp_cell (column row.now at) ≡ false }
@@ -265,8 +265,9 @@ pub fn optional_stamp_in_column(row: &Row, at: usize) -> Result<Option<Stamp>, D
     Ok(Some(Stamp::new(millis).ok_or(DecodeError::Form)?))
 }
 
-/// Reads the price of a share, in cents, from the column `at`, or returns `None` if the column is
-/// null. Fails with `Form`, only if the column is missing or malformed, or with `Memory`.
+/// Reads the price of a share, from 1 to 9,999,999 cents, from the column `at`, or returns `None`
+/// if the column is null. Fails with `Form`, only if the column is missing or malformed, or with
+/// `Memory`.
 pub fn optional_price_in_column(row: &Row, at: usize) -> Result<Option<Price>, DecodeError>
     ensures value { IfOk result (λ price. column row.now at ≡ optional_natural_as_value price) }
     ensures form { result ≡ Err Formless → at < length row.now → is_null_or_natural_cell is_price (column row.now at) ≡ false }
@@ -278,8 +279,8 @@ pub fn optional_price_in_column(row: &Row, at: usize) -> Result<Option<Price>, D
     Ok(Some(Price::new(cents).ok_or(DecodeError::Form)?))
 }
 
-/// Reads the tax status with the number in the column `at`. Fails with `Form`, only if the column
-/// is missing or malformed, or with `Memory`.
+/// Reads the tax status with the number, from 0 to 2, in the column `at`. Fails with `Form`, only
+/// if the column is missing or malformed, or with `Memory`.
 pub fn tax_status_in_column(row: &Row, at: usize) -> Result<TaxStatus, DecodeError>
     ensures value { IfOk result (λ tax_status. column row.now at ≡ Int (pos (tax_status_number tax_status))) }
     ensures form { result ≡ Err Formless → at < length row.now → is_tax_status_cell (column row.now at) ≡ false }

@@ -71,7 +71,7 @@ fn last_stamp_in_third_schema_rows(rows: &[Row]) -> Result<Option<Stamp>, Fault>
 
 /// Returns the stamp of the last accepted command (D_LAST), in milliseconds since 1970-01-01 UTC,
 /// or `None` if none is stored. Changes nothing. Fails with `Store` only, also if DESK does not
-/// have exactly one well-formed row with the number of schema 3.
+/// have exactly one well-formed row with the number of schema 3, or if memory runs out.
 pub fn last_stamp<S: Alter>(tx: &mut Transaction<'_, S>) -> Result<Option<Stamp>, Fault>
     ensures same_reference { tx.new.conn.ghost_name ≡ tx.old.conn.ghost_name }
     ensures step { ReadsDeskTables S.Store tx.old tx.new result (λ last t. last ≡ t.last) }

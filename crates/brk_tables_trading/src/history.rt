@@ -11,7 +11,7 @@ use brk_tables_schema::values::{id_as_parameter, stamp_as_parameter, status_as_p
 use sqlite::{Alter, Transaction};
 
 /// Inserts a row of TRADE_HISTORY: a status that a trade reached, and the stamp of this change.
-/// Fails with `Store` only, also if the trade has a row with this status.
+/// Fails with `Store` only, also if the trade has a row with this status, or does not exist.
 pub fn add_trade_history_row<S: Alter>(
     tx: &mut Transaction<'_, S>,
     mark: &HistoryRow,

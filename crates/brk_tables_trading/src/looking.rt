@@ -17,8 +17,8 @@ use sqlite::{Alter, Transaction};
 use std::alloc::Global;
 
 /// Returns the ten most recent trades of an account, or all if it has fewer, sorted by the stamp of
-/// their last status change and then by id, the most recent first. Changes nothing. Fails with
-/// `Memory` or `Store`.
+/// their last status change and then by id, the most recent first. Changes nothing if it succeeds.
+/// Fails with `Memory` or `Store`.
 pub fn last_ten_trades_of_account<S: Alter>(
     tx: &mut Transaction<'_, S>,
     alloc: Global,
@@ -38,8 +38,8 @@ pub fn last_ten_trades_of_account<S: Alter>(
 }
 
 /// Returns the fifty most recent trades of an account, or all if it has fewer, sorted by the stamp
-/// of their last status change and then by id, the most recent first. Changes nothing. Fails with
-/// `Memory` or `Store`.
+/// of their last status change and then by id, the most recent first. Changes nothing if it
+/// succeeds. Fails with `Memory` or `Store`.
 pub fn last_fifty_trades_of_account<S: Alter>(
     tx: &mut Transaction<'_, S>,
     alloc: Global,
@@ -59,7 +59,8 @@ pub fn last_fifty_trades_of_account<S: Alter>(
 }
 
 /// Returns the rows of TRADE_HISTORY of a trade: the statuses that it reached and their stamps,
-/// sorted by the code of the status, ascending. Changes nothing. Fails with `Memory` or `Store`.
+/// sorted by the code of the status, ascending. Changes nothing if it succeeds. Fails with `Memory`
+/// or `Store`.
 pub fn history_of_trade<S: Alter>(
     tx: &mut Transaction<'_, S>,
     alloc: Global,

@@ -16,7 +16,7 @@ use brk_tables_schema::values::{
 use sqlite::{Alter, Transaction};
 
 /// Inserts the lot that a trade opened (HOLDING). Fails with `Store` only, also if a lot of this
-/// trade exists.
+/// trade exists, or if the trade, the account or the security of the lot does not exist.
 pub fn add_lot<S: Alter>(tx: &mut Transaction<'_, S>, lot: &HoldingRow) -> Result<(), Fault>
     ensures same_reference { tx.new.conn.ghost_name ≡ tx.old.conn.ghost_name }
     ensures step { WritesDeskTables S.Store tx.old tx.new result (tables_with_lot (abstract_holding_row lot.now)) }
@@ -69,7 +69,8 @@ pub fn remove_lot<S: Alter>(tx: &mut Transaction<'_, S>, trade: Id) -> Result<()
 }
 
 /// Inserts the change that a trade made to a lot (HOLDING_HISTORY): its number of shares before and
-/// after the trade. Fails with `Store` only, also if a change of this lot by this trade exists.
+/// after the trade. Fails with `Store` only, also if a change of this lot by this trade exists, or
+/// if this trade or the one that opened the lot does not exist.
 pub fn add_lot_change<S: Alter>(
     tx: &mut Transaction<'_, S>,
     change: &LotChange,

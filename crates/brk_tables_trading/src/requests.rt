@@ -20,7 +20,7 @@ use sqlite::{Alter, Transaction};
 use std::alloc::Global;
 
 /// Inserts the request of a pending trade (TRADE_REQUEST). Fails with `Store` only, also if the
-/// trade has a request.
+/// trade has a request, or if the trade, the security or the broker of the request does not exist.
 pub fn add_request<S: Alter>(tx: &mut Transaction<'_, S>, request: &RequestRow) -> Result<(), Fault>
     ensures same_reference { tx.new.conn.ghost_name ≡ tx.old.conn.ghost_name }
     ensures step { WritesDeskTables S.Store tx.old tx.new result (tables_with_request (abstract_request_row request.now)) }
@@ -55,7 +55,7 @@ pub fn remove_request<S: Alter>(tx: &mut Transaction<'_, S>, trade: Id) -> Resul
 }
 
 /// Returns the requests of a symbol and a trade type whose bid is at least `price`, in cents,
-/// sorted by trade, ascending. Changes nothing. Fails with `Memory` or `Store`.
+/// sorted by trade, ascending. Changes nothing if it succeeds. Fails with `Memory` or `Store`.
 pub fn requests_with_bid_at_least<S: Alter>(
     tx: &mut Transaction<'_, S>,
     alloc: Global,
@@ -81,7 +81,7 @@ pub fn requests_with_bid_at_least<S: Alter>(
 }
 
 /// Returns the requests of a symbol and a trade type whose bid is at most `price`, in cents, sorted
-/// by trade, ascending. Changes nothing. Fails with `Memory` or `Store`.
+/// by trade, ascending. Changes nothing if it succeeds. Fails with `Memory` or `Store`.
 pub fn requests_with_bid_at_most<S: Alter>(
     tx: &mut Transaction<'_, S>,
     alloc: Global,

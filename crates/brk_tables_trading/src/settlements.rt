@@ -15,7 +15,7 @@ use brk_tables_schema::values::{
 use sqlite::{Alter, Transaction};
 
 /// Inserts the settlement of a completed trade (SETTLEMENT): its cash type, due day and amount in
-/// cents. Fails with `Store` only, also if the trade has a settlement.
+/// cents. Fails with `Store` only, also if the trade has a settlement, or does not exist.
 pub fn add_settlement<S: Alter>(
     tx: &mut Transaction<'_, S>,
     settlement: &SettlementRow,

@@ -15,7 +15,7 @@ use brk_tables_schema::values::{id_as_parameter, integer_as_parameter, text_as_p
 use sqlite::{Alter, Transaction};
 
 /// Inserts the holding summary of an account in a security. Fails with `Store` only, also if one
-/// exists.
+/// exists, or if the account or the security does not exist.
 pub fn add_holding_summary<S: Alter>(
     tx: &mut Transaction<'_, S>,
     summary: &SummaryRow,

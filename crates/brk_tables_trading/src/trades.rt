@@ -20,7 +20,8 @@ use brk_tables_schema::values::{
 use sqlite::{Alter, Transaction};
 use std::alloc::Global;
 
-/// Inserts the row of a trade (TRADE). Fails with `Store` only, also if the id exists.
+/// Inserts the row of a trade (TRADE). Fails with `Store` only, also if the id exists, or if the
+/// security or the account of the trade does not exist.
 pub fn add_trade<S: Alter>(tx: &mut Transaction<'_, S>, trade: &TradeRow) -> Result<(), Fault>
     ensures same_reference { tx.new.conn.ghost_name ≡ tx.old.conn.ghost_name }
     ensures step { WritesDeskTables S.Store tx.old tx.new result (tables_with_trade (abstract_trade_row trade.now)) }
@@ -101,8 +102,8 @@ pub fn complete_trade<S: Alter>(
     )
 }
 
-/// Returns the trade with the id `id`, or `None` if there is none. Changes nothing. Fails with
-/// `Store` only.
+/// Returns the trade with the id `id`, or `None` if there is none. Changes nothing if it succeeds.
+/// Fails with `Store` only.
 pub fn trade_by_id<S: Alter>(tx: &mut Transaction<'_, S>, id: Id) -> Result<Option<TradeRow>, Fault>
     ensures same_reference { tx.new.conn.ghost_name ≡ tx.old.conn.ghost_name }
     ensures step { ReadsFirstMatch S.Store tx.old tx.new result Trades abstract_trade_row (λ r. r.id == id) }
@@ -116,8 +117,8 @@ pub fn trade_by_id<S: Alter>(tx: &mut Transaction<'_, S>, id: Id) -> Result<Opti
     decode_first_row(&rows)
 }
 
-/// Returns the greatest id of a trade, or `None` if there is no trade. Changes nothing. Fails with
-/// `Store` only.
+/// Returns the greatest id of a trade, or `None` if there is no trade. Changes nothing if it
+/// succeeds. Fails with `Store` only.
 pub fn greatest_trade_id<S: Alter>(tx: &mut Transaction<'_, S>) -> Result<Option<Id>, Fault>
     ensures same_reference { tx.new.conn.ghost_name ≡ tx.old.conn.ghost_name }
     ensures step { ReadsDeskTables S.Store tx.old tx.new result (λ o t. o ≡ option_map (λ r. r.id) (slice_get (reverse t.trades) 0)) }
@@ -127,8 +128,8 @@ pub fn greatest_trade_id<S: Alter>(tx: &mut Transaction<'_, S>) -> Result<Option
     decode_first_row(&rows)
 }
 
-/// Returns the trades with the status submitted, sorted by id, ascending. Changes nothing. Fails
-/// with `Memory` or `Store`.
+/// Returns the trades with the status submitted, sorted by id, ascending. Changes nothing if it
+/// succeeds. Fails with `Memory` or `Store`.
 pub fn submitted_trades<S: Alter>(
     tx: &mut Transaction<'_, S>,
     alloc: Global,

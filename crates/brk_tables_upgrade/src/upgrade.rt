@@ -53,10 +53,10 @@ fn move_cash_transactions_to_cash_moves<S: Alter>(
 
 /// Upgrades the tables of `schema`, with any rows, to schema 3: creates the tables that are
 /// missing, sets the number of the schema, and moves the cash rows of schema 1 to CASH_MOVE,
-/// numbered from 1 by ascending stamp. Fails with `Memory` or `Store`; with `Store` also if the
-/// trade of one of these rows does not exist, or if there are more of these rows than `MoveId` has
-/// numbers. The effect is specified only if the tables of `schema` exist, and none that a later
-/// schema adds.
+/// numbered from 1 by ascending stamp. Fails with `Memory` or `Store` only; with `Store` also if a
+/// table that a later schema adds exists, if the trade of one of these rows does not exist or has a
+/// second cash row, or if there are more of these rows than `MoveId` has numbers. The effect is
+/// specified only if the tables of `schema` exist, and none that a later schema adds.
 pub fn upgrade_tables<S: Alter>(
     tx: &mut Transaction<'_, S>,
     alloc: Global,

@@ -16,8 +16,8 @@ use brk_tables_schema::values::{id_as_parameter, text_as_parameter};
 use sqlite::{Alter, Transaction};
 use std::alloc::Global;
 
-/// Returns the brokers with the name `name`, sorted by id, ascending. Changes nothing. Fails with
-/// `Memory` or `Store`.
+/// Returns the brokers with the name `name`, sorted by id, ascending. Changes nothing if it
+/// succeeds. Fails with `Memory` or `Store`.
 pub fn brokers_with_name<S: Alter>(
     tx: &mut Transaction<'_, S>,
     alloc: Global,
@@ -36,7 +36,7 @@ pub fn brokers_with_name<S: Alter>(
 }
 
 /// Returns all requests of pending trades (TRADE_REQUEST), sorted by trade, ascending. Changes
-/// nothing. Fails with `Memory` or `Store`.
+/// nothing if it succeeds. Fails with `Memory` or `Store`.
 pub fn all_requests<S: Alter>(
     tx: &mut Transaction<'_, S>,
     alloc: Global,
@@ -53,8 +53,8 @@ pub fn all_requests<S: Alter>(
     decode_rows(alloc, &rows)
 }
 
-/// Returns the ids of the accounts of a broker, ascending. Changes nothing. Fails with `Memory` or
-/// `Store`.
+/// Returns the ids of the accounts of a broker, ascending. Changes nothing if it succeeds. Fails
+/// with `Memory` or `Store`.
 pub fn account_ids_of_broker<S: Alter>(
     tx: &mut Transaction<'_, S>,
     alloc: Global,

@@ -1,5 +1,6 @@
 //! Walks over the rows of an open query, one at a time: the lots of an account, cash rows by stamp,
-//! and completed trades.
+//! and completed trades. The fault is `Store` also if a row is malformed or if the `sqlite` crate
+//! runs out of memory, and `Memory` if the decoding of a row does.
 #![tactic(auto)]
 
 pub mod cash;

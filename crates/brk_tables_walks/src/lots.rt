@@ -36,7 +36,8 @@ pub fn walk_lots<S: Alter, E, V: Visitor<HoldingRow, E>>(
     ensures leads { V.leads visitor.old visitor.new }
 
     // The visitor took the records in sequence, all of them at `Ok`; nothing was written.
-    ensures walked { TableWalkPost S.Store conn.old conn.new abstract_holding_row (account_lots_by_symbol account) V.takes V.stops visitor.old visitor.new result }
+    ensures walked { TableWalkPost S.Store conn.old conn.new abstract_holding_row
+        (account_lots_by_symbol account) V.takes V.stops visitor.old visitor.new result }
 {
     // The value is not needed: the call shows that an open database outside a transaction is in its
     // committed state.

@@ -21,8 +21,8 @@ pub enum WalkError<E> {
     Cause(E),
 }
 
-// Decodes the record in a row of a query. Fails with `Memory` or `Store` only; with `Store` if the
-// row is malformed.
+// Decodes the record in a row of a query. Fails with `Memory` if memory runs out, or with `Store`
+// if the row is malformed, and with no other fault.
 fn decode_record<R: Record>(row: &Row) -> Result<R, Fault>
     ensures value { IfOk result (λ r. R.cells r ≡ row.now) }
     ensures fault { IfErr result IsCallFault }
@@ -36,13 +36,14 @@ fn decode_record<R: Record>(row: &Row) -> Result<R, Fault>
 
 /// Passes the records in the rows of the query `sql` with the parameters `params` to the visitor,
 /// in the order of the query's result, until all are passed or an error occurs. Fails with `Failed`
-/// and the fault `Memory` or `Store` (`Store` also if a row is malformed), or with `Cause` and the
-/// visitor's error.
+/// and the fault `Memory` or `Store`, or with `Cause` and the visitor's error. The fault is `Store`
+/// also if a row is malformed, if the `sqlite` crate runs out of memory, or if no end of the result
+/// is found after 2^64 - 1 rows.
 ///
 /// Requires that the query `sql` has no RETURNING clause and that the visitor is ready to take
-/// records; the visitor is ready also after the walk. At `Ok` the database is unchanged; at an
-/// error it is unchanged or an open transaction is rolled back. A crash after the walk exposes only
-/// states that a crash before it could expose.
+/// records; the visitor is ready also after the walk. Under the disk assumption the database is
+/// unchanged at `Ok`; at an error it is unchanged or an open transaction is rolled back. A crash
+/// after the walk exposes only states that a crash before it could expose.
 pub fn walk_query_rows<S: Alter, R: Record, E, V: Visitor<R, E>>(
     conn: &mut Connection<S>,
     sql: &str,

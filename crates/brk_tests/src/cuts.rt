@@ -97,8 +97,9 @@ pub fn expect_batch_fault(
 
 /// Executes the whole batch on a desk that has accepted its first `booked` rows before. Checks that
 /// these rows have their stored replies and the others are accepted with the replies `LINES`, and
-/// that the tables after the batch are `TABLES`, those after one execution. Fails with `name` if
-/// not.
+/// that the tables after the batch are `TABLES`, those after one execution, and the reference
+/// tables those of `SET`. Fails with `name` if not, and without it if the batch writes bytes that
+/// are not UTF-8, if the tables cannot be read or if memory runs out.
 pub fn expect_completed_batch<S: Alter + Drop>(
     alloc: Global,
     mut desk: Desk<S>,
@@ -119,10 +120,12 @@ pub fn expect_completed_batch<S: Alter + Drop>(
     expect_all_tables(alloc, desk.into_store(), name, TABLES)
 }
 
-// Executes a batch on a new desk in the database of a connection, with a reader that fails once
-// with the error `kind` after `len` bytes, and then retries the batch. Checks that the first run
-// fails with `Read` after the lines of the decided rows, and that the retry completes: a row is
-// decided if the record after it was read. Fails without a connection.
+// Executes a batch on a new desk in the database of a connection, after the batch `SET`, with a
+// reader that fails once with the error `kind` after `len` bytes, and then retries the batch.
+// Checks that the first run fails with `Read` after the lines of the decided rows, and that the
+// retry completes: a row is decided if the record after it was read. Fails if not, without a
+// connection, if the batch has no position `len`, if the desk cannot be set up, or if memory runs
+// out.
 fn expect_batch_read_fault<S: Alter + Drop>(
     alloc: Global,
     conn: Option<Connection<S>>,
@@ -158,11 +161,12 @@ pub fn batch_readers_failing_at_each_byte(alloc: Global) -> Result<(), Fail> {
     Ok(())
 }
 
-// Executes a batch on a new desk in the database of a connection, with a writer that has room for
-// `room` bytes, and then fails once with the error `fault`, or, if `fault` is `None`, once accepts
-// no byte, and then retries the batch. Checks that the first run fails with `Write` after the first
-// `room` bytes of `lines`, and that the retry completes: a row whose line was not written remains
-// committed. Fails without a connection.
+// Executes a batch on a new desk in the database of a connection, after the batch `SET`, with a
+// writer that has room for `room` bytes, and then fails once with the error `fault`, or, if `fault`
+// is `None`, once accepts no byte, and then retries the batch. Checks that the first run fails with
+// `Write` after the first `room` bytes of `lines`, and that the retry completes: a row whose line
+// was not written remains committed. Fails if not, without a connection, if `lines` has no position
+// `room`, if the desk cannot be set up, or if memory runs out.
 fn expect_batch_write_fault<S: Alter + Drop>(
     alloc: Global,
     conn: Option<Connection<S>>,

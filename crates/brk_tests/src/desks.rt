@@ -119,8 +119,8 @@ pub fn write_statement<W: Write, S: Alter>(
 }
 
 /// Checks that the text `told` has exactly the lines `wanted`. Fails with `name`, `what` and the
-/// number of the first line that differs, and with `name` and `what` if lines are missing or there
-/// are more.
+/// number of the first line that differs, and with `name` and `what` if no line differs but the
+/// texts do, for example because lines are missing or there are more.
 pub fn expect_lines(name: &str, what: &str, told: &str, wanted: &str) -> Result<(), Fail> {
     let mut at = 0u64;
     for (line, want) in told.lines().zip(wanted.lines()) {
@@ -154,7 +154,8 @@ pub fn new_desk<S: Alter + Drop>(conn: Option<Connection<S>>) -> Result<Desk<S>,
 
 /// Returns a new desk in the database of a connection after the batch `SET`, which adds a broker, a
 /// customer, an account, a security, charges, commission bands and a tax rate. Fails without a
-/// connection, if the desk cannot be created, and if the batch writes other lines than `SET_LINES`.
+/// connection, if the desk cannot be created, if the batch fails or writes other lines than
+/// `SET_LINES`, and if memory runs out.
 pub fn desk_with_reference_data<S: Alter + Drop>(
     alloc: Global,
     conn: Option<Connection<S>>,
@@ -181,8 +182,8 @@ pub fn run_batch_at_desk<S: Alter>(
 }
 
 // Checks that the bytes `told` that a batch wrote are exactly the lines `wanted`. Fails with `name`
-// and the number of the first line that differs, with `name` if lines are missing or there are
-// more, and if the bytes are not UTF-8.
+// and the number of the first line that differs, with `name` if no line differs but the texts do,
+// and if the bytes are not UTF-8.
 fn expect_batch_lines(name: &str, told: &[u8], wanted: &str) -> Result<(), Fail> {
     match str::from_utf8(told) {
         Ok(told) => expect_lines(name, "lines", told, wanted),
@@ -211,7 +212,8 @@ fn expect_batch_counts(
 
 /// Executes the batch of `step` on a desk at 2024-03-01 00:00 UTC, and checks that the batch
 /// completes, that it writes exactly the lines of `step`, and that these lines end with the end
-/// line of its counts. Fails with `name` if not.
+/// line of its counts. Fails with `name` if not, and without it if the batch writes bytes that are
+/// not UTF-8 or memory runs out.
 pub fn expect_batch_result<S: Alter>(
     alloc: Global,
     desk: &mut Desk<S>,

@@ -40,8 +40,8 @@ impl<'a> Failing<'a> {
 
 impl Read for Failing<'_> {
     /// Copies the next bytes, at most `size` and as many as the buffer can hold, to the buffer and
-    /// returns their number, 0 at the end. Fails once, with an error of the kind `fault`, after the
-    /// bytes of `before`.
+    /// returns their number, 0 at the end. After the bytes of `before`, fails once, with an error
+    /// of the kind `fault`, unless `fault` is `None`.
     fn read(&mut self, buf: &mut [u8]) -> io::Result<usize> {
         if self.before.is_empty() {
             if let Some(kind) = self.fault.take() {

@@ -1,6 +1,7 @@
 //! Tests of a desk that no transcript of `cases/` can show: readers, writers and disks that fail,
 //! crashes, files, sockets, streams in pieces, runs of calls, walks, and the number of rows that a
-//! sale reads. The command `test` of a transcript runs one of them.
+//! sale reads. The command `test` of a transcript runs one of them. A test fails if what it checks
+//! is not so, and also if a desk for it cannot be set up or memory runs out.
 #![tactic(auto)]
 
 mod cuts;
@@ -19,7 +20,7 @@ mod worked;
 use std::test::Fail;
 
 /// Runs the test `name`, which is the name of its function. Returns `None` if no test has this
-/// name, and the failure of the test if it fails.
+/// name, and otherwise the result of the test.
 pub fn run_test(rt: &HostRuntime, name: &str) -> Option<Result<(), Fail>> {
     let alloc = rt.alloc();
     let tested = match name {
@@ -53,7 +54,7 @@ pub fn run_test(rt: &HostRuntime, name: &str) -> Option<Result<(), Fail>> {
         "a_store_fault_is_the_last_reply" => http::streams::a_store_fault_is_the_last_reply(alloc),
         "a_second_creation_is_refused" => made::a_second_creation_is_refused(alloc),
         "creation_preserves_other_tables" => made::creation_preserves_other_tables(alloc),
-        "creation_beside_a_desk_table_is_refused" => made::creation_beside_a_desk_table_is_refused(
+        "creation_fails_beside_a_table_name_in_other_case" => made::creation_fails_beside_a_table_name_in_other_case(
             alloc,
         ),
         "a_sale_reads_only_the_pages_it_needs" => rows_read::a_sale_reads_only_the_pages_it_needs(

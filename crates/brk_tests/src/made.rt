@@ -53,10 +53,10 @@ fn count_rows_of_first<S: Alter>(conn: &mut Connection<S>) -> Result<i64, Fail> 
     )
 }
 
-// Creates the table FIRST, with one row whose column B is 1, and then the tables of a store in the
-// database of a connection. Returns the number of rows of FIRST whose column B is 1 after the
-// creation. Fails without a connection, if the tables cannot be created, and if the rows cannot be
-// counted.
+// Creates the table FIRST, with one row whose column B is 1, and the view SEEN of this table, and
+// then the tables of a store in the database of a connection. Returns the number of rows of FIRST
+// whose column B is 1 after the creation. Fails without a connection, if the table, the view or the
+// store cannot be created, and if the rows cannot be counted.
 fn row_count_of_first_after_creation<S: Alter + Drop>(
     conn: Option<Connection<S>>,
 ) -> Result<i64, Fail> {
@@ -68,7 +68,8 @@ fn row_count_of_first_after_creation<S: Alter + Drop>(
     count_rows_of_first(&mut conn)
 }
 
-/// Checks that creating a store does not change another table of the database.
+/// Checks that, after the creation of a store, another table of the database still has exactly one
+/// row with the value of its column B.
 pub fn creation_preserves_other_tables(alloc: Global) -> Result<(), Fail> {
     let count = row_count_of_first_after_creation(open_in_memory(alloc))?;
     expect(count == 1, "other rows")
@@ -78,7 +79,7 @@ pub fn creation_preserves_other_tables(alloc: Global) -> Result<(), Fail> {
 // then the tables of a store in the database of a connection. Returns `None` if the creation of the
 // store succeeds, and otherwise its fault, with true if no transaction is open after it. Fails
 // without a connection, and if the first table cannot be created.
-fn fault_of_creation_beside_a_desk_table<S: Alter + Drop>(
+fn fault_of_creation_beside_a_table_name_in_other_case<S: Alter + Drop>(
     conn: Option<Connection<S>>,
 ) -> Result<Option<(Fault, bool)>, Fail> {
     let mut conn = expect_connection(conn)?;
@@ -88,8 +89,8 @@ fn fault_of_creation_beside_a_desk_table<S: Alter + Drop>(
 
 /// Checks that creating a store fails with `NotEmpty` in a database that has a table whose name
 /// differs from that of a desk's table only in upper and lower case.
-pub fn creation_beside_a_desk_table_is_refused(alloc: Global) -> Result<(), Fail> {
-    match fault_of_creation_beside_a_desk_table(open_in_memory(alloc))? {
+pub fn creation_fails_beside_a_table_name_in_other_case(alloc: Global) -> Result<(), Fail> {
+    match fault_of_creation_beside_a_table_name_in_other_case(open_in_memory(alloc))? {
         None => Err("made beside a table of its own name")?,
         Some((fault, _)) => expect(
             fault == Fault::Damaged(Condition::NotEmpty),

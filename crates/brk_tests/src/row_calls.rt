@@ -18,7 +18,7 @@ pub fn split_fields<'a>(alloc: Global, row: &'a str) -> Result<Vec<&'a [u8]>, Al
 }
 
 // Returns the key of the row with the number `row` of the batch with the name `batch`. Fails if one
-// of them is malformed.
+// of them is malformed, or if memory runs out.
 fn key_of_row(alloc: Global, batch: &[u8], row: u64) -> Result<Key, Fail> {
     let row = RowNumber::new(row).ok_or("a row's number")?;
     let batch = BatchName::parse(alloc, batch)?.ok_or("a batch's name")?;
@@ -26,7 +26,7 @@ fn key_of_row(alloc: Global, batch: &[u8], row: u64) -> Result<Key, Fail> {
 }
 
 /// Parses a row and returns its call at 2024-03-01 00:00 UTC, under the key `key` or without one.
-/// Fails if the row is malformed.
+/// Fails if the row is malformed, or if memory runs out.
 pub fn parse_row_call(alloc: Global, row: &str, key: Option<Key>) -> Result<(Stamp, Call), Fail> {
     let fields = split_fields(alloc, row)?;
     match parse_row(alloc, &fields)? {
@@ -36,7 +36,7 @@ pub fn parse_row_call(alloc: Global, row: &str, key: Option<Key>) -> Result<(Sta
 }
 
 /// Parses row `n` of the batch `batch` and returns its call at 2024-03-01 00:00 UTC, under its key.
-/// Fails if the row is malformed.
+/// Fails if the row, its number or the name of the batch is malformed, or if memory runs out.
 pub fn parse_keyed_row_call(
     alloc: Global,
     batch: &[u8],
@@ -48,7 +48,7 @@ pub fn parse_keyed_row_call(
 }
 
 /// Parses a query from the name of a view and its arguments, and returns its call at 2024-03-01
-/// 00:00 UTC. Fails if the query is malformed.
+/// 00:00 UTC. Fails if the query is malformed, or if memory runs out.
 pub fn parse_query_call(
     alloc: Global,
     view: &str,

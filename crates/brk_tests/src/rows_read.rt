@@ -30,9 +30,10 @@ fn batch_of_purchases_of_one_share(alloc: Global) -> Result<String, Fail> {
     Ok(batch)
 }
 
-// Returns a store in the database of a connection, on which account 100 has `LOTS` lots of one
-// share each. Fails without a connection, if the batch of the purchases fails, or if memory runs
-// out.
+// Returns the store of a desk in the database of a connection after the batch `SET` and the
+// purchases of `LOTS` lots of one share each for account 100. Fails without a connection, if the
+// desk cannot be set up (`desk_with_reference_data`), if the batch of the purchases fails, or if
+// memory runs out.
 fn store_with_forty_lots<S: Alter + Drop>(
     alloc: Global,
     conn: Option<Connection<S>>,
@@ -48,7 +49,8 @@ fn store_with_forty_lots<S: Alter + Drop>(
 
 // Computes the closing of lots of ABC of account 100 by a sale of `count` shares at 10.00, the last
 // lots first if `lifo` is true. Returns the number of touched lots and the number of rows that were
-// read. Changes no lot. Fails if the closing fails.
+// read. Changes no lot. Fails if `count` is not within the limits of a quantity, if the closing
+// fails, or if memory runs out.
 fn lots_touched_and_rows_read<S: Alter>(
     alloc: Global,
     store: &mut Store<S>,
@@ -84,7 +86,8 @@ const SALES: [(u32, usize, u64); 5] = [
 ];
 
 // Checks that each sale of `SALES` touches the wanted number of lots and reads the wanted number of
-// rows, the last lots first if `lifo` is true.
+// rows, the last lots first if `lifo` is true. Fails if not, if a closing fails, or if memory runs
+// out.
 fn expect_rows_read_by_sales<S: Alter>(
     alloc: Global,
     store: &mut Store<S>,
@@ -102,7 +105,8 @@ fn expect_rows_read_by_sales<S: Alter>(
 
 // Checks, in a store in the database of a connection, that each sale of `SALES` touches the wanted
 // number of lots and reads the wanted number of rows, with the first and with the last lots first.
-// Fails without a connection.
+// Fails if not, and if the store cannot be set up (`store_with_forty_lots`), without a connection
+// too.
 fn expect_rows_read_in_database<S: Alter + Drop>(
     alloc: Global,
     conn: Option<Connection<S>>,
@@ -182,7 +186,8 @@ fn is_sale_complete_within_calls(
 }
 
 // Returns the least number of calls of the database file with which the sale of one share of an
-// account completes, or 8,192 if it does not complete with fewer. Fails if memory runs out.
+// account completes, or 8,192 if it does not complete with fewer. Supposes that the sale completes
+// with each greater number too. Fails if memory runs out.
 fn least_calls_of_sale(alloc: Global, held: &Held, account: u64) -> Result<u64, Fail> {
     let mut most = 0u64;
     for bit in [4_096, 2_048, 1_024, 512, 256, 128, 64, 32, 16, 8, 4, 2, 1] {

@@ -31,7 +31,8 @@ fn format_outcome(alloc: Global, outcome: &Outcome) -> Result<String, AllocError
 }
 
 // Executes calls on a desk as one run, and checks that the texts of their outcomes, in the form of
-// `format_outcome`, are exactly `wanted`, in order. Fails if the run fails or an outcome differs.
+// `format_outcome`, are exactly `wanted`, in order. Fails if the run fails, if there are more or
+// fewer outcomes, if an outcome differs, or if memory runs out.
 fn expect_run_outcomes<S: Alter>(
     alloc: Global,
     desk: &mut Desk<S>,
@@ -63,8 +64,8 @@ fn expect_outcomes_on_new_desk<S: Alter + Drop>(
 
 // Executes calls as one run on a new desk in the database of a connection, after the batch `SET`,
 // and checks that the texts of their outcomes are exactly `wanted` (`expect_run_outcomes`). Fails
-// without a connection, if the desk cannot be created, if the batch `SET` writes other lines than
-// `SET_LINES`, if the run fails, if an outcome differs, and if memory runs out.
+// without a connection, if the desk cannot be set up (`desk_with_reference_data`), if the run
+// fails, if an outcome differs, and if memory runs out.
 fn expect_outcomes_after_set<S: Alter + Drop>(
     alloc: Global,
     conn: Option<Connection<S>>,
@@ -118,7 +119,8 @@ pub fn a_run_answers_queries(alloc: Global) -> Result<(), Fail> {
 const TRADES: u64 = 500;
 
 // Returns the row of order `n`, a market order of account 100 for `n` shares of ABC: every third
-// order is a sale, and every second one closes the last lots first. Fails only if memory runs out.
+// order is a sale, and every second order closes the last lots first. Fails only if memory runs
+// out.
 fn order_row(alloc: Global, n: u64) -> Result<String, Fail> {
     let kind = if n % 3 == 0 { "TMS" } else { "TMB" };
     let end = if n % 2 == 0 { "lifo" } else { "fifo" };
@@ -153,8 +155,9 @@ fn format_batch_of_rows(alloc: Global, rows: &[String]) -> Result<String, Fail> 
     Ok(batch)
 }
 
-// Checks that account 100 holds 42,084 shares after all trades (83,667 bought less 41,583 sold),
-// that broker 1 has 500 trades and commissions of 12525.00, and that the audit passes.
+// Checks that account 100 has one summary, of 42,084 shares, after all trades (83,667 bought less
+// 41,583 sold), that broker 1 has 500 trades and commissions of 12525.00, and that the audit
+// passes. Fails if not, if a read fails, or if memory runs out.
 fn expect_totals_after_trades<S: Alter>(alloc: Global, store: &mut Store<S>) -> Result<(), Fail> {
     let account = Id::new(100).ok_or("account")?;
     let broker = Id::new(1).ok_or("broker")?;
@@ -172,10 +175,11 @@ fn expect_totals_after_trades<S: Alter>(alloc: Global, store: &mut Store<S>) -> 
     Ok(())
 }
 
-// Executes the rows as one batch on a new desk in the database of a connection. Checks that all
-// 1,000 rows are accepted, that the line of the last row and the end line are the wanted ones, and
-// that the totals after the trades are right (`expect_totals_after_trades`). Returns the lines.
-// Fails without a connection.
+// Executes the rows as one batch on a new desk in the database of a connection, after the batch
+// `SET`. Checks that all 1,000 rows are accepted, that the line of the last row and the end line
+// are the wanted ones, and that the totals after the trades are right
+// (`expect_totals_after_trades`). Returns the lines. Fails if not, without a connection, if the
+// desk cannot be set up (`desk_with_reference_data`), or if memory runs out.
 fn run_and_check_batch<S: Alter + Drop>(
     alloc: Global,
     conn: Option<Connection<S>>,
@@ -200,8 +204,8 @@ fn run_and_check_batch<S: Alter + Drop>(
     Ok(lines)
 }
 
-// Returns the calls of all rows at 2024-03-01 00:00 UTC, each under its key in batch L. Fails if a
-// row is malformed.
+// Returns the calls of the rows, at most the first 1,000, at 2024-03-01 00:00 UTC, each under its
+// key in batch L. Fails if a row is malformed, or if memory runs out.
 fn keyed_calls_of_rows(alloc: Global, rows: &[String]) -> Result<Vec<(Stamp, Call)>, Fail> {
     let mut calls = Vec::new(alloc);
     for (row, n) in rows.iter().zip(1..=2 * TRADES) {
@@ -210,8 +214,8 @@ fn keyed_calls_of_rows(alloc: Global, rows: &[String]) -> Result<Vec<(Stamp, Cal
     Ok(calls)
 }
 
-// Executes the calls of all rows as one run of the desk, and returns their outcomes. Fails if a row
-// is malformed or the run fails.
+// Executes the calls of the rows (`keyed_calls_of_rows`) as one run of the desk, and returns their
+// outcomes. Fails if a row is malformed, if the run fails, or if memory runs out.
 fn run_calls_of_rows<S: Alter>(
     alloc: Global,
     desk: &mut Desk<S>,
@@ -224,7 +228,7 @@ fn run_calls_of_rows<S: Alter>(
 }
 
 // Appends the line of the accepted row `n` with this outcome, in the form in which a batch writes
-// it. Fails if the row was not accepted.
+// it. Fails if the row was not accepted, or if memory runs out.
 fn append_accepted_line(
     alloc: Global,
     lines: &mut String,
@@ -239,8 +243,8 @@ fn append_accepted_line(
     Ok(())
 }
 
-// Returns the lines of accepted rows with these outcomes, in order, in the form in which a batch
-// writes them. Fails if a row was not accepted.
+// Returns the lines of accepted rows with these outcomes, at most the first 1,000, in order, in the
+// form in which a batch writes them. Fails if a row was not accepted, or if memory runs out.
 fn lines_of_outcomes(alloc: Global, outcomes: &[Outcome]) -> Result<String, Fail> {
     let mut lines = String::new(alloc);
     for (outcome, n) in outcomes.iter().zip(1..=2 * TRADES) {
@@ -249,10 +253,12 @@ fn lines_of_outcomes(alloc: Global, outcomes: &[Outcome]) -> Result<String, Fail
     Ok(lines)
 }
 
-// Executes the calls of all rows as one run on a new desk in the database of a connection, checks
-// that the totals after the trades are right (`expect_totals_after_trades`), and returns the lines
-// that a batch would write for the rows, without its end line. Fails without a connection, and if a
-// row is not accepted.
+// Executes the calls of all rows as one run on a new desk in the database of a connection, after
+// the batch `SET`, checks that the totals after the trades are right
+// (`expect_totals_after_trades`), and returns the lines that a batch would write for the rows,
+// without its end line. Fails if the totals are not right, without a connection, if the desk cannot
+// be set up (`desk_with_reference_data`), if a row is malformed or not accepted, if the run fails,
+// or if memory runs out.
 fn run_rows_and_check_totals<S: Alter + Drop>(
     alloc: Global,
     conn: Option<Connection<S>>,

@@ -115,9 +115,10 @@ fn write_error_for_room(room: usize) -> Option<ErrorKind> {
     }
 }
 
-// Writes the statement of account 100 for March 2024 with a writer that has room for `room` bytes.
-// Checks that the statement fails with `Write`, or completes if there is room for all its bytes,
-// and that exactly its first `room` bytes are written.
+// Writes the statement of account 100 for March 2024 with a writer that has room for `room` bytes,
+// at most as many as the statement `WANTED` has. Checks that the statement fails with `Write`, or
+// completes if there is room for all its bytes, and that exactly its first `room` bytes are
+// written. Fails if not.
 fn expect_statement_write_fault<S: Alter>(
     alloc: Global,
     desk: &mut Desk<S>,
@@ -145,7 +146,8 @@ fn expect_statement_write_fault<S: Alter>(
 // Checks, for each number of bytes of the statement from 0 to all, that the statement on a desk in
 // the database of a connection, with a writer that has room for this number, writes exactly its
 // first bytes and fails with `Write`, or completes if all are written
-// (`expect_statement_write_fault`). Fails without a connection.
+// (`expect_statement_write_fault`). Fails if not, without a connection, if the desk cannot be set
+// up or its trades have other lines, or if memory runs out.
 fn expect_each_statement_write_fault<S: Alter + Drop>(
     alloc: Global,
     conn: Option<Connection<S>>,
@@ -313,7 +315,8 @@ const CASH: [(i64, i64, u64, &str, Result<(), Ended>); 10] = [
 ];
 
 // Returns a desk in the database of a connection after the batch `SET` and `TRADES`. Fails without
-// a connection, and if one of the batches fails.
+// a connection, if the desk cannot be set up (`desk_with_reference_data`), if the batch `TRADES`
+// fails or writes other lines, or if memory runs out.
 fn desk_with_trades<S: Alter + Drop>(
     alloc: Global,
     conn: Option<Connection<S>>,
@@ -341,7 +344,8 @@ fn record_cash_rows<S: Alter>(
 }
 
 // Checks, for each walk of `CASH` over the cash rows of account 100 on a desk in the database of a
-// connection, that its rows and its result are the wanted ones. Fails without a connection.
+// connection, that its rows and its result are the wanted ones. Fails if not, and if the desk
+// cannot be set up (`desk_with_trades`), without a connection too.
 fn expect_cash_row_walks<S: Alter + Drop>(
     alloc: Global,
     conn: Option<Connection<S>>,
@@ -404,7 +408,8 @@ fn record_lots<S: Alter>(
 }
 
 // Checks, for each walk of `LOTS` over the lots of an account on a desk in the database of a
-// connection, that its lots and its result are the wanted ones. Fails without a connection.
+// connection, that its lots and its result are the wanted ones. Fails if not, and if the desk
+// cannot be set up (`desk_with_trades`), without a connection too.
 fn expect_lot_walks<S: Alter + Drop>(
     alloc: Global,
     conn: Option<Connection<S>>,

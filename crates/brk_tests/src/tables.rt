@@ -70,7 +70,7 @@ fn append_cell(lines: &mut String, value: ValueRef<'_>) -> Option<()> {
 }
 
 // Appends the values of a row, separated by commas, as a line. Returns `None` if a value cannot be
-// read or printed.
+// read or printed, and if memory runs out.
 fn append_row(lines: &mut String, row: &Row) -> Option<()> {
     for at in 0..row.column_count() {
         if at > 0 {
@@ -81,8 +81,9 @@ fn append_row(lines: &mut String, row: &Row) -> Option<()> {
     lines.push_str("\n").ok()
 }
 
-// Appends the name of a table and its rows, sorted by their first two columns, as lines. Returns
-// `None` if the rows cannot be read or printed.
+// Appends the name `table` of a table, which a condition may follow, and the rows of the table that
+// satisfy this condition, sorted by their first two columns, as lines. Returns `None` if the rows
+// cannot be read or printed, and if memory runs out.
 fn append_table<S: Alter>(
     alloc: Global,
     lines: &mut String,
@@ -98,8 +99,8 @@ fn append_table<S: Alter>(
     Some(())
 }
 
-// Appends the names and the rows of these tables, in order, as lines. Returns `None` if the rows
-// cannot be read or printed.
+// Appends the names and the rows of these tables, in order, as lines (`append_table`). Returns
+// `None` if the rows cannot be read or printed, and if memory runs out.
 fn append_tables<S: Alter>(
     alloc: Global,
     lines: &mut String,
@@ -113,7 +114,7 @@ fn append_tables<S: Alter>(
 }
 
 /// Returns the names and the rows of all tables of a desk as lines, or `None` if the rows cannot be
-/// read or printed.
+/// read or printed, and if memory runs out.
 pub fn read_all_tables<S: Alter>(alloc: Global, conn: &mut Connection<S>) -> Option<String> {
     let mut lines = String::new(alloc);
     append_tables(alloc, &mut lines, conn, &REFERENCE)?;
@@ -122,8 +123,8 @@ pub fn read_all_tables<S: Alter>(alloc: Global, conn: &mut Connection<S>) -> Opt
 }
 
 // Checks that the names and the rows of these tables are exactly the lines `wanted`. Fails with
-// `name` and the number of the first line that differs, with `name` if lines are missing or there
-// are more, and if the tables cannot be read.
+// `name` and the number of the first line that differs, with `name` if no line differs but the
+// texts do, and if the tables cannot be read or memory runs out.
 fn expect_rows_of_tables<S: Alter>(
     alloc: Global,
     conn: &mut Connection<S>,
@@ -140,8 +141,8 @@ fn expect_rows_of_tables<S: Alter>(
 
 /// Checks all tables of a store: the reference tables equal those after the batch `SET`, and the
 /// names and rows of the other tables are exactly the lines `wanted`. Fails with `name` and the
-/// number of the first line that differs, with `name` if lines are missing or there are more, and
-/// if the tables cannot be read.
+/// number of the first line that differs, with `name` if no line differs but the texts do, and if
+/// the tables cannot be read or memory runs out.
 pub fn expect_all_tables<S: Alter + Drop>(
     alloc: Global,
     store: Store<S>,

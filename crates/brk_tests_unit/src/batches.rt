@@ -295,7 +295,7 @@ const LINES: &[u8] = b"1,ok,7\n2,again,5,CNCL\n3,no,14,accounts\n4,no,18\n5,no,8
 
 /// Checks that each row of the batch `WHOLE`, which has an accepted, a repeated and three refused
 /// rows, has its line, followed by the end line of the counts, both if the batch is read whole and
-/// if it is read byte by byte.
+/// if it is read byte by byte. Fails if not, and if memory runs out.
 pub fn each_row_of_a_batch_gets_a_line(alloc: Global) -> Result<(), Fail> {
     expect_batch(alloc, WHOLE, batch_counts(1, 1, 3), LINES)?;
     let slow = Flaky {
@@ -307,7 +307,7 @@ pub fn each_row_of_a_batch_gets_a_line(alloc: Global) -> Result<(), Fail> {
     expect_batch(alloc, slow, batch_counts(1, 1, 3), LINES)
 }
 
-/// Checks that a batch without rows writes only its end line.
+/// Checks that a batch without rows writes only its end line. Fails if not, and if memory runs out.
 pub fn an_empty_batch_gets_an_end_line(alloc: Global) -> Result<(), Fail> {
     expect_batch(
         alloc,
@@ -327,8 +327,9 @@ const CUT_INPUTS: [(&[u8], u64, &[u8]); 2] = [
     (b"batch,C\n", 0, b""),
 ];
 
-/// Checks that a row without a record after it is refused with 18, and that a batch without an end
-/// record fails with `NoEnd`, after the lines of its rows, if it has any.
+/// Checks, for the two inputs of `CUT_INPUTS`, that a row without a record after it is refused with
+/// 18, and that the batch fails with `NoEnd` after the lines of its rows, if it has any. Fails if
+/// not, and if memory runs out.
 pub fn the_last_row_of_a_cut_input_is_refused(alloc: Global) -> Result<(), Fail> {
     for (text, rows, lines) in &CUT_INPUTS {
         let wanted = batch_fault_result(*rows, FaultKind::NoEnd);
@@ -360,8 +361,9 @@ const HEADERS: [&[u8]; 2] = [
     b"batch,1234567890123456789012345678901234567890\nend,0\n",
 ];
 
-/// Checks that a batch with a missing or malformed header fails with `BadHeader` and writes
-/// nothing, and that two correct headers are accepted.
+/// Checks that each batch of `WRONG_HEADERS`, whose header is missing or malformed, fails with
+/// `BadHeader` and writes nothing, and that the two correct headers of `HEADERS` are accepted.
+/// Fails if not, and if memory runs out.
 pub fn a_batch_with_a_wrong_header_is_refused(alloc: Global) -> Result<(), Fail> {
     for text in &WRONG_HEADERS {
         let wanted = batch_fault_result(0, FaultKind::BadHeader);
@@ -382,8 +384,8 @@ const WRONG_ENDS: [&[u8]; 5] = [
     b"batch,A\nput,1,2\nend,",
 ];
 
-/// Checks that a batch whose end record is malformed or has a wrong count fails with `BadEnd`,
-/// after the lines of its rows.
+/// Checks that each batch of `WRONG_ENDS`, whose end record is malformed or has a wrong count,
+/// fails with `BadEnd` after the line of its row. Fails if not, and if memory runs out.
 pub fn a_wrong_end_record_is_a_fault(alloc: Global) -> Result<(), Fail> {
     for text in &WRONG_ENDS {
         let wanted = batch_fault_result(1, FaultKind::BadEnd);
@@ -407,6 +409,7 @@ const FAILED_READS: [(usize, u64, &[u8], io::ErrorKind); 5] = [
 
 /// Checks, for each of five positions at which a reader fails once, that the batch fails with
 /// `Read` and the number of decided rows, and that exactly the lines of these rows are written.
+/// Fails if not, and if memory runs out.
 pub fn a_failed_read_ends_the_batch(alloc: Global) -> Result<(), Fail> {
     for (cut, rows, lines, kind) in &FAILED_READS {
         let reader = Flaky {
@@ -457,7 +460,7 @@ fn expect_batch_write_fault(
 
 /// Checks, for each of six numbers of bytes after which a writer fails, that the batch fails with
 /// `Write` and the number of decided rows, and that exactly this number of bytes of its lines is
-/// written.
+/// written. Fails if not, and if memory runs out.
 pub fn a_failed_write_ends_the_batch(alloc: Global) -> Result<(), Fail> {
     for (most, rows, error) in &FAILED_WRITES {
         expect_batch_write_fault(alloc, *most, *rows, *error)?;
@@ -474,8 +477,8 @@ const DESK_FAULTS: [(&[u8], Fault); 2] = [
     (b"batch,A\nput,1,2\nparse,,,,,,,,\nend,2\n", Fault::Memory),
 ];
 
-/// Checks that a fault of the desk, in a call or while a row is parsed, ends the batch after the
-/// lines of the rows before.
+/// Checks that the fault `Store` of a call of the desk and the fault `Memory` of the parsing of a
+/// row each end the batch after the line of the row before. Fails if not, and if memory runs out.
 pub fn a_fault_of_the_desk_ends_the_batch(alloc: Global) -> Result<(), Fail> {
     for (text, fault) in &DESK_FAULTS {
         let wanted = batch_fault_result(1, FaultKind::Desk(*fault));
@@ -485,7 +488,7 @@ pub fn a_fault_of_the_desk_ends_the_batch(alloc: Global) -> Result<(), Fail> {
 }
 
 /// Checks that a batch whose end record ends at the limit of an input completes, and that no byte
-/// beyond the limit is read.
+/// beyond the limit is read. Fails if not, and if memory runs out.
 pub fn input_beyond_the_limit_is_not_read(alloc: Global) -> Result<(), Fail> {
     let whole = Long {
         at: 0,

@@ -30,13 +30,15 @@ impl rt::Clock for Stopped {
 const PAST: i64 = 1_709_251_200_000;
 
 /// Checks that a clock with a fixed timestamp returns it at the first and at the second reading.
+/// Fails if not.
 pub fn a_fixed_clock_returns_its_timestamp(rt: &HostRuntime) -> Result<(), Fail> {
     let mut clock = ProgramClock::new(rt, Some(Stamp::nearest(PAST)));
     expect_equal(clock.now().get(), PAST)?;
     expect_equal(clock.now().get(), PAST)
 }
 
-/// Checks that a reading of the machine's clock drops the fraction of a millisecond.
+/// Checks that two readings of the machine's clock drop the fraction of a millisecond. Fails if
+/// not.
 pub fn clock_readings_are_whole_milliseconds() -> Result<(), Fail> {
     let machine = Stopped(Some(Duration::new(1_709_251_200, 123_999_999)));
     let mut clock = ProgramClock::new(&machine, None);
@@ -44,8 +46,8 @@ pub fn clock_readings_are_whole_milliseconds() -> Result<(), Fail> {
     expect_equal(clock.now().get(), PAST + 123)
 }
 
-/// Checks that the reading is the greatest stamp if the machine's time is this stamp, or later.
-/// 10000-01-01 00:00 UTC is second 253,402,300,800.
+/// Checks that the reading is the greatest stamp if the machine's time is this stamp, and if it is
+/// 1 ms later: 10000-01-01 00:00 UTC, which is second 253,402,300,800. Fails if not.
 pub fn clock_readings_end_at_the_greatest_stamp() -> Result<(), Fail> {
     let last = Stopped(Some(Duration::new(253_402_300_799, 999_000_000)));
     expect_equal(ProgramClock::new(&last, None).now().get(), Stamp::GREATEST)?;
@@ -53,7 +55,7 @@ pub fn clock_readings_end_at_the_greatest_stamp() -> Result<(), Fail> {
     expect_equal(ProgramClock::new(&late, None).now().get(), Stamp::GREATEST)
 }
 
-/// Checks that the reading is the timestamp 0 if the machine's clock cannot be read.
+/// Checks that the reading is the timestamp 0 if the machine's clock cannot be read. Fails if not.
 pub fn an_unreadable_clock_reads_as_zero() -> Result<(), Fail> {
     let machine = Stopped(None);
     expect_equal(ProgramClock::new(&machine, None).now().get(), 0)

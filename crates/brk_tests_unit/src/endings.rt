@@ -40,7 +40,8 @@ const BATCHES: [(FaultKind, u8, &str); 7] = [
 ];
 
 /// Checks that a failed batch has the exit status 1 for a missing or wrong header or end record, 3
-/// for any other fault, and the error line of the fault.
+/// for a failed read or write and for the faults `Store` and `Memory` of the desk, and the error
+/// line of the fault. Fails if not, and if memory runs out.
 pub fn exit_status_and_line_of_batch_faults(alloc: Global) -> Result<(), Fail> {
     for (kind, status, text) in &BATCHES {
         expect_status_and_line(alloc, ending_of_batch_fault(*kind), *status, text)?;
@@ -48,8 +49,10 @@ pub fn exit_status_and_line_of_batch_faults(alloc: Global) -> Result<(), Fail> {
     Ok(())
 }
 
-/// Checks that a refused report has the exit status 1 and an error line with the number of the
-/// refusal, and that a report that failed has the exit status 3 and the error line of its fault.
+/// Checks that a report that is refused with 1 or 18 has the exit status 1 and an error line with
+/// the number of the refusal, and that a report that ended with the desk's fault `Store`, or
+/// because writing failed, has the exit status 3 and the error line of its fault. Fails if not, and
+/// if memory runs out.
 pub fn exit_status_and_line_of_report_faults(alloc: Global) -> Result<(), Fail> {
     let stranger = Ending::Report(ReportFault::Refused(Refusal::NoAccount));
     expect_status_and_line(alloc, stranger, 1, "brk: refused: 1\n")?;
@@ -72,8 +75,9 @@ const OPENS: [(Fault, u8, &str); 3] = [
     ),
 ];
 
-/// Checks that the exit status is 1 for a damaged database and 3 for any other fault of opening a
-/// desk, each with the error line of the fault.
+/// Checks that the exit status is 1 for a database that fails the condition `Summary`, and 3 for
+/// the faults `Memory` and `Store` of opening a desk, each with the error line of the fault. Fails
+/// if not, and if memory runs out.
 pub fn exit_status_and_line_of_open_faults(alloc: Global) -> Result<(), Fail> {
     for (fault, status, text) in &OPENS {
         expect_status_and_line(alloc, Ending::Open(*fault), *status, text)?;
@@ -93,7 +97,8 @@ fn expect_usage_fault(
 }
 
 /// Checks that the exit status is 2 for wrong arguments and for a malformed day, 3 if memory ran
-/// out, each with its error text, and 0 without a text for help.
+/// out, each with its error text, and 0 without a text for help. Fails if not, and if memory runs
+/// out.
 pub fn exit_status_and_line_of_usage_faults(alloc: Global) -> Result<(), Fail> {
     let words = String::from_str(alloc, "error: no\n")?;
     expect_usage_fault(alloc, UsageFault::Words(words), 2, "error: no\n")?;
@@ -104,7 +109,8 @@ pub fn exit_status_and_line_of_usage_faults(alloc: Global) -> Result<(), Fail> {
 }
 
 /// Checks that the exit status is 0 without a line for a job that is done, and 3 with an error line
-/// if output cannot be written, no stream can be accepted, or memory runs out in a stream.
+/// if output cannot be written, no stream can be accepted, or memory runs out in a stream. Fails if
+/// not, and if memory runs out.
 pub fn exit_status_and_line_of_other_endings(alloc: Global) -> Result<(), Fail> {
     expect_status_and_line(alloc, Ending::Done, 0, "")?;
     expect_status_and_line(alloc, Ending::Output, 3, "brk: fault: write\n")?;
@@ -132,8 +138,8 @@ impl Write for Closed {
     }
 }
 
-/// Checks that the exit status does not change if the error line cannot be written: 1 for a batch
-/// without an end record, and 0 for a job that is done.
+/// Checks, for an error stream that accepts no byte, that the exit status is 1 for a batch without
+/// an end record, and 0 for a job that is done. Fails if not.
 pub fn exit_status_with_a_closed_error_stream() -> Result<(), Fail> {
     let status = end_with(&ending_of_batch_fault(FaultKind::NoEnd), &mut Closed);
     expect_equal(status, 1)?;

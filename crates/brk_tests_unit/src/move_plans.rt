@@ -92,7 +92,7 @@ const MOVEMENTS: [(Case, &str); 5] = [
 /// Checks the replies to a deposit and to a withdrawal, with their number and the new balance,
 /// which may be below 0. Checks that a deposit beyond the limit of the balance is refused with 14,
 /// `balance`, a deposit to an account that does not exist with 1, and a deposit beyond the limit of
-/// movements with 14, `moves`.
+/// movements with 14, `moves`. Fails if not, and if memory runs out.
 pub fn movement_replies_and_refusals(alloc: Global) -> Result<(), Fail> {
     for (case, wanted) in &MOVEMENTS {
         expect_movement_reply(alloc, case, wanted)?;
@@ -123,6 +123,7 @@ fn expect_settlement_day_reply(
 
 /// Checks that a settlement day is refused with 22 if it is the day of the command's stamp,
 /// accepted if it is the next day, and refused with 15 if the desk has a settlement day already.
+/// Fails if not, and if memory runs out.
 pub fn a_settlement_day_must_be_in_the_future(alloc: Global) -> Result<(), Fail> {
     expect_settlement_day_reply(alloc, 19_783, None, "no,22")?;
     expect_settlement_day_reply(alloc, 19_784, None, "1709251200016")?;

@@ -52,7 +52,7 @@ const FEEDS: [(&[&[u8]], &str); 4] = [
 
 /// Checks that a feed up to the limit of the volume is accepted, that feeds of one and of two ticks
 /// beyond the limit are refused with 14, `volume`, and that a feed beyond the limit with an unknown
-/// symbol is refused with 4.
+/// symbol is refused with 4. Fails if not, and if memory runs out.
 pub fn a_feed_beyond_volume_limit_is_refused(alloc: Global) -> Result<(), Fail> {
     for (ticks, wanted) in &FEEDS {
         expect_feed_reply(alloc, ticks, wanted)?;
@@ -109,7 +109,8 @@ fn expect_purchase_reply(alloc: Global, trades: u64, wanted: &str) -> Result<(),
 }
 
 /// Checks that an order after 10^12 - 1 trades is accepted as the trade with the greatest id,
-/// 10^12, and that an order after 10^12 trades is refused with 14, `trades`.
+/// 10^12, and that an order after 10^12 trades is refused with 14, `trades`. Fails if not, and if
+/// memory runs out.
 pub fn an_order_beyond_greatest_trade_id_is_refused(alloc: Global) -> Result<(), Fail> {
     let last = "1709251200020,1000000000000,SBMT,10.00,0.00,0.00,0.00,10.00,5.00,10000.00";
     expect_purchase_reply(alloc, 999_999_999_999, last)?;
@@ -138,9 +139,9 @@ const TRIGGERS: [(TradeType, bool, bool, bool); 5] = [
     (TradeType::MarketSell, false, false, false),
 ];
 
-/// Checks that a stop-loss and a limit buy are triggered by a price below or at their bid and not
-/// by one above it, that a limit sell is triggered by a price at or above its bid and not by one
-/// below it, and that no price triggers a market order.
+/// Checks, at a bid of 10.00, that a stop-loss and a limit buy are triggered by the prices 9.99 and
+/// 10.00 and not by 10.01, that a limit sell is triggered by 10.00 and 10.01 and not by 9.99, and
+/// that none of these prices triggers a market order. Fails if not.
 pub fn prices_trigger_pending_trades() -> Result<(), Fail> {
     for (kind, is_below, is_at, is_above) in &TRIGGERS {
         expect_trigger(*kind, 999, *is_below)?;

@@ -150,7 +150,8 @@ fn expect_case_reply(alloc: Global, case: &Case, wanted: &str) -> Result<(), Fai
     expect_result_reply(alloc, Some(&found), Stamp::new(case.last), wanted)
 }
 
-/// Checks that a result for a trade that does not exist is refused with 5.
+/// Checks that a result for a trade that does not exist is refused with 5. Fails if not, and if
+/// memory runs out.
 pub fn a_result_without_a_trade_is_refused(alloc: Global) -> Result<(), Fail> {
     expect_result_reply(alloc, None, None, "no,5")
 }
@@ -233,7 +234,8 @@ const CAUSES: [(Case, &str); 10] = [
 
 /// Checks that the submitted purchase is accepted, and that a result with several causes to be
 /// refused is refused by the first one that applies: the status of the trade, then its commission
-/// band, the limits of the shares held, the balance and the broker, and the last stamp.
+/// band, the limits of the shares held, the balance and the broker, and the last stamp. Fails if
+/// not, and if memory runs out.
 pub fn results_are_refused_by_the_first_cause(alloc: Global) -> Result<(), Fail> {
     for (case, wanted) in &CAUSES {
         expect_case_reply(alloc, case, wanted)?;
@@ -269,9 +271,10 @@ const LIMITS: [(Case, &str); 3] = [
     ),
 ];
 
-/// Checks that a result is accepted up to the limit of the broker's commissions and refused beyond
-/// it with 14, `broker`, and that the result of a margin trade, which does not change the balance,
-/// is accepted at the lower limit of the balance.
+/// Checks that a result that reaches the limit of the broker's commissions is accepted, that one
+/// that exceeds it by one cent is refused with 14, `broker`, and that the result of a margin trade,
+/// which does not change the balance, is accepted at the lower limit of the balance. Fails if not,
+/// and if memory runs out.
 pub fn broker_and_balance_limits_of_results(alloc: Global) -> Result<(), Fail> {
     for (case, wanted) in &LIMITS {
         expect_case_reply(alloc, case, wanted)?;
@@ -298,8 +301,9 @@ const SUMMARIES: [(TradeType, i64, u32, &str); 4] = [
     (TradeType::LimitSell, -9_999_999_000, 1_000, "no,14,summary"),
 ];
 
-/// Checks that a result is accepted up to the limit of the shares held, bought or sold short, and
-/// refused beyond it with 14, `summary`.
+/// Checks that a result that reaches the limit of the shares held, bought or sold short, is
+/// accepted, and that one that exceeds it by one share is refused with 14, `summary`. Fails if not,
+/// and if memory runs out.
 pub fn summary_limits_of_results(alloc: Global) -> Result<(), Fail> {
     for (kind, held, qty, wanted) in &SUMMARIES {
         let case = Case {

@@ -179,7 +179,7 @@ const JOBS: [(&str, &str); 17] = [
 ];
 
 /// Checks that the command lines of `JOBS`, correct ones of each subcommand, request the wanted
-/// jobs, and that a malformed day is reported.
+/// jobs, and that a malformed day is reported. Fails if not, and if memory runs out.
 pub fn parses_the_arguments_of_each_job(alloc: Global) -> Result<(), Fail> {
     for (line, job) in &JOBS {
         expect_parsed_command_line(alloc, line, &[*job])?;
@@ -354,7 +354,7 @@ fn expect_usage_faults(alloc: Global, faults: &[(&str, &str, &str)]) -> Result<(
 }
 
 /// Checks that wrong arguments of a batch, a statement, an audit and serving are reported with the
-/// wanted error texts.
+/// wanted error texts. Fails if not, and if memory runs out.
 pub fn refuses_wrong_arguments(alloc: Global) -> Result<(), Fail> {
     expect_usage_faults(alloc, &WRONG_BATCHES)?;
     expect_usage_faults(alloc, &WRONG_STATEMENTS)?;
@@ -397,7 +397,7 @@ const TEXTS: [(&str, &str); 3] = [
 ];
 
 /// Checks that the texts for the version, for an unknown subcommand, and for the help of `audit`
-/// are the wanted ones.
+/// are the wanted ones. Fails if not, and if memory runs out.
 pub fn prints_version_help_and_errors(alloc: Global) -> Result<(), Fail> {
     for (line, text) in &TEXTS {
         expect_parsed_command_line(alloc, line, &[*text])?;
@@ -414,7 +414,8 @@ const HELPS: [(&str, &str); 4] = [
 ];
 
 /// Checks that the help of the program and of `batch` are the wanted texts, and that an empty list
-/// of arguments is reported as wrong with the help of the program as the error text.
+/// of arguments is reported as wrong with the help of the program as the error text. Fails if not,
+/// and if memory runs out.
 pub fn prints_help_of_commands(alloc: Global) -> Result<(), Fail> {
     for (line, text) in &HELPS {
         expect_parsed_command_line(alloc, line, &["help: ", *text])?;

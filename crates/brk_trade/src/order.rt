@@ -137,7 +137,8 @@ pub fn plan_estimate<L: LotSource>(
     ensures asked { OrderReadsAtMostOneLotMore (terms_of_order order.now found.now)
         (AreLotsOfFaithfulSource (L.reads_faithfully source.new) (L.remaining source.old)) (L.asked source.old) (L.asked source.new) }
     // It reads no lot if the account holds no shares that the order would close.
-    ensures reads_no_lot { is_trade_closing_lots (terms_of_order order.now found.now).side (terms_of_order order.now found.now).held ≡ false → source.new ≡ source.old }
+    ensures reads_no_lot { is_trade_closing_lots (terms_of_order order.now found.now).side (terms_of_order order.now found.now).held ≡ false
+        → source.new ≡ source.old }
     // A fault of the source is never ignored, and is returned unchanged.
     ensures faulted { IfOk result (λ planned. L.faulted source.new ≡ L.faulted source.old) }
     ensures fault { IfErr result (λ fault. (before : L) × L.fails before fault source.new) }
@@ -337,7 +338,8 @@ pub fn plan_order<L: LotSource>(
     ensures asked { OrderReadsAtMostOneLotMore (terms_of_order order.now found.now)
         (AreLotsOfFaithfulSource (L.reads_faithfully source.new) (L.remaining source.old)) (L.asked source.old) (L.asked source.new) }
     // It reads no lot if the account holds no shares that the order would close.
-    ensures reads_no_lot { is_trade_closing_lots (terms_of_order order.now found.now).side (terms_of_order order.now found.now).held ≡ false → source.new ≡ source.old }
+    ensures reads_no_lot { is_trade_closing_lots (terms_of_order order.now found.now).side (terms_of_order order.now found.now).held ≡ false
+        → source.new ≡ source.old }
     // A fault of the source is never ignored, and is returned unchanged.
     ensures faulted { IfOk result (λ planned. L.faulted source.new ≡ L.faulted source.old) }
     ensures fault { IfErr result (λ fault. (fault ≡ Fault.Memory) ⊎ ((before : L) × L.fails before fault source.new)) }

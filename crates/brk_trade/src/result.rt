@@ -76,8 +76,8 @@ fn effect_of_trade_on_lots<L: LotSource>(
 /// `NoRate`; `Range(Summary)`; `Range(Balance)`, of a cash trade; `Range(Broker)`; and `ClockEnd`,
 /// if no later stamp exists or the due day is after 9999-12-31.
 ///
-/// Fails with `Memory` or a fault of the source. Reads no lot if the account holds no shares that
-/// the trade would close.
+/// Fails with `Memory` or a fault of the source. Reads no lot if there is no such trade, or if the
+/// account holds no shares that the trade would close.
 pub fn plan_result<L: LotSource>(
     alloc: Global,
     found: Option<&ResultPlanFacts>,
@@ -92,12 +92,12 @@ pub fn plan_result<L: LotSource>(
         (AreLotsOfFaithfulSource (L.reads_faithfully source.new) (L.remaining source.old)) last now)
         (IsResultRefusal (option_map (λ f. f.now) found.entry) price
         (AreLotsOfFaithfulSource (L.reads_faithfully source.new) (L.remaining source.old)) last now)) }
-    // It reads at most one lot more than the trade touches, also if it fails.
+    // It reads at most one lot more than the trade would close or reduce, also if it fails.
     ensures asked { ResultReadsAtMostOneLotMore (option_map (λ f. f.now) found.entry) price (stamp_or_clock_reading (moments.stamp_after last now) now)
         (AreLotsOfFaithfulSource (L.reads_faithfully source.new) (L.remaining source.old)) (L.asked source.old) (L.asked source.new) }
     // It reads no lot if the account holds no shares that the trade would close.
     ensures reads_no_lot { IfSome (option_map (λ f. f.now) found.entry) (λ f. ClosesNoHeldShares f → source.new ≡ source.old) }
-    // A fault of the source is never ignored, and is returned unchanged.
+    // At `Ok` the source counted no fault; a fault is `Memory` or that of a call of the source.
     ensures faulted { IfOk result (λ planned. L.faulted source.new ≡ L.faulted source.old) }
     ensures fault { IfErr result (λ fault. (fault ≡ Fault.Memory) ⊎ ((before : L) × L.fails before fault source.new)) }
     ensures rest { (ls : List Lot) → AreLotsOfFaithfulSource (L.reads_faithfully source.new) (L.remaining source.old) ls

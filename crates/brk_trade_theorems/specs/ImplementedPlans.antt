@@ -64,7 +64,8 @@ pub record QuotesExtendToTick (t : Tables) (all ticks : List Tick) (tick : Tick)
 -- A result of the trade `id` at `price`, in cents, with the facts `found` and the lots `lots`,
 -- after the last stamp `last` and at the clock reading `now`: its refusal by the facts and the lots
 -- is the refusal of the model's step over `base`, and its plan implements the command.
-pub record ResultPlanImplementsCommand (base : Base) (id price : ℕ) (found : Option ResultPlanFacts) (lots : List Lot) (last : Option ℕ) (now : ℕ) : Type 0 where
+pub record ResultPlanImplementsCommand (base : Base) (id price : ℕ) (found : Option ResultPlanFacts) (lots : List Lot) (last : Option ℕ)
+    (now : ℕ) : Type 0 where
   pub refused : (refusal : Refusal) → IsResultRefusal found price (EqualsLots lots) last now refusal → step base now (CompleteTrade id price) ≡ Err refusal
   pub done : (plan : Plan) → CompletesExistingTrade found price (EqualsLots lots) last now plan
       → PlanImplementsCommand base now (CompleteTrade id price) plan

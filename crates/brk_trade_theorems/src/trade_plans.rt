@@ -32,8 +32,8 @@ pub fn feed_plans_implement_commands()
 
 /// Proves that the quotes that a feed needs (`AreQuotesOfTicks`) can be read tick by tick. No
 /// quotes suffice for no ticks. A further tick whose symbol has a quote, or has no row of
-/// LAST_TRADE, needs no further quote. Any other tick needs one more quote, the quote of its
-/// symbol.
+/// LAST_TRADE, needs no further quote. Any other tick of the feed needs one more quote, the quote
+/// of its symbol.
 pub fn quotes_are_read_tick_by_tick()
     ensures none { (t : Tables) (all : List Tick) → AreQuotesOfTicks t all [] [] }
     ensures further { (t : Tables) (all ticks : List Tick) (tick : Tick) (quotes : List Quote)

@@ -47,7 +47,7 @@ impl BrokerNames {
         Ok(BrokerNames { names })
     }
 
-    /// Returns the names, in the sequence of the query's arguments.
+    /// Returns the names, which are all different, in the sequence of the query's arguments.
     pub fn names(&self) -> &[Name]
         ensures names { result.now ≡ self.now }
         ensures distinct { distinct_texts result.now ≡ result.now }

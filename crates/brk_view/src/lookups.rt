@@ -117,8 +117,8 @@ pub fn sort_trades_oldest_first(
 }
 
 /// Returns the view of trades that a query selects by their ids (Trade-Lookup), without reading a
-/// table. The caller passes these trades with their settlement, cash row and history, the oldest
-/// first. Does not allocate.
+/// table. The caller passes the first 20 of them with their settlement, cash row and history, the
+/// oldest first. Does not allocate.
 pub fn lookup_ids(trades: Vec<LookedUp>) -> View
     ensures records { records_of_view result ≡ flat_map records_of_looked_up_trade trades.items }
     ensures value { result ≡ views.Lookup trades }

@@ -34,8 +34,9 @@ fn parse_submitted_trades_query(arguments: &[&[u8]]) -> Result<Query, Refusal>
 }
 
 // Parses the query of an order's estimate, whose arguments are the ten fields of the order. Refuses
-// a wrong number of arguments with `BadText`, and malformed ones with the first that applies of
-// `BadText`, `BadQty`, `BadPrice` and `BadType`. Fails with `Memory` only.
+// a wrong number of arguments with `BadText`, and fields that are malformed or out of range, or a
+// price that does not fit the type, with the first that applies of `BadText`, `BadQty`, `BadPrice`
+// and `BadType`. Fails with `Memory` only.
 fn parse_estimate_query(alloc: Global, arguments: &[&[u8]]) -> Planned<Query>
     ensures read { IfOk result (λ read. ParsesAs abstract_query read (read_and_wrap EstimateOf read_order (texts_of_fields arguments.now))) }
     ensures fault { OnErr result (result ≡ Err Memory) }
@@ -48,15 +49,17 @@ fn parse_estimate_query(alloc: Global, arguments: &[&[u8]]) -> Planned<Query>
 
 /// Parses a query from the name of its view and its arguments. Fails with `Memory` only.
 ///
-/// `Submitted` has no argument, and `Estimate` the ten fields of an order, with their refusals.
-/// `Customer` has the id of a customer, `TaxId` a tax id, `Recent` and `Status` the id of an
-/// account. `Trades` has 1 to 20 different trade ids, `AccountTrades` an account and two stamps,
-/// `SymbolTrades` a symbol and two stamps, `Lots` an account and a stamp. `Volume` has a sector and
-/// 1 to 20 broker names, each counted once.
+/// `Submitted` has no argument, and `Estimate` the ten fields of an order. `Customer` has the id of
+/// a customer, `TaxId` a tax id, `Recent` and `Status` the id of an account. `Trades` has 1 to 20
+/// different trade ids, `AccountTrades` an account and two stamps, `SymbolTrades` a symbol and two
+/// stamps, `Lots` an account and a stamp. `Volume` has a sector and 1 to 20 different broker names;
+/// a name that occurs more than once is counted once.
 ///
-/// Refuses a wrong number of arguments, a malformed argument or a repeated trade id with `BadText`
-/// (18), and more than 20 ids or names with `TooMany` (20) if the arguments are otherwise
-/// well-formed.
+/// Refuses more than 20 different trade ids or broker names with `TooMany` (20), if the arguments
+/// are otherwise well-formed and no trade id is repeated. Refuses any other wrong number of
+/// arguments, a malformed argument or a repeated trade id with `BadText` (18). But if all fields of
+/// an order except its quantity, price and type are well-formed, refuses these with `BadQty` (8),
+/// `BadPrice` (9) or `BadType` (7), the first that applies.
 #[tactic(auto, unfolding(brk_model::specs::Ask::parse_query))]
 pub fn parse_query_of_view(alloc: Global, view: ViewName, arguments: &[&[u8]]) -> Planned<Query>
     ensures read { IfOk result (λ read. ParsesAs abstract_query read (model.parse_query (text_of_view_name view) (texts_of_fields arguments.now))) }

@@ -29,7 +29,8 @@ pub(crate) fn parse_trades_query(alloc: Global, arguments: &[&[u8]]) -> Planned<
 }
 
 // Parses the query of an account's trades between two stamps from its arguments: the account, the
-// first stamp and the last. Refuses malformed arguments, or a wrong number of them, with `BadText`.
+// first stamp and the last, which may be before the first. Refuses malformed arguments, or a wrong
+// number of them, with `BadText`.
 pub(crate) fn parse_account_trades_query(arguments: &[&[u8]]) -> Result<Query, Refusal>
     ensures { ParsesAs abstract_query result
         (read_value_and_stamps read_id (λ account first last. TradesOfAccount account first last) (texts_of_fields arguments.now)) }
@@ -51,8 +52,8 @@ pub(crate) fn parse_account_trades_query(arguments: &[&[u8]]) -> Result<Query, R
 }
 
 // Parses the query of a symbol's trades between two stamps from its arguments: the symbol, the
-// first stamp and the last. Refuses malformed arguments, or a wrong number of them, with `BadText`.
-// Fails with `Memory` only.
+// first stamp and the last, which may be before the first. Refuses malformed arguments, or a wrong
+// number of them, with `BadText`. Fails with `Memory` only.
 pub(crate) fn parse_symbol_trades_query(alloc: Global, arguments: &[&[u8]]) -> Planned<Query>
     ensures read { IfOk result (λ read. ParsesAs abstract_query read
         (read_value_and_stamps read_symbol (λ symbol first last. TradesOfSymbol symbol first last) (texts_of_fields arguments.now))) }
@@ -93,9 +94,9 @@ pub(crate) fn parse_lots_query(arguments: &[&[u8]]) -> Result<Query, Refusal>
 }
 
 // Parses the query of the brokers' volumes in a sector from its arguments: the sector and 1 to 20
-// broker names. Checks all arguments before the number of names: refuses malformed arguments, or no
-// name at all, with `BadText`, and otherwise more than 20 names with `TooMany`. Fails with `Memory`
-// only.
+// different broker names; a name that occurs more than once is counted once. Checks all arguments
+// before the number of names: refuses malformed arguments, no sector or no name with `BadText`, and
+// otherwise more than 20 different names with `TooMany`. Fails with `Memory` only.
 #[tactic(auto, using(brk_ref::proofs::Applied::text_left, brk_ref::proofs::Applied::text_right))]
 pub(crate) fn parse_volume_query(alloc: Global, arguments: &[&[u8]]) -> Planned<Query>
     ensures read { IfOk result (λ read. ParsesAs abstract_query read (read_volume_query (texts_of_fields arguments.now))) }

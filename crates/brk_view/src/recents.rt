@@ -49,7 +49,8 @@ pub fn recent(alloc: Global, trades: Vec<TradeRow>, history: Vec<HistoryRow>) ->
         ≡ map recent_trade_record (map abstract_trade_row trades.items) ++ map recent_status_record (sort_by is_newer_status history.items)) }
     ensures value { IfOk result (λ view. (sorted : Vec HistoryRow)
         × (view ≡ views.Recent (record { trades = trades; history = sorted })) × (sorted.items ≡ sort_by is_newer_status history.items)) }
-    // If the trades are the last ten of an account, the view equals the specified view.
+    // If the trades are the last ten of an account, and the history is their TRADE_HISTORY rows,
+    // the view equals the specified view.
     ensures view { IfOk result (λ view. (t : Tables) (account : ℕ)
         → map abstract_trade_row trades.items ≡ last_ten_trade_rows t account
         → map abstract_history_row history.items ≡ flat_map (λ row. history_rows_with_trade_id t row.id) (last_ten_trade_rows t account)

@@ -51,8 +51,8 @@ pub fn trade_with_security(trade: TradeRow, security: Security) -> TradeStatus
 pub fn status(account: AccountStatus) -> View
     ensures records { records_of_view result ≡ party_names_record account ∷ map trade_status_record account.trades.items }
     ensures value { result ≡ views.Status account }
-    // If the trades are the last fifty of an account that exists, the view equals the specified
-    // view.
+    // If the names are those of the customer and the broker of an account that exists, and the
+    // trades are its last fifty with their securities, the view equals the specified view.
     ensures view { (t : Tables) (id : ℕ)
         → flat_map (customer_and_broker_names t) (filter (λ a. a.id == id) t.accounts) ≡ party_names_record account ∷ []
         → map trade_status_record account.trades.items ≡ map (record_of_trade_status t) (take 50 (trade_rows_recent_first (trade_rows_of_account t id)))

@@ -14,10 +14,11 @@ ghost use Rattle.brk_view.specs.Views.{records_of_view, has_submitted_status, re
 ghost use Rattle.brk_view.specs.declared.view.View.TheVariants as views;
 
 /// Proves that the records of the TRADE rows with the status `Submitted`, in the order of the
-/// table, equal the view of the submitted trades: for tables whose TRADE rows are sorted by id,
-/// ascending (`sorted`), and for any tables after their rows are sorted by key (`stored`).
+/// table, equal the view of the submitted trades: for tables whose TRADE rows have different ids
+/// and are sorted by id, ascending (`sorted`), and for any tables after their rows are sorted by
+/// key (`stored`).
 pub fn submitted_row_records_equal_view()
-    // For tables whose TRADE rows are sorted by id, ascending.
+    // For tables whose TRADE rows have different ids and are sorted by id, ascending.
     ensures sorted { (t : Tables) → is_sorted_by_unique_key trade_key t.trades ≡ true
         → map record_of_submitted_row (filter has_submitted_status t.trades) ≡ submitted_trades_view t }
     // For any tables, with the TRADE rows sorted by id, as a store reads them.
@@ -25,7 +26,7 @@ pub fn submitted_row_records_equal_view()
 {}
 
 /// Proves that the view of an estimate of the model has exactly one record, which consists of the
-/// seven fields of the estimate.
+/// seven fields of the estimate: price, buy value, sell value, tax, commission, charge and assets.
 pub fn estimate_view_is_one_record()
     ensures { (e : Estimate) → records_of_view (views.Estimate (estimate_from_model e)) ≡ estimate_fields e ∷ [] }
 {}

@@ -85,8 +85,8 @@ pub fn broker_volume(alloc: Global, brokers: Vec<BrokerVolume>) -> Result<View, 
     ensures records { IfOk result (λ view. records_of_view view ≡ map broker_volume_record (sort_by is_before_by_broker_volume brokers.items)) }
     ensures value { IfOk result (λ view. (sorted : Vec BrokerVolume)
         × (view ≡ views.Volume sorted) × (sorted.items ≡ sort_by is_before_by_broker_volume brokers.items)) }
-    // If the brokers are those with these names and a request, in any sequence, the view equals the
-    // specified view.
+    // If the brokers, with their volumes, are those with one of these names and a pending request
+    // in the sector, in any sequence, the view equals the specified view.
     ensures view { IfOk result (λ view. (t : Tables) (sector : Text) (names : List Text) (rows : List BrokerRow)
         → brokers.items ≡ map (volume.volume_of_broker_in_sector t sector) rows
         → sort_by (is_before_by_volume t sector) rows ≡ sort_by (is_before_by_volume t sector) (filter (has_name_and_pending_request t sector names) t.brokers)

@@ -1,5 +1,5 @@
-//! The parts of the explanations of an account and of a broker over which the desk walks. None of
-//! them changes the desk.
+//! The parts of the explanations of an account and of a broker over which the desk walks. If the
+//! database is still open, none of them changes it.
 
 ghost use Rattle.std.specs.Prelude.{IfErr, length};
 ghost use Rattle.brk_report.specs.ExplanationParts.{WritesCountedLines, account_cash_lines, broker_trade_lines, account_lot_lines};
@@ -17,10 +17,11 @@ use sqlite::Alter;
 use std::alloc::Global;
 use std::io::Write;
 
-/// Writes a line for each cash row of an account, sorted by stamp, ascending, with the balance
-/// after it; the balance before the first one is `opening`, in cents. Returns the number of cash
-/// rows. Fails with `Desk` if a read fails, memory runs out, or a balance or the number overflows,
-/// and with `Write` if the writer fails. If the database is still open, it is unchanged.
+/// Writes a line for each cash row of an account with a stamp from 1970-01-01 to 9999-12-31, both
+/// included, sorted by stamp, ascending, with the balance after it; the balance before the first
+/// one is `opening`, in cents. Returns the number of these cash rows. Fails with `Desk` if a read
+/// fails, memory runs out, or a balance or the number overflows, and with `Write` if the writer
+/// fails. If the database is still open, it is unchanged.
 pub(crate) fn write_cash_posting_lines<W: Write, S: Alter>(
     alloc: Global,
     desk: &mut Desk<S>,

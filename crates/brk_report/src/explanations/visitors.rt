@@ -37,9 +37,9 @@ impl<W: Write> Visitor<MoveRow, LinesFault> for CashPostingWriter<'_, W> {
     ghost stops = { λ p r e q. FailsWithinLines (cash_posting_line (abstract_move_row r) (p.balance +ℤ r.amount)
         ∷ []) (W.contents p.writer.now) (W.contents q.writer.now) e };
 
-    /// Writes the line of the cash row with the balance after it, and counts the row. Fails with
-    /// `Desk(Memory)`, with `Desk(Store)` if the balance or the count overflows, or with `Write`;
-    /// the balance and the count are then unchanged.
+    /// Writes the line of the cash row with the balance after it, adds the amount of the row to the
+    /// balance, and counts the row. Fails with `Desk(Memory)`, with `Desk(Store)` if the balance or
+    /// the count overflows, or with `Write`.
     fn visit(&mut self, item: &MoveRow) -> Result<(), LinesFault> {
         let balance = total_plus_amount(self.balance, item.amount)?;
         let Some(count) = self.count.checked_add(1) else {
@@ -82,7 +82,7 @@ impl<W: Write> Visitor<HoldingRow, LinesFault> for OpenLotWriter<'_, W> {
     ghost stops = { λ p r e q. FailsWithinLines (open_lot_line (abstract_holding_row r) ∷ []) (W.contents p.writer.now) (W.contents q.writer.now) e };
 
     /// Writes the line of the lot, and counts the lot. Fails with `Desk(Memory)`, with
-    /// `Desk(Store)` if the count overflows, or with `Write`; the count is then unchanged.
+    /// `Desk(Store)` if the count overflows, or with `Write`.
     fn visit(&mut self, item: &HoldingRow) -> Result<(), LinesFault> {
         let Some(count) = self.count.checked_add(1) else {
             return Err(LinesFault::Desk(Fault::Store));
@@ -126,9 +126,9 @@ impl<W: Write> Visitor<TradeRow, LinesFault> for TradeCommissionWriter<'_, W> {
     ghost stops = { λ p r e q. FailsWithinLines (trade_commission_line (abstract_trade_row r) (p.total +ℤ pos r.commission)
         ∷ []) (W.contents p.writer.now) (W.contents q.writer.now) e };
 
-    /// Writes the line of the trade with the running total of the commissions, and counts the
-    /// trade. Fails with `Desk(Memory)`, with `Desk(Store)` if the total or the count overflows, or
-    /// with `Write`; the total and the count are then unchanged.
+    /// Adds the commission of the trade to the running total, writes the line of the trade with
+    /// this total, and counts the trade. Fails with `Desk(Memory)`, with `Desk(Store)` if the total
+    /// or the count overflows, or with `Write`.
     fn visit(&mut self, item: &TradeRow) -> Result<(), LinesFault> {
         let total = total_plus_commission(self.total, item.commission)?;
         let Some(count) = self.count.checked_add(1) else {

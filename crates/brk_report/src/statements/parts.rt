@@ -37,9 +37,9 @@ pub(crate) fn write_header_lines<W: Write>(
 /// Writes the line of the opening amount, which is `opening` plus the amounts of the cash rows of
 /// an account before the day `from`, a line for each of its cash rows from the day `from` to the
 /// day `to`, both included, and the line of the closing amount, which is the opening amount plus
-/// the amounts of the rows with a line, in cents. Returns the number of these rows. If the database
-/// is still open, it is unchanged. Fails with `Desk` if a read fails, memory runs out, or an amount
-/// or the number overflows, or with `Write`.
+/// the amounts of the rows with a line, in cents; `from` must not be after `to`. Returns the number
+/// of these rows. If the database is still open, it is unchanged. Fails with `Desk` if a read
+/// fails, memory runs out, or an amount or the number overflows, or with `Write`.
 pub(crate) fn write_cash_and_closing_lines<W: Write, S: Alter>(
     alloc: Global,
     desk: &mut Desk<S>,

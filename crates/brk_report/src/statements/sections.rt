@@ -54,10 +54,10 @@ fn write_cash_walk_lines<W: Write, S: Alter>(
 
 /// Writes the line of the opening amount, which is `opening` plus the amounts of the cash rows of
 /// an account before the day `from`, and a line for each of its cash rows from the day `from` to
-/// the day `to`, both included. Returns the number of the rows with a line, and `opening` plus the
-/// amounts of all cash rows up to the day `to`, in cents. If the database is still open, it is
-/// unchanged. Fails with `Desk` if a read fails, memory runs out, or the number or the sum
-/// overflows, or with `Write`.
+/// the day `to`, both included; `from` must not be after `to`. Returns the number of the rows with
+/// a line, and `opening` plus the amounts of all cash rows up to the day `to`, in cents. If the
+/// database is still open, it is unchanged. Fails with `Desk` if a read fails, memory runs out, or
+/// the number or the sum overflows, or with `Write`.
 pub(crate) fn write_opening_and_cash_lines<W: Write, S: Alter>(
     alloc: Global,
     desk: &mut Desk<S>,

@@ -176,9 +176,11 @@ impl<W: Write> Visitor<MoveRow, LinesFault> for CashLineWriter<'_, W> {
     ghost leads = { λ p q. q.writer.ghost_name ≡ p.writer.ghost_name };
 
     ghost takes = { λ p r q. (q.first ≡ p.first) × (q.moved ≡ progress_after_cash_row (nat_lt r.stamp p.first) p.moved (abstract_move_row r))
-        × Appends (W.contents p.writer.now) (W.contents q.writer.now) (text_of_lines (lines_of_cash_row (nat_lt r.stamp p.first) p.moved (abstract_move_row r))) };
+        × Appends (W.contents p.writer.now) (W.contents q.writer.now)
+        (text_of_lines (lines_of_cash_row (nat_lt r.stamp p.first) p.moved (abstract_move_row r))) };
 
-    ghost stops = { λ p r e q. FailsWithinFirstLines (lines_of_cash_row (nat_lt r.stamp p.first) p.moved (abstract_move_row r)) (W.contents p.writer.now) (W.contents q.writer.now) e };
+    ghost stops = { λ p r e q. FailsWithinFirstLines (lines_of_cash_row (nat_lt r.stamp p.first) p.moved (abstract_move_row r))
+        (W.contents p.writer.now) (W.contents q.writer.now) e };
 
     /// Adds the amount of the cash row to the total. If the row is not before the first stamp, also
     /// writes its line, after the line of the opening amount unless this was written before, and

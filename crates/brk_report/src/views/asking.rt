@@ -67,8 +67,10 @@ fn write_view<W: Write>(
 // CSV, and with the names of its fields first if `form.heads` is true and all its records have the
 // same fields.
 //
-// Fails with `Refused` and the refusal of the query, or with `Desk` and `Memory` or `Store`, and
-// nothing is then written; or with `Write` after a prefix of the text, perhaps all of it.
+// Fails with `Refused` and the refusal of the query, or with `Desk(Memory)` or `Desk(Store)`, and
+// nothing is then written; or with `Write` after a prefix of the text, perhaps empty or all of it.
+// `Desk(Store)` may also mean that a row that another row requires does not exist, that a lot has
+// no shares, or that a sum overflows or exceeds its limit.
 fn execute_query_and_write_view<W: Write, S: Alter>(
     alloc: Global,
     desk: &mut Desk<S>,
@@ -90,10 +92,12 @@ fn execute_query_and_write_view<W: Write, S: Alter>(
 /// first if `form.heads` is true and all its records have the same fields.
 ///
 /// Fails with `Refused` and the refusal of the parser if the texts are no query: 18, 20 for more
-/// than 20 ids or names, or 7, 8 or 9 for a field of an order. Otherwise fails with `Refused` and
-/// the refusal of the query; nothing is then written. Fails with `Desk` and `Memory` or `Store`, and
-/// nothing is written; with `Write` after a prefix of the text, perhaps all of it. If the database
-/// is still open, it is unchanged, whatever the result.
+/// than 20 ids or names, or 7, 8 or 9 for a field of an order; otherwise with `Refused` and the
+/// refusal of the query, if the desk refuses it; or with `Desk(Memory)` or `Desk(Store)`.
+/// `Desk(Store)` may also mean that a row that another row requires does not exist, that a lot has
+/// no shares, or that a sum overflows or exceeds its limit. In these cases nothing is written.
+/// Fails with `Write` after a prefix of the text, perhaps empty or all of it. If the database is
+/// still open, it is unchanged, whatever the result.
 ///
 /// A crash after the call exposes only states that a crash before the call could expose.
 pub fn parse_query_and_write_view<W: Write, S: Alter>(

@@ -168,9 +168,9 @@ pub struct Sent {
     pub was_stopped: bool,
 }
 
-/// The number of pages that a database of these tests caches if all its pages are to be cached: more
-/// than the file of any test has, and fewer than the 2,000 of `Options::new`, which take longer to
-/// allocate than most jobs to perform.
+/// The number of pages that a database of these tests caches if all its pages are to be cached:
+/// more than the file of any test has, and fewer than the 2,000 of `Options::new`, which take
+/// longer to allocate than most jobs to perform.
 const CACHED_PAGES: usize = 200;
 
 /// Returns the options of a database that caches `pages` pages, and reads each other page from its

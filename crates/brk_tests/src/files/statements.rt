@@ -72,7 +72,8 @@ fn is_proper_prefix_of_statement(text: &[u8]) -> bool {
 
 /// Checks, for a database file that fails after 0, 1, 2 and more calls, that the desk cannot be
 /// opened or the statement fails with `Store` after whole first lines, perhaps none, until the
-/// statement is complete. Checks also that some failed statements have lines and some have none.
+/// statement is complete, which must be with fewer than 10,000 calls. Checks also that some failed
+/// statements have lines and some have none.
 pub fn statements_over_a_failing_disk(alloc: Global) -> Result<(), Fail> {
     let Sent { held, .. } = run_batch_until_crash(
         alloc,

@@ -72,7 +72,8 @@ fn fail_unless(is_so: bool, stop: MachineCrash, what: &str) -> Result<(), Fail> 
 }
 
 // Executes a batch on a new desk in the database of a connection after the batch `SET`. Returns the
-// observation of the batch. Fails without a connection, and if the desk cannot be created.
+// observation of the batch. Fails without a connection, if the desk cannot be set up
+// (`desk_with_reference_data`), or if memory runs out.
 fn observe_batch_after_set<S: Alter + Drop>(
     alloc: Global,
     conn: Option<Connection<S>>,
@@ -85,7 +86,8 @@ fn observe_batch_after_set<S: Alter + Drop>(
 }
 
 // Returns all tables of a desk in memory as text, after the batch `SET` and the first `rows` rows
-// of `ROWS`, at most six. Fails if the tables cannot be read or memory runs out.
+// of `ROWS`, at most six. Fails if the desk cannot be set up, if the tables cannot be read, or if
+// memory runs out.
 fn tables_after_rows(alloc: Global, rows: usize) -> Result<String, Fail> {
     let batch = format_batch(alloc, &ROWS[..rows.min(6)])?;
     let Observation { after, .. } = observe_batch_after_set(
@@ -124,7 +126,7 @@ fn set_up_desk_after_creation_crash(
 
 // Creates a desk until the crash `stop`, and checks that the batch `SET` then completes on the desk
 // in the files, with its lines, the tables `tables` after it, and an audit that passes. Returns
-// true if there was a crash.
+// true if there was a crash. Fails if not all of this is so, or if memory runs out.
 fn expect_creation_crash_recovered(
     alloc: Global,
     stop: MachineCrash,
@@ -235,7 +237,8 @@ fn expect_retry_completes(
 
 // Executes the batch until the crash `stop`, retries it, and checks that the tables after the crash
 // contain the rows with a written line, or one row more, and that the retry completes the batch.
-// `tables` are the tables after each number of rows. Returns true if there was a crash.
+// `tables` are the tables after each number of rows. Returns true if there was a crash. Fails if
+// not all of this is so, or if memory runs out.
 fn expect_batch_crash_recovered(
     alloc: Global,
     stop: MachineCrash,
@@ -302,7 +305,8 @@ fn crash_and_retry_upgrade(
 // Upgrades the desk of an older schema in the files `start` until the crash `stop`, and then
 // retries the upgrade. Checks that the upgrade is atomic, that no line of a batch is written before
 // the upgrade is committed, and that the retry completes the upgrade with the tables `tables`,
-// which are the desk's tables in schema 3. Returns true if there was a crash.
+// which are the desk's tables in schema 3. Returns true if there was a crash. Fails if not all of
+// this is so, or if memory runs out.
 fn expect_upgrade_crash_recovered(
     alloc: Global,
     stop: MachineCrash,
@@ -336,7 +340,7 @@ enum Work<'a> {
 }
 
 // Performs the work until the crash `stop`, and checks that the desk recovers from it. Returns true
-// if there was a crash.
+// if there was a crash. Fails if the desk does not recover, or if memory runs out.
 fn expect_crash_recovered(alloc: Global, stop: MachineCrash, work: Work<'_>) -> Result<bool, Fail> {
     match work {
         Work::Creation(tables) => expect_creation_crash_recovered(alloc, stop, tables),
@@ -352,7 +356,8 @@ fn expect_crash_recovered(alloc: Global, stop: MachineCrash, work: Work<'_>) -> 
 }
 
 // Performs the work with each crash of `STOPS` at each call of its file, until a run has no crash,
-// and checks that the desk recovers from each crash. Fails if a run without a crash is not reached.
+// and checks that the desk recovers from each crash. Fails if it does not, if a run without a crash
+// is not reached within `MOST_CALLS` runs, or if memory runs out.
 fn expect_each_crash_recovered(alloc: Global, work: Work<'_>) -> Result<(), Fail> {
     for stop in STOPS {
         let mut was_stopped = true;
@@ -377,7 +382,8 @@ pub fn crashes_while_a_store_is_created(alloc: Global) -> Result<(), Fail> {
 }
 
 // Returns all tables of a desk in memory, as text, after the batch `SET` and each number of the
-// rows `ROWS`, from none to all six. Fails if the tables cannot be read.
+// rows `ROWS`, from none to all six. Fails if a desk cannot be set up, if the tables cannot be
+// read, or if memory runs out.
 fn tables_after_each_row(alloc: Global) -> Result<Vec<String>, Fail> {
     let mut tables = Vec::new(alloc);
     for rows in 0..=6 {
@@ -402,6 +408,8 @@ pub fn crashes_while_a_batch_is_executed(alloc: Global) -> Result<(), Fail> {
 
 // Upgrades a desk that the SQL statements `change` convert to an older schema, with each crash of
 // `STOPS` at each call of its file, and checks each recovery (`expect_upgrade_crash_recovered`).
+// Fails if the desk does not recover, if the statements fail, if the tables cannot be read, or if
+// memory runs out.
 fn expect_upgrade_recovered_at_each_call(alloc: Global, change: &str) -> Result<(), Fail> {
     let (start, tables) = files_of_older_schema(alloc, change)?;
     let work = Work::Upgrade {
@@ -424,7 +432,8 @@ pub fn crashes_while_schema_2_is_upgraded(alloc: Global) -> Result<(), Fail> {
 }
 
 // Executes a batch on the desk in the files `held`, and returns the files after it. Fails with
-// `name` if the batch does not write exactly the lines `lines`, or if the audit after it fails.
+// `name` if the batch does not write exactly the lines `lines`, or if the audit after it fails, and
+// without it if memory runs out.
 fn expect_batch_in_files(
     alloc: Global,
     held: &Held,
@@ -447,7 +456,8 @@ fn expect_batch_in_files(
 
 // Executes the rows as a batch on a desk in files, opens the files again and retries the batch.
 // Checks that the first run accepts all rows with the replies `lines`, that the retry returns these
-// replies as stored ones, and that an audit passes after each run. Fails with `name` if not.
+// replies as stored ones, and that an audit passes after each run. Fails with `name` if not, and
+// without it if memory runs out.
 fn expect_trades_stored_and_repeated(
     alloc: Global,
     name: &str,
@@ -464,7 +474,8 @@ fn expect_trades_stored_and_repeated(
 }
 
 /// Checks that a desk that is opened again from its files returns the stored replies of its trades,
-/// for batches of one to six trades.
+/// for batches of one to six trades, and for a batch of three trades with a sale that closes the
+/// last lot first.
 pub fn desks_in_files_can_be_reopened(alloc: Global) -> Result<(), Fail> {
     for (name, count) in [
         ("a purchase", 2),

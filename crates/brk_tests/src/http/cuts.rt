@@ -74,7 +74,8 @@ fn three_requests_and_replies(alloc: Global) -> Result<Three, AllocError> {
 }
 
 // Returns the replies to the requests that end within the first `len` bytes, the number of these
-// replies, and true if a part of another request follows them. Fails only if memory runs out.
+// replies, and true if a part of another request follows them. `len` must be at most the length of
+// the stream. Fails only if memory runs out.
 fn replies_within_length(
     alloc: Global,
     all: &Three,
@@ -93,9 +94,10 @@ fn replies_within_length(
     Ok((text, done, start < len))
 }
 
-// Serves the first `len` bytes of the stream on a new desk in the database of a connection. Checks
-// that each request within them has its reply, and that a request of which only a part is within
-// them has the reply 400. Fails if not, and without a connection.
+// Serves the first `len` bytes of the stream on a new desk in the database of a connection, after
+// the batch `SET`. Checks that each request within them has its reply, and that a request of which
+// only a part is within them has the reply 400. Fails if not, without a connection, if the desk
+// cannot be set up, or if memory runs out.
 fn expect_cut_stream<S: Alter + Drop>(
     alloc: Global,
     conn: Option<Connection<S>>,
@@ -140,7 +142,8 @@ fn all_replies_of_retry(alloc: Global, all: &Three, executed: bool) -> Result<St
 
 // Serves the whole stream on a desk, which has executed the first request before if `executed` is
 // true, and otherwise none. Checks that all three requests have their replies, and that the tables
-// are those after one execution of the row. Fails with `name` if not.
+// are those after one execution of the row. Fails with `name` if not, and without it if the tables
+// cannot be read or memory runs out.
 fn expect_completed_stream<S: Alter + Drop>(
     alloc: Global,
     mut desk: Desk<S>,
@@ -156,11 +159,11 @@ fn expect_completed_stream<S: Alter + Drop>(
     expect_all_tables(alloc, desk.into_store(), name, TABLES)
 }
 
-// Serves the stream on a new desk in the database of a connection, with a reader that fails once
-// with the error `kind` after `len` bytes. Checks that the stream fails with `Read` after the
-// replies to the requests that were read whole, and that a retry completes, with the stored reply
-// to the first request if and only if this request was read whole before. Fails without a
-// connection.
+// Serves the stream on a new desk in the database of a connection, after the batch `SET`, with a
+// reader that fails once with the error `kind` after `len` bytes. Checks that the stream fails with
+// `Read` after the replies to the requests that were read whole, and that a retry completes, with
+// the stored reply to the first request if and only if this request was read whole before. Fails if
+// not, without a connection, if the desk cannot be set up, or if memory runs out.
 fn expect_stream_read_fault<S: Alter + Drop>(
     alloc: Global,
     conn: Option<Connection<S>>,
@@ -194,11 +197,12 @@ pub fn stream_readers_failing_at_each_byte(alloc: Global) -> Result<(), Fail> {
     Ok(())
 }
 
-// Serves the stream on a new desk in the database of a connection, with a writer that has room for
-// `room` bytes, and then fails once with the error `fault`, or, if `fault` is `None`, once accepts
-// no byte. Checks that the stream fails with `Write` after the first `room` bytes of the replies,
-// and that a retry completes, with the stored reply to the first request: a request is executed
-// before its reply is written. Fails without a connection.
+// Serves the stream on a new desk in the database of a connection, after the batch `SET`, with a
+// writer that has room for `room` bytes, and then fails once with the error `fault`, or, if `fault`
+// is `None`, once accepts no byte. Checks that the stream fails with `Write` after the first `room`
+// bytes of the replies, and that a retry completes, with the stored reply to the first request: a
+// request is executed before its reply is written. Fails if not, without a connection, if the desk
+// cannot be set up, or if memory runs out.
 fn expect_stream_write_fault<S: Alter + Drop>(
     alloc: Global,
     conn: Option<Connection<S>>,

@@ -49,8 +49,8 @@ const PEERS: [(&str, Option<&str>); 6] = [
 ];
 
 // Connects a peer to the listener, sends the bytes `input` and returns the stream of the peer. If
-// `waits` is true, shuts down the writing side of the stream after the bytes. Fails if the peer
-// cannot connect, send or shut down.
+// `waits` is true, shuts down the writing side of the stream after the bytes. Fails if the address
+// of the listener cannot be read, or if the peer cannot connect, send or shut down.
 fn connect_peer(
     rt: &HostRuntime,
     listener: &TcpListener,
@@ -67,7 +67,7 @@ fn connect_peer(
 
 // Connects all peers of `PEERS` in order and sends their bytes. Returns the streams of the peers
 // that wait for replies, with the wanted replies, and closes the other streams. Fails if a peer
-// cannot connect or send.
+// cannot connect, send or shut down (`connect_peer`), or if memory runs out.
 fn connect_all_peers(
     rt: &HostRuntime,
     listener: &TcpListener,
@@ -83,7 +83,7 @@ fn connect_all_peers(
 }
 
 // Checks that each peer in `waiting` receives exactly its wanted replies until the end of its
-// stream.
+// stream. Fails if not, if a stream cannot be read or is not UTF-8, or if memory runs out.
 fn expect_peer_replies(alloc: Global, waiting: Vec<(TcpStream, &'static str)>) -> Result<(), Fail> {
     for (peer, wanted) in waiting {
         let told = io::read_to_string(alloc, peer)?;
@@ -109,9 +109,10 @@ fn serve_at_first_timestamp<S: Alter>(
     )
 }
 
-// Checks that the streams of the peers, served in sequence on one new desk in the database of a
-// connection, have the replies of `PEERS`, and that the serving ends with `Net` if no stream can be
-// accepted. Fails without a connection.
+// Checks that six streams of the listener are served in sequence on one new desk in the database of
+// a connection, that the peers in `waiting` have their wanted replies, and that the serving ends
+// with `Net` if no stream can be accepted. Fails if not, without a connection, if the desk cannot
+// be created, if the listener cannot be set to return at once, or if memory runs out.
 fn expect_streams_served_on_desk<S: Alter + Drop>(
     alloc: Global,
     conn: Option<Connection<S>>,
@@ -127,8 +128,9 @@ fn expect_streams_served_on_desk<S: Alter + Drop>(
     expect(served == Err(ListenFault::Net), "no stream")
 }
 
-/// Checks that six streams over sockets, served in sequence on one desk, have the replies of
-/// `PEERS`, and that the serving ends with `Net` if no stream can be accepted.
+/// Checks that six streams over sockets are served in sequence on one desk, that the peers that
+/// wait for replies have those of `PEERS`, and that the serving ends with `Net` if no stream can be
+/// accepted. Fails also if a socket of this machine cannot be used.
 pub fn socket_streams_share_one_desk(rt: &HostRuntime) -> Result<(), Fail> {
     let alloc = rt.alloc();
     let mut listener = TcpListener::bind(rt, ("127.0.0.1", 0))?;

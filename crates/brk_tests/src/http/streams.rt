@@ -74,7 +74,8 @@ fn has_wanted_replies(
 
 /// Serves a stream, whose bytes arrive in pieces of at most `size` bytes, on a new desk in the
 /// database of a connection after the batch `SET`. Returns the bytes that were written, and the
-/// number of replies or the fault. Fails without a connection, and if the desk cannot be created.
+/// number of replies or the fault. Fails without a connection, if the desk cannot be set up
+/// (`desk_with_reference_data`), or if memory runs out.
 pub fn serve_stream_on_new_desk<S: Alter + Drop>(
     alloc: Global,
     conn: Option<Connection<S>>,
@@ -86,8 +87,8 @@ pub fn serve_stream_on_new_desk<S: Alter + Drop>(
 }
 
 /// Serves a stream in pieces of 4,096, of seven and of one byte, each time on a new desk in memory
-/// after the batch `SET`. Returns true if the stream has exactly the wanted replies each time.
-/// Fails if a desk cannot be created or memory runs out.
+/// after the batch `SET`, until the replies differ from the wanted ones. Returns true if the stream
+/// has exactly the wanted replies each time. Fails if a desk cannot be set up or memory runs out.
 pub fn has_wanted_replies_in_all_pieces(
     alloc: Global,
     bytes: &[u8],
@@ -174,8 +175,8 @@ fn request_with_head_of_length(alloc: Global, len: usize) -> Result<String, Allo
     Ok(head)
 }
 
-/// Checks that a request with a head of 16,384 bytes has its reply, and that one with a longer head
-/// is refused with 413, which ends its stream, for each size of pieces.
+/// Checks that a request with a head of 16,384 bytes has its reply, and that one with a head of
+/// 16,385 bytes is refused with 413, which ends its stream, for each size of pieces.
 pub fn a_head_has_at_most_16_384_bytes(alloc: Global) -> Result<(), Fail> {
     for (len, wanted) in [(16_384, EMPTY), (16_385, LARGE)] {
         let input = request_with_head_of_length(alloc, len)?;
@@ -189,7 +190,8 @@ pub fn a_head_has_at_most_16_384_bytes(alloc: Global) -> Result<(), Fail> {
 }
 
 // Serves a stream on a new desk in files whose log accepts `calls` calls and fails at each later
-// call. Returns the observation. Fails if memory runs out.
+// call. Returns the observation, which ends with `NotBegun` if the desk cannot be created. Fails if
+// memory runs out.
 fn serve_with_failing_log(alloc: Global, calls: u64, input: &[u8]) -> Result<Observation, Fail> {
     let Sent { seen, .. } = perform_job_until_crash(
         alloc,
@@ -225,8 +227,9 @@ fn replies_to_two_requests(alloc: Global) -> Result<String, AllocError> {
 }
 
 /// Checks, for a log that fails after 0, 1, 2 and more calls, that the reply to a row is 503 and
-/// the last of its stream, until the row and the query after it both have their replies. Numbers of
-/// calls with which the desk cannot be created are skipped.
+/// the last of its stream, until the row and the query after it both have their replies, which must
+/// be with fewer than 1,000 calls. Numbers of calls with which the desk cannot be created are
+/// skipped. Checks also that at least one stream has the reply 503.
 pub fn a_store_fault_is_the_last_reply(alloc: Global) -> Result<(), Fail> {
     let input = two_requests(alloc)?;
     let wanted = format_wanted_reply(

@@ -1,5 +1,5 @@
 use Rattle.std.proofs.Common.{inl, inr, refl}
-use Rattle.brk_batch_engine.proofs.engine.read_first_row.Goals as goal
+use Rattle.brk_batch_engine.proofs.engine.read_record_after_header.Goals as goal
 
 pub returns-in-Err-clause-err : goal.returns-in-Err-clause-err
 returns-in-Err-clause-err g c = inr (c.in-Err.kind, refl, c.in-Err.ensures.kind)
