@@ -27,15 +27,14 @@ use Rattle.brk_plans.specs.declared.plan.Plan.{Plan}
 use Rattle.brk_sql.proofs.Inside.{clean_before}
 use Rattle.brk_plans.specs.Replies.{abstract_reply}
 use Rattle.brk_book_theorems.specs.Books.{BooksInvariant}
-use Rattle.brk_trade_theorems.specs.Plans.{PlanImplementsCommand}
+use Rattle.brk_trade_theorems.specs.Plans.{DecidesCommand, PlanImplementsCommand}
 use Rattle.brk_book_theorems.specs.Steps.{base_after_command}
 use Rattle.brk_book_theorems.proofs.Keepers.{books_kept}
 use Rattle.brk_invariant_theorems.specs.InForm.{MeetsAuditFormats, IsWellFormedKey}
 use Rattle.brk_invariant_theorems.specs.Sound.{AuditInvariant}
 use Rattle.brk_invariant_theorems.proofs.SoundSteps.{keyed_sound}
 use Rattle.brk_store.specs.Holds.{IsDiskContentOfRows, HoldsRows, ApplyPost, ReadPost}
-use Rattle.brk_decisions.specs.Decisions.{DecidesCommand}
-use Rattle.brk_decisions.proofs.Looking.{none_then, same_then}
+use Rattle.brk_store.proofs.Sequences.{none_then, same_then}
 use Rattle.brk_commit.specs.Answers.{CommandAnswer, IsDoneResult, model_answer}
 use Rattle.brk_commit.specs.Booked.{CommandPost, IsDiskContentAfterCommand, base_after_keyed_command}
 use Rattle.brk_store.specs.Audited.{Represents}

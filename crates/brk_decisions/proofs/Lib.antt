@@ -1,5 +1,3 @@
-pub mod Looking
-pub mod Deciding
 pub mod References
 pub mod Cancels
 pub mod Feeds
@@ -9,4 +7,3 @@ pub mod OrderFinds
 pub mod Ordering
 pub mod ResultReading
 pub mod Resulting
-pub mod TradesFound

@@ -22,8 +22,8 @@ use Rattle.brk_book_theorems.specs.Books.{BooksInvariant}
 use Rattle.brk_trade_theorems.specs.MovePlans.{MovementFactsMatchTables, PlanMovementPrecondition}
 use Rattle.brk_trade_theorems.proofs.MovePlanning.{move_plan_does, move_refused}
 use Rattle.brk_store.specs.Holds.{ReadPost}
-use Rattle.brk_decisions.specs.Decisions.{DecidesCommand}
-use Rattle.brk_decisions.proofs.Looking.{read_both}
+use Rattle.brk_trade_theorems.specs.Plans.{DecidesCommand}
+use Rattle.brk_store.proofs.Sequences.{read_with}
 
 -- `balance` is the balance of the account with the id `account`, or `None` if the account does not
 -- exist.
@@ -42,7 +42,7 @@ MovementFactsAndLastStampMatch m found last t = (last ≡ t.last) × MovementFac
 pub last_and_found : {S E F : Type 0} (g : Ghosts S) (old mid end : Held S) (m : Movement) (found : MovementPlanFacts) (last : Option ℕ) → ReadPost {E = E} g old mid (Ok last) (λ last t. last ≡ t.last)
     → ReadPost {E = F} g mid end (Ok found) (λ found t. MovementFactsMatchTables t m found) → ReadPost {E = Fault} g old end (Ok found) (λ f. MovementFactsAndLastStampMatch m f last)
 last_and_found g old mid end m found last at_last at_found =
-    read_both g old mid end {H = Fault} last found found (λ last t. last ≡ t.last) (λ found t. MovementFactsMatchTables t m found) (λ f. MovementFactsAndLastStampMatch m f last) (λ t e f. (e, f)) at_last at_found
+    read_with g old mid end {H = Fault} last found found (λ last t. last ≡ t.last) (λ found t. MovementFactsMatchTables t m found) (λ f. MovementFactsAndLastStampMatch m f last) (λ t e f. (e, f)) at_last at_found
 
 -- a movement's plan does it, and its refusal is that of the command
 module _ (m : Movement) (found : MovementPlanFacts) (last : Option ℕ) (now : ℕ) (moment : now ≤ greatest_stamp) where

@@ -17,8 +17,8 @@ use Rattle.brk_book_theorems.specs.Books.{BooksInvariant}
 use Rattle.brk_trade_theorems.specs.MovePlans.{PlanSettlementDayPrecondition}
 use Rattle.brk_trade_theorems.proofs.MovePlanning.{one_day_plan_does, one_day_refused}
 use Rattle.brk_store.specs.Holds.{ReadPost}
-use Rattle.brk_decisions.specs.Decisions.{DecidesCommand}
-use Rattle.brk_decisions.proofs.Looking.{read_both}
+use Rattle.brk_trade_theorems.specs.Plans.{DecidesCommand}
+use Rattle.brk_store.proofs.Sequences.{read_with}
 
 -- `last` is the last stamp of the tables, and `rule` is the settlement day, or `None` if none is
 -- set.
@@ -29,7 +29,7 @@ SettlementDayAndLastStampMatch rule last t = (last ≡ t.last) × (rule ≡ t.ru
 pub last_and_rule : {S E F : Type 0} (g : Ghosts S) (old mid end : Held S) (rule last : Option ℕ) → ReadPost {E = E} g old mid (Ok last) (λ last t. last ≡ t.last)
     → ReadPost {E = F} g mid end (Ok rule) (λ rule t. rule ≡ t.rule) → ReadPost {E = Fault} g old end (Ok rule) (λ r. SettlementDayAndLastStampMatch r last)
 last_and_rule g old mid end rule last at_last at_rule =
-    read_both g old mid end {H = Fault} last rule rule (λ last t. last ≡ t.last) (λ rule t. rule ≡ t.rule) (λ r. SettlementDayAndLastStampMatch r last) (λ t e f. (e, f)) at_last at_rule
+    read_with g old mid end {H = Fault} last rule rule (λ last t. last ≡ t.last) (λ rule t. rule ≡ t.rule) (λ r. SettlementDayAndLastStampMatch r last) (λ t e f. (e, f)) at_last at_rule
 
 -- a settlement day's plan sets it, and its refusal is that of the command
 module _ (day : ℕ) (rule last : Option ℕ) (now : ℕ) (moment : now ≤ greatest_stamp) where

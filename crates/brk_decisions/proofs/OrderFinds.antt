@@ -24,7 +24,8 @@ use Rattle.brk_book_theorems.specs.OrderReads.{CustomerOfAccountSatisfies, charg
 use Rattle.brk_trade_theorems.specs.OrderPlans.{EstimateFactsMatchTables, order_account_of_row}
 use Rattle.brk_book_theorems.specs.Reads.{customer_tax_rate_sum}
 use Rattle.brk_book_theorems.specs.TradeReads.{commission_band_of_quantity, permission_list_for_tax_id, summary_row_of_position}
-use Rattle.brk_decisions.specs.OrderFactReads.{EstimateAmountsMatchTables, CustomerOrderFactsMatchTables, IsCustomerWithId, EstimateFactsMatchIfAccountOfOrder, order_facts_with_account, order_facts_without_account, market_value_of_summary}
+use Rattle.brk_decisions.specs.OrderFactReads.{EstimateAmountsMatchTables, CustomerOrderFactsMatchTables, IsCustomerWithId, EstimateFactsMatchIfAccountOfOrder, order_facts_with_account, order_facts_without_account}
+use Rattle.brk_store.specs.Valuation.{market_value_of_summary}
 use Rattle.brk_decisions.specs.declared.tested.OrderCheckFacts.{OrderCheckFacts}
 use Rattle.brk_decisions.specs.declared.amounts.Amounts.{Amounts}
 
@@ -100,29 +101,6 @@ find-filter {X = X} q p (x ∷ xs) = by_test (q x) (find-filter q p xs)
         → find p (cond b (x ∷ filter q xs) (filter q xs)) ≡ cond (b && p x) (Some x) (find (λ x. q x && p x) xs)
     by_test true e = ap (λ o. cond (p x) (Some x) o) e
     by_test false e = e
-
--- ---- sums
-
-pub total_by-more : {X : Type 0} (f : X → ℤ) (xs : List X) (x : X) → total_by f (xs ++ x ∷ []) ≡ total_by f xs +ℤ f x
-unfolding total_by
-total_by-more f [] x = omega (arith, ints)
-total_by-more f (y ∷ xs) x = let h = total_by-more f xs x in omega (h, arith, ints)
-
-pub total_by-none : {X : Type 0} (f : X → ℤ) → total_by f [] ≡ pos 0
-unfolding total_by
-total_by-none f = refl
-
-pub worth_more : (t : Tables) (rows : List SummaryRow) (i : ℕ) (row : SummaryRow) → i < length rows → row ≡ get_or rows i row
-    → total_by (market_value_of_summary t) (map abstract_summary_row (take i rows)) +ℤ market_value_of_summary t (abstract_summary_row row) ≡ total_by (market_value_of_summary t) (map abstract_summary_row (take (i + 1) rows))
-worth_more t rows i row inside is =
-    sym (total_by-more (market_value_of_summary t) (map abstract_summary_row (take i rows)) (abstract_summary_row row))
-    ∙ ap (total_by (market_value_of_summary t)) (sym (map-append abstract_summary_row (take i rows) (row ∷ []))
-    ∙ ap (map abstract_summary_row) (ap (λ z. take i rows ++ z ∷ []) is ∙ sym (take_more rows i row inside)))
-
--- a price that was found
-pub price_there : (o : Option LastTradeRow) (price : ℕ) → Some price ≡ option_map (λ r. r.price) o → option_map_or (λ r. r.price) o 0 ≡ price
-price_there None price e = absurd (cc)
-price_there (Some r) price e = cc
 
 -- what is there as a list
 pub listed : {X Y : Type 0} (f : X → Y) (o : Option X) (xs : List X) → MatchOption o (xs ≡ []) (λ x. xs ≡ x ∷ []) → map f xs ≡ option_to_list (option_map f o)

@@ -23,8 +23,9 @@ use Rattle.brk_book_theorems.specs.Books.{BooksInvariant}
 use Rattle.brk_trade_theorems.specs.OrderPlans.{OrderLotsSatisfy, EstimateFactsMatchTables, OrderFactsMatchTables, PlanOrderPrecondition}
 use Rattle.brk_trade_theorems.proofs.OrderDoing.{estimate_answered, estimate_refused, estimate_told, order_refused, plan_order_does}
 use Rattle.brk_store.specs.Holds.{ReadPost}
-use Rattle.brk_decisions.specs.Decisions.{DecidesCommand, IsEstimateOfModel}
-use Rattle.brk_decisions.proofs.Looking.{read_both}
+use Rattle.brk_decisions.specs.Decisions.{IsEstimateOfModel}
+use Rattle.brk_trade_theorems.specs.Plans.{DecidesCommand}
+use Rattle.brk_store.proofs.Sequences.{read_with}
 
 -- ---- what is known after the reads
 
@@ -36,7 +37,7 @@ pub order_read : {S D E : Type 0} (g : Ghosts S) (old first mid : Held S) (order
     → ReadPost {E = D} g old first (Ok last) (λ last t. last ≡ t.last) → ReadPost {E = E} g first mid (Ok found) (λ f t. OrderFactsMatchTables t order f)
     → ReadPost {E = Fault} g old mid (Ok found) (OrderFactsAndLastStampMatch order last)
 order_read g old first mid order last found one two =
-    read_both g old first mid {H = Fault} last found found (λ last t. last ≡ t.last) (λ f t. OrderFactsMatchTables t order f) (OrderFactsAndLastStampMatch order last) (λ t e f. (e, f)) one two
+    read_with g old first mid {H = Fault} last found found (λ last t. last ≡ t.last) (λ f t. OrderFactsMatchTables t order f) (OrderFactsAndLastStampMatch order last) (λ t e f. (e, f)) one two
 
 -- ---- an order
 

@@ -16,12 +16,11 @@ use Rattle.brk_plans.specs.declared.reference.ReferenceFacts.{ReferenceFacts}
 use Rattle.brk_plans.specs.declared.reference.Reference.{Reference}
 use Rattle.brk_book_theorems.specs.Books.{BooksInvariant}
 use Rattle.brk_plans.specs.Commands.{command_adding_record}
-use Rattle.brk_trade_theorems.specs.Plans.{PlanReferencePrecondition as IsLookedUp}
+use Rattle.brk_trade_theorems.specs.Plans.{DecidesCommand, PlanReferencePrecondition as IsLookedUp}
 use Rattle.brk_trade_theorems.specs.Found.{ReferenceFactsMatchTables}
 use Rattle.brk_trade_theorems.proofs.Planning.{plan_does, refusal_does}
 use Rattle.brk_store.specs.Holds.{ReadPost}
-use Rattle.brk_decisions.specs.Decisions.{DecidesCommand}
-use Rattle.brk_decisions.proofs.Looking.{read_both}
+use Rattle.brk_store.proofs.Sequences.{read_with}
 
 -- `last` is the last stamp of the tables, and the facts for the reference record equal those of the
 -- tables.
@@ -32,7 +31,7 @@ ReferenceFactsAndLastStampMatch r found last t = (last ≡ t.last) × ReferenceF
 pub last_and_found : {S E F : Type 0} (g : Ghosts S) (old mid end : Held S) (r : Reference) (found : ReferenceFacts) (last : Option ℕ) → ReadPost {E = E} g old mid (Ok last) (λ last t. last ≡ t.last)
     → ReadPost {E = F} g mid end (Ok found) (λ found t. ReferenceFactsMatchTables t r found) → ReadPost {E = Fault} g old end (Ok found) (λ f. ReferenceFactsAndLastStampMatch r f last)
 last_and_found g old mid end r found last at_last at_found =
-    read_both g old mid end {H = Fault} last found found (λ last t. last ≡ t.last) (λ found t. ReferenceFactsMatchTables t r found) (λ f. ReferenceFactsAndLastStampMatch r f last) (λ t e f. (e, f)) at_last at_found
+    read_with g old mid end {H = Fault} last found found (λ last t. last ≡ t.last) (λ found t. ReferenceFactsMatchTables t r found) (λ f. ReferenceFactsAndLastStampMatch r f last) (λ t e f. (e, f)) at_last at_found
 
 -- a record's plan does its command, and its refusal is that of the command
 module _ (r : Reference) (found : ReferenceFacts) (last : Option ℕ) (now : ℕ) (moment : now ≤ greatest_stamp) where

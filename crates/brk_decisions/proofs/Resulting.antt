@@ -22,9 +22,9 @@ use Rattle.brk_trade_theorems.specs.ResultPlans.{ResultFactsMatchTables, PlanRes
 use Rattle.brk_trade_theorems.proofs.ResultDoing.{result_plan_does}
 use Rattle.brk_trade_theorems.proofs.ResultRefusing.{result_refused}
 use Rattle.brk_store.specs.Holds.{ReadPost}
-use Rattle.brk_decisions.specs.Decisions.{DecidesCommand}
+use Rattle.brk_trade_theorems.specs.Plans.{DecidesCommand}
 use Rattle.brk_decisions.specs.ResultFactReads.{AreResultFactsOfTradeWithId, AreLotsOfTradedPosition}
-use Rattle.brk_decisions.proofs.Looking.{read_both}
+use Rattle.brk_store.proofs.Sequences.{read_with}
 
 -- what is planned over lots is planned over those of them that are known to be given
 planned_over : (found : Option ResultPlanFacts) (price : ℕ) (given known : List Lot → Type 0) (last : Option ℕ) (now : ℕ) → ((ls : List Lot) → known ls → given ls) → (result : Result Plan Refusal)
@@ -69,7 +69,7 @@ ResultFactsAndLastStampMatch id last found t = (last ≡ t.last) × AreResultFac
 pub last_and_found : {S E F : Type 0} (g : Ghosts S) (old mid end : Held S) (id : ℕ) (last : Option ℕ) (found : Option ResultPlanFacts)
     → ReadPost {E = E} g old mid (Ok last) (λ last t. last ≡ t.last) → ReadPost {E = F} g mid end (Ok found) (λ found t. AreResultFactsOfTradeWithId t id found) → ReadPost {E = Fault} g old end (Ok found) (ResultFactsAndLastStampMatch id last)
 last_and_found g old mid end id last found at_last at_found =
-    read_both g old mid end {H = Fault} last found found (λ last t. last ≡ t.last) (λ found t. AreResultFactsOfTradeWithId t id found) (ResultFactsAndLastStampMatch id last) (λ t e f. (e, f)) at_last at_found
+    read_with g old mid end {H = Fault} last found found (λ last t. last ≡ t.last) (λ found t. AreResultFactsOfTradeWithId t id found) (ResultFactsAndLastStampMatch id last) (λ t e f. (e, f)) at_last at_found
 
 -- If a trade was found, its quantity is above 0. Vacuous if none was found.
 abbrev pub FoundTradeHasShares : Option ResultPlanFacts → Type 0

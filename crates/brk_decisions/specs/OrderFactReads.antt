@@ -18,7 +18,7 @@ use Rattle.brk_book_theorems.specs.Reads.{customer_tax_rate_sum}
 use Rattle.brk_book_theorems.specs.TradeReads.{commission_band_of_quantity, permission_list_for_tax_id, summary_row_of_position}
 use Rattle.brk_decisions.specs.declared.tested.OrderCheckFacts.{OrderCheckFacts}
 use Rattle.brk_decisions.specs.declared.amounts.Amounts.{Amounts}
-use Rattle.brk_decisions.specs.declared.amounts.ValuedSummaries.{ValuedSummaries}
+use Rattle.brk_store.specs.declared.valuation.ValuedSummaries.{ValuedSummaries}
 
 -- The customer with the id `id` exists in the tables `t`, and its row equals `customer`.
 abbrev pub IsCustomerWithId : Tables → ℕ → Customer → Type 0
@@ -35,23 +35,6 @@ pub record CustomerOrderFactsMatchTables (t : Tables) (order : Order) (customer 
   pub charge : tested.charge ≡ charge_of_type_and_tier t (trade_type_of_order order.order_type) customer.tier
   pub rate : IfSome (security_row_with_symbol t order.symbol) (λ s. tested.rate
       ≡ option_map (λ b. b.rate) (commission_band_of_quantity t customer.tier (trade_type_of_order order.order_type) s.exchange order.qty))
-
--- The market value of a holding summary in cents: its number of shares times the last price of its
--- symbol (0 if there is none). It is below 0 for shares that were sold short.
-abbrev pub market_value_of_summary : Tables → SummaryRow → ℤ
-market_value_of_summary t row = row.qty *ℤ pos (last_price_in_tables t row.symbol)
-
--- The market value of all holding summaries of the account `account`, at last prices, in cents.
--- Shares that were sold short count below 0.
-abbrev pub market_value_of_account : Tables → ℕ → ℤ
-market_value_of_account t account = total_by (market_value_of_summary t) (filter (λ row. row.account == account) t.summaries)
-
--- The rows of `held` equal the holding summaries of the account `account` in the tables `t`, in the
--- order of the table, and its value is the market value of these summaries at last prices, in
--- cents.
-pub record AreValuedSummariesOfAccount (t : Tables) (account : ℕ) (held : ValuedSummaries) : Type 0 where
-  pub rows : map abstract_summary_row held.rows.items ≡ filter (λ r. r.account == account) t.summaries
-  pub value : held.value ≡ market_value_of_account t account
 
 -- `assets` is the balance in the row `account` plus the market value of the account's holdings in
 -- the tables `t`, in cents, and `shares` its number of shares of the security with the symbol

@@ -4,12 +4,10 @@
 ghost use Rattle.std.specs.Prelude.{◌≡◌, IfErr};
 ghost use Rattle.brk_decisions.specs.OrderFactReads.{IsCustomerWithId};
 ghost use Rattle.brk_decisions.specs.ResultFactReads.{AreTotalsOfBroker, IsAccountWithId, IsSecurityWithSymbol};
-ghost use Rattle.brk_model.specs.Joins.{last_price_in_tables};
 ghost use Rattle.brk_model.specs.Run.{IsCallFault};
 ghost use Rattle.brk_store.specs.Holds.{ReadPost};
 
-use crate::tested::read_last_price;
-use brk_money::{Fault, Id, Price};
+use brk_money::{Fault, Id};
 use brk_ref::{AccountRow, Customer, Security, Symbol};
 use brk_store::Store;
 use brk_trade::BrokerTotals;
@@ -51,22 +49,6 @@ pub(crate) fn require_broker_totals<S: Alter>(
 {
     match store.broker_totals(id)? {
         Some(numbers) => Ok(numbers),
-        None => Err(Fault::Store),
-    }
-}
-
-// Returns the last price of a symbol on the market, in cents. If the database is still open, it is
-// unchanged. Fails with `Memory` or `Store` only; with `Store` also if the symbol has no last
-// trade.
-pub(crate) fn require_last_price<S: Alter>(
-    store: &mut Store<S>,
-    symbol: &Symbol,
-) -> Result<Price, Fault>
-    ensures read { ReadPost S.Store store.old store.new result (λ price t. price ≡ last_price_in_tables t symbol.now) }
-    ensures fault { IfErr result IsCallFault }
-{
-    match read_last_price(store, symbol)? {
-        Some(price) => Ok(price),
         None => Err(Fault::Store),
     }
 }

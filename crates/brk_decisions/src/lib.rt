@@ -19,9 +19,7 @@ mod result_finding;
 mod summary_finding;
 mod terms;
 mod tested;
-mod trades_finding;
 
-pub use amounts::read_holdings_value;
 pub use cancel::decide_cancel;
 pub use estimate::decide_estimate;
 pub use feed::decide_feed;
@@ -30,4 +28,3 @@ pub use one_day::decide_settlement_day;
 pub use order::decide_order;
 pub use reference::decide_reference_record;
 pub use result::decide_result;
-pub use trades_finding::read_trades_by_ids;

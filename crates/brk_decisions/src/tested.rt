@@ -38,7 +38,7 @@ pub struct OrderCheckFacts {
 
 // Returns the last price of a symbol on the market, in cents, or `None` if the symbol has no last
 // trade. If the database is still open, it is unchanged. Fails with `Memory` or `Store` only.
-pub(crate) fn read_last_price<S: Alter>(
+fn read_last_price<S: Alter>(
     store: &mut Store<S>,
     symbol: &Symbol,
 ) -> Result<Option<Price>, Fault>

@@ -1,4 +1,5 @@
 pub mod Audits
+pub mod EstimateViews
 pub mod Asked
 pub mod Running
 pub mod Stopping

@@ -9,7 +9,7 @@ use Rattle.brk_model.specs.Keyed.{keyed_step}
 use Rattle.brk_model.specs.Sheets.{sheets}
 use Rattle.brk_invariant_theorems.specs.Runs.{CallMeetsAuditFormats}
 use Rattle.brk_store.specs.Holds.{IsDiskContentOfRows, WasOpenAndIsUnchanged, CrashStatesSatisfy}
-use Rattle.brk_decisions.proofs.Looking.{same_then}
+use Rattle.brk_store.proofs.Sequences.{same_then}
 use Rattle.brk_desk.specs.CrashBases.{AcknowledgesNothing, CrashMayExposeBase}
 use Rattle.brk_commit.proofs.Seen.{still}
 use Rattle.brk_desk.proofs.Stopping.{may_be_there, quiet_leaves, stands_still}

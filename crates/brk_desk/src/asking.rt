@@ -1,8 +1,8 @@
 ghost use Rattle.brk_desk.specs.CallPosts.{AskPost};
 ghost use Rattle.brk_view.specs.Queries.{abstract_query};
 
+use crate::viewing::view_of_query;
 use brk_money::Planned;
-use brk_queries::view_of_query;
 use brk_store::Store;
 use brk_view::{Query, View};
 use sqlite::Alter;

@@ -8,6 +8,7 @@ pub mod call;
 pub mod desk;
 pub mod in_order;
 pub mod reopening;
+mod viewing;
 
 pub use brk_commands::{Command, line_text, parse_row, row_text};
 pub use brk_commit::{Answer, CommandAnswer};

@@ -7,11 +7,10 @@ ghost use Rattle.brk_explain_rows.specs.Details.{AreDetailsOfAccount, abstract_p
 ghost use Rattle.brk_model.specs.Run.{IsCallFault};
 ghost use Rattle.brk_store.specs.Holds.{ReadPost};
 
-use crate::known::read_last_price;
 use brk_changes::SummaryRow;
 use brk_explain_rows::{AccountDetails, PricedHolding};
 use brk_money::{Fault, Id};
-use brk_store::Store;
+use brk_store::{Store, require_last_price};
 use sqlite::Alter;
 use std::alloc::Global;
 
@@ -24,7 +23,7 @@ fn read_priced_holding<S: Alter>(
     ensures read { ReadPost S.Store store.old store.new result (λ held t. abstract_priced_holding held ≡ priced_holding t (abstract_summary_row summary)) }
     ensures fault { IfErr result IsCallFault }
 {
-    let price = read_last_price(store, &summary.symbol)?;
+    let price = require_last_price(store, &summary.symbol)?;
     Ok(PricedHolding { summary, price })
 }
 

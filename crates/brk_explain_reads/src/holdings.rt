@@ -9,12 +9,11 @@ ghost use Rattle.brk_model.specs.Run.{IsCallFault};
 ghost use Rattle.brk_store.specs.Holds.{ReadPost};
 
 use crate::holding_trades::{TradesAndLots, read_trades_and_lots_of_holding};
-use crate::known::read_last_price;
 use brk_changes::SummaryRow;
 use brk_explain_rows::HoldingDetails;
 use brk_money::{Fault, Id, Planned, Price, Refusal};
 use brk_ref::{AccountRow, Security, Symbol};
-use brk_store::Store;
+use brk_store::{Store, require_last_price};
 use sqlite::Alter;
 use std::alloc::Global;
 
@@ -55,7 +54,7 @@ fn read_quantity_and_price<S: Alter>(
     ensures fault { IfErr result IsCallFault }
 {
     let summary = store.summary_of_position(account, symbol)?;
-    let price = read_last_price(store, symbol)?;
+    let price = require_last_price(store, symbol)?;
     Ok(quantity_and_price(quantity_of_summary_or_zero(summary), price))
 }
 

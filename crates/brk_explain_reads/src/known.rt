@@ -2,13 +2,13 @@
 
 ghost use Rattle.std.specs.Prelude.{◌≡◌, ◌==◌, IfErr, Some, find};
 ghost use Rattle.brk_changes.specs.Rows.{abstract_settlement_row, abstract_trade_row};
-ghost use Rattle.brk_model.specs.Joins.{account_row_with_id, last_price_in_tables, security_row_with_symbol, trade_row_with_id};
+ghost use Rattle.brk_model.specs.Joins.{account_row_with_id, security_row_with_symbol, trade_row_with_id};
 ghost use Rattle.brk_model.specs.Run.{IsCallFault};
 ghost use Rattle.brk_ref.specs.Records.{abstract_account_row, abstract_customer, abstract_security_row, abstract_tax_rate};
 ghost use Rattle.brk_store.specs.Holds.{ReadPost};
 
 use brk_changes::{SettlementRow, TradeRow};
-use brk_money::{Fault, Id, Price};
+use brk_money::{Fault, Id};
 use brk_ref::{AccountRow, Customer, Security, Symbol, Tax};
 use brk_store::Store;
 use sqlite::Alter;
@@ -94,21 +94,6 @@ pub(crate) fn read_existing_settlement<S: Alter>(
 {
     match store.settlement(trade)? {
         Some(settlement) => Ok(settlement),
-        None => Err(Fault::Store),
-    }
-}
-
-// Returns the last price of the security with the symbol. Writes nothing. Fails with `Memory` or
-// `Store`; with `Store` also if the security has no last price.
-pub(crate) fn read_last_price<S: Alter>(
-    store: &mut Store<S>,
-    symbol: &Symbol,
-) -> Result<Price, Fault>
-    ensures read { ReadPost S.Store store.old store.new result (λ price t. price ≡ last_price_in_tables t symbol.now) }
-    ensures fault { IfErr result IsCallFault }
-{
-    match store.last_trade(symbol)? {
-        Some(last) => Ok(last.price),
         None => Err(Fault::Store),
     }
 }

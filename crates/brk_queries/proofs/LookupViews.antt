@@ -37,7 +37,7 @@ use Rattle.brk_view_theorems.proofs.LookupRows.{same_lookup}
 use Rattle.brk_queries.specs.LookedUp.{HaveAllRowsOfTrades}
 use Rattle.brk_queries.specs.QueryResults.{AnswersQueryAsModel}
 use Rattle.brk_queries.proofs.Tested.{answered, carried_as, is_missing, is_there, refused}
-use Rattle.brk_decisions.proofs.TradesFound.{twice}
+use Rattle.brk_update_decisions.proofs.TradesFound.{twice}
 use Rattle.brk_queries.proofs.RecentViews.{account_missing, account_there}
 
 -- ---- one trade

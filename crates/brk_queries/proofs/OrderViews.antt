@@ -1,29 +1,20 @@
--- What is at the market, and what an order would come to: what was read is the view of the
--- definitions.
+-- The view of submitted trades.
 use Rattle.std.proofs.Common.{◌≡◌, ◌∙◌, List, [], ◌∷◌, Ok, Err, refl, sym, ap, filter, map}
 use Rattle.std.specs.Global.{Vec}
-use Rattle.brk_plans.specs.Replies.{estimate_from_model}
-use Rattle.brk_plans.specs.declared.estimate.Estimate.{Estimate}
 use Rattle.brk_money.specs.Kinds.{is_same_trade_status}
-use Rattle.brk_money.specs.declared.refusal.Refusal.{Refusal}
 use Rattle.brk_money.specs.declared.status.Status.TheVariants.{Submitted}
 use Rattle.brk_model.specs.Ask.{view_of_base, ask, checks_of_query}
-use Rattle.brk_model.specs.Commands as model
-use Rattle.brk_model.specs.Orders.{estimate}
-use Rattle.brk_model.specs.Queries.{EstimateOf, SubmittedTrades}
-use Rattle.brk_model.specs.Rows.{estimate_fields}
+use Rattle.brk_model.specs.Queries.{SubmittedTrades}
 use Rattle.brk_model.specs.Sheets.{tables_sorted_by_key}
 use Rattle.brk_model.specs.StatusView.{submitted_trades_view}
 use Rattle.brk_model.specs.Tables.{Tables, tables_of_base}
 use Rattle.brk_model.specs.Views.{view_of_tables}
-use Rattle.brk_plans.specs.Replies.{abstract_estimate}
 use Rattle.brk_changes.specs.Rows.{abstract_trade_row}
 use Rattle.brk_changes.specs.declared.trade_row.TradeRow.{TradeRow}
-use Rattle.brk_view.specs.Views.{estimate_record, records_of_view, has_submitted_status}
+use Rattle.brk_view.specs.Views.{records_of_view, has_submitted_status}
 use Rattle.brk_view.specs.declared.view.SubmittedTrade.{SubmittedTrade}
 use Rattle.brk_view.specs.declared.view.View.{View}
 use Rattle.brk_view.specs.declared.view.View.TheVariants as views
-use Rattle.brk_decisions.specs.Decisions.{IsEstimateOfModel}
 use Rattle.brk_queries.specs.QueryResults.{AnswersQueryAsModel}
 use Rattle.brk_queries.proofs.Tested.{carried_as}
 
@@ -36,19 +27,3 @@ submitted_shown rows given trades view e shown view_is t read = (
   λ base books sound s. ap Ok (sym (view_is (tables_of_base base) (ap (map abstract_trade_row) e ∙ read ∙ ap (λ x. filter has_submitted_status x.trades) s))),
   λ base books sound s. carried_as SubmittedTrades view (views.Submitted trades) t shown tt,
 )
-
--- an estimate of the definitions is shown as they show it
-shown_as_told : (e : Estimate) (m : model.Estimate) → e ≡ estimate_from_model m → estimate_fields (abstract_estimate e) ≡ estimate_record e
-shown_as_told e m is = rw is refl
-
--- an estimate that was told is the view of its order, and so is its refusal
-pub estimate_shown : (order : model.Order) (e : Estimate) (t : Tables) → IsEstimateOfModel order (Ok e) t → AnswersQueryAsModel (EstimateOf order) (Ok (views.Estimate e)) t
-estimate_shown order e t tells = (
-  λ base books sound s.
-      let it = tells base books s in
-      it.1 ∙ ap (λ fields. Ok (fields ∷ [])) (shown_as_told e (estimate base order) it.0),
-  λ base books sound s. tt,
-)
-
-pub estimate_refused : (order : model.Order) (refusal : Refusal) (t : Tables) → IsEstimateOfModel order (Err refusal) t → AnswersQueryAsModel (EstimateOf order) (Err refusal) t
-estimate_refused order refusal t tells = (λ base books sound s. tells base books s, tt)

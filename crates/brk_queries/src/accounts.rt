@@ -8,10 +8,9 @@ ghost use Rattle.brk_ref.specs.Records.{abstract_account_row};
 ghost use Rattle.brk_store.specs.Holds.{ReadPost};
 ghost use Rattle.brk_view.specs.Worths.{worth_of_account};
 
-use brk_decisions::read_holdings_value;
 use brk_money::{Fault, Id, Planned, Refusal};
 use brk_ref::{AccountRow, TaxId};
-use brk_store::Store;
+use brk_store::{Store, read_holdings_value};
 use brk_view::{AccountWorth, View, position};
 use sqlite::Alter;
 use std::alloc::Global;
@@ -56,11 +55,11 @@ fn read_balances_and_market_values<S: Alter>(
     Ok(worths)
 }
 
-// Returns the view of the balances and the market values of the accounts of the customer with the
-// id `customer`, sorted by market value, then by id, ascending. Refuses with `NoCustomer` if there
-// is no such customer. If the database is still open, it is unchanged. Fails with `Memory` or
-// `Store` only; with `Store` also if a held symbol has no last price or a sum overflows.
-pub(crate) fn view_of_account_values<S: Alter>(
+/// Returns the view of the balances and the market values of the accounts of the customer with the
+/// id `customer`, sorted by market value, then by id, ascending. Refuses with `NoCustomer` if there
+/// is no such customer. If the database is still open, it is unchanged. Fails with `Memory` or
+/// `Store` only; with `Store` also if a held symbol has no last price or a sum overflows.
+pub fn view_of_account_values<S: Alter>(
     alloc: Global,
     store: &mut Store<S>,
     customer: Id,
@@ -76,11 +75,11 @@ pub(crate) fn view_of_account_values<S: Alter>(
     Ok(Ok(view))
 }
 
-// Returns the view of the balances and the market values of the accounts of the customer with the
-// tax id `tax_id`, sorted by market value, then by id, ascending. Refuses with `NoCustomer` if
-// there is no such customer. If the database is still open, it is unchanged. Fails with `Memory` or
-// `Store` only; with `Store` also if a held symbol has no last price or a sum overflows.
-pub(crate) fn view_of_account_values_by_tax_id<S: Alter>(
+/// Returns the view of the balances and the market values of the accounts of the customer with the
+/// tax id `tax_id`, sorted by market value, then by id, ascending. Refuses with `NoCustomer` if
+/// there is no such customer. If the database is still open, it is unchanged. Fails with `Memory` or
+/// `Store` only; with `Store` also if a held symbol has no last price or a sum overflows.
+pub fn view_of_account_values_by_tax_id<S: Alter>(
     alloc: Global,
     store: &mut Store<S>,
     tax_id: &TaxId,

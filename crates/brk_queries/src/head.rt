@@ -3,10 +3,9 @@ ghost use Rattle.brk_queries.specs.Heads.{IsStatementHeadOfAccount};
 ghost use Rattle.brk_model.specs.Run.{IsCallFault};
 ghost use Rattle.brk_store.specs.Holds.{ReadPost};
 
-use brk_decisions::read_holdings_value;
 use brk_money::{Cents, Fault, Id, Wide};
 use brk_ref::Name;
-use brk_store::Store;
+use brk_store::{Store, read_holdings_value};
 use sqlite::Alter;
 use std::alloc::Global;
 

@@ -2,16 +2,21 @@
 //! figures of an account's statement that are not rows.
 #![tactic(auto)]
 
-mod accounts;
+pub mod accounts;
 pub mod head;
-pub mod looking;
-mod lookups;
-mod lots;
-mod orders;
+pub mod lookups;
+pub mod lots;
+pub mod orders;
 mod parties;
-mod recents;
-mod statuses;
-mod volumes;
+pub mod recents;
+pub mod statuses;
+pub mod volumes;
 
+pub use accounts::{view_of_account_values, view_of_account_values_by_tax_id};
 pub use head::{StatementHead, read_statement_head};
-pub use looking::view_of_query;
+pub use lookups::{view_of_account_trades, view_of_symbol_trades, view_of_trades_by_ids};
+pub use lots::view_of_touched_lots;
+pub use orders::view_of_submitted_trades;
+pub use recents::view_of_recent_trades;
+pub use statuses::view_of_account_status;
+pub use volumes::view_of_broker_volumes;

@@ -9,11 +9,11 @@ ghost use Rattle.brk_model.specs.Run.{IsCallFault};
 ghost use Rattle.brk_store.specs.Holds.{ReadPost};
 ghost use Rattle.brk_store.specs.ReadSequences.{ReadSequencePost};
 
-use brk_decisions::read_trades_by_ids;
 use brk_money::{Fault, Id, Planned, Refusal};
 use brk_orders::Span;
 use brk_ref::Symbol;
 use brk_store::Store;
+use brk_update_decisions::read_trades_by_ids;
 use brk_trade::TradeRow;
 use brk_view::{
     LookedUp, NamedTrades, View, create_looked_up_trade, lookup_account, lookup_ids, lookup_symbol,
@@ -62,10 +62,10 @@ fn read_all_rows_of_trades<S: Alter>(
     Ok(found)
 }
 
-// Returns the view of the trades with the ids in `trades`, the oldest first, each with its
-// settlement, cash row and history. Refuses with `NoTrade` if one of the trades does not exist. If
-// the database is still open, it is unchanged. Fails with `Memory` or `Store` only.
-pub(crate) fn view_of_trades_by_ids<S: Alter>(
+/// Returns the view of the trades with the ids in `trades`, the oldest first, each with its
+/// settlement, cash row and history. Refuses with `NoTrade` if one of the trades does not exist. If
+/// the database is still open, it is unchanged. Fails with `Memory` or `Store` only.
+pub fn view_of_trades_by_ids<S: Alter>(
     alloc: Global,
     store: &mut Store<S>,
     trades: &NamedTrades,
@@ -83,11 +83,11 @@ pub(crate) fn view_of_trades_by_ids<S: Alter>(
     Ok(Ok(lookup_ids(found)))
 }
 
-// Returns the view of the first 20 trades of an account whose stamps are in `span`, both ends
-// included, the oldest first, each with its settlement, cash row and history. Refuses with
-// `NoAccount` if the account does not exist. If the database is still open, it is unchanged. Fails
-// with `Memory` or `Store` only.
-pub(crate) fn view_of_account_trades<S: Alter>(
+/// Returns the view of the first 20 trades of an account whose stamps are in `span`, both ends
+/// included, the oldest first, each with its settlement, cash row and history. Refuses with
+/// `NoAccount` if the account does not exist. If the database is still open, it is unchanged. Fails
+/// with `Memory` or `Store` only.
+pub fn view_of_account_trades<S: Alter>(
     alloc: Global,
     store: &mut Store<S>,
     account: Id,
@@ -104,11 +104,11 @@ pub(crate) fn view_of_account_trades<S: Alter>(
     Ok(Ok(lookup_account(found)))
 }
 
-// Returns the view of the first 20 trades of a symbol whose stamps are in `span`, both ends
-// included, the oldest first, each with its settlement, cash row and history. Refuses with
-// `NoSecurity` if the security does not exist. If the database is still open, it is unchanged.
-// Fails with `Memory` or `Store` only.
-pub(crate) fn view_of_symbol_trades<S: Alter>(
+/// Returns the view of the first 20 trades of a symbol whose stamps are in `span`, both ends
+/// included, the oldest first, each with its settlement, cash row and history. Refuses with
+/// `NoSecurity` if the security does not exist. If the database is still open, it is unchanged.
+/// Fails with `Memory` or `Store` only.
+pub fn view_of_symbol_trades<S: Alter>(
     alloc: Global,
     store: &mut Store<S>,
     symbol: &Symbol,

@@ -74,13 +74,13 @@ fn read_changes_of_touched_lots<S: Alter>(
     })
 }
 
-// Returns the view of the lots that one trade touched, the oldest trade of the account whose last
-// status has the stamp `first` or a later one (of equally old trades the one with the least id):
-// the first 20 changes of these lots, sorted by stamp, then by lot, ascending. Without such a trade
-// the view has no record. Refuses with `NoAccount` if the account does not exist. If the database
-// is still open, it is unchanged. Fails with `Memory` or `Store` only; with `Store` also if a trade
-// that made one of the changes does not exist.
-pub(crate) fn view_of_touched_lots<S: Alter>(
+/// Returns the view of the lots that one trade touched, the oldest trade of the account whose last
+/// status has the stamp `first` or a later one (of equally old trades the one with the least id):
+/// the first 20 changes of these lots, sorted by stamp, then by lot, ascending. Without such a trade
+/// the view has no record. Refuses with `NoAccount` if the account does not exist. If the database
+/// is still open, it is unchanged. Fails with `Memory` or `Store` only; with `Store` also if a trade
+/// that made one of the changes does not exist.
+pub fn view_of_touched_lots<S: Alter>(
     alloc: Global,
     store: &mut Store<S>,
     account: Id,

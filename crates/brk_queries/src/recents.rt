@@ -49,10 +49,10 @@ fn read_recent_trades_with_history<S: Alter>(
     Ok((trades, history))
 }
 
-// Returns the view of the last ten trades of an account, the most recent first, with their status
-// changes. Refuses with `NoAccount` if the account does not exist. If the database is still open,
-// it is unchanged. Fails with `Memory` or `Store` only.
-pub(crate) fn view_of_recent_trades<S: Alter>(
+/// Returns the view of the last ten trades of an account, the most recent first, with their status
+/// changes. Refuses with `NoAccount` if the account does not exist. If the database is still open,
+/// it is unchanged. Fails with `Memory` or `Store` only.
+pub fn view_of_recent_trades<S: Alter>(
     alloc: Global,
     store: &mut Store<S>,
     account: Id,

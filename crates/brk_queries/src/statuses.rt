@@ -86,11 +86,11 @@ fn read_recent_trades_with_securities<S: Alter>(
     Ok(statuses)
 }
 
-// Returns the view of the names of an account's customer and broker, and of its last fifty trades,
-// the most recent first, with their securities. Refuses with `NoAccount` if the account does not
-// exist. If the database is still open, it is unchanged. Fails with `Memory` or `Store` only; with
-// `Store` also if the customer, the broker or one of the securities does not exist.
-pub(crate) fn view_of_account_status<S: Alter>(
+/// Returns the view of the names of an account's customer and broker, and of its last fifty trades,
+/// the most recent first, with their securities. Refuses with `NoAccount` if the account does not
+/// exist. If the database is still open, it is unchanged. Fails with `Memory` or `Store` only; with
+/// `Store` also if the customer, the broker or one of the securities does not exist.
+pub fn view_of_account_status<S: Alter>(
     alloc: Global,
     store: &mut Store<S>,
     account: Id,

@@ -163,11 +163,11 @@ fn read_volumes_of_brokers_named<S: Alter>(
     Ok(found)
 }
 
-// Returns the view of the volumes in the sector, in cents, of the brokers with the names `names`
-// that have a pending request for a security in it, sorted by volume, descending, then by name and
-// id, ascending. Never refuses. If the database is still open, it is unchanged. Fails with `Memory`
-// or `Store` only.
-pub(crate) fn view_of_broker_volumes<S: Alter>(
+/// Returns the view of the volumes in the sector, in cents, of the brokers with the names `names`
+/// that have a pending request for a security in it, sorted by volume, descending, then by name and
+/// id, ascending. Never refuses. If the database is still open, it is unchanged. Fails with `Memory`
+/// or `Store` only.
+pub fn view_of_broker_volumes<S: Alter>(
     alloc: Global,
     store: &mut Store<S>,
     sector: &Name,

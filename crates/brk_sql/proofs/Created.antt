@@ -4,7 +4,7 @@ use Rattle.std.specs.List.{position_from, AllByRecursion}
 use Rattle.sqlite_trees.specs.Tree.{Trees}
 use Rattle.sqlite_schema.specs.declared.schema.Schema.{Schema}
 use Rattle.sqlite_schema.specs.declared.schema.Table.{Table}
-use Rattle.sqlite_schema.specs.Names.{same_name, table_named, index_named, view_name_from_text}
+use Rattle.sqlite_schema.specs.Names.{same_name, table_named, index_named, view_named}
 use Rattle.sqlite_catalog.specs.Change.{created, next_tree, is_used, KeepsRows}
 use Rattle.brk_sql.specs.Desk.{IsTableAt, CreatesTableOfShape, has_no_writing_foreign_keys}
 use Rattle.std.specs.List.{list_all}
@@ -74,7 +74,7 @@ unused (Some x) b c h = absurd (cc)
 
 pub comes : (schema after : Schema) (table : Table) → same_name table.name table.name ≡ true → is_used schema table.name ≡ false → after.tables ≡ schema.tables ++ table ∷ [] → IsTableAt after table (length schema.tables)
 comes schema after table same free is = record {
-  named = rw is (position_new (λ t. same_name t.name table.name) schema.tables table 0 (unused (table_named schema table.name) (is_some (index_named schema table.name)) (is_some (view_name_from_text schema table.name)) free) same ∙ ap Some (omega arith));
+  named = rw is (position_new (λ t. same_name t.name table.name) schema.tables table 0 (unused (table_named schema table.name) (is_some (index_named schema table.name)) (is_some (view_named schema table.name)) free) same ∙ ap Some (omega arith));
   found = rw is (got_last schema.tables table);
 }
 
@@ -86,9 +86,9 @@ pub creates_or : (schema : Schema) (text : List ℕ) (p : Parsed) (def : CreateT
     → (compiled schema text ≡ Ok (meant p [] MakeTable)) ⊎ ((e : CompileError) × (compiled schema text ≡ Err e) × (misses_table (Err e) ≡ false))
 unfolding compiled planned timed meaning returning command create_table creates
 creates_or schema text p def table is statement untimed defined fits fresh =
-    go (is_attached schema def.name) refl (is_reserved def.name) refl (index_named schema def.name) refl (option_or (table_named schema def.name) (view_name_from_text schema def.name)) refl
+    go (is_attached schema def.name) refl (is_reserved def.name) refl (index_named schema def.name) refl (option_or (table_named schema def.name) (view_named schema def.name)) refl
   where
-    go : (a : Bool) → is_attached schema def.name ≡ a → (r : Bool) → is_reserved def.name ≡ r → (i : Option ℕ) → index_named schema def.name ≡ i → (t : Option ℕ) → option_or (table_named schema def.name) (view_name_from_text schema def.name) ≡ t
+    go : (a : Bool) → is_attached schema def.name ≡ a → (r : Bool) → is_reserved def.name ≡ r → (i : Option ℕ) → index_named schema def.name ≡ i → (t : Option ℕ) → option_or (table_named schema def.name) (view_named schema def.name) ≡ t
         → (compiled schema text ≡ Ok (meant p [] MakeTable)) ⊎ ((e : CompileError) × (compiled schema text ≡ Err e) × (misses_table (Err e) ≡ false))
     go true a r rs i is' t ts = inr (Unsupported, rw (is, statement, untimed, a), refl)
     go false a true rs i is' t ts = inr (Misuse, rw (is, statement, untimed, a, rs), refl)

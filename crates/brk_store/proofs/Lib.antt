@@ -15,3 +15,5 @@ pub mod Turning
 pub mod WalkedLists
 pub mod Walking
 pub mod Sequences
+pub mod ReadResults
+pub mod Valuation

@@ -1,11 +1,20 @@
 -- Reads one after another: two reads, any number of them, and none.
-use Rattle.std.proofs.Common.{Result, Ok, Err, IsTrue}
+use Rattle.std.proofs.Common.{◌∙◌, Result, Ok, Err, IsTrue}
 use Rattle.sqlite_trees.specs.declared.store.Store.{Ghosts}
 use Rattle.sqlite.specs.Held.{Held, state}
-use Rattle.sqlite.specs.State.{HasCleanDisk}
+use Rattle.sqlite.specs.State.{State, HasCleanDisk, Survives}
+use Rattle.sqlite.proofs.StateLemmas.{survives_then}
 use Rattle.brk_model.specs.Tables.{Tables}
-use Rattle.brk_store.specs.Holds.{HoldsRows, ReadPost}
+use Rattle.brk_store.specs.Holds.{HoldsRows, ReadPost, WasOpenAndIsUnchanged}
 use Rattle.brk_store.specs.ReadSequences.{IsUnchangedByReads, ReadSequencePost, disk_was_clean_before_reads, joined_reads_change_nothing, empty_read_sequence_changes_nothing, single_read_changes_nothing}
+
+-- Two calls that change nothing, one after the other, change nothing.
+pub same_then : (a b c : State) → WasOpenAndIsUnchanged a b → WasOpenAndIsUnchanged b c → WasOpenAndIsUnchanged a c
+same_then a b c f s = record { was_open = f.was_open; now = s.now ∙ f.now; committed = s.committed ∙ f.committed }
+
+-- A call that exposes nothing new at a crash, before another.
+pub none_then : (a b c : State) (P : _) → Survives a b (λ _. ⊥) → Survives b c P → Survives a c P
+none_then a b c P f s = survives_then a b c (λ _. ⊥) P P (λ _ db none. absurd none) (λ _ db p. p) f s
 
 module _ {S : Type 0} (g : Ghosts S) where
   -- no read
@@ -74,3 +83,11 @@ module _ {S : Type 0} (g : Ghosts S) where
     pub read_then_failed : {V W X E F H : Type 0} (v : V) (result : Result W F) (e : H) (P : V → Tables → Type 0) (Q : W → Tables → Type 0) (R : X → Tables → Type 0)
         → ReadPost {E = E} g old mid (Ok v) P → ReadSequencePost g mid end result Q → ReadPost {E = H} g old end (Err e) R
     read_then_failed v result e P Q R first next = none_read old end e R (joined_reads_change_nothing old mid end (single_read_changes_nothing old mid (Ok v) P first) next.unchanged)
+
+    -- one more read changes nothing either
+    pub unchanged_after : {V E : Type 0} (result : Result V E) (P : V → Tables → Type 0) → IsUnchangedByReads g old mid → ReadPost g mid end result P → IsUnchangedByReads g old end
+    unchanged_after result P before next = joined_reads_change_nothing old mid end before (single_read_changes_nothing mid end result P next)
+
+    -- where a read after others fails, they changed nothing
+    pub failed_after : {V X E H : Type 0} (result : Result V E) (e : H) (P : V → Tables → Type 0) (R : X → Tables → Type 0) → IsUnchangedByReads g old mid → ReadPost g mid end result P → ReadPost {E = H} g old end (Err e) R
+    failed_after result e P R before next = none_read old end e R (unchanged_after result P before next)

@@ -7,3 +7,4 @@ pub mod Walked
 pub mod Calling
 pub mod Pages
 pub mod RemainingLots
+pub mod Valuation

@@ -1,2 +1,3 @@
 mod Deciding
 pub mod Found
+pub mod TradesFound

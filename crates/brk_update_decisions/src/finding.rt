@@ -10,7 +10,7 @@ ghost use Rattle.brk_update_theorems.specs.Corrections.{CashTextsMatchTables, Se
 ghost use Rattle.brk_orders.specs.declared.update.Update.TheVariants as update;
 
 use crate::known::{require_cash_name, require_cash_type};
-use brk_decisions::read_trades_by_ids;
+use crate::trades_finding::read_trades_by_ids;
 use brk_money::{Fault, Id};
 use brk_orders::{Span, TradeIds};
 use brk_ref::{Name, Symbol};

@@ -5,5 +5,7 @@
 pub mod correcting;
 mod finding;
 mod known;
+mod trades_finding;
 
 pub use correcting::decide_update;
+pub use trades_finding::read_trades_by_ids;

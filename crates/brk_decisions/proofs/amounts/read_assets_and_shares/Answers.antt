@@ -2,7 +2,8 @@ use Rattle.std.proofs.Common.{◌∙◌, ◌+ℤ◌, ◌==◌, ℤ, Option, ap, 
 use Rattle.std.specs.Prelude.{bytes_eq}
 use Rattle.brk_changes.specs.Rows.{abstract_summary_row}
 use Rattle.brk_model.specs.Tables.{SummaryRow, Tables}
-use Rattle.brk_decisions.specs.OrderFactReads.{AreAssetsAndSharesOfAccount, AreValuedSummariesOfAccount}
+use Rattle.brk_decisions.specs.OrderFactReads.{AreAssetsAndSharesOfAccount}
+use Rattle.brk_store.specs.Valuation.{AreValuedSummariesOfAccount}
 use Rattle.brk_store.proofs.Retelling.{retold}
 use Rattle.brk_decisions.proofs.OrderFinds.{find-filter}
 use Rattle.brk_decisions.proofs.amounts.read_assets_and_shares.Goals as goal

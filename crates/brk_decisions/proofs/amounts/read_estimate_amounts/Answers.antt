@@ -4,7 +4,7 @@ use Rattle.brk_model.specs.Tables.{Tables}
 use Rattle.brk_book_theorems.specs.Reads.{customer_tax_rate_sum}
 use Rattle.brk_decisions.specs.OrderFactReads.{AreAssetsAndSharesOfAccount, EstimateAmountsMatchTables}
 use Rattle.brk_decisions.specs.declared.amounts.Amounts.{Amounts}
-use Rattle.brk_decisions.proofs.Looking.{failed_after, read_both}
+use Rattle.brk_store.proofs.Sequences.{failed_after, read_with}
 use Rattle.std.proofs.lemmas.Result.{err_from_is_err_and}
 use Rattle.brk_store.specs.ReadSequences.{single_read_changes_nothing}
 use Rattle.brk_decisions.proofs.amounts.read_estimate_amounts.Goals as goal
@@ -17,7 +17,7 @@ returns-clause-read g c =
     let assets = c.in_ok-assets.assets in
     let summary = c.in_ok-assets.summary in
     let amounts : Amounts = record { rates = rates; assets = assets; summary = summary } in
-    read_both g.S.Store c.args.store.now c.read_tax_rate_sum.new.store c.read_assets_and_shares.new.store {H = Fault} rates (assets, summary) amounts
+    read_with g.S.Store c.args.store.now c.read_tax_rate_sum.new.store c.read_assets_and_shares.new.store {H = Fault} rates (assets, summary) amounts
     (λ rates (t : Tables). rates ≡ customer_tax_rate_sum t account.account.customer)
     (λ (held : ℤ × Option ℤ) (t : Tables). AreAssetsAndSharesOfAccount t account order.symbol held.0 held.1)
     (λ amounts (t : Tables). EstimateAmountsMatchTables t account order amounts)

@@ -11,7 +11,7 @@ use Rattle.brk_trade_theorems.proofs.Quotes.{no_quotes}
 use Rattle.brk_store.specs.Holds.{ReadPost}
 use Rattle.brk_decisions.proofs.Feeds.{IsQuoteOfTickOrNone, QuotesAndLastStampMatch, one_quoted, one_not_listed, one_read}
 use Rattle.brk_store.proofs.Retelling.{retold}
-use Rattle.brk_decisions.proofs.Looking.{failed_after, read_both, read_failed}
+use Rattle.brk_store.proofs.Sequences.{failed_after, read_failed, read_with}
 use Rattle.brk_store.specs.ReadSequences.{single_read_changes_nothing}
 use Rattle.brk_decisions.proofs.feed.read_last_stamp_and_quotes.Goals as goal
 use Rattle.brk_decisions.proofs.feed.read_last_stamp_and_quotes.Goals.{then-has_no_quote_of_symbol+in_ok-quote+in-Some+in_ok-push, then-has_no_quote_of_symbol+in_ok-quote+in_default, else-has_no_quote_of_symbol}
@@ -38,13 +38,13 @@ loop-tick-preserved g c =
     elim c.if-has_no_quote_of_symbol.branch [
       | then-has_no_quote_of_symbol+in_ok-quote+in-Some+in_ok-push w ↦
           rw (w.store-is, w.quotes-is, w.in_ok-push.ensures.items)
-          (read_both g.S.Store c.args.store.now c.loop-tick.store w.read_quote_of_tick.new.store {X = Unit {0}} {H = Fault} tt (Some w.in-Some.quote) tt
+          (read_with g.S.Store c.args.store.now c.loop-tick.store w.read_quote_of_tick.new.store {X = Unit {0}} {H = Fault} tt (Some w.in-Some.quote) tt
           (λ _. QuotesAndLastStampMatch ticks (take i ticks) (states_of_quotes before) last) (IsQuoteOfTickOrNone ticks tick) (λ _. QuotesAndLastStampMatch ticks (take i ticks ++ tick ∷ []) (states_of_quotes (before ++ w.in-Some.quote ∷ [])) last)
           (one_read ticks (take i ticks) tick before last w.in-Some.quote (i, c.loop-tick-test.true, sym c.tick-item.is) (lacks ∙ w.if-has_no_quote_of_symbol.true))
           c.loop-tick.invariant (rw w.in-Some.is at w.in_ok-quote.ensures.read))
       | then-has_no_quote_of_symbol+in_ok-quote+in_default w ↦
           rw (w.store-is, w.quotes-is)
-          (read_both g.S.Store c.args.store.now c.loop-tick.store w.read_quote_of_tick.new.store {W = Option Quote} {X = Unit {0}} {H = Fault} tt None tt
+          (read_with g.S.Store c.args.store.now c.loop-tick.store w.read_quote_of_tick.new.store {W = Option Quote} {X = Unit {0}} {H = Fault} tt None tt
           (λ _. QuotesAndLastStampMatch ticks (take i ticks) (states_of_quotes before) last) (IsQuoteOfTickOrNone ticks tick) (λ _. QuotesAndLastStampMatch ticks (take i ticks ++ tick ∷ []) (states_of_quotes before) last)
           (one_not_listed ticks (take i ticks) tick before last)
           c.loop-tick.invariant (rw w.in_default.is at w.in_ok-quote.ensures.read))

@@ -9,10 +9,9 @@ use Rattle.brk_book_theorems.specs.TradeReads.{last_trade_row_of_symbol}
 use Rattle.brk_trade_theorems.proofs.Waiting.{limit_buys, limit_sells, stop_losses}
 use Rattle.brk_decisions.proofs.Feeds.{IsQuoteOfTickOrNone, selected_quote}
 use Rattle.brk_store.proofs.Retelling.{retold}
-use Rattle.brk_decisions.proofs.Looking.{failed_after, read_both, unchanged_after}
 use Rattle.std.proofs.lemmas.Result.{err_from_is_err_and}
 use Rattle.brk_store.specs.ReadSequences.{single_read_changes_nothing}
-use Rattle.brk_store.proofs.Sequences.{none_read}
+use Rattle.brk_store.proofs.Sequences.{failed_after, none_read, read_with, unchanged_after}
 use Rattle.brk_decisions.proofs.feed.read_quote_of_tick.Goals as goal
 
 pub returns-in_default-clause-read : goal.returns-in_default-clause-read
@@ -37,13 +36,13 @@ returns-clause-read g c =
     let lost : Tables → Type 0 = λ t. map abstract_request_row losses.items ≡ stop_losses t symbol span in
     let sold : Tables → Type 0 = λ t. map abstract_request_row sells.items ≡ limit_sells t symbol span in
     let one =
-    read_both g.S.Store c.args.store.now c.last_trade.new.self c.requests_at_or_above.new.self {X = Unit {0}} {H = Fault} (Some last) losses tt
+    read_with g.S.Store c.args.store.now c.last_trade.new.self c.requests_at_or_above.new.self {X = Unit {0}} {H = Fault} (Some last) losses tt
     (λ o (t : Tables). option_map abstract_last_trade_row o ≡ last_trade_row_of_symbol t symbol) (λ all (t : Tables). map abstract_request_row all.items ≡ stop_losses t symbol span) (λ _ t. found t × lost t) (λ t e f. (e, f))
     (rw c.in-Some.is at c.in_ok-last.ensures.read) c.in_ok-losses.ensures.read in
     let two =
-    read_both g.S.Store c.args.store.now c.requests_at_or_above.new.self c.requests_at_or_below.new.self {X = Unit {0}} {H = Fault} tt sells tt
+    read_with g.S.Store c.args.store.now c.requests_at_or_above.new.self c.requests_at_or_below.new.self {X = Unit {0}} {H = Fault} tt sells tt
     (λ _ t. found t × lost t) (λ all (t : Tables). map abstract_request_row all.items ≡ limit_sells t symbol span) (λ _ t. (found t × lost t) × sold t) (λ t e f. (e, f)) one c.in_ok-sells.ensures.read in
-    read_both g.S.Store c.args.store.now c.requests_at_or_below.new.self c.requests_at_or_above-2.new.self {X = Option Quote} {H = Fault} tt buys (Some quote)
+    read_with g.S.Store c.args.store.now c.requests_at_or_below.new.self c.requests_at_or_above-2.new.self {X = Option Quote} {H = Fault} tt buys (Some quote)
     (λ _ t. (found t × lost t) × sold t) (λ all (t : Tables). map abstract_request_row all.items ≡ limit_buys t symbol span) (IsQuoteOfTickOrNone ticks tick)
     (λ t e f. selected_quote t tick ticks span last losses.items sells.items buys.items quote c.first_symbol_price_span-span.ensures e.0.0 e.0.1 e.1 f c.in_ok-quote.ensures.last c.in_ok-quote.ensures.requests c.in_ok-quote.ensures.order)
     two c.in_ok-buys.ensures.read

@@ -5,7 +5,7 @@ use Rattle.brk_model.specs.Tables.{Tables}
 use Rattle.brk_plans.specs.declared.reference.ReferenceFacts.{ReferenceFacts}
 use Rattle.brk_book_theorems.specs.Reads.{account_count_of_customer}
 use Rattle.brk_trade_theorems.specs.Found.{AccountFactsMatchTables}
-use Rattle.brk_decisions.proofs.Looking.{failed_after, read_both, unchanged_after}
+use Rattle.brk_store.proofs.Sequences.{failed_after, read_with, unchanged_after}
 use Rattle.std.proofs.lemmas.Result.{err_from_is_err_and}
 use Rattle.brk_store.specs.ReadSequences.{single_read_changes_nothing}
 use Rattle.brk_decisions.proofs.finding.read_account_facts.Goals as goal
@@ -22,14 +22,14 @@ returns-clause-read g c =
     let customer_read : Tables → Type 0 = λ t. customer ≡ has_customer t account.customer in
     let broker_read : Tables → Type 0 = λ t. broker ≡ has_broker t account.broker in
     let one =
-    read_both g.S.Store old c.account_exists.new.store c.customer_exists.new.store {X = Unit {0}} {H = Fault} same_id customer tt
+    read_with g.S.Store old c.account_exists.new.store c.customer_exists.new.store {X = Unit {0}} {H = Fault} same_id customer tt
     (λ there (t : Tables). there ≡ has_account t account.id) (λ there (t : Tables). there ≡ has_customer t account.customer) (λ _ t. id_read t × customer_read t) (λ t a b. (a, b))
     c.in_ok-same_id.ensures.read c.in_ok-customer.ensures.read in
     let two =
-    read_both g.S.Store old c.customer_exists.new.store c.broker_exists.new.store {X = Unit {0}} {H = Fault} tt broker tt
+    read_with g.S.Store old c.customer_exists.new.store c.broker_exists.new.store {X = Unit {0}} {H = Fault} tt broker tt
     (λ _ t. id_read t × customer_read t) (λ there (t : Tables). there ≡ has_broker t account.broker) (λ _ t. (id_read t × customer_read t) × broker_read t) (λ t a b. (a, b))
     one c.in_ok-broker.ensures.read in
-    read_both g.S.Store old c.broker_exists.new.store c.count_accounts.new.store {H = Fault} tt accounts _
+    read_with g.S.Store old c.broker_exists.new.store c.count_accounts.new.store {H = Fault} tt accounts _
     (λ _ t. (id_read t × customer_read t) × broker_read t) (λ count (t : Tables). count ≡ account_count_of_customer t account.customer)
     (λ (found : ReferenceFacts) (t : Tables). AccountFactsMatchTables t account.id account.customer account.broker found)
     (λ t k n. record { same_id = k.0.0; customer_there = k.0.1; broker_there = k.1; count = n })

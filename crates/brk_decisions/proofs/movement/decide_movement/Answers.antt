@@ -1,10 +1,10 @@
 use Rattle.brk_orders.specs.Records.{movement_command}
-use Rattle.brk_decisions.specs.Decisions.{DecidesCommand}
-use Rattle.brk_decisions.proofs.Deciding.{decided}
+use Rattle.brk_trade_theorems.specs.Plans.{DecidesCommand}
+use Rattle.brk_store.proofs.ReadResults.{decided}
 use Rattle.brk_decisions.proofs.Moves.{MovementFactsAndLastStampMatch, last_and_found, move_decided}
 use Rattle.std.proofs.lemmas.Result.{err_from_is_err_and}
 use Rattle.brk_store.specs.ReadSequences.{single_read_changes_nothing}
-use Rattle.brk_decisions.proofs.Looking.{failed_after}
+use Rattle.brk_store.proofs.Sequences.{failed_after}
 use Rattle.brk_decisions.proofs.movement.decide_movement.Goals as goal
 
 pub returns-clause-read : goal.returns-clause-read

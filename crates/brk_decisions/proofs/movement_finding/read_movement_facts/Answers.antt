@@ -4,7 +4,7 @@ use Rattle.brk_model.specs.Tables.{Tables}
 use Rattle.brk_plans.specs.declared.movement.MovementPlanFacts.{MovementPlanFacts}
 use Rattle.brk_book_theorems.specs.TradeReads.{last_cash_row_number_or_zero}
 use Rattle.brk_trade_theorems.specs.MovePlans.{MovementFactsMatchTables}
-use Rattle.brk_decisions.proofs.Looking.{failed_after, read_both}
+use Rattle.brk_store.proofs.Sequences.{failed_after, read_with}
 use Rattle.brk_decisions.proofs.Moves.{IsBalanceOfAccount, IsTrueIfMovementsAreMaximum}
 use Rattle.std.proofs.lemmas.Result.{err_from_is_err_and}
 use Rattle.brk_store.specs.ReadSequences.{single_read_changes_nothing}
@@ -17,7 +17,7 @@ returns-clause-read g c =
     let next = c.in_ok-next.next in
     let all = c.in_ok-next.has_all_movements in
     let found : MovementPlanFacts = record { balance = balance; has_all_movements = all; next = next } in
-    read_both g.S.Store c.args.store.now c.account_balance.new.self c.next_movement_number_and_limit.new.self {H = Fault} balance (next, all) found
+    read_with g.S.Store c.args.store.now c.account_balance.new.self c.next_movement_number_and_limit.new.self {H = Fault} balance (next, all) found
     (IsBalanceOfAccount m.account)
     (λ (number : ℕ × Bool) (t : Tables). (number.0 ≡ last_cash_row_number_or_zero t + 1) × IsTrueIfMovementsAreMaximum number.1 t)
     (λ found (t : Tables). MovementFactsMatchTables t m found)

@@ -2,12 +2,12 @@ use Rattle.std.proofs.Common.{rules}
 use Rattle.brk_model.specs.Commands.{PlaceOrder}
 use Rattle.brk_orders.specs.Records.{abstract_order}
 use Rattle.brk_store.specs.Holds.{HoldsRows}
-use Rattle.brk_decisions.specs.Decisions.{DecidesCommand}
-use Rattle.brk_decisions.proofs.Deciding.{decided_on, read_at}
+use Rattle.brk_trade_theorems.specs.Plans.{DecidesCommand}
+use Rattle.brk_store.proofs.ReadResults.{decided_on, read_at}
 use Rattle.brk_decisions.proofs.Ordering.{OrderFactsAndLastStampMatch, order_decided, order_read}
 use Rattle.std.proofs.lemmas.Result.{err_from_is_err_and}
 use Rattle.brk_store.specs.ReadSequences.{single_read_changes_nothing}
-use Rattle.brk_decisions.proofs.Looking.{failed_after}
+use Rattle.brk_store.proofs.Sequences.{failed_after}
 use Rattle.brk_decisions.proofs.order.decide_order.Goals as goal
 
 pub returns-clause-read : goal.returns-clause-read

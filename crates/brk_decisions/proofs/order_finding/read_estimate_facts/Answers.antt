@@ -7,7 +7,7 @@ use Rattle.brk_ref.specs.Records.{abstract_account_row}
 use Rattle.brk_trade_theorems.specs.OrderPlans.{EstimateFactsMatchTables}
 use Rattle.brk_decisions.specs.OrderFactReads.{EstimateFactsMatchIfAccountOfOrder}
 use Rattle.brk_store.proofs.Retelling.{retold}
-use Rattle.brk_decisions.proofs.Looking.{failed_after, read_both}
+use Rattle.brk_store.proofs.Sequences.{failed_after, read_with}
 use Rattle.brk_decisions.proofs.OrderFinds.{no_account}
 use Rattle.std.proofs.lemmas.Result.{err_from_is_err_and}
 use Rattle.brk_store.specs.ReadSequences.{single_read_changes_nothing}
@@ -18,7 +18,7 @@ returns-in_ok-found-in-Some-clause-read g c =
     let order = c.args.order.now in
     let account : AccountRow = c.in-Some.account in
     let found = c.in_ok-found-in-Some.found in
-    read_both g.S.Store c.args.store.now c.account.new.self c.read_estimate_facts_with_account.new.store {H = Fault} (Some account) found found
+    read_with g.S.Store c.args.store.now c.account.new.self c.read_estimate_facts_with_account.new.store {H = Fault} (Some account) found found
     (λ o (t : Tables). option_map abstract_account_row o ≡ find (λ (r : tables.AccountRow). r.id == order.account) t.accounts)
     (λ found (t : Tables). EstimateFactsMatchIfAccountOfOrder t order account found)
     (λ found (t : Tables). EstimateFactsMatchTables t order found)

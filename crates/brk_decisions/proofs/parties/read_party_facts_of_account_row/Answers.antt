@@ -5,7 +5,7 @@ use Rattle.brk_ref.specs.Records.{abstract_account_row}
 use Rattle.brk_book_theorems.specs.Reads.{customer_tax_rate_sum}
 use Rattle.brk_decisions.specs.OrderFactReads.{IsCustomerWithId}
 use Rattle.brk_decisions.specs.ResultFactReads.{AreTotalsOfBroker, PartyFactsMatchTables}
-use Rattle.brk_decisions.proofs.Looking.{failed_after, read_both, unchanged_after}
+use Rattle.brk_store.proofs.Sequences.{failed_after, read_with, unchanged_after}
 use Rattle.brk_decisions.proofs.ResultReading.{parties_known, parties_of_rows}
 use Rattle.std.proofs.lemmas.Result.{err_from_is_err_and}
 use Rattle.brk_store.specs.ReadSequences.{single_read_changes_nothing}
@@ -18,12 +18,12 @@ returns-clause-read g c =
     let customer = c.in_ok-customer.customer in
     let rates = c.in_ok-rates.rates in
     let broker = c.in_ok-broker.broker in
-    read_both g.S.Store old c.read_tax_rate_sum.new.store c.require_broker_totals.new.store {H = Fault} rates broker (parties_of_rows row customer rates broker)
+    read_with g.S.Store old c.read_tax_rate_sum.new.store c.require_broker_totals.new.store {H = Fault} rates broker (parties_of_rows row customer rates broker)
     (λ rates (t : Tables). IsCustomerWithId t row.account.customer customer × (rates ≡ customer_tax_rate_sum t row.account.customer))
     (λ broker (t : Tables). AreTotalsOfBroker t row.account.broker broker)
     (λ parties (t : Tables). PartyFactsMatchTables t (abstract_account_row row) parties)
     (λ t k n. parties_known t row customer rates broker k.0 k.1 n)
-    (read_both g.S.Store old c.require_customer.new.store c.read_tax_rate_sum.new.store {H = Fault} customer rates rates
+    (read_with g.S.Store old c.require_customer.new.store c.read_tax_rate_sum.new.store {H = Fault} customer rates rates
     (λ customer (t : Tables). IsCustomerWithId t row.account.customer customer) (λ rates (t : Tables). rates ≡ customer_tax_rate_sum t row.account.customer)
     (λ rates (t : Tables). IsCustomerWithId t row.account.customer customer × (rates ≡ customer_tax_rate_sum t row.account.customer))
     (λ t k e. (k, e)) c.in_ok-customer.ensures.read c.in_ok-rates.ensures.read)

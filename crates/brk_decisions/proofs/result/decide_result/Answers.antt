@@ -1,11 +1,11 @@
 use Rattle.brk_model.specs.Commands.{CompleteTrade}
 use Rattle.brk_store.specs.Holds.{HoldsRows}
-use Rattle.brk_decisions.specs.Decisions.{DecidesCommand}
-use Rattle.brk_decisions.proofs.Deciding.{decided_on}
+use Rattle.brk_trade_theorems.specs.Plans.{DecidesCommand}
+use Rattle.brk_store.proofs.ReadResults.{decided_on}
 use Rattle.brk_decisions.proofs.Resulting.{ResultFactsAndLastStampMatch, last_and_found, result_decided}
 use Rattle.std.proofs.lemmas.Result.{err_from_is_err_and}
 use Rattle.brk_store.specs.ReadSequences.{single_read_changes_nothing}
-use Rattle.brk_decisions.proofs.Looking.{failed_after}
+use Rattle.brk_store.proofs.Sequences.{failed_after}
 use Rattle.brk_decisions.proofs.result.decide_result.Goals as goal
 
 pub returns-clause-read : goal.returns-clause-read

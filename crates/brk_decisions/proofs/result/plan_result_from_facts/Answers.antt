@@ -3,7 +3,7 @@ use Rattle.sqlite.specs.Held.{state}
 use Rattle.sqlite.specs.State.{HasCleanDisk}
 use Rattle.brk_store.specs.Holds.{HoldsRows}
 use Rattle.brk_store.specs.ReadSequences.{empty_read_sequence_changes_nothing}
-use Rattle.brk_decisions.proofs.Deciding.{kept_at}
+use Rattle.brk_store.proofs.ReadResults.{kept_at}
 use Rattle.brk_decisions.proofs.Resulting.{none_over, result_over}
 use Rattle.brk_decisions.proofs.result.plan_result_from_facts.Goals as goal
 

@@ -4,7 +4,7 @@ use Rattle.brk_model.specs.Tables.{Tables}
 use Rattle.brk_book_theorems.specs.TradeReads.{last_cash_row_number_or_zero}
 use Rattle.brk_decisions.specs.ResultFactReads.{PostingFactsMatchTables}
 use Rattle.brk_decisions.specs.declared.result_finding.Posting.{Posting}
-use Rattle.brk_decisions.proofs.Looking.{failed_after, read_both}
+use Rattle.brk_store.proofs.Sequences.{failed_after, read_with}
 use Rattle.std.proofs.lemmas.Result.{err_from_is_err_and}
 use Rattle.brk_store.specs.ReadSequences.{single_read_changes_nothing}
 use Rattle.brk_decisions.proofs.result_finding.read_posting_facts.Goals as goal
@@ -14,7 +14,7 @@ returns-clause-read g c =
     let rule = c.in_ok-rule.rule in
     let next = c.in_ok-next.next in
     let posting : Posting = record { rule = rule; next = next } in
-    read_both g.S.Store c.args.store.now c.settlement_day.new.self c.next_cash_row_number.new.self {H = Fault} rule next posting
+    read_with g.S.Store c.args.store.now c.settlement_day.new.self c.next_cash_row_number.new.self {H = Fault} rule next posting
     (λ rule (t : Tables). rule ≡ t.rule) (λ next (t : Tables). next ≡ last_cash_row_number_or_zero t + 1) (λ posting (t : Tables). PostingFactsMatchTables t posting)
     (λ t r n. record { rule = r; next = n })
     c.in_ok-rule.ensures.read c.in_ok-next.ensures.read

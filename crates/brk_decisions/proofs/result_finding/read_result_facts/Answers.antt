@@ -7,7 +7,7 @@ use Rattle.brk_trade.specs.declared.result_found.ResultPlanFacts.{ResultPlanFact
 use Rattle.brk_changes.specs.declared.trade_row.TradeRow.{TradeRow}
 use Rattle.brk_decisions.specs.ResultFactReads.{AreResultFactsOfTradeWithId, AreResultFactsOfTrade}
 use Rattle.brk_store.proofs.Retelling.{retold}
-use Rattle.brk_decisions.proofs.Looking.{failed_after, read_both}
+use Rattle.brk_store.proofs.Sequences.{failed_after, read_with}
 use Rattle.brk_decisions.proofs.ResultReading.{there}
 use Rattle.std.proofs.lemmas.Result.{err_from_is_err_and}
 use Rattle.brk_store.specs.ReadSequences.{single_read_changes_nothing}
@@ -17,7 +17,7 @@ pub returns-in_ok-found-in-Some-clause-read : goal.returns-in_ok-found-in-Some-c
 returns-in_ok-found-in-Some-clause-read g c =
     let row : TradeRow = c.in-Some.row in
     let found = c.in_ok-found-in-Some.found in
-    read_both g.S.Store c.args.store.now c.trade.new.self c.read_result_facts_of_trade.new.store {H = Fault} (Some row) found (Some found)
+    read_with g.S.Store c.args.store.now c.trade.new.self c.read_result_facts_of_trade.new.store {H = Fault} (Some row) found (Some found)
     (λ o (t : Tables). option_map abstract_trade_row o ≡ find (λ (r : tables.TradeRow). r.id == c.args.trade) t.trades)
     (λ found (t : Tables). AreResultFactsOfTrade t row found)
     (λ o (t : Tables). AreResultFactsOfTradeWithId t c.args.trade o)

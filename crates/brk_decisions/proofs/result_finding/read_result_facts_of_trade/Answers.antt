@@ -3,7 +3,7 @@ use Rattle.brk_money.specs.declared.fault.Fault.{Fault}
 use Rattle.brk_model.specs.Tables.{SummaryRow, Tables}
 use Rattle.brk_book_theorems.specs.TradeReads.{summary_row_of_position}
 use Rattle.brk_decisions.specs.ResultFactReads.{AreResultFactsOfTrade, PostingFactsMatchTables}
-use Rattle.brk_decisions.proofs.Looking.{failed_after, read_both, unchanged_after}
+use Rattle.brk_store.proofs.Sequences.{failed_after, read_with, unchanged_after}
 use Rattle.brk_decisions.proofs.ResultReading.{PartyFactsMatchIfAccountExists, SecurityFactsMatchIfSecurityExists, SharesMatchSummary, found_known, result_facts_with}
 use Rattle.std.proofs.lemmas.Result.{err_from_is_err_and}
 use Rattle.brk_store.specs.ReadSequences.{single_read_changes_nothing}
@@ -17,17 +17,17 @@ returns-clause-read g c =
     let listed = c.in_ok-listed.listed in
     let summary = c.in_ok-summary.summary in
     let posting = c.in_ok-posting.posting in
-    read_both g.S.Store old c.read_summary_shares.new.store c.read_posting_facts.new.store {H = Fault} summary posting (result_facts_with trade parties listed summary posting)
+    read_with g.S.Store old c.read_summary_shares.new.store c.read_posting_facts.new.store {H = Fault} summary posting (result_facts_with trade parties listed summary posting)
     (λ summary (t : Tables). (PartyFactsMatchIfAccountExists t trade parties listed summary × SecurityFactsMatchIfSecurityExists t trade parties listed summary) × SharesMatchSummary t trade parties listed summary)
     (λ posting (t : Tables). PostingFactsMatchTables t posting)
     (λ found (t : Tables). AreResultFactsOfTrade t trade found)
     (λ t k p. found_known t trade parties listed summary posting k.0.0 k.0.1 k.1 p)
-    (read_both g.S.Store old c.read_security_facts.new.store c.read_summary_shares.new.store {H = Fault} listed summary summary
+    (read_with g.S.Store old c.read_security_facts.new.store c.read_summary_shares.new.store {H = Fault} listed summary summary
     (λ listed (t : Tables). PartyFactsMatchIfAccountExists t trade parties listed summary × SecurityFactsMatchIfSecurityExists t trade parties listed summary)
     (λ held (t : Tables). held ≡ option_map (λ (r : SummaryRow). r.qty) (summary_row_of_position t trade.account trade.symbol))
     (λ summary (t : Tables). (PartyFactsMatchIfAccountExists t trade parties listed summary × SecurityFactsMatchIfSecurityExists t trade parties listed summary) × SharesMatchSummary t trade parties listed summary)
     (λ t k h. (k, h))
-    (read_both g.S.Store old c.read_party_facts.new.store c.read_security_facts.new.store {H = Fault} parties listed listed
+    (read_with g.S.Store old c.read_party_facts.new.store c.read_security_facts.new.store {H = Fault} parties listed listed
     (λ parties (t : Tables). PartyFactsMatchIfAccountExists t trade parties listed summary) (λ listed (t : Tables). SecurityFactsMatchIfSecurityExists t trade parties listed summary)
     (λ listed (t : Tables). PartyFactsMatchIfAccountExists t trade parties listed summary × SecurityFactsMatchIfSecurityExists t trade parties listed summary)
     (λ t o s. (o, s)) c.in_ok-parties.ensures.read c.in_ok-listed.ensures.read)

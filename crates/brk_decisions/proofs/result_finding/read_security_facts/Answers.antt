@@ -7,7 +7,7 @@ use Rattle.brk_model.specs.Tables.{SecurityRow, Tables}
 use Rattle.brk_book_theorems.specs.TradeReads.{commission_band_of_quantity}
 use Rattle.brk_decisions.specs.ResultFactReads.{SecurityFactsMatchTables, IsSecurityWithSymbol}
 use Rattle.brk_decisions.specs.declared.result_finding.SecurityFacts.{SecurityFacts}
-use Rattle.brk_decisions.proofs.Looking.{failed_after, read_both}
+use Rattle.brk_store.proofs.Sequences.{failed_after, read_with}
 use Rattle.std.proofs.lemmas.Result.{err_from_is_err_and}
 use Rattle.brk_store.specs.ReadSequences.{single_read_changes_nothing}
 use Rattle.brk_decisions.proofs.result_finding.read_security_facts.Goals as goal
@@ -18,7 +18,7 @@ returns-clause-read g c =
     let security = c.in_ok-security.security in
     let rate = c.in_ok-rate.rate in
     let listed : SecurityFacts = record { name = security.name; rate = rate } in
-    read_both g.S.Store c.args.store.now c.require_security.new.store c.read_commission_rate_of_band.new.store {H = Fault} security rate listed
+    read_with g.S.Store c.args.store.now c.require_security.new.store c.read_commission_rate_of_band.new.store {H = Fault} security rate listed
     (λ security (t : Tables). IsSecurityWithSymbol t trade.symbol security)
     (λ rate (t : Tables). rate ≡ option_map (λ (b : Band). b.rate) (commission_band_of_quantity t c.args.tier trade.kind security.exchange trade.qty))
     (λ listed (t : Tables). IfSome (security_row_with_symbol t trade.symbol) (λ s. SecurityFactsMatchTables t trade c.args.tier s listed))

@@ -7,7 +7,7 @@ use Rattle.brk_model.specs.Tables.{Tables}
 use Rattle.brk_plans.specs.declared.reference.ReferenceFacts.{ReferenceFacts}
 use Rattle.brk_book_theorems.specs.Reads.{contains_customer_tax, customer_tax_rate_sum, rate_of_tax_rate_with_id}
 use Rattle.brk_trade_theorems.specs.Found.{CustomerTaxFactsMatchTables}
-use Rattle.brk_decisions.proofs.Looking.{failed_after, read_both, unchanged_after}
+use Rattle.brk_store.proofs.Sequences.{failed_after, read_with, unchanged_after}
 use Rattle.std.proofs.lemmas.Result.{err_from_is_err_and}
 use Rattle.brk_store.specs.ReadSequences.{single_read_changes_nothing}
 use Rattle.brk_decisions.proofs.terms.read_customer_tax_facts.Goals as goal
@@ -24,14 +24,14 @@ returns-clause-read g c =
     let rate_read : Tables → Type 0 = λ t. rate ≡ rate_of_tax_rate_with_id t pays.tax in
     let id_read : Tables → Type 0 = λ t. same_id ≡ contains_customer_tax t pays.customer pays.tax in
     let one =
-    read_both g.S.Store old c.customer_exists.new.store c.read_rate_of_tax.new.store {X = Unit {0}} {H = Fault} customer rate tt
+    read_with g.S.Store old c.customer_exists.new.store c.read_rate_of_tax.new.store {X = Unit {0}} {H = Fault} customer rate tt
     (λ there (t : Tables). there ≡ has_customer t pays.customer) (λ rate (t : Tables). rate ≡ rate_of_tax_rate_with_id t pays.tax) (λ _ t. customer_read t × rate_read t) (λ t a b. (a, b))
     c.in_ok-customer.ensures.read c.in_ok-rate.ensures.read in
     let two =
-    read_both g.S.Store old c.read_rate_of_tax.new.store c.customer_pays_tax.new.store {X = Unit {0}} {H = Fault} tt same_id tt
+    read_with g.S.Store old c.read_rate_of_tax.new.store c.customer_pays_tax.new.store {X = Unit {0}} {H = Fault} tt same_id tt
     (λ _ t. customer_read t × rate_read t) (λ there (t : Tables). there ≡ contains_customer_tax t pays.customer pays.tax) (λ _ t. (customer_read t × rate_read t) × id_read t) (λ t a b. (a, b))
     one c.in_ok-same_id.ensures.read in
-    read_both g.S.Store old c.customer_pays_tax.new.store c.read_tax_rate_sum_within_limit.new.store {H = Fault} tt rates _
+    read_with g.S.Store old c.customer_pays_tax.new.store c.read_tax_rate_sum_within_limit.new.store {H = Fault} tt rates _
     (λ _ t. (customer_read t × rate_read t) × id_read t) (λ rates (t : Tables). SomeIff rates (customer_tax_rate_sum t pays.customer ≤ greatest_tax_rate) (customer_tax_rate_sum t pays.customer))
     (λ (found : ReferenceFacts) (t : Tables). CustomerTaxFactsMatchTables t pays.customer pays.tax found)
     (λ t k s. record { customer_there = k.0.0; rate_there = k.0.1; same_id = k.1; sum = s })

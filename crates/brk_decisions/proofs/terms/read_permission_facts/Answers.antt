@@ -4,7 +4,7 @@ use Rattle.brk_model.specs.Form.{has_account}
 use Rattle.brk_model.specs.Tables.{Tables}
 use Rattle.brk_plans.specs.declared.reference.ReferenceFacts.{ReferenceFacts}
 use Rattle.brk_book_theorems.specs.Reads.{contains_permission}
-use Rattle.brk_decisions.proofs.Looking.{failed_after, read_both}
+use Rattle.brk_store.proofs.Sequences.{failed_after, read_with}
 use Rattle.std.proofs.lemmas.Result.{err_from_is_err_and}
 use Rattle.brk_store.specs.ReadSequences.{single_read_changes_nothing}
 use Rattle.brk_decisions.proofs.terms.read_permission_facts.Goals as goal
@@ -12,7 +12,7 @@ use Rattle.brk_decisions.proofs.terms.read_permission_facts.Goals as goal
 pub returns-clause-read : goal.returns-clause-read
 returns-clause-read g c =
     let permission = c.args.permission.now in
-    read_both g.S.Store c.args.store.now c.account_exists.new.store c.permission_exists.new.store {H = Fault} c.in_ok-account.account c.in_ok-same_id.same_id _
+    read_with g.S.Store c.args.store.now c.account_exists.new.store c.permission_exists.new.store {H = Fault} c.in_ok-account.account c.in_ok-same_id.same_id _
     (λ there (t : Tables). there ≡ has_account t permission.account) (λ there (t : Tables). there ≡ contains_permission t permission.account permission.tax_id)
     (λ (found : ReferenceFacts) (t : Tables). (found.account ≡ has_account t permission.account) × (found.same_id ≡ contains_permission t permission.account permission.tax_id))
     (λ t a b. (a, b)) c.in_ok-account.ensures.read c.in_ok-same_id.ensures.read

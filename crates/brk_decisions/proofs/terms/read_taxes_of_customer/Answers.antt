@@ -8,10 +8,9 @@ use Rattle.brk_ref.specs.declared.customer_tax.CustomerTax as ref
 use Rattle.brk_ref.specs.declared.tax.Tax.{Tax}
 use Rattle.brk_book_theorems.specs.Reads.{tax_rate_with_id}
 use Rattle.brk_store.proofs.Retelling.{retold}
-use Rattle.brk_decisions.proofs.Looking.{failed_after, read_both, unchanged_after}
 use Rattle.std.proofs.lemmas.Result.{err_from_is_err_and}
 use Rattle.brk_store.specs.ReadSequences.{single_read_changes_nothing}
-use Rattle.brk_store.proofs.Sequences.{none_read}
+use Rattle.brk_store.proofs.Sequences.{failed_after, none_read, read_with, unchanged_after}
 use Rattle.brk_decisions.proofs.terms.read_taxes_of_customer.Goals as goal
 
 -- the taxes that were read are those of the first rows, which are a customer's
@@ -43,7 +42,7 @@ loop-row-preserved g c =
     let rows = c.deref-row-items.result.now in
     let i = c.loop-row.row-index in
     let tax = c.in-Some.tax in
-    read_both g.S.Store c.args.store.now c.loop-row.store c.tax_with_id.new.self {H = Fault} tt (Some tax) tt
+    read_with g.S.Store c.args.store.now c.loop-row.store c.tax_with_id.new.self {H = Fault} tt (Some tax) tt
     (λ _. FirstTaxes c.args.customer rows c.loop-row.taxes.items i)
     (λ o (t : Tables). option_map abstract_tax_rate o ≡ find (λ (r : TaxRate). r.id == c.row-item.result.tax) t.tax_rates)
     (λ _. FirstTaxes c.args.customer rows c.push.new.self.items (i + 1))

@@ -9,7 +9,7 @@ use Rattle.brk_ref.specs.Records.{abstract_security_row}
 use Rattle.brk_ref.specs.declared.security.Security.{Security}
 use Rattle.brk_book_theorems.specs.TradeReads.{commission_band_of_quantity}
 use Rattle.brk_store.proofs.Retelling.{retold}
-use Rattle.brk_decisions.proofs.Looking.{failed_after, read_both}
+use Rattle.brk_store.proofs.Sequences.{failed_after, read_with}
 use Rattle.std.proofs.lemmas.Result.{err_from_is_err_and}
 use Rattle.brk_store.specs.ReadSequences.{single_read_changes_nothing}
 use Rattle.brk_decisions.proofs.tested.read_commission_rate_of_order.Goals as goal
@@ -17,7 +17,7 @@ use Rattle.brk_decisions.proofs.tested.read_commission_rate_of_order.Goals as go
 pub returns-in_ok-rate-in-Some-clause-read : goal.returns-in_ok-rate-in-Some-clause-read
 returns-in_ok-rate-in-Some-clause-read g c =
     let order = c.args.order.now in
-    read_both g.S.Store c.args.store.now c.security.new.self c.read_commission_rate_of_band.new.store {H = Fault} (Some c.in-Some.security) c.in_ok-rate-in-Some.rate c.in_ok-rate-in-Some.rate
+    read_with g.S.Store c.args.store.now c.security.new.self c.read_commission_rate_of_band.new.store {H = Fault} (Some c.in-Some.security) c.in_ok-rate-in-Some.rate c.in_ok-rate-in-Some.rate
     (λ o (t : Tables). option_map abstract_security_row o ≡ find (λ (r : SecurityRow). bytes_eq r.symbol order.symbol) t.securities)
     (λ rate (t : Tables). rate ≡ option_map (λ (b : Band). b.rate) (commission_band_of_quantity t c.args.tier (trade_type_of_order order.order_type) c.in-Some.security.exchange order.qty))
     (λ rate (t : Tables). IfSome (security_row_with_symbol t order.symbol) (λ s. rate ≡ option_map (λ (b : Band). b.rate) (commission_band_of_quantity t c.args.tier (trade_type_of_order order.order_type) s.exchange order.qty)))

@@ -11,7 +11,7 @@ use Rattle.brk_book_theorems.specs.OrderReads.{charge_of_type_and_tier, last_pri
 use Rattle.brk_book_theorems.specs.TradeReads.{commission_band_of_quantity, permission_list_for_tax_id}
 use Rattle.brk_decisions.specs.OrderFactReads.{CustomerOrderFactsMatchTables}
 use Rattle.brk_decisions.specs.declared.tested.OrderCheckFacts.{OrderCheckFacts}
-use Rattle.brk_decisions.proofs.Looking.{failed_after, read_both, unchanged_after}
+use Rattle.brk_store.proofs.Sequences.{failed_after, read_with, unchanged_after}
 use Rattle.std.proofs.lemmas.Result.{err_from_is_err_and}
 use Rattle.brk_store.specs.ReadSequences.{single_read_changes_nothing}
 use Rattle.brk_decisions.proofs.tested.read_order_check_facts.Goals as goal
@@ -29,18 +29,18 @@ returns-clause-read g c =
     let permission_read : Tables → Type 0 = λ t. is_permitted ≡ is_customer_or_has_permission (abstract_customer customer) (permission_list_for_tax_id t order.account order.executor.tax_id) (abstract_executor order.executor) in
     let charge_read : Tables → Type 0 = λ t. charge ≡ charge_of_type_and_tier t (trade_type_of_order order.order_type) customer.tier in
     let one =
-    read_both g.S.Store old c.read_last_price.new.store c.is_executor_permitted.new.store {X = Unit {0}} {H = Fault} last_price is_permitted tt
+    read_with g.S.Store old c.read_last_price.new.store c.is_executor_permitted.new.store {X = Unit {0}} {H = Fault} last_price is_permitted tt
     (λ price (t : Tables). price ≡ last_price_of_symbol t order.symbol)
     (λ is (t : Tables). is ≡ is_customer_or_has_permission (abstract_customer customer) (permission_list_for_tax_id t order.account order.executor.tax_id) (abstract_executor order.executor))
     (λ _ t. price_read t × permission_read t) (λ t a b. (a, b))
     c.in_ok-last_price.ensures.read c.in_ok-is_permitted.ensures.read in
     let two =
-    read_both g.S.Store old c.is_executor_permitted.new.store c.read_charge_of_type_and_tier.new.store {X = Unit {0}} {H = Fault} tt charge tt
+    read_with g.S.Store old c.is_executor_permitted.new.store c.read_charge_of_type_and_tier.new.store {X = Unit {0}} {H = Fault} tt charge tt
     (λ _ t. price_read t × permission_read t) (λ charge (t : Tables). charge ≡ charge_of_type_and_tier t (trade_type_of_order order.order_type) customer.tier)
     (λ _ t. (price_read t × permission_read t) × charge_read t) (λ t a b. (a, b))
     one (rw c.kind.ensures at c.in_ok-charge.ensures.read) in
     let tested : OrderCheckFacts = record { last_price = last_price; is_permitted = is_permitted; charge = charge; rate = rate } in
-    read_both g.S.Store old c.read_charge_of_type_and_tier.new.store c.read_commission_rate_of_order.new.store {H = Fault} tt rate tested
+    read_with g.S.Store old c.read_charge_of_type_and_tier.new.store c.read_commission_rate_of_order.new.store {H = Fault} tt rate tested
     (λ _ t. (price_read t × permission_read t) × charge_read t)
     (λ rate (t : Tables). IfSome (security_row_with_symbol t order.symbol) (λ (s : SecurityRow). rate ≡ option_map (λ (b : Band). b.rate) (commission_band_of_quantity t customer.tier (trade_type_of_order order.order_type) s.exchange order.qty)))
     (λ tested (t : Tables). CustomerOrderFactsMatchTables t order customer tested)

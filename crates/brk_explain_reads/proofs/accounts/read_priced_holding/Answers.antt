@@ -13,7 +13,7 @@ returns-clause-read g c =
     let summary = c.args.summary in
     let price = c.in_ok-price.price in
     let held : PricedHolding = record { summary = summary; price = price } in
-    retold g.S.Store c.args.store.now c.read_last_price.new.store price held
+    retold g.S.Store c.args.store.now c.require_last_price.new.store price held
     (λ price (t : Tables). price ≡ last_price_in_tables t summary.symbol)
     (λ held (t : Tables). abstract_priced_holding held ≡ priced_holding t (abstract_summary_row summary))
     (λ t e i. record { summary = abstract_summary_row summary; price = e i })

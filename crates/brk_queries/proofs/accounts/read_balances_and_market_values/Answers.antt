@@ -6,13 +6,12 @@ use Rattle.brk_model.specs.Tables.{Tables}
 use Rattle.brk_ref.specs.Records.{abstract_account_row}
 use Rattle.brk_ref.specs.declared.account.AccountRow.{AccountRow}
 use Rattle.brk_store.proofs.Retelling.{retold}
-use Rattle.brk_decisions.proofs.Looking.{failed_after, read_both, unchanged_after}
 use Rattle.brk_view.specs.Worths.{worth_of_account}
 use Rattle.brk_view.specs.declared.worths.AccountWorth.{AccountWorth}
 use Rattle.brk_queries.proofs.Each.{list_more, map_map}
 use Rattle.std.proofs.lemmas.Result.{err_from_is_err_and}
 use Rattle.brk_store.specs.ReadSequences.{single_read_changes_nothing}
-use Rattle.brk_store.proofs.Sequences.{none_read}
+use Rattle.brk_store.proofs.Sequences.{failed_after, none_read, read_with, unchanged_after}
 use Rattle.brk_queries.proofs.accounts.read_balances_and_market_values.Goals as goal
 
 -- what the first accounts of a customer are worth
@@ -37,7 +36,7 @@ loop-row-preserved g c =
     let worth = c.in_ok-worth.worth in
     let before = c.loop-row.worths.items in
     rw c.in_ok-push.ensures.items
-    (read_both g.S.Store c.args.store.now c.loop-row.store c.read_balance_and_market_value.new.store {H = Fault} tt worth tt
+    (read_with g.S.Store c.args.store.now c.loop-row.store c.read_balance_and_market_value.new.store {H = Fault} tt worth tt
     (λ _. FirstWorths c.args.customer rows before i)
     (λ worth (t : Tables). worth ≡ worth_of_account t (abstract_account_row row))
     (λ _. FirstWorths c.args.customer rows (before ++ worth ∷ []) (i + 1))

@@ -8,13 +8,12 @@ use Rattle.brk_model.specs.Tables.{Tables}
 use Rattle.brk_ref.specs.Records.{abstract_customer}
 use Rattle.brk_ref.specs.declared.customer.Customer.{Customer}
 use Rattle.brk_store.proofs.Retelling.{retold}
-use Rattle.brk_decisions.proofs.Looking.{failed_after, read_both, unchanged_after}
 use Rattle.brk_view.specs.declared.view.View.{View}
 use Rattle.brk_queries.specs.QueryResults.{AnswersQueryAsModel}
 use Rattle.brk_queries.proofs.AccountViews.{AreAccountWorthsOfCustomer, no_customer, position_seen}
 use Rattle.std.proofs.lemmas.Result.{err_from_is_err_and}
 use Rattle.brk_store.specs.ReadSequences.{single_read_changes_nothing}
-use Rattle.brk_store.proofs.Sequences.{none_read}
+use Rattle.brk_store.proofs.Sequences.{failed_after, none_read, read_with, unchanged_after}
 use Rattle.brk_queries.proofs.accounts.view_of_account_values.Goals as goal
 
 pub returns-in_default-clause-read : goal.returns-in_default-clause-read
@@ -30,7 +29,7 @@ returns-clause-read g c =
     let x = c.in-Some.found in
     let worths = c.in_ok-worths.worths in
     let view = c.in_ok-view.view in
-    read_both g.S.Store c.args.store.now c.customer.new.self c.read_balances_and_market_values.new.store {X = Result View Refusal} {H = Fault} (Some x) worths (Ok view)
+    read_with g.S.Store c.args.store.now c.customer.new.self c.read_balances_and_market_values.new.store {X = Result View Refusal} {H = Fault} (Some x) worths (Ok view)
     (λ o (t : Tables). option_map abstract_customer o ≡ find (λ r. r.id == id) t.customers)
     (λ all (t : Tables). AreAccountWorthsOfCustomer x.id all.items t)
     (AnswersQueryAsModel (PositionOf id))

@@ -7,8 +7,8 @@ use Rattle.brk_ref.specs.declared.account.AccountRow as account
 use Rattle.brk_ref.specs.Records.{abstract_account_row}
 use Rattle.brk_book_theorems.proofs.Places.{find-at}
 use Rattle.brk_store.proofs.Retelling.{retold}
-use Rattle.brk_decisions.specs.OrderFactReads.{market_value_of_account}
-use Rattle.brk_decisions.proofs.Looking.{failed_after, read_both}
+use Rattle.brk_store.specs.Valuation.{market_value_of_account}
+use Rattle.brk_store.proofs.Sequences.{failed_after, read_with}
 use Rattle.brk_queries.specs.Heads.{IsStatementHeadOfAccount}
 use Rattle.brk_queries.specs.declared.head.StatementHead.{StatementHead}
 use Rattle.std.proofs.lemmas.Result.{err_from_is_err_and}
@@ -29,7 +29,7 @@ returns-in_default-clause-read g c =
 
 pub returns-clause-read : goal.returns-clause-read
 returns-clause-read g c =
-    read_both g.S.Store c.args.store.now c.account.new.self c.read_holdings_value.new.store {H = Fault} (Some c.in-Some.row) c.in_ok-holdings.holdings
+    read_with g.S.Store c.args.store.now c.account.new.self c.read_holdings_value.new.store {H = Fault} (Some c.in-Some.row) c.in_ok-holdings.holdings
     (Some (record { name = c.in-Some.row.account.name; opening = c.in-Some.row.account.opening; holdings = c.in_ok-holdings.holdings }))
     (λ o (t : Tables). option_map abstract_account_row o ≡ find (λ (r : AccountRow). r.id == c.args.account) t.accounts)
     (λ worth t. worth ≡ market_value_of_account t c.args.account)

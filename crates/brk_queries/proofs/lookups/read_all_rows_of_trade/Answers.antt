@@ -4,8 +4,8 @@ use Rattle.brk_money.specs.declared.fault.Fault.{Fault}
 use Rattle.brk_changes.specs.Rows.{abstract_history_row, abstract_move_row, abstract_settlement_row, abstract_trade_row}
 use Rattle.brk_model.specs.LookupView.{is_cash_row_of_trade}
 use Rattle.brk_model.specs.Tables.{HistoryRow, SettlementRow, Tables}
-use Rattle.brk_decisions.proofs.Deciding.{decided}
-use Rattle.brk_decisions.proofs.Looking.{failed_after, read_both, unchanged_after}
+use Rattle.brk_store.proofs.ReadResults.{decided}
+use Rattle.brk_store.proofs.Sequences.{failed_after, read_with, unchanged_after}
 use Rattle.brk_queries.specs.LookedUp.{HasAllRowsOfTrade}
 use Rattle.brk_queries.proofs.LookupViews.{AreRelatedRowsOfTrade, follows}
 use Rattle.brk_store.specs.ReadSequences.{single_read_changes_nothing}
@@ -19,12 +19,12 @@ returns-clause-read g c =
     let moved = c.in_ok-cash.cash in
     let came = c.in_ok-history.history in
     decided g.S.Store old c.history_of_trade.new.self came (λ rows. AreRelatedRowsOfTrade trade.id settled moved rows.items) (HasAllRowsOfTrade (abstract_trade_row trade)) c.create_looked_up_trade.result
-    (read_both g.S.Store old c.cash_row.new.self c.history_of_trade.new.self {H = Fault} moved came came
+    (read_with g.S.Store old c.cash_row.new.self c.history_of_trade.new.self {H = Fault} moved came came
     (λ moved (t : Tables). (option_map abstract_settlement_row settled ≡ find (λ (s : SettlementRow). s.trade == trade.id) t.settlements) × (option_map abstract_move_row moved ≡ find (is_cash_row_of_trade trade.id) t.moves))
     (λ rows (t : Tables). map abstract_history_row rows.items ≡ filter (λ (h : HistoryRow). h.trade == trade.id) t.history)
     (λ rows. AreRelatedRowsOfTrade trade.id settled moved rows.items)
     (λ t k e. (k.0, k.1, e))
-    (read_both g.S.Store old c.settlement.new.self c.cash_row.new.self {H = Fault} settled moved moved
+    (read_with g.S.Store old c.settlement.new.self c.cash_row.new.self {H = Fault} settled moved moved
     (λ o (t : Tables). option_map abstract_settlement_row o ≡ find (λ (s : SettlementRow). s.trade == trade.id) t.settlements)
     (λ o (t : Tables). option_map abstract_move_row o ≡ find (is_cash_row_of_trade trade.id) t.moves)
     (λ moved (t : Tables). (option_map abstract_settlement_row settled ≡ find (λ (s : SettlementRow). s.trade == trade.id) t.settlements) × (option_map abstract_move_row moved ≡ find (is_cash_row_of_trade trade.id) t.moves))

@@ -5,7 +5,7 @@ use Rattle.brk_changes.specs.declared.trade_row.TradeRow.{TradeRow}
 use Rattle.brk_model.specs.Base.{Base}
 use Rattle.brk_model.specs.Sheets.{sheets}
 use Rattle.brk_model.specs.Tables.{Tables}
-use Rattle.brk_store.proofs.Sequences.{no_reads, one_read, reads_both, reads_failed, reads_retold}
+use Rattle.brk_store.proofs.Sequences.{no_reads, one_read, reads_both, reads_failed, reads_retold, unchanged_after}
 use Rattle.brk_invariant_theorems.specs.Sound.{AuditInvariant}
 use Rattle.brk_book_theorems.specs.Books.{BooksInvariant}
 use Rattle.brk_view.specs.Lookup.{rows_of_looked_up_trade, table_rows_of_trade}
@@ -13,7 +13,6 @@ use Rattle.brk_view.specs.declared.lookups.LookedUp.{LookedUp}
 use Rattle.brk_queries.specs.LookedUp.{HaveAllRowsOfTrades, HasAllRowsOfTrade}
 use Rattle.brk_queries.proofs.Each.{all_made, map_map, none_made, popped}
 use Rattle.std.proofs.lemmas.Result.{err_from_is_err_and}
-use Rattle.brk_decisions.proofs.Looking.{unchanged_after}
 use Rattle.brk_queries.proofs.lookups.read_all_rows_of_trades.Goals as goal
 
 -- trades that are left, and those after them that were looked up, are all of some

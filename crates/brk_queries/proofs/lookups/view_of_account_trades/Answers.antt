@@ -10,8 +10,7 @@ use Rattle.brk_model.specs.Tables.{Tables}
 use Rattle.brk_ref.specs.Records.{abstract_account_row}
 use Rattle.brk_ref.specs.declared.account.AccountRow.{AccountRow}
 use Rattle.brk_store.proofs.Retelling.{retold}
-use Rattle.brk_store.proofs.Sequences.{none_read, read_with_reads}
-use Rattle.brk_decisions.proofs.Looking.{failed_after, read_both, unchanged_after}
+use Rattle.brk_store.proofs.Sequences.{failed_after, none_read, read_with, read_with_reads, unchanged_after}
 use Rattle.brk_view.specs.declared.view.View.{View}
 use Rattle.brk_queries.specs.LookedUp.{HaveAllRowsOfTrades}
 use Rattle.brk_queries.specs.QueryResults.{AnswersQueryAsModel}
@@ -47,7 +46,7 @@ returns-clause-read g c =
     (λ found. HaveAllRowsOfTrades rows found.items)
     (AnswersQueryAsModel (TradesOfAccount id span.first span.last))
     (λ t k p. account_trades_seen id span.first span.last (abstract_account_row row) rows found view c.lookup_account.ensures.value c.lookup_account.ensures.view t k.0 k.1 p)
-    (read_both g.S.Store old c.account.new.self c.first_twenty_trades_of_account.new.self {X = Option AccountRow} {H = Fault} (Some row) trades (Some row)
+    (read_with g.S.Store old c.account.new.self c.first_twenty_trades_of_account.new.self {X = Option AccountRow} {H = Fault} (Some row) trades (Some row)
     (IsRowOf id) (λ all (t : Tables). map abstract_trade_row all.items ≡ take 20 (trade_rows_oldest_first (filter (is_trade_of_account_in_span id span.first span.last) t.trades)))
     (λ o (t : Tables). IsRowOf id o t × (rows ≡ take 20 (trade_rows_oldest_first (filter (is_trade_of_account_in_span id span.first span.last) t.trades))))
     (λ t e w. (e, w)) (rw c.in-Some.is at c.in_ok-_row.ensures.read) c.in_ok-trades.ensures.read)

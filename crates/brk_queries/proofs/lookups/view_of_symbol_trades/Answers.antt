@@ -11,8 +11,7 @@ use Rattle.brk_model.specs.Tables.{Tables}
 use Rattle.brk_ref.specs.Records.{abstract_security_row}
 use Rattle.brk_ref.specs.declared.security.Security.{Security}
 use Rattle.brk_store.proofs.Retelling.{retold}
-use Rattle.brk_store.proofs.Sequences.{none_read, read_with_reads}
-use Rattle.brk_decisions.proofs.Looking.{failed_after, read_both, unchanged_after}
+use Rattle.brk_store.proofs.Sequences.{failed_after, none_read, read_with, read_with_reads, unchanged_after}
 use Rattle.brk_view.specs.declared.view.View.{View}
 use Rattle.brk_queries.specs.LookedUp.{HaveAllRowsOfTrades}
 use Rattle.brk_queries.specs.QueryResults.{AnswersQueryAsModel}
@@ -48,7 +47,7 @@ returns-clause-read g c =
     (λ found. HaveAllRowsOfTrades rows found.items)
     (AnswersQueryAsModel (TradesOfSymbol symbol span.first span.last))
     (λ t k p. symbol_trades_seen symbol span.first span.last (abstract_security_row row) rows found view c.lookup_symbol.ensures.value c.lookup_symbol.ensures.view t k.0 k.1 p)
-    (read_both g.S.Store old c.security.new.self c.first_twenty_trades_of_symbol.new.self {X = Option Security} {H = Fault} (Some row) trades (Some row)
+    (read_with g.S.Store old c.security.new.self c.first_twenty_trades_of_symbol.new.self {X = Option Security} {H = Fault} (Some row) trades (Some row)
     (IsRowOf symbol) (λ all (t : Tables). map abstract_trade_row all.items ≡ take 20 (trade_rows_oldest_first (filter (is_trade_of_symbol_in_span symbol span.first span.last) t.trades)))
     (λ o (t : Tables). IsRowOf symbol o t × (rows ≡ take 20 (trade_rows_oldest_first (filter (is_trade_of_symbol_in_span symbol span.first span.last) t.trades))))
     (λ t e w. (e, w)) (rw c.in-Some.is at c.in_ok-_row.ensures.read) c.in_ok-trades.ensures.read)

@@ -6,7 +6,6 @@ use Rattle.brk_changes.specs.declared.lot_change.LotChange.{LotChange}
 use Rattle.brk_model.specs.Lists.{sort_by}
 use Rattle.brk_model.specs.Tables.{HoldingHistoryRow, Tables}
 use Rattle.brk_store.proofs.Retelling.{retold}
-use Rattle.brk_decisions.proofs.Looking.{failed_after, read_both, unchanged_after}
 use Rattle.brk_view.specs.Lots.{is_earlier_lot_change}
 use Rattle.brk_view.specs.declared.lots.LotTouch.{LotTouch}
 use Rattle.brk_view.specs.declared.lots.TouchedLots.{TouchedLots}
@@ -14,7 +13,7 @@ use Rattle.brk_queries.specs.Touched.{AreTouchedLotsOfTrade, stamped_changes_of_
 use Rattle.brk_queries.proofs.LotViews.{all_done, kept_more, none_kept}
 use Rattle.std.proofs.lemmas.Result.{err_from_is_err_and}
 use Rattle.brk_store.specs.ReadSequences.{single_read_changes_nothing}
-use Rattle.brk_store.proofs.Sequences.{none_read}
+use Rattle.brk_store.proofs.Sequences.{failed_after, none_read, read_with, unchanged_after}
 use Rattle.brk_queries.proofs.lots.read_changes_of_touched_lots.Goals as goal
 
 -- the last changes that a trade made are done: the first of what became of their lots are kept
@@ -38,7 +37,7 @@ loop-change-preserved g c =
     let rest = c.pop.new.self.items in
     let change = c.in-Some.change in
     let touches = c.in_ok-touches.touches in
-    read_both g.S.Store c.args.store.now c.loop-change.store c.read_stamped_changes_of_lot.new.store {H = Fault} tt touches tt
+    read_with g.S.Store c.args.store.now c.loop-change.store c.read_stamped_changes_of_lot.new.store {H = Fault} tt touches tt
     (λ _. AreKept c.args.trade before c.loop-change.kept.items)
     (λ touches (t : Tables). touches.items ≡ stamped_changes_of_lot t change.lot)
     (λ _. AreKept c.args.trade rest c.merge_lot_changes_into_first_twenty.new.kept.items)

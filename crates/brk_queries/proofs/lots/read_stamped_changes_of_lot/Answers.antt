@@ -5,14 +5,13 @@ use Rattle.brk_changes.specs.Rows.{abstract_lot_change_row}
 use Rattle.brk_changes.specs.declared.lot_change.LotChange.{LotChange}
 use Rattle.brk_model.specs.Tables.{HoldingHistoryRow, Tables}
 use Rattle.brk_store.proofs.Retelling.{retold}
-use Rattle.brk_decisions.proofs.Looking.{failed_after, read_both, unchanged_after}
 use Rattle.brk_view.specs.Lots.{stamped_lot_change}
 use Rattle.brk_view.specs.declared.lots.LotTouch.{LotTouch}
 use Rattle.brk_queries.specs.Touched.{stamped_changes_of_lot, last_status_stamp}
 use Rattle.brk_queries.proofs.Each.{list_more, map_map}
 use Rattle.std.proofs.lemmas.Result.{err_from_is_err_and}
 use Rattle.brk_store.specs.ReadSequences.{single_read_changes_nothing}
-use Rattle.brk_store.proofs.Sequences.{none_read}
+use Rattle.brk_store.proofs.Sequences.{failed_after, none_read, read_with, unchanged_after}
 use Rattle.brk_queries.proofs.lots.read_stamped_changes_of_lot.Goals as goal
 
 -- the first changes of a lot
@@ -37,7 +36,7 @@ loop-row-preserved g c =
     let with : ℕ → LotTouch = λ s. record { change = row; stamp = s } in
     let before = c.loop-row.touches.items in
     rw c.in_ok-push.ensures.items
-    (read_both g.S.Store c.args.store.now c.loop-row.store c.require_last_status_stamp.new.store {H = Fault} tt stamp tt
+    (read_with g.S.Store c.args.store.now c.loop-row.store c.require_last_status_stamp.new.store {H = Fault} tt stamp tt
     (λ _. FirstChanges c.args.lot rows before i)
     (λ stamp (t : Tables). stamp ≡ last_status_stamp t row.trade)
     (λ _. FirstChanges c.args.lot rows (before ++ with stamp ∷ []) (i + 1))

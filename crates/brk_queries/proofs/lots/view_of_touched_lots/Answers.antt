@@ -9,7 +9,7 @@ use Rattle.brk_model.specs.Tables.{Tables}
 use Rattle.brk_ref.specs.Records.{abstract_account_row}
 use Rattle.brk_ref.specs.declared.account.AccountRow.{AccountRow}
 use Rattle.brk_store.proofs.Retelling.{retold}
-use Rattle.brk_decisions.proofs.Looking.{failed_after, read_both, unchanged_after}
+use Rattle.brk_store.proofs.Sequences.{failed_after, read_with, unchanged_after}
 use Rattle.brk_view.specs.declared.view.View.{View}
 use Rattle.brk_queries.specs.QueryResults.{AnswersQueryAsModel}
 use Rattle.brk_queries.specs.Touched.{AreTouchedLotsOfTrade}
@@ -36,7 +36,7 @@ returns-in_default-2-clause-read g c =
     let first = c.args.first in
     let row = c.in-Some._row in
     let view = c.lookup_lots.result in
-    read_both g.S.Store c.args.store.now c.account.new.self c.first_trade_of_account_since.new.self {W = Option TradeRow} {X = Result View Refusal} {H = Fault} (Some row) None (Ok view)
+    read_with g.S.Store c.args.store.now c.account.new.self c.first_trade_of_account_since.new.self {W = Option TradeRow} {X = Result View Refusal} {H = Fault} (Some row) None (Ok view)
     (IsRowOf id) (IsFirstTradeSince id first) (AnswersQueryAsModel (LotsTouched id first))
     (λ t e s. none_seen id first (abstract_account_row row) view c.lookup_lots.ensures.value c.lookup_lots.ensures.view t e s)
     (rw c.in-Some.is at c.in_ok-_row.ensures.read) (rw c.in_default-2.is at c.in_ok-trade.ensures.read)
@@ -50,12 +50,12 @@ returns-clause-read g c =
     let trade = c.in-Some-2.trade in
     let lots = c.in_ok-lots.lots in
     let view = c.lookup_lots-2.result in
-    read_both g.S.Store old c.first_trade_of_account_since.new.self c.read_changes_of_touched_lots.new.store {X = Result View Refusal} {H = Fault} (Some trade) lots (Ok view)
+    read_with g.S.Store old c.first_trade_of_account_since.new.self c.read_changes_of_touched_lots.new.store {X = Result View Refusal} {H = Fault} (Some trade) lots (Ok view)
     (λ o (t : Tables). (Some (abstract_account_row row) ≡ find (λ r. r.id == id) t.accounts) × IsFirstTradeSince id first o t)
     (AreTouchedLotsOfTrade trade.id)
     (AnswersQueryAsModel (LotsTouched id first))
     (λ t k p. lots_seen id first (abstract_account_row row) trade lots view c.lookup_lots-2.ensures.value c.lookup_lots-2.ensures.view t k.0 k.1 p)
-    (read_both g.S.Store old c.account.new.self c.first_trade_of_account_since.new.self {X = Option TradeRow} {H = Fault} (Some row) (Some trade) (Some trade)
+    (read_with g.S.Store old c.account.new.self c.first_trade_of_account_since.new.self {X = Option TradeRow} {H = Fault} (Some row) (Some trade) (Some trade)
     (IsRowOf id) (IsFirstTradeSince id first) (λ o (t : Tables). (Some (abstract_account_row row) ≡ find (λ r. r.id == id) t.accounts) × IsFirstTradeSince id first o t)
     (λ t e s. (e, s)) (rw c.in-Some.is at c.in_ok-_row.ensures.read) (rw c.in-Some-2.is at c.in_ok-trade.ensures.read))
     c.in_ok-lots.ensures.read

@@ -3,7 +3,7 @@ use Rattle.brk_money.specs.declared.fault.Fault.{Fault}
 use Rattle.brk_model.specs.StatusView.{broker_name_with_id}
 use Rattle.brk_model.specs.Tables.{Tables}
 use Rattle.brk_ref.specs.Records.{abstract_account_row, abstract_customer}
-use Rattle.brk_decisions.proofs.Looking.{failed_after, read_both}
+use Rattle.brk_store.proofs.Sequences.{failed_after, read_with}
 use Rattle.brk_view.specs.declared.statuses.AccountStatus.{AccountStatus}
 use Rattle.brk_queries.specs.Parties.{IsAccountStatusWithTrades}
 use Rattle.std.proofs.lemmas.Result.{err_from_is_err_and}
@@ -16,7 +16,7 @@ returns-clause-read g c =
     let customer = c.in_ok-customer.customer in
     let broker = c.in_ok-broker.broker in
     let found : AccountStatus = record { last_name = customer.last_name; first_name = customer.first_name; broker = broker; trades = c.args.trades } in
-    read_both g.S.Store c.args.store.now c.require_customer_with_id.new.store c.require_broker_name.new.store {H = Fault} customer broker found
+    read_with g.S.Store c.args.store.now c.require_customer_with_id.new.store c.require_broker_name.new.store {H = Fault} customer broker found
     (λ customer (t : Tables). Some (abstract_customer customer) ≡ find (λ r. r.id == row.account.customer) t.customers)
     (λ name (t : Tables). name ≡ broker_name_with_id t row.account.broker)
     (IsAccountStatusWithTrades (abstract_account_row row) c.args.trades)

@@ -10,11 +10,10 @@ use Rattle.brk_model.specs.PositionView.{last_ten_trade_rows}
 use Rattle.brk_model.specs.Tables as tables
 use Rattle.brk_model.specs.Tables.{Tables}
 use Rattle.brk_store.proofs.Retelling.{retold}
-use Rattle.brk_decisions.proofs.Looking.{failed_after, read_both, unchanged_after}
 use Rattle.brk_queries.proofs.Each.{flat_map_map, joined_more}
 use Rattle.std.proofs.lemmas.Result.{err_from_is_err_and}
 use Rattle.brk_store.specs.ReadSequences.{single_read_changes_nothing}
-use Rattle.brk_store.proofs.Sequences.{none_read}
+use Rattle.brk_store.proofs.Sequences.{failed_after, none_read, read_with, unchanged_after}
 use Rattle.brk_queries.proofs.recents.read_recent_trades_with_history.Goals as goal
 
 -- an account's last trades, and the history of the first of them
@@ -38,7 +37,7 @@ loop-trade-preserved g c =
     let rows = c.in_ok-rows.rows in
     let before = c.loop-trade.history.items in
     rw (c.in_ok-append_history_rows.ensures.added, c.deref.ensures.value)
-    (read_both g.S.Store c.args.store.now c.loop-trade.store c.history_of_trade.new.self {H = Fault} tt rows tt
+    (read_with g.S.Store c.args.store.now c.loop-trade.store c.history_of_trade.new.self {H = Fault} tt rows tt
     (λ _. FirstHistory c.args.account trades before i)
     (λ all (t : Tables). map abstract_history_row all.items ≡ filter (λ (r : tables.HistoryRow). r.trade == trade.id) t.history)
     (λ _. FirstHistory c.args.account trades (before ++ rows.items) (i + 1))

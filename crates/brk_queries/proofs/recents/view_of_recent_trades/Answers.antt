@@ -8,13 +8,12 @@ use Rattle.brk_model.specs.Tables.{Tables}
 use Rattle.brk_ref.specs.Records.{abstract_account_row}
 use Rattle.brk_ref.specs.declared.account.AccountRow.{AccountRow}
 use Rattle.brk_store.proofs.Retelling.{retold}
-use Rattle.brk_decisions.proofs.Looking.{failed_after, read_both, unchanged_after}
 use Rattle.brk_view.specs.declared.view.View.{View}
 use Rattle.brk_queries.specs.QueryResults.{AnswersQueryAsModel}
 use Rattle.brk_queries.proofs.RecentViews.{AreRecentTradesWithHistory, no_account, recent_seen}
 use Rattle.std.proofs.lemmas.Result.{err_from_is_err_and}
 use Rattle.brk_store.specs.ReadSequences.{single_read_changes_nothing}
-use Rattle.brk_store.proofs.Sequences.{none_read}
+use Rattle.brk_store.proofs.Sequences.{failed_after, none_read, read_with, unchanged_after}
 use Rattle.brk_queries.proofs.recents.view_of_recent_trades.Goals as goal
 
 pub returns-in_default-clause-read : goal.returns-in_default-clause-read
@@ -31,7 +30,7 @@ returns-clause-read g c =
     let trades = c.in_ok-trades.trades in
     let history = c.in_ok-trades.history in
     let view = c.in_ok-view.view in
-    read_both g.S.Store c.args.store.now c.account.new.self c.read_recent_trades_with_history.new.store {X = Result View Refusal} {H = Fault} (Some a) (trades, history) (Ok view)
+    read_with g.S.Store c.args.store.now c.account.new.self c.read_recent_trades_with_history.new.store {X = Result View Refusal} {H = Fault} (Some a) (trades, history) (Ok view)
     (λ o (t : Tables). option_map abstract_account_row o ≡ find (λ r. r.id == id) t.accounts)
     (λ found (t : Tables). AreRecentTradesWithHistory id found.0.items found.1.items t)
     (AnswersQueryAsModel (RecentOf id))

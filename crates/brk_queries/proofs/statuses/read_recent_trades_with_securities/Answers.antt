@@ -5,7 +5,7 @@ use Rattle.brk_changes.specs.Rows.{abstract_trade_row}
 use Rattle.brk_model.specs.Joins.{trade_rows_recent_first, trade_rows_of_account}
 use Rattle.brk_model.specs.Tables.{Tables}
 use Rattle.brk_store.proofs.Retelling.{retold}
-use Rattle.brk_decisions.proofs.Looking.{read_both}
+use Rattle.brk_store.proofs.Sequences.{read_with}
 use Rattle.brk_view.specs.Status.{rows_of_trade_status, trade_row_with_security}
 use Rattle.brk_view.specs.declared.statuses.TradeStatus.{TradeStatus}
 use Rattle.brk_queries.proofs.Each.{all_made, map_map, none_made}
@@ -55,7 +55,7 @@ loop-trade-preserved g c =
     let all = c.loop-trade.statuses.items in
     let status = c.in_ok-status.status in
     rw c.in_ok-push-2.ensures.items
-    (read_both g.S.Store c.args.store.now c.loop-trade.store c.read_trade_with_security.new.store {H = Fault} tt status tt
+    (read_with g.S.Store c.args.store.now c.loop-trade.store c.read_trade_with_security.new.store {H = Fault} tt status tt
     (λ _. AreStatusesReadSoFar account before all)
     (λ status (t : Tables). rows_of_trade_status status ≡ trade_row_with_security t (abstract_trade_row trade))
     (λ _. AreStatusesReadSoFar account rest (all ++ status ∷ []))

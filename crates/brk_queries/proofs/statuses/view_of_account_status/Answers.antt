@@ -8,7 +8,7 @@ use Rattle.brk_model.specs.Tables.{Tables}
 use Rattle.brk_ref.specs.Records.{abstract_account_row}
 use Rattle.brk_ref.specs.declared.account.AccountRow.{AccountRow}
 use Rattle.brk_store.proofs.Retelling.{retold}
-use Rattle.brk_decisions.proofs.Looking.{failed_after, read_both, unchanged_after}
+use Rattle.brk_store.proofs.Sequences.{failed_after, read_with, unchanged_after}
 use Rattle.brk_view.specs.declared.view.View.{View}
 use Rattle.brk_queries.specs.Parties.{IsAccountStatusWithTrades}
 use Rattle.brk_queries.specs.QueryResults.{AnswersQueryAsModel}
@@ -36,12 +36,12 @@ returns-clause-read g c =
     let trades = c.in_ok-trades.trades in
     let found = c.in_ok-found.found in
     let view = c.status.result in
-    read_both g.S.Store old c.read_recent_trades_with_securities.new.store c.read_account_status.new.store {X = Result View Refusal} {H = Fault} (Some row) found (Ok view)
+    read_with g.S.Store old c.read_recent_trades_with_securities.new.store c.read_account_status.new.store {X = Result View Refusal} {H = Fault} (Some row) found (Ok view)
     (λ o (t : Tables). IsRowOf id o t × AreRecentTradesWithSecurities id trades.items t)
     (λ found. IsAccountStatusWithTrades (abstract_account_row row) trades found)
     (AnswersQueryAsModel (StatusOf id))
     (λ t k p. status_seen id (abstract_account_row row) trades found view c.status.ensures.value t k.0 k.1 p)
-    (read_both g.S.Store old c.account.new.self c.read_recent_trades_with_securities.new.store {X = Option AccountRow} {H = Fault} (Some row) trades (Some row)
+    (read_with g.S.Store old c.account.new.self c.read_recent_trades_with_securities.new.store {X = Option AccountRow} {H = Fault} (Some row) trades (Some row)
     (IsRowOf id) (λ trades (t : Tables). AreRecentTradesWithSecurities id trades.items t) (λ o (t : Tables). IsRowOf id o t × AreRecentTradesWithSecurities id trades.items t)
     (λ t e w. (e, w)) (rw c.in-Some.is at c.in_ok-row.ensures.read) c.in_ok-trades.ensures.read)
     c.in_ok-found.ensures.read

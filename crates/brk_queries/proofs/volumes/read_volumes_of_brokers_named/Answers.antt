@@ -7,7 +7,7 @@ use Rattle.brk_changes.specs.Rows.{abstract_request_row}
 use Rattle.brk_changes.specs.declared.request_row.RequestRow.{RequestRow}
 use Rattle.brk_model.specs.Tables.{BrokerRow, Tables}
 use Rattle.brk_store.proofs.Retelling.{retold}
-use Rattle.brk_decisions.proofs.Looking.{failed_after, read_both}
+use Rattle.brk_store.proofs.Sequences.{failed_after, read_with}
 use Rattle.brk_view.specs.Volume as volume
 use Rattle.brk_view.specs.declared.volumes.BrokerVolume.{BrokerVolume}
 use Rattle.brk_queries.specs.Volumes.{brokers_of_name_in_sector, volumes_of_brokers_in_sector}
@@ -38,7 +38,7 @@ loop-name-preserved g c =
     let name = c.name-item.result in
     let old = c.loop-name.found.items in
     let new = c.append_volumes_of_brokers_named.new.found.items in
-    read_both g.S.Store c.args.store.now c.loop-name.store c.append_volumes_of_brokers_named.new.store {H = Fault} tt tt tt
+    read_with g.S.Store c.args.store.now c.loop-name.store c.append_volumes_of_brokers_named.new.store {H = Fault} tt tt tt
     (λ _. FirstNamed sector names requests old i)
     (λ _ (t : Tables). map abstract_request_row requests ≡ t.requests → new ≡ old ++ volumes_of_brokers_in_sector t sector (filter (λ (b : BrokerRow). bytes_eq b.name name) t.brokers))
     (λ _. FirstNamed sector names requests new (i + 1))

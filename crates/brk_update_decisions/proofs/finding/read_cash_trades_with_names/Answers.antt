@@ -8,13 +8,12 @@ use Rattle.brk_changes.specs.Chosen.{first_twenty_completed_cash_trade_rows_of_s
 use Rattle.brk_changes.specs.Rows.{abstract_trade_row}
 use Rattle.brk_changes.specs.declared.trade_row.TradeRow.{TradeRow}
 use Rattle.brk_plans.specs.declared.corrected.CashText.{CashText}
-use Rattle.brk_decisions.proofs.Looking.{failed_after, read_both, unchanged_after}
 use Rattle.brk_store.proofs.Retelling.{retold}
 use Rattle.brk_update_theorems.specs.Corrections.{CashTextsMatchTables, cash_text_row_in_tables, cash_text_row_of_typed_row, cash_row_of_trade}
-use Rattle.brk_decisions.proofs.TradesFound.{one_more, twice}
+use Rattle.brk_update_decisions.proofs.TradesFound.{one_more, twice}
 use Rattle.std.proofs.lemmas.Result.{err_from_is_err_and}
 use Rattle.brk_store.specs.ReadSequences.{single_read_changes_nothing}
-use Rattle.brk_store.proofs.Sequences.{none_read}
+use Rattle.brk_store.proofs.Sequences.{failed_after, none_read, read_with, unchanged_after}
 use Rattle.brk_update_decisions.proofs.finding.read_cash_trades_with_names.Goals as goal
 
 -- what was read is of the first of the trades that are chosen
@@ -38,7 +37,7 @@ loop-trade-preserved g c =
     let i = c.loop-trade.trade-index in
     let trade = c.trade-item.result in
     let name = c.in_ok-name.name in
-    read_both g.S.Store c.args.store.now c.loop-trade.store c.require_cash_name.new.store {H = Fault} tt name tt
+    read_with g.S.Store c.args.store.now c.loop-trade.store c.require_cash_name.new.store {H = Fault} tt name tt
     (λ _. FirstPaid c.args.symbol.now span.first span.last rows c.loop-trade.paid.items i)
     (λ name (t : Tables). Some (string_bytes name) ≡ option_map (λ r. r.name) (cash_row_of_trade t trade.id))
     (λ _. FirstPaid c.args.symbol.now span.first span.last rows c.push.new.self.items (i + 1))

@@ -8,7 +8,7 @@ use Rattle.brk_changes.specs.Chosen.{first_twenty_completed_cash_trade_rows_of_s
 use Rattle.brk_orders.specs.declared.update.Update.TheVariants as update
 use Rattle.brk_plans.specs.declared.corrected.TextUpdate.{TextUpdate}
 use Rattle.brk_plans.specs.declared.corrected.TextUpdate.TheVariants.{CashNames}
-use Rattle.brk_decisions.proofs.Looking.{failed_after, read_both}
+use Rattle.brk_store.proofs.Sequences.{failed_after, read_with}
 use Rattle.brk_store.proofs.Retelling.{retold}
 use Rattle.brk_update_theorems.specs.Corrections.{CashTextsMatchTables, UpdateFactsMatchTables, SecurityHasName}
 use Rattle.std.proofs.lemmas.Result.{err_from_is_err_and}
@@ -31,7 +31,7 @@ pub returns-clause-read : goal.returns-clause-read
 returns-clause-read g c =
     let span = c.args.span in
     let paid = c.in_ok-paid.paid in
-    read_both g.S.Store c.args.store.now c.read_security_name.new.store c.read_cash_trades_with_names.new.store {X = Option TextUpdate} {H = Fault} (Some c.in-Some.name) paid (Some (CashNames c.in-Some.name paid))
+    read_with g.S.Store c.args.store.now c.read_security_name.new.store c.read_cash_trades_with_names.new.store {X = Option TextUpdate} {H = Fault} (Some c.in-Some.name) paid (Some (CashNames c.in-Some.name paid))
     (IsNameOf c.args.symbol.now)
     (λ paid (t : Tables). CashTextsMatchTables t (first_twenty_completed_cash_trade_rows_of_symbol c.args.symbol.now span.first span.last t) paid.items)
     (λ found (t : Tables). UpdateFactsMatchTables t (update.CashNames c.args.symbol.now span) found)

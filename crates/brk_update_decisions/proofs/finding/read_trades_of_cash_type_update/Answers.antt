@@ -7,7 +7,7 @@ use Rattle.brk_changes.specs.Chosen.{first_twenty_completed_trade_rows_of_accoun
 use Rattle.brk_orders.specs.declared.update.Update.TheVariants as update
 use Rattle.brk_plans.specs.declared.corrected.TextUpdate.{TextUpdate}
 use Rattle.brk_plans.specs.declared.corrected.TextUpdate.TheVariants.{CashTypes}
-use Rattle.brk_decisions.proofs.Looking.{failed_after, read_both}
+use Rattle.brk_store.proofs.Sequences.{failed_after, read_with}
 use Rattle.brk_store.proofs.Retelling.{retold}
 use Rattle.brk_update_theorems.specs.Corrections.{SettlementTextsMatchTables, UpdateFactsMatchTables}
 use Rattle.brk_update_decisions.proofs.Found.{missing_if, present_if}
@@ -29,7 +29,7 @@ returns-clause-read g c =
     let span = c.args.span in
     let there = c.in_ok-account_row_exists.field-0 in
     let settled = c.in_ok-settled.settled in
-    read_both g.S.Store c.args.store.now c.account_row_exists.new.store c.read_trades_with_cash_types.new.store {X = Option TextUpdate} {H = Fault} there settled (Some (CashTypes settled))
+    read_with g.S.Store c.args.store.now c.account_row_exists.new.store c.read_trades_with_cash_types.new.store {X = Option TextUpdate} {H = Fault} there settled (Some (CashTypes settled))
     (λ there (t : Tables). there ≡ is_some (account_row_with_id t c.args.account))
     (λ settled (t : Tables). SettlementTextsMatchTables t (first_twenty_completed_trade_rows_of_account c.args.account span.first span.last t) settled.items)
     (λ found (t : Tables). UpdateFactsMatchTables t (update.CashTypes c.args.account span) found)

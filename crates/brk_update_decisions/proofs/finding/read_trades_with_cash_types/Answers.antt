@@ -6,13 +6,12 @@ use Rattle.brk_changes.specs.Chosen.{first_twenty_completed_trade_rows_of_accoun
 use Rattle.brk_changes.specs.Rows.{cash_type_text, abstract_trade_row}
 use Rattle.brk_changes.specs.declared.trade_row.TradeRow.{TradeRow}
 use Rattle.brk_plans.specs.declared.corrected.SettlementText.{SettlementText}
-use Rattle.brk_decisions.proofs.Looking.{failed_after, read_both, unchanged_after}
 use Rattle.brk_store.proofs.Retelling.{retold}
 use Rattle.brk_update_theorems.specs.Corrections.{SettlementTextsMatchTables, settlement_text_row_in_tables, settlement_text_row_of_typed_row, settlement_row_of_trade}
-use Rattle.brk_decisions.proofs.TradesFound.{one_more, twice}
+use Rattle.brk_update_decisions.proofs.TradesFound.{one_more, twice}
 use Rattle.std.proofs.lemmas.Result.{err_from_is_err_and}
 use Rattle.brk_store.specs.ReadSequences.{single_read_changes_nothing}
-use Rattle.brk_store.proofs.Sequences.{none_read}
+use Rattle.brk_store.proofs.Sequences.{failed_after, none_read, read_with, unchanged_after}
 use Rattle.brk_update_decisions.proofs.finding.read_trades_with_cash_types.Goals as goal
 
 -- what was read is of the first of the trades that are chosen
@@ -36,7 +35,7 @@ loop-trade-preserved g c =
     let i = c.loop-trade.trade-index in
     let trade = c.trade-item.result in
     let word = c.in_ok-cash_type.cash_type in
-    read_both g.S.Store c.args.store.now c.loop-trade.store c.require_cash_type.new.store {H = Fault} tt word tt
+    read_with g.S.Store c.args.store.now c.loop-trade.store c.require_cash_type.new.store {H = Fault} tt word tt
     (λ _. FirstSettled c.args.account span.first span.last rows c.loop-trade.settled.items i)
     (λ word (t : Tables). Some (cash_type_text word) ≡ option_map (λ s. s.cash_type) (settlement_row_of_trade t trade.id))
     (λ _. FirstSettled c.args.account span.first span.last rows c.push.new.self.items (i + 1))

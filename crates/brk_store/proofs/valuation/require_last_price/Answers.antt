@@ -5,7 +5,7 @@ use Rattle.brk_model.specs.Joins.{last_price_in_tables}
 use Rattle.brk_model.specs.Tables.{LastTradeRow, Tables}
 use Rattle.brk_ref.specs.Records.{abstract_last_trade_row}
 use Rattle.brk_store.proofs.Retelling.{retold}
-use Rattle.brk_explain_reads.proofs.known.read_last_price.Goals as goal
+use Rattle.brk_store.proofs.valuation.require_last_price.Goals as goal
 
 pub returns-in-Some-clause-read : goal.returns-in-Some-clause-read
 returns-in-Some-clause-read g c =

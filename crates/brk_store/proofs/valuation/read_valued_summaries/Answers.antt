@@ -6,14 +6,14 @@ use Rattle.brk_model.specs.Tables as tables
 use Rattle.brk_model.specs.Tables.{Tables}
 use Rattle.brk_changes.specs.Rows.{abstract_summary_row}
 use Rattle.brk_changes.specs.declared.summary_row.SummaryRow.{SummaryRow}
-use Rattle.brk_decisions.specs.OrderFactReads.{AreValuedSummariesOfAccount, market_value_of_summary}
-use Rattle.brk_decisions.specs.declared.amounts.ValuedSummaries.{ValuedSummaries}
+use Rattle.brk_store.specs.Valuation.{AreValuedSummariesOfAccount, market_value_of_summary}
+use Rattle.brk_store.specs.declared.valuation.ValuedSummaries.{ValuedSummaries}
 use Rattle.brk_store.proofs.Retelling.{retold}
-use Rattle.brk_decisions.proofs.Looking.{failed_after, read_both}
-use Rattle.brk_decisions.proofs.OrderFinds.{total_by-none, worth_more}
+use Rattle.brk_store.proofs.Sequences.{failed_after, read_with}
+use Rattle.brk_store.proofs.Valuation.{total_by-none, worth_more}
 use Rattle.std.proofs.lemmas.Result.{err_from_is_err_and}
 use Rattle.brk_store.specs.ReadSequences.{single_read_changes_nothing}
-use Rattle.brk_decisions.proofs.amounts.read_valued_summaries.Goals as goal
+use Rattle.brk_store.proofs.valuation.read_valued_summaries.Goals as goal
 
 -- the worth of the first rows, which are an account's
 abbrev FirstWorth : ℕ → List SummaryRow → ℤ → ℕ → Tables → Type 0
@@ -35,7 +35,7 @@ loop-row-preserved g c =
     let i = c.loop-row.row-index in
     let row = c.row-item.result in
     let sum = c.in_ok-sum.sum in
-    read_both g.S.Store c.args.store.now c.loop-row.store c.add_value_at_last_price.new.store {H = Fault} tt sum tt
+    read_with g.S.Store c.args.store.now c.loop-row.store c.add_value_at_last_price.new.store {H = Fault} tt sum tt
     (λ _. FirstWorth c.args.account rows c.loop-row.total i)
     (λ sum (t : Tables). sum ≡ c.loop-row.total +ℤ market_value_of_summary t (abstract_summary_row row))
     (λ _. FirstWorth c.args.account rows sum (i + 1))

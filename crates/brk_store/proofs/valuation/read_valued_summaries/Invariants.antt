@@ -3,8 +3,8 @@ use Rattle.brk_money.specs.declared.fault.Fault.{Fault}
 use Rattle.brk_model.specs.Lists.{total_by}
 use Rattle.brk_changes.specs.Rows.{abstract_summary_row}
 use Rattle.brk_store.specs.Holds.{ReadPost}
-use Rattle.brk_decisions.specs.OrderFactReads.{market_value_of_summary}
-use Rattle.brk_decisions.proofs.amounts.read_valued_summaries.Given as goal
+use Rattle.brk_store.specs.Valuation.{market_value_of_summary}
+use Rattle.brk_store.proofs.valuation.read_valued_summaries.Given as goal
 
 abbrev pub invariant-loop-row : goal.invariant-loop-row
 invariant-loop-row g l = ReadPost {V = Unit {0}} {E = Fault} g.S.Store l.fn.store l.store (Ok tt)

@@ -2,9 +2,9 @@ use Rattle.std.proofs.Common.{◌≡◌, ◌∙◌, ◌+ℤ◌, ◌*ℤ◌, ap, 
 use Rattle.brk_model.specs.Joins.{last_price_in_tables}
 use Rattle.brk_model.specs.Tables.{Tables}
 use Rattle.brk_changes.specs.Rows.{abstract_summary_row}
-use Rattle.brk_decisions.specs.OrderFactReads.{market_value_of_summary}
+use Rattle.brk_store.specs.Valuation.{market_value_of_summary}
 use Rattle.brk_store.proofs.Retelling.{retold}
-use Rattle.brk_decisions.proofs.amounts.add_value_at_last_price.Goals as goal
+use Rattle.brk_store.proofs.valuation.add_value_at_last_price.Goals as goal
 
 pub returns-in-Some-clause-read : goal.returns-in-Some-clause-read
 returns-in-Some-clause-read g c =

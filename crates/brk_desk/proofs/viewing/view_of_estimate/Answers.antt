@@ -5,8 +5,8 @@ use Rattle.brk_view.specs.declared.view.View.TheVariants as views
 use Rattle.brk_store.proofs.Retelling.{retold}
 use Rattle.brk_decisions.specs.Decisions.{IsEstimateOfModel}
 use Rattle.brk_queries.specs.QueryResults.{AnswersQueryAsModel}
-use Rattle.brk_queries.proofs.OrderViews.{estimate_refused, estimate_shown}
-use Rattle.brk_queries.proofs.orders.view_of_estimate.Goals as goal
+use Rattle.brk_desk.proofs.EstimateViews.{estimate_refused, estimate_shown}
+use Rattle.brk_desk.proofs.viewing.view_of_estimate.Goals as goal
 
 pub returns-in-Ok-clause-read : goal.returns-in-Ok-clause-read
 returns-in-Ok-clause-read g c =

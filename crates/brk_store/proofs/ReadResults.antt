@@ -9,7 +9,7 @@ use Rattle.brk_model.specs.Tables.{Tables}
 use Rattle.brk_store.specs.Holds.{HoldsRows, ReadPost}
 use Rattle.brk_store.specs.ReadSequences.{IsUnchangedByReads, disk_was_clean_before_reads}
 use Rattle.brk_store.proofs.Retelling.{retold}
-use Rattle.brk_decisions.proofs.Looking.{none_then, same_then}
+use Rattle.brk_store.proofs.Sequences.{none_then, same_then}
 
 module _ {S : Type 0} (g : Ghosts S) (old mid : Held S) where
   -- an answer that follows from what was read; or no memory for it

@@ -1,8 +1,8 @@
 use Rattle.std.proofs.Common.{◌≡◌}
 use Rattle.brk_model.specs.Tables.{Tables}
-use Rattle.brk_decisions.specs.OrderFactReads.{AreValuedSummariesOfAccount, market_value_of_account}
+use Rattle.brk_store.specs.Valuation.{AreValuedSummariesOfAccount, market_value_of_account}
 use Rattle.brk_store.proofs.Retelling.{retold}
-use Rattle.brk_decisions.proofs.amounts.read_holdings_value.Goals as goal
+use Rattle.brk_store.proofs.valuation.read_holdings_value.Goals as goal
 
 pub returns-clause-read : goal.returns-clause-read
 returns-clause-read g c =

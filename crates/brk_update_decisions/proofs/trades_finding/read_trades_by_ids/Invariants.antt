@@ -3,7 +3,7 @@ use Rattle.brk_money.specs.declared.fault.Fault.{Fault}
 use Rattle.brk_model.specs.Joins.{trade_row_with_id}
 use Rattle.brk_changes.specs.Rows.{abstract_trade_row}
 use Rattle.brk_store.specs.ReadSequences.{ReadSequencePost}
-use Rattle.brk_decisions.proofs.trades_finding.read_trades_by_ids.Given as goal
+use Rattle.brk_update_decisions.proofs.trades_finding.read_trades_by_ids.Given as goal
 
 abbrev pub invariant-loop-id : goal.invariant-loop-id
 invariant-loop-id g l = ReadSequencePost {V = Unit {0}} {E = Fault} g.S.Store l.fn.store l.store (Ok tt)

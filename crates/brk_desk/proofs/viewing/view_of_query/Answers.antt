@@ -1,4 +1,4 @@
-use Rattle.brk_queries.proofs.looking.view_of_query.Goals as goal
+use Rattle.brk_desk.proofs.viewing.view_of_query.Goals as goal
 
 pub returns-in-Position-clause-read : goal.returns-in-Position-clause-read
 returns-in-Position-clause-read g c = rw c.in-Position.is c.view_of_account_values.ensures.read

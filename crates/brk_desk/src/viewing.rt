@@ -1,0 +1,72 @@
+//! The views of all queries.
+
+ghost use Rattle.std.specs.Prelude.{IfErr};
+ghost use Rattle.brk_model.specs.Queries.{EstimateOf};
+ghost use Rattle.brk_model.specs.Run.{IsCallFault};
+ghost use Rattle.brk_orders.specs.Records.{abstract_order};
+ghost use Rattle.brk_queries.specs.QueryResults.{AnswersQueryAsModel};
+ghost use Rattle.brk_store.specs.Holds.{ReadPost};
+ghost use Rattle.brk_view.specs.Queries.{abstract_query};
+
+use brk_decisions::decide_estimate;
+use brk_money::Planned;
+use brk_orders::Order;
+use brk_queries::{
+    view_of_account_status, view_of_account_trades, view_of_account_values,
+    view_of_account_values_by_tax_id, view_of_broker_volumes, view_of_recent_trades,
+    view_of_submitted_trades, view_of_symbol_trades, view_of_touched_lots, view_of_trades_by_ids,
+};
+use brk_store::Store;
+use brk_view::{Query, View};
+use sqlite::Alter;
+use std::alloc::Global;
+
+// Returns the view of the estimated figures of an order: its price, the buy and the sell value of
+// the shares that it would close, the tax, the commission, the charge and the assets of the
+// account; or the refusal of the order. Accepts no order. If the database is still open, it is
+// unchanged. Fails with `Memory` or `Store` only; with `Store` also if the account's customer or
+// one of the customer's taxes does not exist, the tax rates total more than the greatest rate, a
+// held symbol has no last price, a sum overflows, a lot that was read has no shares, or the number
+// of lots read exceeds 32 bits.
+fn view_of_estimate<S: Alter>(
+    alloc: Global,
+    store: &mut Store<S>,
+    order: &Order,
+) -> Planned<View>
+    ensures read { ReadPost S.Store store.old store.new result (AnswersQueryAsModel (EstimateOf (abstract_order order.now))) }
+    ensures fault { IfErr result IsCallFault }
+{
+    match decide_estimate(alloc, store, order)? {
+        Ok(estimate) => Ok(Ok(View::Estimate(estimate))),
+        Err(refusal) => Ok(Err(refusal)),
+    }
+}
+
+// Executes a query: reads the rows that it selects and returns them as a view, or returns the
+// refusal of the query. The result is that of the model if the tables are those of a base that
+// satisfies the books invariant and the audit invariant.
+//
+// Fails with `Memory` or `Store` only; with `Store` also if a row that another row requires does
+// not exist, a lot that was read has no shares, the number of lots read exceeds 32 bits, or a sum
+// overflows or exceeds its limit. If the database is still open, it is unchanged, whatever the
+// result.
+pub(crate) fn view_of_query<S: Alter>(alloc: Global, store: &mut Store<S>, query: &Query) -> Planned<View>
+    ensures read { ReadPost S.Store store.old store.new result (AnswersQueryAsModel (abstract_query query.now)) }
+    ensures fault { IfErr result IsCallFault }
+{
+    match query {
+        Query::Position(customer) => view_of_account_values(alloc, store, *customer),
+        Query::PositionOfTaxId(tax_id) => view_of_account_values_by_tax_id(alloc, store, tax_id),
+        Query::Recent(account) => view_of_recent_trades(alloc, store, *account),
+        Query::Status(account) => view_of_account_status(alloc, store, *account),
+        Query::Submitted => view_of_submitted_trades(alloc, store),
+        Query::Estimate(order) => view_of_estimate(alloc, store, order),
+        Query::Trades(named) => view_of_trades_by_ids(alloc, store, named),
+        Query::AccountTrades { account, span } => view_of_account_trades(
+            alloc, store, *account, *span,
+        ),
+        Query::SymbolTrades { symbol, span } => view_of_symbol_trades(alloc, store, symbol, *span),
+        Query::Lots { account, first } => view_of_touched_lots(alloc, store, *account, *first),
+        Query::Volume { sector, names } => view_of_broker_volumes(alloc, store, sector, names),
+    }
+}
