@@ -15,9 +15,9 @@ use brk_money::{Fault, Id, Price, Qty, Rate, TradeType};
 use brk_orders::Order;
 use brk_ref::{
     ChargeAmount, Customer, Exchange, Executor, Symbol, Tier, commission_rate_for_quantity,
+    permitted,
 };
 use brk_store::Store;
-use brk_trade::permitted;
 use sqlite::Alter;
 use std::alloc::Global;
 

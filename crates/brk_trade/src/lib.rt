@@ -7,7 +7,6 @@ mod completion;
 pub mod estimate;
 pub mod order;
 pub mod outcome;
-mod permitting;
 pub mod result;
 pub mod result_found;
 mod settling;
@@ -25,6 +24,5 @@ pub use brk_plans::{
 pub use estimate::{Terms, estimate_order, tax_on_realised_gain};
 pub use order::{OrderAccount, OrderPlanFacts, plan_estimate, plan_order};
 pub use outcome::ResultFigures;
-pub use permitting::permitted;
 pub use result::plan_result;
 pub use result_found::{ResultAccount, ResultPlanFacts};

@@ -4,7 +4,11 @@ ghost use Rattle.std.specs.Prelude.{◌≡◌, map};
 ghost use Rattle.brk_model.specs.Orders as orders;
 ghost use Rattle.brk_ref.specs.Records.{abstract_customer, abstract_executor, abstract_permission};
 
-use brk_ref::{Customer, Executor, Name, Permission, TaxId};
+use crate::customer::Customer;
+use crate::executor::Executor;
+use crate::name::Name;
+use crate::permission::Permission;
+use crate::tax_id::TaxId;
 
 // Returns true if the executor has this first name, last name and tax id.
 fn executor_has_names_and_tax_id(
