@@ -105,6 +105,21 @@ def short_uses(line, limit=150):
         lines[-1].append(name)
     return [f'{found[1]}{", ".join(names)}{found[3]}' for names in lines]
 
+def literal(sql, before, blanks, limit=100):
+    """An SQL text as a literal in code, with `before` before it on its line and a comma behind it. If that line is too long, the literal
+    stands on several lines, each but the last with a backslash at its end: the line break and the blanks after it are no part of the
+    value. It breaks before the columns of a CREATE TABLE, before FROM, and after a comma that does not stand between columns of a key."""
+    if len(f'{before}"{sql}",') <= limit:
+        return f'"{sql}"'
+    lines = []
+    for clause in re.sub(r'(^CREATE TABLE \w+ \(| (?=FROM ))', r'\1\n', sql).split('\n'):
+        lines.append('')
+        for part in re.split(r'(?<=, )(?![^(]*\)\))', clause):
+            if lines[-1] and len(f'{blanks}{lines[-1]}{part}\\') > limit:
+                lines.append('')
+            lines[-1] += part
+    return '"' + f'\\\n{blanks}'.join(lines) + '"'
+
 def col_is(t, c, shown, agg, alias):
     return f'column_is schema at ({t}_table tree) found ({q(TABLES[t][0])}) {shown} [] {agg} {alias} ({q(c)}) {index(t, c)} ({kind(t, c)} ({q(c)})) refl refl'
 
@@ -760,7 +775,7 @@ existence_probe_text w = codes "DELETE FROM " ++ table_name w
         ensures {{ result.now ≡ {contract} (specified_table self) }}
     {{
         match self {{
-{chr(10).join(f'            Table::{d[2]} => "{text(d)}",' for d in DATA)}
+{chr(10).join(f'            Table::{d[2]} => {literal(text(d), f"            Table::{d[2]} => ", " " * 16)},' for d in DATA)}
         }}
     }}
 """
@@ -1122,7 +1137,7 @@ def read_whole(d):
 {{
     select_rows(
         tx,
-        "SELECT {columns} FROM {d[1]} ORDER BY {keys}",
+        {literal(f'SELECT {columns} FROM {d[1]} ORDER BY {keys}', ' ' * 8, ' ' * 9)},
         &[],
     )
 }}

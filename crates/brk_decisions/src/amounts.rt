@@ -2,7 +2,8 @@
 
 ghost use Rattle.std.specs.Prelude.{◌≡◌, ◌+ℤ◌, ◌*ℤ◌, IfErr, IfSome, pos};
 ghost use Rattle.brk_book_theorems.specs.Reads.{customer_tax_rate_sum};
-ghost use Rattle.brk_decisions.specs.OrderFactReads.{AreAssetsAndSharesOfAccount, AreValuedSummariesOfAccount, EstimateAmountsMatchTables, market_value_of_summary, market_value_of_account};
+ghost use Rattle.brk_decisions.specs.OrderFactReads.{AreAssetsAndSharesOfAccount, AreValuedSummariesOfAccount};
+ghost use Rattle.brk_decisions.specs.OrderFactReads.{EstimateAmountsMatchTables, market_value_of_account, market_value_of_summary};
 ghost use Rattle.brk_model.specs.Run.{IsCallFault};
 ghost use Rattle.brk_store.specs.Holds.{ReadPost};
 ghost use Rattle.brk_changes.specs.Rows.{abstract_summary_row};
