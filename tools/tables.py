@@ -111,14 +111,23 @@ def literal(sql, before, blanks, limit=100):
     value. It breaks before the columns of a CREATE TABLE, before FROM, and after a comma that does not stand between columns of a key."""
     if len(f'{before}"{sql}",') <= limit:
         return f'"{sql}"'
+    return '"' + f'\\\n{blanks}'.join(sql_lines(sql, limit - len(f'{blanks}\\'))) + '"'
+
+def sql_lines(sql, limit=90):
+    """The lines of an SQL text that is broken"""
     lines = []
     for clause in re.sub(r'(^CREATE TABLE \w+ \(| (?=FROM ))', r'\1\n', sql).split('\n'):
         lines.append('')
         for part in re.split(r'(?<=, )(?![^(]*\)\))', clause):
-            if lines[-1] and len(f'{blanks}{lines[-1]}{part}\\') > limit:
+            if lines[-1] and len(f'{lines[-1]}{part}') > limit:
                 lines.append('')
             lines[-1] += part
-    return '"' + f'\\\n{blanks}'.join(lines) + '"'
+    return lines
+
+def equation(head, sql, limit=150):
+    """The equation that a name is an SQL text: a literal, or several that are joined if the line is too long"""
+    whole = f'{head} = {q(sql)}'
+    return whole if len(whole) <= limit else '\n    '.join([f'{head} =', '\n    ++ '.join(q(line) for line in sql_lines(sql))])
 
 def col_is(t, c, shown, agg, alias):
     return f'column_is schema at ({t}_table tree) found ({q(TABLES[t][0])}) {shown} [] {agg} {alias} ({q(c)}) {index(t, c)} ({kind(t, c)} ({q(c)})) refl refl'
@@ -759,7 +768,7 @@ abbrev pub specified_table : Table → DeskTable
 
 -- The CREATE TABLE statement of each table of a desk, with its columns, keys and foreign keys.
 abbrev pub create_table_text : DeskTable → List ℕ
-{chr(10).join(f'create_table_text {d[2]} = codes "{create_text(d)}"' for d in DATA)}
+{chr(10).join(equation(f'create_table_text {d[2]}', create_text(d)) for d in DATA)}
 
 -- The text of the statement that deletes all rows of the table `w`. A look-up by name compiles it,
 -- without executing it, to test whether a table of this name exists.
