@@ -105,6 +105,30 @@ def short_uses(line, limit=150):
         lines[-1].append(name)
     return [f'{found[1]}{", ".join(names)}{found[3]}' for names in lines]
 
+def literal(sql, before, blanks, limit=100):
+    """An SQL text as a literal in code, with `before` before it on its line and a comma behind it. If that line is too long, the literal
+    stands on several lines, each but the last with a backslash at its end: the line break and the blanks after it are no part of the
+    value. It breaks before the columns of a CREATE TABLE, before FROM, and after a comma that does not stand between columns of a key."""
+    if len(f'{before}"{sql}",') <= limit:
+        return f'"{sql}"'
+    return '"' + f'\\\n{blanks}'.join(sql_lines(sql, limit - len(f'{blanks}\\'))) + '"'
+
+def sql_lines(sql, limit=90):
+    """The lines of an SQL text that is broken"""
+    lines = []
+    for clause in re.sub(r'(^CREATE TABLE \w+ \(| (?=FROM ))', r'\1\n', sql).split('\n'):
+        lines.append('')
+        for part in re.split(r'(?<=, )(?![^(]*\)\))', clause):
+            if lines[-1] and len(f'{lines[-1]}{part}') > limit:
+                lines.append('')
+            lines[-1] += part
+    return lines
+
+def equation(head, sql, limit=150):
+    """The equation that a name is an SQL text: a literal, or several that are joined if the line is too long"""
+    whole = f'{head} = {q(sql)}'
+    return whole if len(whole) <= limit else '\n    '.join([f'{head} =', '\n    ++ '.join(q(line) for line in sql_lines(sql))])
+
 def col_is(t, c, shown, agg, alias):
     return f'column_is schema at ({t}_table tree) found ({q(TABLES[t][0])}) {shown} [] {agg} {alias} ({q(c)}) {index(t, c)} ({kind(t, c)} ({q(c)})) refl refl'
 
@@ -744,7 +768,7 @@ abbrev pub specified_table : Table → DeskTable
 
 -- The CREATE TABLE statement of each table of a desk, with its columns, keys and foreign keys.
 abbrev pub create_table_text : DeskTable → List ℕ
-{chr(10).join(f'create_table_text {d[2]} = codes "{create_text(d)}"' for d in DATA)}
+{chr(10).join(equation(f'create_table_text {d[2]}', create_text(d)) for d in DATA)}
 
 -- The text of the statement that deletes all rows of the table `w`. A look-up by name compiles it,
 -- without executing it, to test whether a table of this name exists.
@@ -760,7 +784,7 @@ existence_probe_text w = codes "DELETE FROM " ++ table_name w
         ensures {{ result.now ≡ {contract} (specified_table self) }}
     {{
         match self {{
-{chr(10).join(f'            Table::{d[2]} => "{text(d)}",' for d in DATA)}
+{chr(10).join(f'            Table::{d[2]} => {literal(text(d), f"            Table::{d[2]} => ", " " * 16)},' for d in DATA)}
         }}
     }}
 """
@@ -1122,7 +1146,7 @@ def read_whole(d):
 {{
     select_rows(
         tx,
-        "SELECT {columns} FROM {d[1]} ORDER BY {keys}",
+        {literal(f'SELECT {columns} FROM {d[1]} ORDER BY {keys}', ' ' * 8, ' ' * 9)},
         &[],
     )
 }}

@@ -13,7 +13,8 @@ use Rattle.brk_model.specs.Form.{is_well_formed_band_row, is_well_formed_tax_rat
 use Rattle.brk_model.specs.Form.{is_well_formed_history_row, is_well_formed_request_row, is_well_formed_holding_row, is_well_formed_summary_row}
 use Rattle.brk_model.specs.Form.{is_well_formed_holding_history_row, is_well_formed_settlement_row, lacks_rows_of_later_schemas, is_last_stamp_in_calendar}
 use Rattle.brk_model.specs.Form.{is_settlement_day_in_calendar}
-use Rattle.brk_ref.specs.Records.{kept_row_with_empty_texts, abstract_broker_row, abstract_customer, abstract_account_row, abstract_permission, abstract_security_row}
+use Rattle.brk_ref.specs.Records.{abstract_account_row, abstract_broker_row, abstract_customer}
+use Rattle.brk_ref.specs.Records.{abstract_permission, abstract_security_row, kept_row_with_empty_texts}
 use Rattle.brk_ref.specs.Records.{abstract_last_trade_row, abstract_charge, abstract_band, abstract_tax_rate, abstract_customer_tax}
 use Rattle.brk_changes.specs.Rows.{abstract_trade_row, abstract_history_row, abstract_request_row, abstract_holding_row, abstract_summary_row}
 use Rattle.brk_changes.specs.Rows.{abstract_lot_change_row, abstract_settlement_row, abstract_cash_row, abstract_move_row}

@@ -1,7 +1,8 @@
 ghost use Rattle.std.specs.Prelude.{◌≡◌, ◌∷◌, ◌++◌, IfOk, OnErr, Err};
 ghost use Rattle.brk_model.specs.Parse.{parse_by_first_field, read_account, read_and_wrap, read_commission_band, read_broker, read_charge};
 ghost use Rattle.brk_model.specs.Parse.{read_customer, read_customer_tax, read_permission, read_listing, read_tax_rate, order_row_parsers};
-ghost use Rattle.brk_model.specs.Parse.{row_parsers, result_row_parsers, other_reference_row_parsers, update_row_parsers, movement_and_settlement_day_row_parsers};
+ghost use Rattle.brk_model.specs.Parse.{movement_and_settlement_day_row_parsers, other_reference_row_parsers};
+ghost use Rattle.brk_model.specs.Parse.{result_row_parsers, row_parsers, update_row_parsers};
 ghost use Rattle.brk_money.specs.declared.fault.Fault.TheVariants.{Memory};
 ghost use Rattle.brk_model.specs.Commands.{AddAccount, AddBand, AddBroker, AddCharge, AddCustomer, AddCustomerTax, AddPermission, AddSecurity, AddTaxRate};
 ghost use Rattle.brk_ref.specs.Fields.{ParsesAs, texts_of_fields};

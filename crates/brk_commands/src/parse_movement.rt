@@ -1,6 +1,7 @@
 ghost use Rattle.std.specs.Prelude.{◌≡◌, ◌∷◌};
 ghost use Rattle.brk_model.specs.Commands.{SetOneDay};
-ghost use Rattle.brk_model.specs.Parse.{movement_and_settlement_day_row_parsers, parse_by_first_field, read_and_wrap, read_movement_command, read_settlement_day};
+ghost use Rattle.brk_model.specs.Parse.{movement_and_settlement_day_row_parsers, parse_by_first_field};
+ghost use Rattle.brk_model.specs.Parse.{read_and_wrap, read_movement_command, read_settlement_day};
 ghost use Rattle.brk_orders.specs.Records.{cash_movement_command};
 ghost use Rattle.brk_ref.specs.Fields.{ParsesAs, texts_of_fields};
 ghost use Rattle.brk_commands.specs.Commands.{abstract_command};

@@ -26,3 +26,6 @@ pub all_there : (forms : RequestParsers) (q : Request) (route : Route) (texts : 
     → demand_of_texts forms route texts ≡ demand_of_request forms q
 unfolding demand_of_request
 all_there forms q route texts e t b = rw (demand_of_request, e, t, b) refl
+
+-- What a request demands, at each of its checks.
+pub ruleset demand_checks = (no_route, no_post, no_texts, all_there)

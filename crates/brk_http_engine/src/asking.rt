@@ -61,7 +61,7 @@ fn parse_call_of_route<D: Service>(
 /// (`BadRequest`), or its row or query is malformed (`BadRow`, `BadQuery`). The result does not
 /// depend on the close flag of the request. The router must have exactly the three routes, and no
 /// view may have an empty name. Fails with `Memory` only.
-#[tactic(auto, unfolding(brk_http_model::specs::Asked::demand_of_request), using(crate::proofs::AskLemmas::no_route, crate::proofs::AskLemmas::no_post, crate::proofs::AskLemmas::no_texts, crate::proofs::AskLemmas::all_there))]
+#[tactic(auto, unfolding(brk_http_model::specs::Asked::demand_of_request), using(crate::proofs::AskLemmas::demand_checks))]
 pub fn parse_call_of_request<D: Service>(
     alloc: Global,
     router: &Router<RouteKind>,

@@ -14,7 +14,8 @@ ghost use Rattle.brk_model.specs.Lines.{refused_answer_count};
 ghost use Rattle.brk_model.specs.Computed.{result_of_batch_input, result_of_complete_batch};
 ghost use Rattle.brk_model.specs.Run.{Did, Run};
 ghost use Rattle.brk_model_theorems.specs.Laws.{AnswersMatchStoredReplies, AcceptedCallsAreStored, NextRowLeadsTo, IsCompletedByRetry, SomeRunLeadsTo};
-ghost use Rattle.brk_model_theorems.specs.Laws.{IsBaseAfterInterruption, IsCompleteBatchWithoutRefusals, answer_to_retry, answers_for_new_keys, call_of_batch_row};
+ghost use Rattle.brk_model_theorems.specs.Laws.{IsBaseAfterInterruption, IsCompleteBatchWithoutRefusals};
+ghost use Rattle.brk_model_theorems.specs.Laws.{answer_to_retry, answers_for_new_keys, call_of_batch_row};
 ghost use Rattle.brk_model_theorems.specs.Laws.{calls_with_new_keys, accepted_answers, accepted_calls};
 
 /// Proves that the rows of a batch have given answers, one for each row, if and only if

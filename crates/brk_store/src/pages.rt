@@ -306,7 +306,8 @@ impl<S: Alter> LotSource for Pages<'_, S, Page> {
     ghost use Rattle.sqlite.specs.Held.{state};
     ghost use Rattle.sqlite.specs.State.{HasCleanDisk};
     ghost use Rattle.brk_model.specs.Run.{IsCallFault};
-    ghost use Rattle.brk_store.specs.ReadSequences.{IsUnchangedByReads, disk_was_clean_before_reads, empty_read_sequence_changes_nothing, joined_reads_change_nothing};
+    ghost use Rattle.brk_store.specs.ReadSequences.{IsUnchangedByReads, disk_was_clean_before_reads};
+    ghost use Rattle.brk_store.specs.ReadSequences.{empty_read_sequence_changes_nothing, joined_reads_change_nothing};
     ghost use Rattle.brk_store.specs.RemainingLots.{AreRemainingLots};
 
     ghost remaining = { λ p ls. AreRemainingLots S.Store p ls };

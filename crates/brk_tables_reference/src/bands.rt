@@ -55,7 +55,10 @@ pub fn bands_by_tier_type_and_exchange<S: Alter>(
 {
     let rows = select_rows(
         tx,
-        "SELECT CR_C_TIER, CR_TT_ID, CR_EX_ID, CR_FROM_QTY, CR_TO_QTY, CR_RATE FROM COMMISSION_RATE WHERE CR_C_TIER = ?1 AND CR_TT_ID = ?2 AND CR_EX_ID = ?3 ORDER BY CR_C_TIER, CR_TT_ID, CR_EX_ID, CR_FROM_QTY",
+        "SELECT CR_C_TIER, CR_TT_ID, CR_EX_ID, CR_FROM_QTY, CR_TO_QTY, CR_RATE \
+         FROM COMMISSION_RATE \
+         WHERE CR_C_TIER = ?1 AND CR_TT_ID = ?2 AND CR_EX_ID = ?3 \
+         ORDER BY CR_C_TIER, CR_TT_ID, CR_EX_ID, CR_FROM_QTY",
         &[
             tier_as_parameter(tier),
             trade_type_as_parameter(kind),

@@ -30,4 +30,5 @@ heading_of_table w = (select_all_text w, (table_and_column_names (table_definiti
 abbrev pub AreHeadingCheckOutcomes : List Heading → Bool → Schema → Type 0
 AreHeadingCheckOutcomes [] has schema = has ≡ true
 AreHeadingCheckOutcomes (h ∷ headings) has schema =
-    (IsResultColumnCheckOutcome h.0 h.1 false schema × (has ≡ false)) ⊎ (IsResultColumnCheckOutcome h.0 h.1 true schema × AreHeadingCheckOutcomes headings has schema)
+    (IsResultColumnCheckOutcome h.0 h.1 false schema × (has ≡ false))
+    ⊎ (IsResultColumnCheckOutcome h.0 h.1 true schema × AreHeadingCheckOutcomes headings has schema)

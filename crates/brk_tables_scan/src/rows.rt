@@ -76,7 +76,8 @@ pub fn account_rows<S: Alter>(tx: &mut Transaction<'_, S>) -> Result<Vec<Row>, F
 {
     select_rows(
         tx,
-        "SELECT CA_ID, CA_C_ID, CA_B_ID, CA_NAME, CA_TAX_ST, CA_OPEN, CA_BAL FROM CUSTOMER_ACCOUNT ORDER BY CA_ID",
+        "SELECT CA_ID, CA_C_ID, CA_B_ID, CA_NAME, CA_TAX_ST, CA_OPEN, CA_BAL \
+         FROM CUSTOMER_ACCOUNT ORDER BY CA_ID",
         &[],
     )
 }
@@ -90,7 +91,8 @@ pub fn permission_rows<S: Alter>(tx: &mut Transaction<'_, S>) -> Result<Vec<Row>
 {
     select_rows(
         tx,
-        "SELECT AP_CA_ID, AP_TAX_ID, AP_ACL, AP_L_NAME, AP_F_NAME FROM ACCOUNT_PERMISSION ORDER BY AP_CA_ID, AP_TAX_ID",
+        "SELECT AP_CA_ID, AP_TAX_ID, AP_ACL, AP_L_NAME, AP_F_NAME \
+         FROM ACCOUNT_PERMISSION ORDER BY AP_CA_ID, AP_TAX_ID",
         &[],
     )
 }
@@ -145,7 +147,8 @@ pub fn band_rows<S: Alter>(tx: &mut Transaction<'_, S>) -> Result<Vec<Row>, Faul
 {
     select_rows(
         tx,
-        "SELECT CR_C_TIER, CR_TT_ID, CR_EX_ID, CR_FROM_QTY, CR_TO_QTY, CR_RATE FROM COMMISSION_RATE ORDER BY CR_C_TIER, CR_TT_ID, CR_EX_ID, CR_FROM_QTY",
+        "SELECT CR_C_TIER, CR_TT_ID, CR_EX_ID, CR_FROM_QTY, CR_TO_QTY, CR_RATE \
+         FROM COMMISSION_RATE ORDER BY CR_C_TIER, CR_TT_ID, CR_EX_ID, CR_FROM_QTY",
         &[],
     )
 }
@@ -185,7 +188,9 @@ pub fn trade_rows<S: Alter>(tx: &mut Transaction<'_, S>) -> Result<Vec<Row>, Fau
 {
     select_rows(
         tx,
-        "SELECT T_ID, T_DTS, T_ST_ID, T_TT_ID, T_IS_CASH, T_S_SYMB, T_QTY, T_BID_PRICE, T_CA_ID, T_EXEC_NAME, T_TRADE_PRICE, T_CHRG, T_COMM, T_TAX, T_LIFO FROM TRADE ORDER BY T_ID",
+        "SELECT T_ID, T_DTS, T_ST_ID, T_TT_ID, T_IS_CASH, T_S_SYMB, T_QTY, T_BID_PRICE, T_CA_ID, \
+         T_EXEC_NAME, T_TRADE_PRICE, T_CHRG, T_COMM, T_TAX, T_LIFO \
+         FROM TRADE ORDER BY T_ID",
         &[],
     )
 }
@@ -213,7 +218,8 @@ pub fn request_rows<S: Alter>(tx: &mut Transaction<'_, S>) -> Result<Vec<Row>, F
 {
     select_rows(
         tx,
-        "SELECT TR_T_ID, TR_TT_ID, TR_S_SYMB, TR_QTY, TR_BID_PRICE, TR_B_ID FROM TRADE_REQUEST ORDER BY TR_T_ID",
+        "SELECT TR_T_ID, TR_TT_ID, TR_S_SYMB, TR_QTY, TR_BID_PRICE, TR_B_ID \
+         FROM TRADE_REQUEST ORDER BY TR_T_ID",
         &[],
     )
 }
@@ -254,7 +260,8 @@ pub fn holding_history_rows<S: Alter>(tx: &mut Transaction<'_, S>) -> Result<Vec
 {
     select_rows(
         tx,
-        "SELECT HH_H_T_ID, HH_T_ID, HH_BEFORE_QTY, HH_AFTER_QTY FROM HOLDING_HISTORY ORDER BY HH_H_T_ID, HH_T_ID",
+        "SELECT HH_H_T_ID, HH_T_ID, HH_BEFORE_QTY, HH_AFTER_QTY \
+         FROM HOLDING_HISTORY ORDER BY HH_H_T_ID, HH_T_ID",
         &[],
     )
 }

@@ -72,7 +72,9 @@ pub fn page_of_lots_newest_first<S: Alter>(
 {
     let rows = select_rows(
         tx,
-        "SELECT H_T_ID, H_CA_ID, H_S_SYMB, H_DTS, H_PRICE, H_QTY FROM HOLDING WHERE H_CA_ID = ?1 AND H_S_SYMB = ?2 ORDER BY H_DTS DESC, H_T_ID DESC LIMIT 16 OFFSET ?3",
+        "SELECT H_T_ID, H_CA_ID, H_S_SYMB, H_DTS, H_PRICE, H_QTY \
+         FROM HOLDING \
+         WHERE H_CA_ID = ?1 AND H_S_SYMB = ?2 ORDER BY H_DTS DESC, H_T_ID DESC LIMIT 16 OFFSET ?3",
         &[
             id_as_parameter(account),
             text_as_parameter(symbol.as_str()),

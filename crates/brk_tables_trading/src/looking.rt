@@ -31,7 +31,9 @@ pub fn last_ten_trades_of_account<S: Alter>(
 {
     let rows = select_rows(
         tx,
-        "SELECT T_ID, T_DTS, T_ST_ID, T_TT_ID, T_IS_CASH, T_S_SYMB, T_QTY, T_BID_PRICE, T_CA_ID, T_EXEC_NAME, T_TRADE_PRICE, T_CHRG, T_COMM, T_TAX, T_LIFO FROM TRADE WHERE T_CA_ID = ?1 ORDER BY T_DTS DESC, T_ID DESC LIMIT 10",
+        "SELECT T_ID, T_DTS, T_ST_ID, T_TT_ID, T_IS_CASH, T_S_SYMB, T_QTY, T_BID_PRICE, T_CA_ID, \
+         T_EXEC_NAME, T_TRADE_PRICE, T_CHRG, T_COMM, T_TAX, T_LIFO \
+         FROM TRADE WHERE T_CA_ID = ?1 ORDER BY T_DTS DESC, T_ID DESC LIMIT 10",
         &[id_as_parameter(account)],
     )?;
     decode_rows(alloc, &rows)
@@ -52,7 +54,9 @@ pub fn last_fifty_trades_of_account<S: Alter>(
 {
     let rows = select_rows(
         tx,
-        "SELECT T_ID, T_DTS, T_ST_ID, T_TT_ID, T_IS_CASH, T_S_SYMB, T_QTY, T_BID_PRICE, T_CA_ID, T_EXEC_NAME, T_TRADE_PRICE, T_CHRG, T_COMM, T_TAX, T_LIFO FROM TRADE WHERE T_CA_ID = ?1 ORDER BY T_DTS DESC, T_ID DESC LIMIT 50",
+        "SELECT T_ID, T_DTS, T_ST_ID, T_TT_ID, T_IS_CASH, T_S_SYMB, T_QTY, T_BID_PRICE, T_CA_ID, \
+         T_EXEC_NAME, T_TRADE_PRICE, T_CHRG, T_COMM, T_TAX, T_LIFO \
+         FROM TRADE WHERE T_CA_ID = ?1 ORDER BY T_DTS DESC, T_ID DESC LIMIT 50",
         &[id_as_parameter(account)],
     )?;
     decode_rows(alloc, &rows)

@@ -70,7 +70,9 @@ pub fn requests_with_bid_at_least<S: Alter>(
 {
     let rows = select_rows(
         tx,
-        "SELECT TR_T_ID, TR_TT_ID, TR_S_SYMB, TR_QTY, TR_BID_PRICE, TR_B_ID FROM TRADE_REQUEST WHERE TR_S_SYMB = ?1 AND TR_TT_ID = ?2 AND TR_BID_PRICE >= ?3 ORDER BY TR_T_ID",
+        "SELECT TR_T_ID, TR_TT_ID, TR_S_SYMB, TR_QTY, TR_BID_PRICE, TR_B_ID \
+         FROM TRADE_REQUEST \
+         WHERE TR_S_SYMB = ?1 AND TR_TT_ID = ?2 AND TR_BID_PRICE >= ?3 ORDER BY TR_T_ID",
         &[
             text_as_parameter(symbol.as_str()),
             trade_type_as_parameter(kind),
@@ -96,7 +98,9 @@ pub fn requests_with_bid_at_most<S: Alter>(
 {
     let rows = select_rows(
         tx,
-        "SELECT TR_T_ID, TR_TT_ID, TR_S_SYMB, TR_QTY, TR_BID_PRICE, TR_B_ID FROM TRADE_REQUEST WHERE TR_S_SYMB = ?1 AND TR_TT_ID = ?2 AND TR_BID_PRICE <= ?3 ORDER BY TR_T_ID",
+        "SELECT TR_T_ID, TR_TT_ID, TR_S_SYMB, TR_QTY, TR_BID_PRICE, TR_B_ID \
+         FROM TRADE_REQUEST \
+         WHERE TR_S_SYMB = ?1 AND TR_TT_ID = ?2 AND TR_BID_PRICE <= ?3 ORDER BY TR_T_ID",
         &[
             text_as_parameter(symbol.as_str()),
             trade_type_as_parameter(kind),

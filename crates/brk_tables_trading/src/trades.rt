@@ -29,7 +29,9 @@ pub fn add_trade<S: Alter>(tx: &mut Transaction<'_, S>, trade: &TradeRow) -> Res
 {
     execute_statement(
         tx,
-        "INSERT INTO TRADE (T_ID, T_DTS, T_ST_ID, T_TT_ID, T_IS_CASH, T_S_SYMB, T_QTY, T_BID_PRICE, T_CA_ID, T_EXEC_NAME, T_TRADE_PRICE, T_CHRG, T_COMM, T_TAX, T_LIFO) VALUES (?1, ?2, ?3, ?4, ?5, ?6, ?7, ?8, ?9, ?10, ?11, ?12, ?13, ?14, ?15)",
+        "INSERT INTO TRADE (T_ID, T_DTS, T_ST_ID, T_TT_ID, T_IS_CASH, T_S_SYMB, T_QTY, \
+         T_BID_PRICE, T_CA_ID, T_EXEC_NAME, T_TRADE_PRICE, T_CHRG, T_COMM, T_TAX, T_LIFO) \
+         VALUES (?1, ?2, ?3, ?4, ?5, ?6, ?7, ?8, ?9, ?10, ?11, ?12, ?13, ?14, ?15)",
         &[
             id_as_parameter(trade.id),
             stamp_as_parameter(trade.stamp),
@@ -111,7 +113,9 @@ pub fn trade_by_id<S: Alter>(tx: &mut Transaction<'_, S>, id: Id) -> Result<Opti
 {
     let rows = select_rows(
         tx,
-        "SELECT T_ID, T_DTS, T_ST_ID, T_TT_ID, T_IS_CASH, T_S_SYMB, T_QTY, T_BID_PRICE, T_CA_ID, T_EXEC_NAME, T_TRADE_PRICE, T_CHRG, T_COMM, T_TAX, T_LIFO FROM TRADE WHERE T_ID = ?1 ORDER BY T_ID",
+        "SELECT T_ID, T_DTS, T_ST_ID, T_TT_ID, T_IS_CASH, T_S_SYMB, T_QTY, T_BID_PRICE, T_CA_ID, \
+         T_EXEC_NAME, T_TRADE_PRICE, T_CHRG, T_COMM, T_TAX, T_LIFO \
+         FROM TRADE WHERE T_ID = ?1 ORDER BY T_ID",
         &[id_as_parameter(id)],
     )?;
     decode_first_row(&rows)
@@ -140,7 +144,9 @@ pub fn submitted_trades<S: Alter>(
 {
     let rows = select_rows(
         tx,
-        "SELECT T_ID, T_DTS, T_ST_ID, T_TT_ID, T_IS_CASH, T_S_SYMB, T_QTY, T_BID_PRICE, T_CA_ID, T_EXEC_NAME, T_TRADE_PRICE, T_CHRG, T_COMM, T_TAX, T_LIFO FROM TRADE WHERE T_ST_ID = ?1 ORDER BY T_ID",
+        "SELECT T_ID, T_DTS, T_ST_ID, T_TT_ID, T_IS_CASH, T_S_SYMB, T_QTY, T_BID_PRICE, T_CA_ID, \
+         T_EXEC_NAME, T_TRADE_PRICE, T_CHRG, T_COMM, T_TAX, T_LIFO \
+         FROM TRADE WHERE T_ST_ID = ?1 ORDER BY T_ID",
         &[status_as_parameter(Status::Submitted)],
     )?;
     decode_rows(alloc, &rows)

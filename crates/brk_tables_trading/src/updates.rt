@@ -38,7 +38,10 @@ pub fn first_twenty_completed_trades_of_account<S: Alter>(
 {
     let rows = select_rows(
         tx,
-        "SELECT T_ID, T_DTS, T_ST_ID, T_TT_ID, T_IS_CASH, T_S_SYMB, T_QTY, T_BID_PRICE, T_CA_ID, T_EXEC_NAME, T_TRADE_PRICE, T_CHRG, T_COMM, T_TAX, T_LIFO FROM TRADE WHERE T_ST_ID = ?1 AND T_CA_ID = ?2 AND T_DTS >= ?3 AND T_DTS <= ?4 ORDER BY T_DTS, T_ID LIMIT 20",
+        "SELECT T_ID, T_DTS, T_ST_ID, T_TT_ID, T_IS_CASH, T_S_SYMB, T_QTY, T_BID_PRICE, T_CA_ID, \
+         T_EXEC_NAME, T_TRADE_PRICE, T_CHRG, T_COMM, T_TAX, T_LIFO \
+         FROM TRADE WHERE T_ST_ID = ?1 AND T_CA_ID = ?2 \
+         AND T_DTS >= ?3 AND T_DTS <= ?4 ORDER BY T_DTS, T_ID LIMIT 20",
         &[
             status_as_parameter(Status::Completed),
             id_as_parameter(account),
@@ -66,7 +69,10 @@ pub fn first_twenty_completed_cash_trades_of_symbol<S: Alter>(
 {
     let rows = select_rows(
         tx,
-        "SELECT T_ID, T_DTS, T_ST_ID, T_TT_ID, T_IS_CASH, T_S_SYMB, T_QTY, T_BID_PRICE, T_CA_ID, T_EXEC_NAME, T_TRADE_PRICE, T_CHRG, T_COMM, T_TAX, T_LIFO FROM TRADE WHERE T_ST_ID = ?1 AND T_IS_CASH = ?2 AND T_S_SYMB = ?3 AND T_DTS >= ?4 AND T_DTS <= ?5 ORDER BY T_DTS, T_ID LIMIT 20",
+        "SELECT T_ID, T_DTS, T_ST_ID, T_TT_ID, T_IS_CASH, T_S_SYMB, T_QTY, T_BID_PRICE, T_CA_ID, \
+         T_EXEC_NAME, T_TRADE_PRICE, T_CHRG, T_COMM, T_TAX, T_LIFO \
+         FROM TRADE WHERE T_ST_ID = ?1 AND T_IS_CASH = ?2 AND T_S_SYMB = ?3 \
+         AND T_DTS >= ?4 AND T_DTS <= ?5 ORDER BY T_DTS, T_ID LIMIT 20",
         &[
             status_as_parameter(Status::Completed),
             flag_as_parameter(true),

@@ -34,7 +34,10 @@ pub fn first_twenty_trades_of_account<S: Alter>(
 {
     let rows = select_rows(
         tx,
-        "SELECT T_ID, T_DTS, T_ST_ID, T_TT_ID, T_IS_CASH, T_S_SYMB, T_QTY, T_BID_PRICE, T_CA_ID, T_EXEC_NAME, T_TRADE_PRICE, T_CHRG, T_COMM, T_TAX, T_LIFO FROM TRADE WHERE T_CA_ID = ?1 AND T_DTS >= ?2 AND T_DTS <= ?3 ORDER BY T_DTS, T_ID LIMIT 20",
+        "SELECT T_ID, T_DTS, T_ST_ID, T_TT_ID, T_IS_CASH, T_S_SYMB, T_QTY, T_BID_PRICE, T_CA_ID, \
+         T_EXEC_NAME, T_TRADE_PRICE, T_CHRG, T_COMM, T_TAX, T_LIFO \
+         FROM TRADE \
+         WHERE T_CA_ID = ?1 AND T_DTS >= ?2 AND T_DTS <= ?3 ORDER BY T_DTS, T_ID LIMIT 20",
         &[
             id_as_parameter(account),
             stamp_as_parameter(first),
@@ -61,7 +64,10 @@ pub fn first_twenty_trades_of_symbol<S: Alter>(
 {
     let rows = select_rows(
         tx,
-        "SELECT T_ID, T_DTS, T_ST_ID, T_TT_ID, T_IS_CASH, T_S_SYMB, T_QTY, T_BID_PRICE, T_CA_ID, T_EXEC_NAME, T_TRADE_PRICE, T_CHRG, T_COMM, T_TAX, T_LIFO FROM TRADE WHERE T_S_SYMB = ?1 AND T_DTS >= ?2 AND T_DTS <= ?3 ORDER BY T_DTS, T_ID LIMIT 20",
+        "SELECT T_ID, T_DTS, T_ST_ID, T_TT_ID, T_IS_CASH, T_S_SYMB, T_QTY, T_BID_PRICE, T_CA_ID, \
+         T_EXEC_NAME, T_TRADE_PRICE, T_CHRG, T_COMM, T_TAX, T_LIFO \
+         FROM TRADE \
+         WHERE T_S_SYMB = ?1 AND T_DTS >= ?2 AND T_DTS <= ?3 ORDER BY T_DTS, T_ID LIMIT 20",
         &[
             text_as_parameter(symbol.as_str()),
             stamp_as_parameter(first),
@@ -86,7 +92,9 @@ pub fn first_trade_of_account_from_stamp<S: Alter>(
 {
     let rows = select_rows(
         tx,
-        "SELECT T_ID, T_DTS, T_ST_ID, T_TT_ID, T_IS_CASH, T_S_SYMB, T_QTY, T_BID_PRICE, T_CA_ID, T_EXEC_NAME, T_TRADE_PRICE, T_CHRG, T_COMM, T_TAX, T_LIFO FROM TRADE WHERE T_CA_ID = ?1 AND T_DTS >= ?2 ORDER BY T_DTS, T_ID LIMIT 1",
+        "SELECT T_ID, T_DTS, T_ST_ID, T_TT_ID, T_IS_CASH, T_S_SYMB, T_QTY, T_BID_PRICE, T_CA_ID, \
+         T_EXEC_NAME, T_TRADE_PRICE, T_CHRG, T_COMM, T_TAX, T_LIFO \
+         FROM TRADE WHERE T_CA_ID = ?1 AND T_DTS >= ?2 ORDER BY T_DTS, T_ID LIMIT 1",
         &[id_as_parameter(account), stamp_as_parameter(first)],
     )?;
     decode_first_row(&rows)

@@ -43,7 +43,9 @@ pub fn walk_completed_trades<S: Alter, E, V: Visitor<TradeRow, E>>(
     let _is_autocommit = conn.is_autocommit();
     walk_query_rows::<S, TradeRow, E, V>(
         conn,
-        "SELECT T_ID, T_DTS, T_ST_ID, T_TT_ID, T_IS_CASH, T_S_SYMB, T_QTY, T_BID_PRICE, T_CA_ID, T_EXEC_NAME, T_TRADE_PRICE, T_CHRG, T_COMM, T_TAX, T_LIFO FROM TRADE WHERE T_ST_ID = ?1 ORDER BY T_DTS, T_ID",
+        "SELECT T_ID, T_DTS, T_ST_ID, T_TT_ID, T_IS_CASH, T_S_SYMB, T_QTY, T_BID_PRICE, T_CA_ID, \
+         T_EXEC_NAME, T_TRADE_PRICE, T_CHRG, T_COMM, T_TAX, T_LIFO \
+         FROM TRADE WHERE T_ST_ID = ?1 ORDER BY T_DTS, T_ID",
         &[status_as_parameter(Status::Completed)],
         visitor,
     )

@@ -10,7 +10,8 @@ ghost use Rattle.brk_orders.specs.declared.tick.Tick.{Tick};
 ghost use Rattle.brk_plans.specs.Feed.{SymbolState, states_of_quotes};
 ghost use Rattle.brk_plans.specs.declared.quote.Quote.{Quote};
 ghost use Rattle.brk_trade.specs.declared.result_found.ResultPlanFacts.{ResultPlanFacts};
-ghost use Rattle.brk_trade_theorems.specs.ImplementedPlans.{CancelPlanImplementsCommand, FeedPlanImplementsCommand, QuotesExtendToTick, ResultPlanImplementsCommand};
+ghost use Rattle.brk_trade_theorems.specs.ImplementedPlans.{CancelPlanImplementsCommand, FeedPlanImplementsCommand};
+ghost use Rattle.brk_trade_theorems.specs.ImplementedPlans.{QuotesExtendToTick, ResultPlanImplementsCommand};
 ghost use Rattle.brk_trade_theorems.specs.ResultPlans.{PlanResultPrecondition};
 ghost use Rattle.brk_trade_theorems.specs.TradePlans.{AreQuotesOfTicks, PlanCancelPrecondition, PlanFeedPrecondition};
 

@@ -10,7 +10,8 @@ ghost use Rattle.brk_money.specs.Spelling.{Text};
 ghost use Rattle.brk_money.specs.declared.fault.Fault.TheVariants.{Memory};
 ghost use Rattle.brk_view.specs.Views.{records_of_view};
 ghost use Rattle.brk_view.specs.Volume as volume;
-ghost use Rattle.brk_view.specs.Volume.{has_name_and_pending_request, is_before_by_broker_name, request_value_at_bid, is_before_by_broker_volume, broker_volume_record};
+ghost use Rattle.brk_view.specs.Volume.{broker_volume_record, has_name_and_pending_request};
+ghost use Rattle.brk_view.specs.Volume.{is_before_by_broker_name, is_before_by_broker_volume, request_value_at_bid};
 ghost use Rattle.brk_view.specs.declared.view.View.TheVariants as views;
 ghost use Rattle.brk_view.specs.declared.volumes.BrokerVolume.{BrokerVolume};
 

@@ -63,6 +63,9 @@ pub customer_alone : (base : Base) (id : ℕ) → BooksInvariant base → AuditI
 customer_alone base id books sound =
     found_is_all customer_key (λ c. c.id == id) (number id ∷ []) (sheets base).customers (λ c e. ap (λ n. number n ∷ []) (eqb-true c.id id e)) (parts base books sound).customers
 
+-- Of the rows with a key, the one that is found is all.
+pub ruleset rows_alone = (settlement_alone, cash_alone, account_alone, customer_alone)
+
 trade_alone : (base : Base) (id : ℕ) → BooksInvariant base → AuditInvariant base → option_to_list (find (λ t. t.id == id) (sheets base).trades) ≡ filter (λ t. t.id == id) (sheets base).trades
 trade_alone base id books sound =
     found_is_all trade_key (λ t. t.id == id) (number id ∷ []) (sheets base).trades (λ t e. ap (λ n. number n ∷ []) (eqb-true t.id id e)) (parts base books sound).trades

@@ -31,7 +31,7 @@ pub fn sorting_tables_preserves_lots_view()
 /// Proves that at most one row of the sorted tables has a given key, for settlements by trade, cash
 /// rows by trade, accounts by id and customers by id, if the base satisfies the books invariant and
 /// the audit invariant.
-#[tactic(auto, using(crate::proofs::FoundRows::settlement_alone, crate::proofs::FoundRows::cash_alone, crate::proofs::FoundRows::account_alone, crate::proofs::FoundRows::customer_alone))]
+#[tactic(auto, using(crate::proofs::FoundRows::rows_alone))]
 pub fn rows_with_a_key_are_unique()
     ensures settlements { (base : Base) (trade : ℕ) → BooksInvariant base → AuditInvariant base
         → option_to_list (find (λ s. s.trade == trade) (sheets base).settlements) ≡ filter (λ s. s.trade == trade) (sheets base).settlements }
