@@ -51,8 +51,8 @@ result_of_rows form step batch n base moments (row ∷ rows) =
     (λ after left. result_of_rows form step batch (n + 1) after left rows)
 
 -- The rows of the batch, numbered from 1 and executed from `base` on, have exactly the answers
--- `answers`, use all clock readings `moments`, and result in the base `after`. Rows for which no
--- clock reading is left have no answer.
+-- `answers`, use all clock readings `moments`, and result in the base `after`. A well-formed row
+-- for which no clock reading is left, and each row after it, has no answer.
 abbrev pub RowsAreAnswered : {B C : Type 0} → (Fields → ReadResult C) → RowStep B C → Text → B → List ℕ → List Fields → List Answer → B → Type 0
 RowsAreAnswered form step batch base moments rows answers after =
     result_of_rows form step batch 1 base moments rows ≡ record { answers = answers; base = after; moments = [] }

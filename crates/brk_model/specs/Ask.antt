@@ -76,8 +76,8 @@ read_lots_query _ = Err BadText
 abbrev pub read_broker_names : List Text → ReadResult (List Text)
 read_broker_names names = check_read_value (λ ns. one_to_twenty_elements (distinct_texts ns)) (read_each_text read_name names)
 
--- The query for broker volumes that the arguments parse as, a sector and 1 to 20 distinct broker
--- names, of which duplicates are removed; otherwise a refusal, `TooMany` if all arguments are
+-- The query for broker volumes that the arguments parse as: a sector, and broker names, which are 1
+-- to 20 after duplicates are removed; otherwise a refusal, `TooMany` if all arguments are
 -- well-formed and more than 20 names are distinct, and `BadText` in any other case.
 abbrev pub read_volume_query : List Text → ReadResult Query
 read_volume_query [] = Err BadText

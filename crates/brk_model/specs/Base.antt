@@ -135,8 +135,8 @@ broker_id_of_account base account = broker_id_in_accounts base.accounts account
 abbrev pub customer_id_of_account : Base → ℕ → ℕ
 customer_id_of_account base account = option_map_or (λ a. a.customer) (account_with_id base account) 0
 
--- The tier of the customer of the account `account` in `base`; 0 if the account or its customer
--- does not exist.
+-- The tier of the customer of the account `account` in `base`, by the id that
+-- `customer_id_of_account` returns; 0 if there is no customer with this id.
 abbrev pub tier_of_account : Base → ℕ → ℕ
 tier_of_account base account = option_map_or (λ c. c.tier) (customer_with_id base (customer_id_of_account base account)) 0
 

@@ -1,7 +1,7 @@
--- The batch text: the bytes that answer a batch, and the base after it. Computed defines it as a
--- function, which is easier to read first. Here a text may be unknown (None), as for a reader whose
--- content no contract specifies; then any records may be its records. The theorems on retries and
--- on keys are over this relation.
+-- The output of a batch, and the base after it, as a relation. Computed defines them as a function,
+-- which is easier to read first. Here a text may be unknown (None), as for a reader whose content
+-- no contract specifies; then any records may be its records. The theorems on retries and on keys
+-- are over this relation.
 use Rattle.std.specs.Prelude.{◌≡◌, ◌⊎◌, ℕ, List, [], ◌∷◌, ◌++◌, length, Option, Some}
 use Rattle.std.specs.List.{AllByRecursion}
 use Rattle.brk_money.specs.Spelling.{Text}
@@ -66,9 +66,9 @@ EndsWithWrongEndRecord text name rows =
 -- The text has the header of the batch `name`, then the records `rows`, and then an end record,
 -- correct for `CorrectEnd` and wrong for `BadEnd`; for `NoEnd` it satisfies `EndsWithoutEndRecord`.
 -- An unknown text always satisfies the part about its records. The printed answers `told` are
--- `answers`, and for `NoEnd` also the refusal of the last record if there is one. The output `out`
--- has one line for each printed answer, and the `end` line for `CorrectEnd` only. `BadHeader` never
--- satisfies this.
+-- `answers` for `CorrectEnd` and `BadEnd`; for `NoEnd` they are empty, or `answers` followed by the
+-- refusal of the last record. The output `out` has one line for each printed answer, and the `end`
+-- line for `CorrectEnd` only. `BadHeader` never satisfies this.
 abbrev pub MatchesEnding : Option Text → BatchEnding → Text → List Fields → List Answer → List Answer → Text → Type 0
 MatchesEnding text CorrectEnd name rows answers told out =
     BeginsWithRecords text (batch_header name ∷ (rows ++ (correct_end_record (length rows) ∷ []))) × (told ≡ answers)

@@ -72,8 +72,8 @@ result_of_complete_batch run = record { text = answer_lines_from 1 run.0 ++ batc
 abbrev pub result_with_refused_last_row : {B : Type 0} → AnswersAndBase B → BatchResult B
 result_with_refused_last_row run = result_without_end_line (run.0 ++ Refused BadText ∷ [], run.1) NoEnd
 
--- The result of a batch whose rows are followed by the end record `last`: complete if the record
--- has the number of the rows, otherwise with the ending `BadEnd`.
+-- The result of a batch whose rows are followed by the end record `last`: complete if this record
+-- has the number of the rows (`has_correct_row_count`), otherwise with the ending `BadEnd`.
 abbrev pub result_with_end_record : {B C : Type 0} → (Fields → ReadResult C) → RowStep B C → Text → B → List ℕ → List Fields → Fields → BatchResult B
 result_with_end_record form step name base moments rows last =
     if has_correct_row_count (length rows) last then result_of_complete_batch (answers_and_base_of_rows form step name base moments rows)

@@ -132,7 +132,8 @@ balance_of_account accounts posted account = opening_balance_in_accounts account
 unfoldable pub holdings_market_value : List Security → List Trade → ℕ → ℤ
 holdings_market_value securities done account = total_by (λ s. holding_summary_quantity done account s.symbol *ℤ pos s.last_price) securities
 
--- The trades of the list `done` whose accounts have the broker `broker`.
+-- The trades of the list `done` whose accounts have the broker `broker`; an account that is not in
+-- `accounts` counts as one with the broker 0.
 abbrev pub trades_of_broker : List Account → List Trade → ℕ → List Trade
 trades_of_broker accounts done broker = filter (λ t. broker_id_in_accounts accounts t.account == broker) done
 

@@ -383,12 +383,13 @@ has_distinct_tax_ids [] = true
 has_distinct_tax_ids (c ∷ customers) = not (list_any (λ d. bytes_eq d.tax_id c.tax_id) customers) && has_distinct_tax_ids customers
 
 -- True if the tables `t` satisfy the condition `Form` in the schema `schema`. Each row passes the
--- check of its table: of formats, limits and references. The rows of every table are sorted by
--- their key, and no key and no tax id of a customer occurs twice. Bands do not overlap, no
--- customer is above the limits of accounts and of tax rates, and trades are numbered from 1 without
--- a gap. No trade has two rows of CASH_MOVE, and at most `greatest_id` rows of CASH_MOVE have no
--- trade. The last stamp and the settlement day, if they are set, are within the calendar. CASH_MOVE
--- and SETTLE_RULE have no rows if the schema lacks them.
+-- check of its table: of formats, limits and references. The rows of every table except DESK and
+-- SETTLE_RULE are sorted by their key, no key occurs twice in a table, and no two customers have
+-- equal tax ids. Bands do not overlap, no customer is above the limits of accounts and of tax
+-- rates, and trades are numbered from 1 without a gap. No trade has two rows of CASH_MOVE, and at
+-- most `greatest_id` rows of CASH_MOVE have no trade. The last stamp and the settlement day, if
+-- they are set, are within the calendar. CASH_MOVE and SETTLE_RULE have no rows if the schema lacks
+-- them.
 unfoldable pub satisfies_form_condition : Schema → Tables → Bool
 satisfies_form_condition schema t =
     is_last_stamp_in_calendar t.last

@@ -209,9 +209,9 @@ refusal_of_unknown_type_by_price_text [] = Err BadType
 refusal_of_unknown_type_by_price_text (c ∷ text) = Err BadType ⊛ read_price (c ∷ text)
 
 -- The order type of a trade type, with the price that a text parses as. The text must be empty for
--- a market type and a well-formed price for any other type; otherwise it is the refusal `BadPrice`.
--- Without a trade type it is the refusal `BadType` if the text is empty or a well-formed price,
--- otherwise `BadPrice`.
+-- a market type and a well-formed price for any other type; otherwise the result is the refusal
+-- `BadPrice`. Without a trade type the result is the refusal `BadType` if the text is empty or a
+-- well-formed price, otherwise `BadPrice`.
 abbrev pub order_type_with_price : Option TradeType → Text → ReadResult OrderType
 order_type_with_price None = refusal_of_unknown_type_by_price_text
 order_type_with_price (Some MarketBuy) = market_type_if_price_is_empty asked.MarketBuy
@@ -220,9 +220,9 @@ order_type_with_price (Some StopLoss) = priced_order_type (λ price. asked.StopL
 order_type_with_price (Some LimitSell) = priced_order_type (λ price. asked.LimitSell price)
 order_type_with_price (Some LimitBuy) = priced_order_type (λ price. asked.LimitBuy price)
 
--- The order type that two texts parse as, the code of the trade type and the price. Otherwise it is
--- a refusal: `BadType` if the code is unknown and the price is empty or well-formed, `BadPrice` in
--- any other case.
+-- The order type that two texts parse as, the code of the trade type and the price; otherwise a
+-- refusal, `BadType` if the code is unknown and the price is empty or well-formed, and `BadPrice`
+-- in any other case.
 abbrev pub read_order_type : Text → Text → ReadResult OrderType
 read_order_type type_text price_text = order_type_with_price (trade_type_with_code type_text) price_text
 

@@ -21,8 +21,8 @@ base_with_stored_reply (Some key) command reply base =
     record base { kept = base.kept ++ record { key = key; row_text = row_text command; line = line_text reply } ∷ [] }
 
 -- The answer to a command, and the base after it, by the result of its step on `base`. If the step
--- accepts the command, the base after it also stores the row and the reply under the key; if it
--- refuses the command, the base is unchanged.
+-- accepts the command, the base after it also stores the row and the reply under the key if there
+-- is one; if it refuses the command, the base is unchanged.
 abbrev pub answer_and_base_of_step : Base → Option Key → Command → Result (Reply × Base) Refusal → Answer × Base
 answer_and_base_of_step base key command (Ok booked) = (Done booked.0, base_with_stored_reply key command booked.0 booked.1)
 answer_and_base_of_step base key command (Err refusal) = (Refused refusal, base)

@@ -1,4 +1,4 @@
--- The text of the reply to a batch: one line for each row, and the end line.
+-- The output of a batch: one line for each answer, and the `end` line.
 use Rattle.std.specs.Prelude.{ℕ, ◌+◌, Bool, true, false, List, [], ◌∷◌, ◌++◌, count_by, codes, decimal}
 use Rattle.brk_money.specs.Spelling.{Text}
 use Rattle.brk_money.specs.Kinds.{refusal_text}

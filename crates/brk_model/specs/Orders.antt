@@ -96,8 +96,10 @@ first_status kind = if is_market_type kind then Submitted else Pending
 abbrev pub executor_name : Executor → Text
 executor_name e = e.first_name ++ 32 ∷ e.last_name
 
--- The trade that the order `o` creates at `stamp`, with its estimated charge and commission, tax 0
--- and no price. Its id is the number of trades of `base` plus 1.
+-- The trade that the order `o` creates at `stamp`, with its requested price, its estimated charge
+-- and commission, tax 0, no completion price, and an empty cash type and cash row name. Its id is
+-- the number of trades of `base` plus 1. Its only status change is to the `first_status` of its
+-- type, at `stamp`.
 abbrev pub trade_of_order : Base → ℕ → Order → Trade
 trade_of_order base stamp o = record {
   id = length base.trades + 1;

@@ -112,9 +112,9 @@ read_ticks (symbol ∷ price ∷ qty ∷ fields) =
     Ok (λ s p q ticks. record { symbol = s; price = p; qty = q } ∷ ticks) ⊛ read_symbol symbol ⊛ read_price price ⊛ read_quantity qty ⊛ read_ticks fields
 read_ticks _ = Err BadText
 
--- The 1 to 20 ticks of a feed that the fields parse as, three fields each, or the refusal of
--- malformed fields; the refusal `BadText` if there are no ticks, and `TooMany` if there are more
--- than 20.
+-- The 1 to 20 ticks of a feed that the fields parse as, three fields each; otherwise a refusal,
+-- that of `read_ticks` if it refuses the fields, `BadText` if there are no ticks, and `TooMany` if
+-- there are more than 20.
 abbrev pub read_feed : List Text → ReadResult (List Tick)
 read_feed fields = check_read_value one_to_twenty_elements (read_ticks fields)
 

@@ -28,8 +28,8 @@ pub data Query : Type 0 where
   TradesOfAccount : (account first last : ℕ) → Query
   -- The first trades of a symbol between two stamps, both included (view `symboltrades`).
   TradesOfSymbol : (symbol : Text) → (first last : ℕ) → Query
-  -- The changes of the lots that the first trade of an account from a stamp on touched (view
-  -- `lots`).
+  -- The first changes of the lots that were touched by the oldest trade of an account with a stamp
+  -- of at least `first` (view `lots`).
   LotsTouched : (account first : ℕ) → Query
   -- The volumes of the brokers with these names in a sector (view `volume`).
   VolumeOf : (sector : Text) → (names : List Text) → Query

@@ -36,9 +36,9 @@ cash_row_name words base t = cash_row_name_from_parts words t.kind t.qty (securi
 abbrev pub cash_row_name_at_completion : Base → Trade → Text
 cash_row_name_at_completion base t = if t.is_cash then cash_row_name (codes " shares of ") base t else []
 
--- The trade `t` after its completion at `price`: with the price, the commission, tax, cash type and
--- cash row name that `base` determines, and with the status `Completed` at `stamp`. The commission
--- is 0 if no band applies.
+-- The trade `t` after its completion at `price`: with this price, the commission and the tax that
+-- follow from `base`, its cash type and cash row name at completion, and one more status change, to
+-- `Completed` at `stamp`. The commission is 0 if no band applies.
 unfoldable pub completed_trade : Base → ℕ → ℕ → Trade → Trade
 completed_trade base stamp price t = trade_with_status_change stamp Completed (record t {
   price = Some price;

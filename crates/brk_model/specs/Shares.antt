@@ -33,7 +33,8 @@ is_opposite_to_position d [] = false
 is_opposite_to_position d (share ∷ shares) = not (is_same_side share.side d.side)
 
 -- The number of shares of the position `shares` that the deal `d` closes: the smaller of the deal's
--- quantity and the number of shares of the position if `is_opposite_to_position` is true, otherwise 0.
+-- quantity and the number of shares of the position if `is_opposite_to_position` is true, otherwise
+-- 0.
 abbrev pub closed_share_count_of_deal : Deal → List Share → ℕ
 closed_share_count_of_deal d shares = if is_opposite_to_position d shares then min d.qty (length shares) else 0
 
@@ -172,7 +173,7 @@ abbrev pub changes_lot_quantity : Touch → Bool
 changes_lot_quantity touch = not (is_zero (touch.before -ℤ touch.after))
 
 -- The effects of the deal `d` on the lots of the position `shares` whose quantities it changes, in
--- the sequence of the lots' first shares; the lot that the deal opens is not among them.
+-- the sequence of the lots' first shares. Lots without a share in `shares` are left out.
 unfoldable pub touches_of_existing_lots : Deal → List Share → List Touch
 touches_of_existing_lots d shares = filter changes_lot_quantity (map (touch_of_lot_with_share d shares) (first_shares_of_lots shares))
 

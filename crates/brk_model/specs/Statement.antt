@@ -64,8 +64,10 @@ lot_line row =
     ∷ right_aligned_text 10 (nonnegative_cents_text row.price)
 
 -- The lines of the statement of account `a` over the days `from` to `to`, both included: title,
--- name, period, opening balance, cash rows of the period, closing balance, lots, market value, and
--- the numbers of cash rows and of lots. `rows` are all cash rows of the account.
+-- name, period, balance before the period, cash rows of the period, balance after the period, lots,
+-- market value, and the numbers of these cash rows and of the lots. `rows` are all cash rows of the
+-- account; both balances are its opening balance plus amounts of `rows`. Days are counted from
+-- 1970-01-01.
 abbrev pub statement_lines : Tables → AccountRow → ℕ → ℕ → List MoveRow → List Text
 statement_lines tables a from to rows =
     (codes "Statement of account " ++ decimal a.id)

@@ -16,7 +16,8 @@ abbrev pub broker_name_with_id : Tables → ℕ → Text
 broker_name_with_id tables id = option_map_or (λ row. row.name) (find (λ row. row.id == id) tables.brokers) []
 
 -- One record with the last and the first name of the customer of the account `a` and the name of
--- its broker; no record if the customer does not exist, and an empty name if the broker does not.
+-- its broker; no record if the customer does not exist. The name of the broker is empty if the
+-- broker does not exist.
 abbrev pub customer_and_broker_names : Tables → AccountRow → View
 customer_and_broker_names tables a =
     map (λ c. c.last_name ∷ c.first_name ∷ broker_name_with_id tables a.broker ∷ []) (filter (λ c. c.id == a.customer) tables.customers)

@@ -51,8 +51,8 @@ base_after_command_unstamped base stamp (DepositCash account amount) = base_afte
 base_after_command_unstamped base stamp (WithdrawCash account amount) = base_after_movement base (withdrawal_movement stamp account amount)
 base_after_command_unstamped base stamp (SetOneDay day) = base_with_settlement_day base day
 
--- The reply to a command that is accepted at `stamp` on `base`. The reply to a result of a trade
--- that does not exist, which is never accepted, is `Booked`.
+-- The reply to a command that is accepted at `stamp` on `base`. A result of a trade that does not
+-- exist is never accepted; its reply here is `Booked`.
 unfoldable pub reply_to_command : Base → ℕ → Command → Reply
 reply_to_command base stamp (AddBroker b) = Booked stamp
 reply_to_command base stamp (AddCustomer c) = Booked stamp

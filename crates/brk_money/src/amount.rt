@@ -68,7 +68,8 @@ impl From<Amount> for Wide {
 impl fmt::Display for Amount {
     ghost output = { λ amount. Some (cents_text (pos amount)) };
 
-    /// Writes the canonical text of the amount, such as `12.05`. Fails if the formatter fails.
+    /// Writes the canonical text of the amount, such as `12.05`. Fails if the formatter fails; a
+    /// prefix of the text may then be written.
     fn fmt<W: fmt::Write>(&self, f: &mut fmt::Formatter<W>) -> fmt::Result {
         fmt::Display::fmt(&Wide::from(*self), f)
     }

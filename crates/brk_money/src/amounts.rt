@@ -27,7 +27,7 @@ fn cents_of_natural(cents: u128) -> Cents
     Cents::new(cents as i64).unwrap()
 }
 
-/// Returns the commission on `qty` shares at `price`, in cents: their value times `rate`, rounded
+/// Returns the commission, in cents, on `qty` shares at `price`: their value times `rate`, rounded
 /// once to whole cents, a half up (T_COMM, Trade-Result).
 pub fn commission(rate: Rate, qty: Qty, price: Price) -> Cents
     ensures { result ≡ pos (spec.commission rate qty price) }
@@ -36,8 +36,9 @@ pub fn commission(rate: Rate, qty: Qty, price: Price) -> Cents
     cents_of_natural(half_up(product, 10_000))
 }
 
-/// Returns the tax on `gain` at `rates`, the sum of the customer's tax rates, in cents: rounded
-/// once to whole cents, a half up, and 0 if `gain` is 0 or below (T_TAX, Trade-Result).
+/// Returns the tax, in cents, on `gain` at `rates`, the sum of the customer's tax rates: `gain`
+/// times `rates`, rounded once to whole cents, a half up, or 0 if `gain` is 0 or below (T_TAX,
+/// Trade-Result).
 pub fn tax(gain: Cents, rates: TaxRate) -> Cents
     ensures { result ≡ pos (spec.tax gain rates) }
 {

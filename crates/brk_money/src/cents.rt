@@ -46,8 +46,8 @@ impl Cents {
     }
 }
 
-// Parses the canonical text of an amount that is not negative, such as `12.05`, and returns its
-// cents. Returns `None` for any other bytes, and for an amount above `Cents::GREATEST`.
+// Parses the canonical text of an amount that is not negative, such as `12.05`, and returns the
+// amount in cents. Returns `None` for any other bytes, and for an amount above `Cents::GREATEST`.
 #[tactic(auto, using(crate::proofs::Plain::plain_split, crate::proofs::Plain::plain_joined))]
 fn parse_cents_without_sign(bytes: &[u8]) -> Option<u64>
     ensures found { IfSome result (λ n. (n ≤ Cents.GREATEST) × (bytes.now ≡ unsigned_cents_text n)) }

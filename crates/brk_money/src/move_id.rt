@@ -3,9 +3,9 @@ ghost use Rattle.brk_money.specs.declared.move_id.TheConstants.MoveId;
 
 use std::marker::Model;
 
-/// The number of a cash row (CM_ID), 1 to 2 x 10^12, both included: its position among the cash
-/// rows of all accounts. At most 10^12 of them belong to trades, and at most 10^12 are deposits or
-/// withdrawals.
+/// The number of a cash row (CM_ID), 1 to 2 x 10^12, both included: the cash rows of all accounts
+/// are numbered from 1 in the order of their stamps. At most 10^12 of them belong to trades, and at
+/// most 10^12 are deposits or withdrawals.
 #[derive(Clone, Copy, Debug, PartialEq, Eq)]
 pub struct MoveId(u64);
 

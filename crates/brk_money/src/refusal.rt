@@ -131,8 +131,9 @@ impl Refusal {
 impl fmt::Display for Refusal {
     ghost output = { λ refusal. Some (refusal_text refusal) };
 
-    /// Writes the number of the refusal and, after a comma, its status code or the word of its
-    /// limit, if it has one. Fails if the formatter fails.
+    /// Writes the number of the refusal; if it has a status or a limit, also a comma and the status
+    /// code or the word of the limit. Fails if the formatter fails; a prefix of the text may then
+    /// be written.
     fn fmt<W: fmt::Write>(&self, f: &mut fmt::Formatter<W>) -> fmt::Result {
         let number = self.number();
         match self {

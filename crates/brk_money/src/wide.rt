@@ -59,7 +59,8 @@ impl From<Price> for Wide {
 impl fmt::Display for Wide {
     ghost output = { λ amount. Some (cents_text amount) };
 
-    /// Writes the canonical text of the amount, such as `-12.05`. Fails if the formatter fails.
+    /// Writes the canonical text of the amount, such as `-12.05`. Fails if the formatter fails; a
+    /// prefix of the text may then be written.
     fn fmt<W: fmt::Write>(&self, f: &mut fmt::Formatter<W>) -> fmt::Result {
         let amount = self.get();
         let cents = amount.unsigned_abs();
@@ -78,7 +79,8 @@ impl fmt::Display for Wide {
 impl fmt::Display for Cents {
     ghost output = { λ cents. Some (cents_text cents) };
 
-    /// Writes the canonical text of the amount, such as `-12.05`. Fails if the formatter fails.
+    /// Writes the canonical text of the amount, such as `-12.05`. Fails if the formatter fails; a
+    /// prefix of the text may then be written.
     fn fmt<W: fmt::Write>(&self, f: &mut fmt::Formatter<W>) -> fmt::Result {
         fmt::Display::fmt(&Wide::from(*self), f)
     }
@@ -88,7 +90,8 @@ impl fmt::Display for Cents {
 impl fmt::Display for Price {
     ghost output = { λ price. Some (cents_text (pos price)) };
 
-    /// Writes the canonical text of the price, such as `12.05`. Fails if the formatter fails.
+    /// Writes the canonical text of the price, such as `12.05`. Fails if the formatter fails; a
+    /// prefix of the text may then be written.
     fn fmt<W: fmt::Write>(&self, f: &mut fmt::Formatter<W>) -> fmt::Result {
         fmt::Display::fmt(&Wide::from(*self), f)
     }
