@@ -11,7 +11,8 @@ ghost use Rattle.brk_model_examples.specs.Trading.{base_after_short_sale, base_a
 ghost use Rattle.brk_model_examples.specs.Standing.{positions_and_totals_of_base};
 
 /// Shows a market purchase and its result, whose commission is computed from the completion price
-/// and not from the estimate, with the base, the lot and the totals after them.
+/// and not from the estimate, with the base, without stored replies, the lot and the totals after
+/// them.
 pub fn market_purchase_and_result()
     ensures lines { BatchOutputsLines setting_base
         (codes "order,100,TMB,ABC,100,,cash,fifo,Ann,Lee,T10"

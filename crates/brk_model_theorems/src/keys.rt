@@ -9,8 +9,8 @@ ghost use Rattle.brk_model.specs.Rows.{line_text, row_text};
 ghost use Rattle.brk_model.specs.Keyed.{keyed_step};
 ghost use Rattle.brk_model_theorems.specs.KeyedRows.{AcceptedRow, RefusedRow, IsUnusedKey, RunNotAcceptingKeyLeadsTo, IsAcceptedIfStepAccepts};
 
-/// Proves that a retry of an accepted row under its key, from the base after it and at any clock
-/// reading, returns the stored line and changes nothing.
+/// Proves that a retry of an accepted row under its key, from the base after the accepted row and
+/// at any clock reading, returns the stored line and changes nothing.
 pub fn retry_returns_the_stored_line()
     ensures { (row : AcceptedRow) (later : ℕ) → keyed_step row.after later row.command (Some row.key) ≡ (Again (line_text row.reply), row.after) }
 {}
