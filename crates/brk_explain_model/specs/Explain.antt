@@ -43,8 +43,9 @@ explain_request_parsers =
     ∷ (codes "broker", read_and_wrap BrokerOf read_single_id)
     ∷ []
 
--- The request that the arguments `words` parse as, the first of which names its kind, or the
--- refusal `BadText` if there is none, the kind is unknown, or an argument is malformed.
+-- The request that the arguments `words` parse as, the first of which names its kind. It is the
+-- refusal `BadText` if there is no argument or the kind is unknown, or if the arguments after the
+-- kind are malformed or are more or fewer than the kind takes.
 unfoldable pub read_explain_request : List Text → ReadResult ExplainRequest
 read_explain_request words = parse_by_first_field explain_request_parsers words
 

@@ -28,10 +28,11 @@ pub fn head_ends_at_first_empty_line()
     ensures no_empty_line { head_end_within 4 (codes "\0\0\0\0") ≡ TooLong }
 {}
 
-/// Shows that the length of a body is 0 without Content-Length, the number in a field
-/// `content-LENGTH` with leading zeros, and the number 65536. The number 65537 and a number of ten
-/// digits are `TooLarge`, a number with a sign, a value without bytes and a second Content-Length
-/// are `BadRequest`, and a Transfer-Encoding after a malformed Content-Length is `NotImplemented`.
+/// Shows that the length of a body is 0 without Content-Length, and otherwise the number that this
+/// field states: 12 for `000000012` in a field `content-LENGTH`, and 65536, the greatest length.
+/// The number 65537 and a number of ten digits are `TooLarge`, a number with a sign, a value
+/// without bytes and a second Content-Length are `BadRequest`, and a Transfer-Encoding after a
+/// malformed Content-Length is `NotImplemented`.
 pub fn content_length_states_body_length()
     ensures no_field { body_length_of_fields ((codes "Host", codes "x") ∷ []) ≡ Ok 0 }
     ensures leading_zeros { body_length_of_fields ((codes "content-LENGTH", codes "000000012") ∷ []) ≡ Ok 12 }
@@ -45,10 +46,10 @@ pub fn content_length_states_body_length()
 {}
 
 /// Shows the routes of `/rows`, of a row under a key with the row number 1000000000000, and of the
-/// view `lots`. Shows that nine targets have none: one with an unknown view, three with a malformed
-/// row number, and one each with an encoded byte, with an empty batch name, with nothing after
-/// `/rows/`, with a query string and with a host. Shows also the parts of the text `1,SBMT,,`,
-/// split at its commas.
+/// view `lots`. Shows that nine targets have none: one with an unknown view, three with a row
+/// number that is malformed or out of range, and one each with an encoded byte, with an empty batch
+/// name, with nothing after `/rows/`, with a query string and with a host. Shows also the parts of
+/// the text `1,SBMT,,`, split at its commas.
 pub fn routes_of_request_targets()
     ensures row_without_key { route_of_target model_parsers.views (codes "/rows") ≡ Some (ToRow None) }
     ensures row_with_key { route_of_target model_parsers.views (codes "/rows/A.b-c_1/1000000000000")

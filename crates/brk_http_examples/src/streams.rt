@@ -33,7 +33,8 @@ pub fn stream_continues_after_refusals()
         ∷ expected_reply_bytes (codes "400 Bad Request") [] (codes "23") (codes "{\"error\":\"bad request\"}") ∷ []) }
 {}
 
-/// Shows a request that asks to close its stream and has the last reply: the next request has none.
+/// Shows a request that asks to close its stream and has the last reply: the next request has no
+/// reply.
 pub fn stream_ends_after_close_request()
     ensures { HasRepliesInSetting
         (closing_request (get_request (codes "/rows")) ∷ post_request (codes "/rows") (codes "[]") ∷ [])

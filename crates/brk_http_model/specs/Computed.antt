@@ -31,8 +31,8 @@ outcome_of_query_result (Ok view) = Saw view
 outcome_of_query_result (Err refusal) = NoView refusal
 
 -- The response to a demand on `base`, the clock readings that remain after it, and the base after
--- it, computed by the model, in which no call fails. Only a command for which no clock reading
--- remains has a fault, `Store`.
+-- it, computed by the model. No call fails in the model, except that a command for which no clock
+-- reading remains fails with `Store` and leaves the base unchanged.
 abbrev pub response_to_demand : Base → List ℕ → RequestDemand → ResponseAndBase
 response_to_demand base moments (ResponseOnly said) = record { response = said; moments = moments; base = base }
 response_to_demand base moments (DeskCall (Ask query)) =
@@ -53,7 +53,8 @@ reply_followed_by_more n request r more =
     reply_text r.response (is_last_response n request r.response) ∷ (if is_last_response n request r.response then [] else more r.base r.moments)
 
 -- The replies to the requests, executed in sequence from `base` on with the clock readings
--- `moments`, after `n` earlier requests of the stream. Requests after the last reply have none.
+-- `moments`, after `n` earlier requests of the stream. Requests after the last reply of the stream
+-- have no reply.
 abbrev pub replies_to_requests : ℕ → Base → List ℕ → List Request → List Text
 replies_to_requests n base moments [] = []
 replies_to_requests n base moments (request ∷ requests) =

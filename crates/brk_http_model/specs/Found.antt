@@ -32,9 +32,10 @@ abbrev pub most_head_fields : ℕ
 most_head_fields = 100
 
 -- The result of reading a request with the head `h`, whose body has the given length or problem,
--- from the bytes `rest` after the head. The request cannot be read if the length is a problem, or
--- if `rest` is shorter than the body. The request asks to close the stream if its HTTP version is
--- 1.0 or a field `Connection` has the value `close`.
+-- from the bytes `rest` after the head. The request cannot be read because of the problem of the
+-- length if there is one, or because of `BadRequest` if `rest` is shorter than the body. The
+-- request asks to close the stream if its HTTP version is 1.0 or a field `Connection` has the value
+-- `close`.
 abbrev pub reading_with_body_length : RequestHead → Text → Result ℕ RequestProblem → RequestReading
 reading_with_body_length h rest (Err problem) = Unreadable problem
 reading_with_body_length h rest (Ok n) =

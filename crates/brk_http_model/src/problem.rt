@@ -3,8 +3,8 @@
 pub enum RequestProblem {
     /// The head or the body is too long; ends the stream.
     TooLarge,
-    /// The head or the length is malformed, or the body is cut, all of which end the stream; or the
-    /// body is not a JSON list of texts.
+    /// The head or the body is cut, the head is malformed, or its Content-Length is malformed or
+    /// occurs twice, all of which end the stream; or the body is not a JSON list of texts.
     BadRequest,
     /// The head has a Transfer-Encoding; ends the stream.
     NotImplemented,

@@ -18,9 +18,9 @@ ghost use Rattle.brk_model_examples.specs.Bought.{tables_with_trade_above_older_
 ghost use Rattle.brk_model_examples.specs.Bought.{tables_with_settlement_day_after_completion, tables_with_settlement_day_at_completion, tables_with_movement};
 
 /// Shows that the tables after the first purchase pass the audit of the third and of the second
-/// schema, and those with the cash row in CASH_TRANSACTION that of the first. Shows also that they
-/// pass the audit of the third schema with a settlement day after the completion or with a deposit,
-/// and that of the second with a withdrawal.
+/// schema, and those with the cash row in CASH_TRANSACTION that of the first. With a settlement day
+/// after the completion, or with a deposit, the tables after the first purchase pass the audit of
+/// the third schema, and with a withdrawal that of the second.
 pub fn tables_of_a_base_pass_audit()
     ensures third { IsAuditResult third_schema tables_after_first_purchase None }
     ensures second { IsAuditResult second_schema tables_after_first_purchase None }

@@ -9,10 +9,11 @@ ghost use Rattle.brk_model_examples.specs.Setting.{setting_base};
 ghost use Rattle.brk_model_examples.specs.Waiting.{base_with_pending_orders, pending_order_rows};
 ghost use Rattle.brk_model_examples.specs.Extremes.{setting_with_volume_near_limit};
 
-/// Shows the answers to three pending orders and the base after them, and that a feed of two ticks
-/// of their symbol triggers two of the trades, both at its second tick. Shows after the feed the
-/// last price and the volume of the security, the remaining request and the new status changes, and
-/// before and after the feed the view `volume` of the trades' broker.
+/// Shows the answers to three pending orders and the base after them, without stored replies, and
+/// that a feed of two ticks of their symbol triggers two of the trades, both at its second tick.
+/// Shows after the feed the last price and the volume of the security, the trade of the remaining
+/// request and the trades of the new status changes, and before and after the feed the view
+/// `volume` of the trades' broker.
 pub fn feed_triggers_pending_trades()
     ensures orders { BatchOutputsLines setting_base pending_order_rows
         (codes "1,ok,1709251200016,1,PNDG,9.50,0.00,0.00,0.00,0.95,5.00,10000.00"
@@ -78,8 +79,8 @@ pub fn cancel_needs_pending_trade()
         ∷ []) }
 {}
 
-/// Shows that a feed may raise the volume of a security to its limit, and is refused if one tick,
-/// or two ticks together, would raise it above the limit.
+/// Shows that a feed may raise the volume of a security to its limit, and is refused with 14 if one
+/// tick, or two ticks together, would raise it above the limit.
 pub fn volume_limit_is_checked()
     ensures at_limit { BatchOutputsLines setting_with_volume_near_limit
         (codes "feed,ABC,10.00,100" ∷ [])

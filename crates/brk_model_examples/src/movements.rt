@@ -10,10 +10,11 @@ ghost use Rattle.brk_model_examples.specs.Moving.{base_after_sale_and_movements}
 ghost use Rattle.brk_model_examples.specs.Setting.{setting_base};
 ghost use Rattle.brk_model_examples.specs.Trading.{base_after_fifo_sale};
 
-/// Shows that a balance may fall below 0 and rise to its limit, but not above it. A withdrawal of
-/// 0.00 and a deposit to an account that does not exist are refused. The reply to a movement has
-/// the number of its cash row, which follows the numbers of the earlier cash rows. Shows also the
-/// base after the first two movements.
+/// Shows that a balance may fall below 0 and rise to its limit, and that a deposit that would raise
+/// it above the limit is refused with 14. A withdrawal of 0.00 is refused with 18, and a deposit to
+/// an account that does not exist with 1. The reply to a movement has the number of its cash row,
+/// which follows the numbers of the earlier cash rows. Shows also the base after the first two
+/// movements, without stored replies.
 pub fn movements_respect_balance_limit()
     ensures lines { BatchOutputsLines base_after_fifo_sale
         (codes "deposit,100,100.00"

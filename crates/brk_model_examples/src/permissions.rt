@@ -5,8 +5,9 @@ ghost use Rattle.std.specs.Prelude.{◌∷◌, [], codes};
 ghost use Rattle.brk_model_examples.specs.Batches.{BatchOutputsLines};
 ghost use Rattle.brk_model_examples.specs.Setting.{setting_base};
 
-/// Shows that an order is refused with 6 if its executor has another tax id than the customer,
-/// unless a permission has the executor's first name, last name and tax id.
+/// Shows that an order whose executor has another tax id than the customer is refused with 6, and
+/// is accepted if a permission has the executor's first name, last name and tax id. It is also
+/// refused with 6 if the permission has another first name.
 pub fn order_needs_permission_of_executor()
     ensures refused { BatchOutputsLines setting_base
         (codes "order,100,TMB,ABC,100,,cash,fifo,Ann,Lee,T11" ∷ [])

@@ -95,8 +95,8 @@ pub fn eleventh_account_is_refused()
         ∷ codes "end,0,0,2" ∷ []) }
 {}
 
-/// Shows that eight reference rows are refused with 15, because a row with their key exists, and
-/// that a new permission is accepted.
+/// Shows that eight reference rows are refused with 15, because for each of them a record with its
+/// key exists, and that a new permission is accepted.
 pub fn duplicate_reference_rows_are_refused()
     ensures { BatchOutputsLines setting_base
         (codes "broker,1,Bob"

@@ -143,8 +143,8 @@ pub fn retried_setting_is_answered_again()
         ∷ codes "end,0,15,1" ∷ []) }
 {}
 
-/// Shows that a refused row records no key: its retry is accepted after the reason for the refusal,
-/// a customer that does not exist, is removed.
+/// Shows that a row that was refused, an account of a customer that does not exist, is accepted by
+/// a retry under its key after another batch has added the customer.
 pub fn refused_row_may_be_retried()
     ensures { (result_of_batch_input (result_of_batch_input (base_after_batch setting_base
         (codes "account,101,11,1,Side,0,0.00" ∷ [])) twenty_clock_readings (bytes_of_batch (codes "U")
@@ -155,7 +155,8 @@ pub fn refused_row_may_be_retried()
 {}
 
 /// Shows that an input without an end record ends with `NoEnd`, also if it is a header alone, and
-/// that its last row, which may be cut, is refused with 18 and not executed.
+/// that its last row, which may be cut, is refused with 18, is not executed, and counts as a
+/// decided row.
 pub fn last_row_of_cut_input_is_refused()
     ensures text { (result_of_batch_input setting_base twenty_clock_readings (codes "batch,C\nbroker,2,Cy\nbroker,3\nbroker,4,D")).text
         ≡ text_with_line_ends (codes "1,ok,1709251200016"

@@ -15,8 +15,8 @@ ghost use Rattle.brk_model_examples.specs.Rules.{executor_with_other_tax_id, fir
 ghost use Rattle.brk_model_examples.specs.Setting.{setting_base};
 ghost use Rattle.brk_model_examples.specs.Trading.{base_after_sale_of_all, first_purchase, sale_first_in_first_out};
 
-/// Shows that half a cent of a commission is rounded up and that less is rounded down. Shows also
-/// the tax on a gain, and that a loss is not taxed.
+/// Shows that half a cent of a commission is rounded up and that 0.49 cents are rounded down. Shows
+/// also the tax on one gain, and that one loss is not taxed.
 pub fn half_cents_round_up()
     ensures half { commission 100 1 50 ≡ 1 }
     ensures less { commission 100 1 49 ≡ 0 }
@@ -51,8 +51,9 @@ pub fn only_cash_trades_change_balance()
         ≡ pos 1000000 }
 {}
 
-/// Shows that a completion settles after two days, or after one day if it is on the settlement day
-/// or later.
+/// Shows that a completion settles after two days if there is no settlement day or if it is in the
+/// last millisecond before the settlement day, and after one day if it is on the settlement day or
+/// on the day after it.
 pub fn settlement_takes_one_or_two_days()
     ensures no_settlement_day { due_day_of_completion_stamp None 1709251200000 ≡ 19785 }
     ensures before_settlement_day { due_day_of_completion_stamp (Some 19784) 1709337599999 ≡ 19785 }
@@ -60,8 +61,9 @@ pub fn settlement_takes_one_or_two_days()
     ensures after_settlement_day { due_day_of_completion_stamp (Some 19784) 1709424000000 ≡ 19786 }
 {}
 
-/// Shows that the executor must have the first name, last name and tax id of the customer or of one
-/// permission.
+/// Shows that an executor with the names and the tax id of the customer or of a permission passes
+/// the check of the executor. An executor with the names of the customer and another tax id does
+/// not pass it, either without a permission or with a permission of another last name.
 pub fn executor_matches_customer_or_permission()
     ensures customer { is_customer_or_has_permission customer_ann_lee [] executor_with_customer_identity ≡ true }
     ensures namesake { is_customer_or_has_permission customer_ann_lee [] executor_with_other_tax_id ≡ false }
@@ -70,8 +72,8 @@ pub fn executor_matches_customer_or_permission()
         ≡ false }
 {}
 
-/// Shows that the stamp of a command is the clock reading if this is after the last stamp,
-/// otherwise the millisecond after the last stamp.
+/// Shows that the stamp of a command is the clock reading if this is after the last stamp, and is
+/// the millisecond after the last stamp for an earlier clock reading and for one at the last stamp.
 pub fn stamp_exceeds_last_stamp()
     ensures clock_before_last { stamp_of_next_command base_after_sale_of_all 0 ≡ 1709251200028 }
     ensures clock_at_last { stamp_of_next_command base_after_sale_of_all 1709251200027 ≡ 1709251200028 }

@@ -8,9 +8,11 @@ ghost use Rattle.brk_model_examples.specs.Batches.{base_after_batch, bytes_of_ba
 ghost use Rattle.brk_model_examples.specs.Moving.{base_after_purchase_with_settlement_day};
 ghost use Rattle.brk_model_examples.specs.Setting.{setting_base};
 
-/// Shows that the settlement day must be after the day of its command, and can be set only once. A
-/// trade that is completed before the settlement day settles after two days. Shows also the base
-/// after the settlement day is set and a purchase is completed.
+/// Shows that a settlement day on the day of its command is refused with 22, that the day after it
+/// is accepted, and that a second settlement day is refused with 15. A purchase that is completed
+/// before the settlement day settles after two days. Shows also the base after the settlement day
+/// is set and the purchase is completed, without stored replies, and the settlement day in the
+/// tables of this base.
 pub fn settlement_day_is_set_once()
     ensures lines { BatchOutputsLines setting_base
         (codes "oneday,2024-03-01"
@@ -31,8 +33,8 @@ pub fn settlement_day_is_set_once()
     ensures day { (tables_of_base base_after_purchase_with_settlement_day).rule ≡ Some 19784 }
 {}
 
-/// Shows that a trade that is completed on the settlement day or later settles after one day. The
-/// due day of a trade that was completed before does not change.
+/// Shows that a trade that is completed on the settlement day, or on the day after it, settles
+/// after one day. The due day of a trade that was completed before does not change.
 pub fn settlement_after_one_day()
     ensures lines { (result_of_batch_input base_after_purchase_with_settlement_day (replicate 2 1709337600000) (bytes_of_batch (codes "G")
         (codes "order,100,TMB,ABC,200,,cash,fifo,Ann,Lee,T10"
@@ -63,8 +65,9 @@ pub fn last_day_for_one_day_settlement()
         ∷ codes "end,1,0,1" ∷ []) }
 {}
 
-/// Shows that a settlement day is refused if its text is not the canonical text of a day of the
-/// calendar, or if there is not exactly one field. The last day of the calendar is accepted.
+/// Shows that a settlement day is refused with 18 for three texts that are not the canonical text
+/// of a day of the calendar, and if there is no field or more than one. The last day of the
+/// calendar is accepted.
 pub fn malformed_days_are_refused()
     ensures { BatchOutputsLines setting_base
         (codes "oneday,2024-3-02"

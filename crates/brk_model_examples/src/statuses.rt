@@ -48,8 +48,8 @@ pub fn balance_limit_is_checked()
         ∷ []) }
 {}
 
-/// Shows that a result may raise the commission total of a broker to its limit, and is refused if
-/// it would raise the total above the limit.
+/// Shows that a result may raise the commission total of a broker to its limit, and is refused with
+/// 14 if it would raise the total above the limit.
 pub fn broker_commission_limit_is_checked()
     ensures at_limit { BatchOutputsLines (setting_with_commission_total 99999999999998990)
         (codes "order,100,TMB,ABC,100,,cash,fifo,Ann,Lee,T10"
@@ -73,8 +73,8 @@ pub fn stamps_continue_if_clock_goes_back()
         ∷ codes "end,1,0,0" ∷ []) }
 {}
 
-/// Shows that, if the last stamp is the greatest stamp, a command that passes all other checks is
-/// refused with 21, and a command that fails another check with the refusal of that check.
+/// Shows that, if the last stamp is the greatest stamp, a new broker, which passes all other
+/// checks, is refused with 21, and a broker whose id exists is refused with 15.
 pub fn commands_at_greatest_stamp_are_refused()
     ensures { BatchOutputsLines base_at_greatest_stamp
         (codes "broker,7,Cy"

@@ -23,9 +23,10 @@ pub fn tables_equal_sheets_of_base()
     ensures expected { expected_tables third_schema tables_after_first_purchase ≡ tables_after_first_purchase }
 {}
 
-/// Shows the tables after the first purchase in the two older schemas. The tables in the first
-/// schema satisfy the audit condition `Form` and describe the base that the tables in the third
-/// schema describe, and an upgrade from either older schema results in the tables in the third.
+/// Shows the tables after the first purchase in the two older schemas; those in the second schema
+/// equal those in the third. The tables in the first schema satisfy the audit condition `Form` and
+/// describe the base that the tables in the third schema describe. With all cash rows merged into
+/// CASH_MOVE, the tables in either older schema are those in the third.
 pub fn older_schema_tables_are_upgraded()
     ensures first { sheets_in_schema first_schema base_after_first_purchase ≡ first_schema_tables_after_purchase }
     ensures first_form { satisfies_form_condition first_schema first_schema_tables_after_purchase ≡ true }

@@ -11,7 +11,8 @@ ghost use Rattle.brk_model_examples.specs.Trading.{base_after_short_sale, base_a
 ghost use Rattle.brk_model_examples.specs.Standing.{positions_and_totals_of_base};
 
 /// Shows a market purchase and its result, whose commission is computed from the completion price
-/// and not from the estimate, with the base, the lot and the totals after them.
+/// and not from the estimate, with the base, without stored replies, the lot and the totals after
+/// them.
 pub fn market_purchase_and_result()
     ensures lines { BatchOutputsLines setting_base
         (codes "order,100,TMB,ABC,100,,cash,fifo,Ann,Lee,T10"
@@ -51,8 +52,8 @@ pub fn second_purchase_opens_second_lot()
     } }
 {}
 
-/// Shows that a sale, first in first out, closes the first lot and a part of the second, and is
-/// taxed on its gain.
+/// Shows that a sale, first in first out, closes the first lot, reduces the second, and is taxed on
+/// its gain.
 pub fn sale_closes_first_lot_first()
     ensures lines { BatchOutputsLines base_after_two_purchases
         (codes "order,100,TMS,ABC,150,,cash,fifo,Ann,Lee,T10"
@@ -72,7 +73,8 @@ pub fn sale_closes_first_lot_first()
     } }
 {}
 
-/// Shows that a sale, last in first out, closes a part of the second lot, and none of the first.
+/// Shows that a sale, last in first out, reduces the second lot, does not change the first, and is
+/// taxed on its gain.
 pub fn sale_closes_last_lot_first()
     ensures lines { BatchOutputsLines base_after_two_purchases
         (codes "order,100,TMS,ABC,150,,cash,lifo,Ann,Lee,T10"

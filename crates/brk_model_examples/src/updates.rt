@@ -50,8 +50,8 @@ pub fn text_updates_after_sale()
         ∷ codes "upcash,100,5,4" ∷ []))).settlements ≡ codes "Cash" ∷ codes "Cash" ∷ codes "Cash" ∷ [] }
 {}
 
-/// Shows that `upname` replaces each ` X ` in an executor's name, from the left without overlap, by
-/// a space if the name contains one, and otherwise each space by ` X `.
+/// Shows, on single names, that `upname` replaces each ` X ` in an executor's name by a space, from
+/// the left without overlap. If the name contains no ` X `, each space is replaced by ` X `.
 pub fn update_toggles_executor_name()
     ensures inserted { map (λ t. t.executor) (base_after_batch base_after_fifo_sale
         (codes "upname,1" ∷ [])).trades ≡ codes "Ann X Lee" ∷ codes "Ann Lee" ∷ codes "Ann Lee" ∷ [] }
@@ -65,8 +65,9 @@ pub fn update_toggles_executor_name()
     ensures removed_at_start { updated_executor_name (codes "X X Lee") ≡ codes "X Lee" }
 {}
 
-/// Shows that `uptext` searches the whole text of a cash row, including the name of the security:
-/// if that name contains ` shares of `, each update leaves ` Shares of ` before the name.
+/// Shows that `uptext` searches the whole text of a cash row, including the name of the security.
+/// That name contains ` shares of `, so the text before it has ` Shares of ` after the first
+/// update, and also after the second.
 pub fn cash_name_update_searches_whole_text()
     ensures lines { BatchOutputsLines setting_with_misleading_security_name
         (codes "order,100,TMB,ABC,100,,cash,fifo,Ann,Lee,T10"
@@ -92,8 +93,8 @@ pub fn cash_name_update_searches_whole_text()
         ∷ codes "uptext,ABC,0,253402300799999" ∷ [])).trades ≡ codes "Market-Buy 100 Shares of Big shares of Small" ∷ [] }
 {}
 
-/// Shows the text updates of a margin trade: `upcash` changes its cash type, and `uptext` does not
-/// select it.
+/// Shows the text updates of a margin trade: `upcash` changes its cash type, a second `upcash`
+/// changes it back, and `uptext` does not select the trade.
 pub fn text_updates_of_margin_trade()
     ensures once { map (λ t. t.cash_type) (base_after_batch setting_base
         (codes "order,100,TMB,ABC,100,,margin,fifo,Ann,Lee,T10"

@@ -7,7 +7,8 @@ ghost use Rattle.brk_model_examples.specs.Batches.{view_by_name_and_arguments};
 ghost use Rattle.brk_model_examples.specs.Trading.{base_after_first_purchase, base_after_two_purchases, base_after_fifo_sale};
 
 /// Shows the views `customer` and `taxid` of a customer with one account: the id, the balance and
-/// the market value of the account. An unknown customer is refused with `NoCustomer`.
+/// the market value of the account. The view `customer` of an unknown id is refused with
+/// `NoCustomer`.
 pub fn position_view_of_customer()
     ensures by_id { view_by_name_and_arguments base_after_fifo_sale (codes "customer") (codes "10" ∷ [])
         ≡ Ok ((codes "100" ∷ codes "8403.40" ∷ codes "1500.00" ∷ [])
@@ -43,8 +44,8 @@ pub fn status_view_of_account()
 {}
 
 /// Shows that the views `trades`, `accounttrades` and `symboltrades` return one trade with its
-/// settlement, its cash row and its status changes. An unknown id is refused with `NoTrade`, and a
-/// repeated id with `BadText`.
+/// settlement, its cash row and its status changes. The view `trades` is refused with `NoTrade` for
+/// an unknown id, and with `BadText` for a repeated id.
 pub fn lookup_views_of_trade()
     ensures by_id { view_by_name_and_arguments base_after_fifo_sale (codes "trades") (codes "3" ∷ [])
         ≡ Ok ((codes "trade" ∷ codes "3" ∷ codes "1709251200021" ∷ codes "CMPT" ∷ codes "TMS" ∷ codes "ABC" ∷ codes "150" ∷ codes "10.00" ∷ codes "Ann Lee"
@@ -78,8 +79,8 @@ pub fn lookup_views_of_trade()
         ≡ Err BadText }
 {}
 
-/// Shows the view `lots`: the id of the oldest trade from a stamp on, and all changes of the lots
-/// that the trade touched. The view is empty if there is no such trade.
+/// Shows the view `lots` of an account: the id of its oldest trade from a stamp on, and all changes
+/// of the lots that the trade touched. The view is empty if there is no such trade.
 pub fn lots_view_of_oldest_trade()
     ensures last { view_by_name_and_arguments base_after_fifo_sale (codes "lots") (codes "100" ∷ codes "1709251200021" ∷ [])
         ≡ Ok ((codes "3" ∷ [])

@@ -35,14 +35,15 @@ pub record RefusedRow : Type 0 where
 abbrev pub IsUnusedKey : Base → Key → Type 0
 IsUnusedKey base key = stored_row_with_key base key ≡ None
 
--- Some run of calls that accepts no row under the key leads from `base` to `later`.
+-- Some run of calls that accepts no command under the key leads from `base` to `later`.
 abbrev pub RunNotAcceptingKeyLeadsTo : Key → Base → Base → Type 0
 RunNotAcceptingKeyLeadsTo key base later =
     (calls : List (ℕ × Call)) × (outcomes : List Outcome) × Run base calls outcomes later × AcceptsNothingUnderKey key calls outcomes
 
 -- If `step` accepts the command over `base` at the clock reading `now`, `keyed_step` accepts it
--- under the key, with the reply of `step`, which is then stored under the key. Vacuous if `step`
--- refuses the command.
+-- under the key, with the reply of `step`. The base after it is the base after `step` with the text
+-- of the command's row and the line of the reply stored under the key. Vacuous if `step` refuses
+-- the command.
 abbrev pub IsAcceptedIfStepAccepts : Base → Key → ℕ → Command → Type 0
 IsAcceptedIfStepAccepts base key now command =
     (reply : Reply) (booked : Base) → step base now command ≡ Ok (reply, booked)

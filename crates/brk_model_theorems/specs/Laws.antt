@@ -131,7 +131,8 @@ AnswerMatchesStoredReply base None call answer = ⊤
 AnswerMatchesStoredReply base (Some k) call answer = answer ≡ (answer_and_base_of_retry base call.command k).0
 
 -- Each call whose key is stored in the base is answered with the stored line if the row texts are
--- equal, and refused otherwise. Vacuous for other calls, and for calls without an answer.
+-- equal, and refused with `KeyReused` otherwise. Vacuous for other calls, and for calls without an
+-- answer.
 abbrev pub AnswersMatchStoredReplies : Base → List (RowCall Command) → List Answer → Type 0
 AnswersMatchStoredReplies base (call ∷ calls) (answer ∷ answers) =
     AnswerMatchesStoredReply base (stored_row_with_key base call.key) call answer × AnswersMatchStoredReplies base calls answers

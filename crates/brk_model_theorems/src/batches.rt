@@ -82,8 +82,9 @@ pub fn rows_with_stored_keys_change_nothing()
 
 /// Proves that two attempts at rows equal one run, whichever rows either attempt refuses. The run
 /// has the rows that the first attempt accepted, and then the rows of the second attempt whose keys
-/// were not yet stored, each with the clock reading of its attempt. Every row that the first
-/// attempt accepted is stored under its key.
+/// the base after the first attempt does not store, each with the answer and the clock reading of
+/// its attempt. That base stores every row that the first attempt accepted, with its reply, under
+/// its key.
 pub fn two_attempts_equal_one_run()
     ensures run { (base mid last : Base) (first again : List (RowCall Command)) (answers told : List Answer)
         → CallsHaveAnswers step_of_row base first answers mid
@@ -95,9 +96,9 @@ pub fn two_attempts_equal_one_run()
 {}
 
 /// Proves that a batch whose first rows were decided without a refusal, and whose rows are then all
-/// decided by a retry, equals one uninterrupted run. In this run the first rows have the clock
-/// readings of the first attempt, and the other rows the clock readings of the retry. The retry
-/// answers the first rows with the stored lines.
+/// decided by a retry from the base after the first rows, equals one uninterrupted run. In this run
+/// the first rows have the answers and the clock readings of the first attempt, and the other rows
+/// those of the retry. The retry answers the first rows with the stored lines.
 pub fn partial_batch_is_completed_by_retry()
     ensures { (form : Fields → ReadResult Command) (name : List ℕ) (base mid last : Base) (moments others : List ℕ) (front more : List Fields)
         (answers told : List Answer) → refused_answer_count answers ≡ 0 → BatchRowsAreDecided form step_of_row name base moments front answers mid
@@ -109,8 +110,9 @@ pub fn partial_batch_is_completed_by_retry()
 
 /// Proves that an interrupted batch, whose first rows were decided without a refusal, equals one
 /// uninterrupted run after a retry has decided all rows. The row after the first rows may have been
-/// executed without being acknowledged; the run has this row at the clock reading of that
-/// execution, or at the clock reading of the retry.
+/// executed without being acknowledged; the run has this row with the answer and the clock reading
+/// of that execution, or with those of the retry. The retry answers the first rows with the stored
+/// lines.
 pub fn interrupted_batch_is_completed_by_retry()
     ensures { (form : Fields → ReadResult Command) (name : List ℕ) (base mid stood last : Base) (moments others : List ℕ) (front more : List Fields)
         (answers told : List Answer) → refused_answer_count answers ≡ 0 → BatchRowsAreDecided form step_of_row name base moments front answers mid

@@ -18,7 +18,8 @@ pub fn refusals_and_retries_change_nothing()
         → after ≡ base }
 {}
 
-/// Proves that the base after a run of calls equals the base after exactly its accepted commands.
+/// Proves that the base after a run of calls equals the base after exactly its accepted commands,
+/// executed in sequence from the base before the run.
 pub fn accepted_commands_determine_the_base()
     ensures { (base after : Base) (calls : List (ℕ × Call)) (outcomes : List Outcome) → Run base calls outcomes after
         → after ≡ base_after_accepted_commands base calls outcomes }

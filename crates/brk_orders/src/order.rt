@@ -23,7 +23,7 @@ pub struct Order {
     pub symbol: Symbol,
     /// The number of shares.
     pub qty: Qty,
-    /// True for the cash account, false for margin.
+    /// True if the order creates a cash trade, false if it creates a margin trade.
     pub is_cash: bool,
     /// True if the last lots are closed first, false if the first are.
     pub is_lifo: bool,

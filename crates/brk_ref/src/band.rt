@@ -142,8 +142,8 @@ pub fn is_overlapping_band(one: &Band, other: &Band) -> bool
         && other.from_qty.get() <= one.to_qty.get()
 }
 
-/// Returns the rate, in hundredths of a percent, of the first band whose bounds contain the
-/// quantity, or `None` if no band does.
+/// Returns the rate, in hundredths of a percent, of the first band whose bounds, both included,
+/// contain the quantity, or `None` if no band does.
 ///
 /// The tier, type and exchange of a band are not compared: pass the bands of one combination.
 pub fn commission_rate_for_quantity(bands: &[Band], qty: Qty) -> Option<Rate>

@@ -48,7 +48,8 @@ impl ChargeAmount {
 impl fmt::Display for ChargeAmount {
     ghost output = { λ amount. Some (cents_text (pos amount)) };
 
-    /// Writes the canonical text of the charge, such as `12.05`. Fails if the formatter fails.
+    /// Writes the canonical text of the charge, such as `12.05`. Fails if the formatter fails,
+    /// perhaps after it wrote a part of the text.
     fn fmt<W: fmt::Write>(&self, f: &mut fmt::Formatter<W>) -> fmt::Result {
         fmt::Display::fmt(&Wide::new(i128::from(self.get())), f)
     }

@@ -49,7 +49,8 @@ impl MovedAmount {
 impl fmt::Display for MovedAmount {
     ghost output = { λ amount. Some (cents_text (pos amount)) };
 
-    /// Writes the canonical text of the amount, such as `12.05`. Fails if the formatter fails.
+    /// Writes the canonical text of the amount, such as `12.05`. Fails if the formatter fails,
+    /// perhaps after it wrote a part of the text.
     fn fmt<W: fmt::Write>(&self, f: &mut fmt::Formatter<W>) -> fmt::Result {
         fmt::Display::fmt(&Wide::new(i128::from(self.get())), f)
     }
