@@ -84,9 +84,10 @@ SecurityHasName t symbol name = option_map (λ s. s.name) (security_row_with_sym
 -- The selection has exactly the trades that the update selects in the tables, with the columns from
 -- which their new texts are formed: the trades with its ids, or the first 20, at most, of the
 -- completed trades of its account or of the completed cash trades of its symbol, within its span of
--- stamps, the oldest first. The account of the update exists, or its security exists and has the
--- name that the selection states. False if one of the selected trades lacks the row with the text
--- to update, or if the selection belongs to another kind of update.
+-- stamps, the oldest first. For a text update of settlements, the account exists; for one of cash
+-- rows, the security exists and has the name in the selection. False if one of the trades with the
+-- ids does not exist, if one of the selected trades lacks the settlement or the cash row to update,
+-- or if the selection belongs to another kind of update.
 abbrev pub SelectedTradesMatchTables : Tables → told.Update → TextUpdate → Type 0
 SelectedTradesMatchTables t (update.Executors ids) (corrected.Executors trades) = AreTradesWithIds t ids trades.items
 SelectedTradesMatchTables t (update.CashTypes account span) (corrected.CashTypes settled) =
