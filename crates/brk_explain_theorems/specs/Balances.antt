@@ -56,8 +56,8 @@ pub record PrintedBalancesMatchBase (base : Base) (t : Trade) : Type 0 where
   pub after : printed_balance_after_trade (sheets base) t ≡ balance_at_stamp base (last_status_stamp_of_trade t) t.account
 
 -- After the result of the trade `id` from `base` at the clock reading `now` and the price `price`,
--- and after any run that follows it, the printed balance after the trade is the balance of its
--- account in the base right after that result.
+-- in cents, as if `base` accepted it, and after any run of calls that follows it, the printed
+-- balance after the trade is the balance of its account in the base right after that result.
 abbrev pub RunsPreservePrintedBalanceAfterTrade : Base → ℕ → ℕ → ℕ → Type 0
 RunsPreservePrintedBalanceAfterTrade base now id price =
     (calls : List (ℕ × Call)) (outcomes : List Outcome) (later : Base) (u : Trade)
