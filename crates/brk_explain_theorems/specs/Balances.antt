@@ -66,9 +66,9 @@ RunsPreservePrintedBalanceAfterTrade base now id price =
     ≡ balance_of_account (base_after_command base now (CompleteTrade id price)).accounts
     (postings_of_base (base_after_command base now (CompleteTrade id price))) u.account
 
--- The explanation of the account `a` lists all cash rows of the account. The last balance that it
--- prints is the account's balance, and this balance plus the market values of the account's
--- holdings equals the account's assets.
+-- The explanation of the account `a` lists all cash rows of the account. The last running balance
+-- that it prints, or the opening balance if the account has no cash rows, is the account's balance,
+-- and this balance plus the market values of the account's holdings equals the account's assets.
 pub record PrintedAccountMatchesBase (base : Base) (a : AccountRow) : Type 0 where
   pub posted : account_cash_rows_by_stamp (sheets base) a.id ≡ sorted_cash_rows_of_account (sheets base) a.id
   pub last : last_printed_balance (sheets base) a ≡ a.balance

@@ -10,9 +10,9 @@ use Rattle.brk_model.specs.Form.{has_account, has_broker, has_customer, has_secu
 use Rattle.brk_book_theorems.specs.Reads.{contains_tax_id, account_count_of_customer, contains_permission, contains_charge, overlaps_some_band}
 use Rattle.brk_book_theorems.specs.Reads.{contains_tax_rate, rate_of_tax_rate_with_id, contains_customer_tax, customer_tax_rate_sum}
 
--- The facts `found` about a new account are true of the tables: whether an account with the id
--- `id`, the customer `customer` and the broker `broker` exist, and how many accounts the customer
--- has.
+-- The facts `found` about a new account are true of the tables: whether an account with the id `id`
+-- exists, whether the customer `customer` exists, whether the broker `broker` exists, and how many
+-- accounts the customer has.
 pub record AccountFactsMatchTables (t : Tables) (id customer broker : ℕ) (found : ReferenceFacts) : Type 0 where
   pub same_id : found.same_id ≡ has_account t id
   pub customer_there : found.customer ≡ has_customer t customer
