@@ -44,7 +44,8 @@ abbrev pub holding_rows_left_by_trades : TradeRow → List TradeRow → List Hol
 holding_rows_left_by_trades r run = map (holding_row_in_position_of_trade r) (lots_of_shares (replay (map deal_of_completed_row run)))
 
 -- The rows are the rows of HOLDING of the lots that remain after the trades, position by position.
--- The trades of one position are neighbours in the list and are executed in its order.
+-- The trades of one position are neighbours in the list and are executed in its order, from no
+-- lots.
 pub data AreLotsLeftByTrades : List TradeRow → List HoldingRow → Type 0 where
   nothing : AreLotsLeftByTrades [] []
   position : (r : TradeRow) (run later : List TradeRow) (rows : List HoldingRow) → AllByRecursion (λ s. is_same_position r s ≡ true) run
@@ -52,7 +53,8 @@ pub data AreLotsLeftByTrades : List TradeRow → List HoldingRow → Type 0 wher
       → AreLotsLeftByTrades later rows → AreLotsLeftByTrades (r ∷ run ++ later) (holding_rows_left_by_trades r (r ∷ run) ++ rows)
 
 -- The rows are the rows of HOLDING_HISTORY of the lot changes of the trades, position by position.
--- The trades of one position are neighbours in the list and are executed in its order.
+-- The trades of one position are neighbours in the list and are executed in its order, from no
+-- lots.
 pub data AreLotChangesOfTrades : List TradeRow → List HoldingHistoryRow → Type 0 where
   untouched : AreLotChangesOfTrades [] []
   moves : (r : TradeRow) (run later : List TradeRow) (rows : List HoldingHistoryRow) → AllByRecursion (λ s. is_same_position r s ≡ true) run

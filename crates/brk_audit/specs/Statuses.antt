@@ -19,37 +19,37 @@ is_first_status Canceled = false
 abbrev pub has_status_and_stamp_of_row : TradeRow → HistoryRow → Bool
 has_status_and_stamp_of_row r h = is_same_trade_status r.status h.status && (r.stamp == h.stamp)
 
--- One of two values, by the two statuses of a history, sorted by code: `first` if they can be a
--- valid status sequence that ends in the first of them, `second` if they can be one that ends in
--- the second, and false if they cannot be a valid sequence.
+-- The value `first` if the two statuses are sorted by code and the second followed by the first is
+-- a valid status sequence, the value `second` if they are sorted by code and the first followed by
+-- the second is one, otherwise false.
 abbrev pub value_by_last_of_two_valid_statuses : Status → Status → Bool → Bool → Bool
 value_by_last_of_two_valid_statuses Completed Submitted first second = first
 value_by_last_of_two_valid_statuses Canceled Pending first second = first
 value_by_last_of_two_valid_statuses Pending Submitted first second = second
 value_by_last_of_two_valid_statuses _ _ first second = false
 
--- True if the history rows `a` and `b`, sorted by status code, form a valid status sequence in
--- strictly ascending order of their stamps, and the row `r` of TRADE has the status and the stamp
--- of the later one.
+-- True if the history rows `a` and `b` are sorted by status code and form a valid status sequence
+-- in strictly ascending order of their stamps, and the row `r` of TRADE has the status and the
+-- stamp of the later one.
 abbrev pub is_valid_two_row_history : TradeRow → HistoryRow → HistoryRow → Bool
 is_valid_two_row_history r a b =
     value_by_last_of_two_valid_statuses a.status b.status (nat_lt b.stamp a.stamp && has_status_and_stamp_of_row r a) (nat_lt a.stamp b.stamp
     && has_status_and_stamp_of_row r b)
 
--- The value `told` if the three statuses of a history, sorted by code, can be a valid status
+-- The value `told` if the three statuses are sorted by code and are, in some order, a valid status
 -- sequence; otherwise false.
 abbrev pub value_if_three_statuses_are_valid : Status → Status → Status → Bool → Bool
 value_if_three_statuses_are_valid Completed Pending Submitted told = told
 value_if_three_statuses_are_valid _ _ _ told = false
 
--- True if the history rows `a`, `b` and `c`, sorted by status code, form a valid status sequence in
--- strictly ascending order of their stamps, and the row `r` of TRADE has the status and the stamp
--- of the last one.
+-- True if the history rows `a`, `b` and `c` are sorted by status code and form a valid status
+-- sequence in strictly ascending order of their stamps, and the row `r` of TRADE has the status and
+-- the stamp of the last one.
 abbrev pub is_valid_three_row_history : TradeRow → HistoryRow → HistoryRow → HistoryRow → Bool
 is_valid_three_row_history r a b c =
     value_if_three_statuses_are_valid a.status b.status c.status (nat_lt b.stamp c.stamp && nat_lt c.stamp a.stamp && has_status_and_stamp_of_row r a)
 
--- True if the history rows, sorted by status code, form a valid status sequence in strictly
+-- True if the history rows are sorted by status code and form a valid status sequence in strictly
 -- ascending order of their stamps, and the row `r` of TRADE has the status and the stamp of the
 -- last one. False if there are no rows.
 abbrev pub is_valid_history : TradeRow → List HistoryRow → Bool

@@ -220,10 +220,11 @@ fn move_rows_are_numbered_by_stamp(moves: &[MoveRow]) -> bool
 }
 
 /// Returns true if the rows, which must satisfy `Form` of `schema` and `Status`, satisfy the
-/// condition `Cash` of `schema`: the cash rows of trades are exactly the rows of the completed cash
-/// trades. In schema 1 they are in CASH_TRANSACTION. In later schemas they are in CASH_MOVE, which
-/// also has the deposits and withdrawals and is numbered from 1 by ascending stamp, and
-/// CASH_TRANSACTION is empty. Fails with `Memory` only.
+/// condition `Cash` of `schema`: the rows that belong to trades, in CASH_TRANSACTION in schema 1
+/// and in CASH_MOVE in later schemas, are exactly the rows of the completed cash trades. In later
+/// schemas CASH_TRANSACTION is empty, and all rows of CASH_MOVE, with those of deposits and
+/// withdrawals, are numbered from 1 by ascending stamp. Names of rows are not compared. Fails with
+/// `Memory` only.
 pub(crate) fn cash_condition_holds(
     alloc: Global,
     schema: Schema,

@@ -25,7 +25,7 @@ use std::cmp::Ordering;
 
 // Appends to `rows` the lot changes of the completed trades `run`, executed in order from no lots.
 // The trades must have prices, distinct ids and strictly ascending stamps. Fails with `Memory`
-// only.
+// only; it may then have appended some of the first lot changes.
 fn append_lot_changes_of_trades(
     alloc: Global,
     rows: &mut Vec<DealTouch>,

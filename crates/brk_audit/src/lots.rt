@@ -20,7 +20,7 @@ use brk_money::Fault;
 use std::alloc::Global;
 
 // Appends to `held` the rows of HOLDING of the lots, with the account and the symbol of the trade.
-// Fails with `Memory` only.
+// Fails with `Memory` only; it may then have appended some of the first rows.
 fn append_holding_rows(
     held: &mut Vec<HoldingRow>,
     trade: &TradeRow,

@@ -95,7 +95,7 @@ pub(crate) fn leading_trade_count_of_position(trade: &TradeRow, done: &[&TradeRo
 }
 
 /// Returns the deal of a completed trade: its effect on its position, with the price at which it
-/// was completed. The trade must have this price.
+/// was completed, in cents. The trade must have a price.
 pub(crate) fn deal_of_completed_trade(row: &TradeRow) -> Deal
     requires { IsSome row.now.price }
     ensures { abstract_deal result ≡ deal_of_completed_row (abstract_trade_row row.now) }

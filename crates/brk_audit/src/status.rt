@@ -48,9 +48,9 @@ fn has_status_and_stamp_of_row(trade: &TradeRow, row: HistoryRow) -> bool
     trade.status == row.status && trade.stamp == row.stamp
 }
 
-// Returns true if the rows `a` and `b`, which are sorted by status code, form a valid status
-// sequence in strictly ascending order of their stamps, and the trade's row has the status and the
-// stamp of the later one.
+// Returns true if the rows `a` and `b` are sorted by status code and form a valid status sequence
+// in strictly ascending order of their stamps, and the trade's row has the status and the stamp of
+// the later one.
 fn is_valid_two_row_history(trade: &TradeRow, a: HistoryRow, b: HistoryRow) -> bool
     ensures { result ≡ spec.is_valid_two_row_history (abstract_trade_row trade.now) (abstract_history_row a) (abstract_history_row b) }
 {
@@ -65,7 +65,7 @@ fn is_valid_two_row_history(trade: &TradeRow, a: HistoryRow, b: HistoryRow) -> b
     }
 }
 
-// Returns true if the rows `a`, `b` and `c`, which are sorted by status code, form a valid status
+// Returns true if the rows `a`, `b` and `c` are sorted by status code and form a valid status
 // sequence in strictly ascending order of their stamps, and the trade's row has the status and the
 // stamp of the last one.
 fn is_valid_three_row_history(trade: &TradeRow, a: HistoryRow, b: HistoryRow, c: HistoryRow) -> bool
@@ -82,9 +82,9 @@ fn is_valid_three_row_history(trade: &TradeRow, a: HistoryRow, b: HistoryRow, c:
     }
 }
 
-// Returns true if the history rows, which are sorted by status code, form a valid status sequence
-// in strictly ascending order of their stamps, and the trade's row has the status and the stamp of
-// the last one. Returns false if there are no rows.
+// Returns true if the history rows are sorted by status code and form a valid status sequence in
+// strictly ascending order of their stamps, and the trade's row has the status and the stamp of the
+// last one. Returns false if there are no rows.
 fn is_valid_trade_history(trade: &TradeRow, rows: &[HistoryRow]) -> bool
     ensures { result ≡ spec.is_valid_history (abstract_trade_row trade.now) (map abstract_history_row rows.now) }
 {
@@ -127,7 +127,8 @@ fn all_histories_are_valid(trades: &[TradeRow], history: &[HistoryRow]) -> bool
 }
 
 // Inserts the stamp of the row into `seen` if the row is a completion. Returns false if it is one
-// and the set already contained the stamp, otherwise true. Fails with `Memory` only.
+// and the set already contained the stamp, otherwise true. Fails with `Memory` only; the set is
+// then unchanged.
 fn insert_completion_stamp(seen: &mut BTreeSet<u64>, row: &HistoryRow) -> Result<bool, Fault>
     ensures new { IfOk result (λ new. new ≡ not (is_same_trade_status row.now.status Completed && contains nat_cmp seen.old row.now.stamp)) }
     ensures seen { OnOk result ((q : ℕ)
@@ -142,7 +143,8 @@ fn insert_completion_stamp(seen: &mut BTreeSet<u64>, row: &HistoryRow) -> Result
 }
 
 // Inserts the stamp of the row into `seen` if the row is a deposit or a withdrawal. Returns false
-// if it is one and the set already contained the stamp, otherwise true. Fails with `Memory` only.
+// if it is one and the set already contained the stamp, otherwise true. Fails with `Memory` only;
+// the set is then unchanged.
 fn insert_movement_stamp(seen: &mut BTreeSet<u64>, row: &MoveRow) -> Result<bool, Fault>
     ensures new { IfOk result (λ new. new ≡ not (is_none row.now.trade && contains nat_cmp seen.old row.now.stamp)) }
     ensures seen { OnOk result ((q : ℕ) → contains nat_cmp seen.new q ≡ contains nat_cmp seen.old q || (is_none row.now.trade && (row.now.stamp == q))) }

@@ -20,7 +20,7 @@ use brk_ref::Symbol;
 use std::alloc::{AllocError, Global};
 
 // Returns the name of the security with the symbol, or the empty text if there is no such security.
-// The tables must be sorted by key.
+// The tables must be sorted by key without a repeated key.
 fn security_name<'a>(sheets: &'a Sheets, symbol: &Symbol) -> &'a str
     requires { HasSortedKeys sheets.now }
     ensures { result.now ≡ security_name_or_empty (abstract_sheets sheets.now) symbol.now }
@@ -32,7 +32,7 @@ fn security_name<'a>(sheets: &'a Sheets, symbol: &Symbol) -> &'a str
 }
 
 // Appends to `name` a space, the quantity in decimal digits, and the text `words`. Fails if memory
-// runs out.
+// runs out; `name` may then hold a part of this text.
 fn append_quantity_and_text(name: &mut String, qty: Qty, words: &str) -> Result<(), AllocError>
     ensures { OnOk result (string_bytes name.new ≡ string_bytes name.old ++ (32 ∷ decimal qty ++ words.now)) }
 {
@@ -58,7 +58,8 @@ fn format_cash_text_of_trade(
 
 // Returns true if `name` is one of the two cash texts of the trade: the name of its type, a space,
 // its quantity, ` shares of ` or ` Shares of `, and the name of its security, which is empty if the
-// security does not exist. The tables must be sorted by key. Fails with `Memory` only.
+// security does not exist. The tables must be sorted by key without a repeated key. Fails with
+// `Memory` only.
 fn is_cash_text_of_trade(
     alloc: Global,
     sheets: &Sheets,
@@ -79,7 +80,8 @@ fn is_cash_text_of_trade(
 }
 
 // Returns true if the trade with the id `id` exists and `name` is one of its two cash texts, with
-// ` shares of ` or with ` Shares of `. The tables must be sorted by key. Fails with `Memory` only.
+// ` shares of ` or with ` Shares of `. The tables must be sorted by key without a repeated key.
+// Fails with `Memory` only.
 fn is_cash_text_of_trade_id(
     alloc: Global,
     sheets: &Sheets,
@@ -99,7 +101,7 @@ fn is_cash_text_of_trade_id(
 
 // Returns true if the row of CASH_TRANSACTION is well-formed: its trade exists, its text is one of
 // the two cash texts of the trade, its stamp is at most the last stamp, and its amount is within
-// the limit. The tables must be sorted by key. Fails with `Memory` only.
+// the limit. The tables must be sorted by key without a repeated key. Fails with `Memory` only.
 fn is_cash_transaction_well_formed(
     alloc: Global,
     sheets: &Sheets,
@@ -128,7 +130,7 @@ fn is_movement_name_of_sign(name: &str, amount: Cents) -> bool
 // Returns true if the row of CASH_MOVE has a trade, the trade exists, and the text of the row is
 // one of the two cash texts of that trade. If the row has no trade, returns true if its text is
 // `Deposit` and its amount is above 0, or its text is `Withdrawal` and its amount is below 0. The
-// tables must be sorted by key. Fails with `Memory` only.
+// tables must be sorted by key without a repeated key. Fails with `Memory` only.
 fn has_valid_cash_text(alloc: Global, sheets: &Sheets, row: &MoveRow) -> Result<bool, Fault>
     requires { HasSortedKeys sheets.now }
     ensures value { IfOk result (λ holds. holds
@@ -144,7 +146,8 @@ fn has_valid_cash_text(alloc: Global, sheets: &Sheets, row: &MoveRow) -> Result<
 
 // Returns true if the row of CASH_MOVE is well-formed: its number and its amount are within their
 // limits, its account exists, its text fits its trade or its amount (`has_valid_cash_text`), and
-// its stamp is at most the last stamp. The tables must be sorted by key. Fails with `Memory` only.
+// its stamp is at most the last stamp. The tables must be sorted by key without a repeated key.
+// Fails with `Memory` only.
 fn is_move_row_well_formed(alloc: Global, sheets: &Sheets, row: &MoveRow) -> Result<bool, Fault>
     requires { HasSortedKeys sheets.now }
     ensures value { IfOk result (λ holds. holds ≡ form.is_well_formed_cash_move_row (abstract_sheets sheets.now) (abstract_move_row row.now)) }
@@ -161,7 +164,7 @@ fn is_move_row_well_formed(alloc: Global, sheets: &Sheets, row: &MoveRow) -> Res
 }
 
 /// Returns true if each row of CASH_TRANSACTION is well-formed (`is_cash_transaction_well_formed`).
-/// The tables must be sorted by key. Fails with `Memory` only.
+/// The tables must be sorted by key without a repeated key. Fails with `Memory` only.
 pub(crate) fn are_cash_transactions_well_formed(
     alloc: Global,
     sheets: &Sheets,
@@ -181,7 +184,7 @@ pub(crate) fn are_cash_transactions_well_formed(
 }
 
 /// Returns true if each row of CASH_MOVE is well-formed (`is_move_row_well_formed`). The tables
-/// must be sorted by key. Fails with `Memory` only.
+/// must be sorted by key without a repeated key. Fails with `Memory` only.
 pub(crate) fn are_move_rows_well_formed(alloc: Global, sheets: &Sheets) -> Result<bool, Fault>
     requires { HasSortedKeys sheets.now }
     ensures value { IfOk result (λ holds. holds

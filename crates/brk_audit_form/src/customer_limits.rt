@@ -18,7 +18,8 @@ use std::collections::BTreeMap;
 const MOST_ACCOUNTS: u128 = 10;
 
 // Adds `more` to the sum of the customer in the map; a customer that the map does not contain has
-// the sum 0. The sum must be below 2^128 - 2^32. Fails with `Memory` only.
+// the sum 0. The sum must be below 2^128 - 2^32. Fails with `Memory` only; the map is then
+// unchanged.
 fn add_to_customer_sum(sums: &mut BTreeMap<u64, u128>, customer: Id, more: u32) -> Result<(), Fault>
     requires room { sum_at_customer_id sums.old customer + 2 ^ 32 < 2 ^ 128 }
     ensures more { OnOk result ((q : ℕ) → sum_at_customer_id sums.new q ≡ sum_at_customer_id sums.old q + cond (customer == q) more 0) }
@@ -47,7 +48,8 @@ fn count_accounts_by_customer(
 }
 
 // Returns the rate of the tax rate with the id `tax`, in hundred-thousandths, or 0 if there is no
-// such tax rate. The result is at most the greatest tax rate. The tables must be sorted by key.
+// such tax rate. The result is at most the greatest tax rate. The tables must be sorted by key
+// without a repeated key.
 fn rate_of_tax_or_zero(sheets: &Sheets, tax: Id) -> u32
     requires { HasSortedKeys sheets.now }
     ensures rate { result ≡ rate_of_tax_rate_or_zero (abstract_sheets sheets.now) tax }
@@ -61,7 +63,7 @@ fn rate_of_tax_or_zero(sheets: &Sheets, tax: Id) -> u32
 
 // Returns a map from the id of each customer who pays a tax to the sum of the tax rates that the
 // customer pays, in hundred-thousandths. A tax rate that does not exist counts as 0. The tables
-// must be sorted by key. Fails with `Memory` only.
+// must be sorted by key without a repeated key. Fails with `Memory` only.
 fn sum_tax_rates_by_customer(alloc: Global, sheets: &Sheets) -> Result<BTreeMap<u64, u128>, Fault>
     requires { HasSortedKeys sheets.now }
     ensures sums { IfOk result (λ sums. (q : ℕ) → sum_at_customer_id sums q ≡ tax_rate_sum_of_payer (abstract_sheets sheets.now) q) }
@@ -109,7 +111,8 @@ fn are_customer_sums_within_limits(
 }
 
 /// Returns true if each customer has at most 10 accounts, and tax rates that sum to at most the
-/// greatest tax rate. The tables must be sorted by key. Fails with `Memory` only.
+/// greatest tax rate; a tax rate that does not exist counts as 0. The tables must be sorted by key
+/// without a repeated key. Fails with `Memory` only.
 pub(crate) fn customers_are_within_limits(alloc: Global, sheets: &Sheets) -> Result<bool, Fault>
     requires { HasSortedKeys sheets.now }
     ensures value { IfOk result (λ holds. holds

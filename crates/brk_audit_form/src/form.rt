@@ -74,10 +74,11 @@ fn passes_checks_without_allocation(schema: Schema, sheets: &Sheets) -> bool
 
 /// Returns true if the rows satisfy the condition `Form` of `schema`: each row is well-formed and
 /// within the limits of the schema, each record that a row refers to exists, and each table is
-/// sorted by key without a repeated key. Also, bands are disjoint, trades are numbered from 1
-/// without a gap, tax ids and the trades of cash rows are unique, customers and movements are
-/// within their limits, the last stamp and the settlement day are within the calendar, and tables
-/// that the schema lacks are empty.
+/// sorted by key without a repeated key. Also, bands are disjoint, and trades are numbered from 1
+/// without a gap. No two customers have the same tax id, and each has at most 10 accounts and tax
+/// rates that sum to at most the greatest tax rate. No two rows of CASH_MOVE have the same trade,
+/// and at most `Id::GREATEST` rows of CASH_MOVE have no trade. The last stamp and the settlement
+/// day, if they are set, are within the calendar, and tables that the schema lacks are empty.
 ///
 /// Fails with `Memory` only.
 pub fn form_condition_holds(alloc: Global, schema: Schema, sheets: &Sheets) -> Result<bool, Fault>

@@ -15,7 +15,8 @@ use brk_changes::{Sheets, TradeRow};
 use brk_money::{Id, Status};
 use brk_ref::{Security, Symbol, Tax};
 
-/// Returns true if the rows contain a broker with the id. The tables must be sorted by key.
+/// Returns true if the rows contain a broker with the id. The tables must be sorted by key without
+/// a repeated key.
 pub(crate) fn has_broker(sheets: &Sheets, id: Id) -> bool
     requires { HasSortedKeys sheets.now }
     ensures { result ≡ form.has_broker (abstract_sheets sheets.now) id }
@@ -27,7 +28,8 @@ pub(crate) fn has_broker(sheets: &Sheets, id: Id) -> bool
         .is_ok()
 }
 
-/// Returns true if the rows contain a customer with the id. The tables must be sorted by key.
+/// Returns true if the rows contain a customer with the id. The tables must be sorted by key
+/// without a repeated key.
 pub(crate) fn has_customer(sheets: &Sheets, id: Id) -> bool
     requires { HasSortedKeys sheets.now }
     ensures { result ≡ form.has_customer (abstract_sheets sheets.now) id }
@@ -39,7 +41,8 @@ pub(crate) fn has_customer(sheets: &Sheets, id: Id) -> bool
         .is_ok()
 }
 
-/// Returns true if the rows contain an account with the id. The tables must be sorted by key.
+/// Returns true if the rows contain an account with the id. The tables must be sorted by key
+/// without a repeated key.
 pub(crate) fn has_account(sheets: &Sheets, id: Id) -> bool
     requires { HasSortedKeys sheets.now }
     ensures { result ≡ form.has_account (abstract_sheets sheets.now) id }
@@ -51,7 +54,8 @@ pub(crate) fn has_account(sheets: &Sheets, id: Id) -> bool
         .is_ok()
 }
 
-/// Returns true if the rows contain a trade with the id. The tables must be sorted by key.
+/// Returns true if the rows contain a trade with the id. The tables must be sorted by key without a
+/// repeated key.
 pub(crate) fn has_trade(sheets: &Sheets, id: Id) -> bool
     requires { HasSortedKeys sheets.now }
     ensures { result ≡ form.has_trade (abstract_sheets sheets.now) id }
@@ -63,7 +67,8 @@ pub(crate) fn has_trade(sheets: &Sheets, id: Id) -> bool
         .is_ok()
 }
 
-/// Returns true if the rows contain a tax rate with the id. The tables must be sorted by key.
+/// Returns true if the rows contain a tax rate with the id. The tables must be sorted by key
+/// without a repeated key.
 pub(crate) fn has_tax_rate(sheets: &Sheets, id: Id) -> bool
     requires { HasSortedKeys sheets.now }
     ensures { result ≡ list_any (λ r. r.id == id) (abstract_sheets sheets.now).tax_rates }
@@ -75,7 +80,8 @@ pub(crate) fn has_tax_rate(sheets: &Sheets, id: Id) -> bool
         .is_ok()
 }
 
-/// Returns true if the rows contain a security with the symbol. The tables must be sorted by key.
+/// Returns true if the rows contain a security with the symbol. The tables must be sorted by key
+/// without a repeated key.
 pub(crate) fn has_security(sheets: &Sheets, symbol: &Symbol) -> bool
     requires { HasSortedKeys sheets.now }
     ensures { result ≡ form.has_security (abstract_sheets sheets.now) symbol.now }
@@ -87,7 +93,7 @@ pub(crate) fn has_security(sheets: &Sheets, symbol: &Symbol) -> bool
 }
 
 /// Returns true if the rows contain a row of LAST_TRADE with the symbol. The tables must be sorted
-/// by key.
+/// by key without a repeated key.
 pub(crate) fn has_last_trade(sheets: &Sheets, symbol: &Symbol) -> bool
     requires { HasSortedKeys sheets.now }
     ensures { result ≡ list_any (λ l. bytes_eq l.symbol symbol.now) (abstract_sheets sheets.now).last_trades }
@@ -99,7 +105,7 @@ pub(crate) fn has_last_trade(sheets: &Sheets, symbol: &Symbol) -> bool
 }
 
 /// Returns true if the trade with the id has a row of TRADE_HISTORY with the status `Completed`.
-/// The tables must be sorted by key.
+/// The tables must be sorted by key without a repeated key.
 pub(crate) fn has_completion(sheets: &Sheets, id: Id) -> bool
     requires { HasSortedKeys sheets.now }
     ensures { result ≡ list_any (λ h. is_same_trade_status h.status Completed) (joins.history_rows_with_trade_id (abstract_sheets sheets.now) id) }
@@ -112,7 +118,7 @@ pub(crate) fn has_completion(sheets: &Sheets, id: Id) -> bool
 }
 
 /// Returns the row of the trade with the id, or `None` if there is none. The tables must be sorted
-/// by key.
+/// by key without a repeated key.
 pub(crate) fn find_trade(sheets: &Sheets, id: Id) -> Option<&TradeRow>
     requires { HasSortedKeys sheets.now }
     ensures { option_map abstract_trade_row (option_copied result) ≡ joins.trade_row_with_id (abstract_sheets sheets.now) id }
@@ -128,7 +134,7 @@ pub(crate) fn find_trade(sheets: &Sheets, id: Id) -> Option<&TradeRow>
 }
 
 /// Returns the row of the security with the symbol, or `None` if there is none. The tables must be
-/// sorted by key.
+/// sorted by key without a repeated key.
 pub(crate) fn find_security<'a>(sheets: &'a Sheets, symbol: &Symbol) -> Option<&'a Security>
     requires { HasSortedKeys sheets.now }
     ensures { option_map abstract_security_row (option_copied result) ≡ joins.security_row_with_symbol (abstract_sheets sheets.now) symbol.now }
@@ -143,7 +149,7 @@ pub(crate) fn find_security<'a>(sheets: &'a Sheets, symbol: &Symbol) -> Option<&
 }
 
 /// Returns the row of the tax rate with the id, or `None` if there is none. The tables must be
-/// sorted by key.
+/// sorted by key without a repeated key.
 pub(crate) fn find_tax_rate(sheets: &Sheets, id: Id) -> Option<&Tax>
     requires { HasSortedKeys sheets.now }
     ensures { option_map abstract_tax_rate (option_copied result) ≡ find (λ r. r.id == id) (abstract_sheets sheets.now).tax_rates }

@@ -12,16 +12,17 @@ use brk_changes::{Schema, Sheets};
 pub(crate) trait Formed {
     ghost form: { schemas.Schema → Tables → Self → Bool };
 
-    /// Returns true if the row passes the check `form` of its table: of those columns and limits of
-    /// the schema that the condition `Form` checks, and of the records in `sheets` to which the row
-    /// refers. The tables of `sheets` must be sorted by key.
+    /// Returns true if the row passes the check `form` of its table, by the limits of the schema
+    /// and the records in `sheets`. The tables of `sheets` must be sorted by key without a repeated
+    /// key.
     fn is_row_well_formed(&self, schema: Schema, sheets: &Sheets) -> bool
         requires { HasSortedKeys sheets.now }
         ensures { result ≡ form (abstract_schema schema) (abstract_sheets sheets.now) self.now };
 }
 
 /// Returns true if each of `rows` passes the check of its table (`is_row_well_formed`), by the
-/// limits of the schema and the records in `sheets`. The tables of `sheets` must be sorted by key.
+/// limits of the schema and the records in `sheets`. The tables of `sheets` must be sorted by key
+/// without a repeated key.
 pub(crate) fn are_rows_well_formed<R: Formed>(schema: Schema, sheets: &Sheets, rows: &[R]) -> bool
     requires { HasSortedKeys sheets.now }
     ensures { result ≡ list_all (R.form (abstract_schema schema) (abstract_sheets sheets.now)) rows.now }

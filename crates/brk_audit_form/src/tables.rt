@@ -53,7 +53,7 @@ pub(crate) fn all_tables_have_sorted_keys(sheets: &Sheets) -> bool
 
 /// Returns true if each row of KEPT, of LAST_TRADE and of reference data is well-formed and within
 /// the limits of the schema, and each record that it refers to exists. The tables must be sorted by
-/// key.
+/// key without a repeated key.
 pub(crate) fn has_well_formed_reference_rows(schema: Schema, sheets: &Sheets) -> bool
     requires { HasSortedKeys sheets.now }
     ensures { result ≡ reference_rows_are_well_formed (abstract_schema schema) sheets.now }
@@ -73,7 +73,7 @@ pub(crate) fn has_well_formed_reference_rows(schema: Schema, sheets: &Sheets) ->
 
 /// Returns true if each row of TRADE, TRADE_HISTORY, TRADE_REQUEST, HOLDING, HOLDING_SUMMARY,
 /// HOLDING_HISTORY and SETTLEMENT is well-formed and within the limits of the schema, and each
-/// record that it refers to exists. The tables must be sorted by key.
+/// record that it refers to exists. The tables must be sorted by key without a repeated key.
 pub(crate) fn has_well_formed_trading_rows(schema: Schema, sheets: &Sheets) -> bool
     requires { HasSortedKeys sheets.now }
     ensures { result ≡ trading_rows_are_well_formed (abstract_schema schema) sheets.now }

@@ -19,7 +19,8 @@ use brk_changes::{
 use brk_money::{Day, Stamp, Status};
 
 // Returns true if the trade of the row has a completion in TRADE_HISTORY and a price from 1 cent to
-// the greatest price, or neither a completion nor a price. The tables must be sorted by key.
+// the greatest price, or neither a completion nor a price. The tables must be sorted by key without
+// a repeated key.
 fn row_has_price_exactly_if_completed(sheets: &Sheets, row: &TradeRow) -> bool
     requires { HasSortedKeys sheets.now }
     ensures { result ≡ form.has_price_matching_completion (abstract_sheets sheets.now) (of.abstract_trade_row row.now) }

@@ -34,8 +34,8 @@ fn price_or_zero(price: Option<Price>) -> u64
 }
 
 // Returns the value, in cents, of `qty` shares at the price `cents`, in cents. `qty` must be at
-// most the greatest quantity, and `cents` at most the greatest price; the value is at most their
-// product.
+// most the greatest quantity, and `cents` at most the greatest price. The value is at most the
+// greatest quantity times the greatest price.
 fn value_of_shares(qty: u32, cents: u64) -> u64
     requires qty { qty ≤ greatest_qty }
     requires cents { cents ≤ greatest_price }

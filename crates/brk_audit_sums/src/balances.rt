@@ -23,8 +23,8 @@ use brk_ref::AccountRow;
 use std::alloc::Global;
 use std::collections::BTreeMap;
 
-// Returns the amount of a deposit or a withdrawal as a posting at its account, or `None` if the row
-// of CASH_MOVE belongs to a trade.
+// Returns the amount of a deposit or a withdrawal, in cents, as a posting at its account, or `None`
+// if the row of CASH_MOVE belongs to a trade.
 fn posting_of_movement_row(row: &MoveRow) -> Option<KeyedAmount<u64>>
     ensures { result ≡ movement_posting_of_row (abstract_move_row row.now) }
 {
@@ -37,7 +37,8 @@ fn posting_of_movement_row(row: &MoveRow) -> Option<KeyedAmount<u64>>
 }
 
 // Appends to `all` the amounts, in cents, of the deposits and withdrawals of `moves` as postings at
-// their accounts, in the order of the rows. Fails with `Memory` only.
+// their accounts, in the order of the rows. Fails with `Memory` only; it may then have appended the
+// postings of some of the first rows.
 fn append_movement_postings(all: &mut Vec<KeyedAmount<u64>>, moves: &[MoveRow]) -> Result<(), Fault>
     ensures all { OnOk result (all.new.items ≡ all.old.items ++ filter_map (λ r. movement_posting_of_row (abstract_move_row r)) moves.now) }
     ensures fault { OnErr result (result ≡ Err Memory) }
@@ -73,7 +74,8 @@ fn balance_equals_opening_plus_moved(balance: i64, opening: i64, moved: i128) ->
 }
 
 /// The balances of accounts, in cents. Each completed cash trade posts its settlement amount at its
-/// account, and a balance is the opening balance plus the sum at the account's id.
+/// account. A balance is the opening balance plus the sum at the account's id of these amounts and
+/// of the deposits and withdrawals, which `balance_condition_holds` adds.
 struct Balances;
 
 impl KeyedSum for Balances {

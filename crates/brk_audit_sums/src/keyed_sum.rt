@@ -30,8 +30,8 @@ pub(crate) trait KeyedSum {
     /// does not contain has the sum 0.
     ghost has_sum: { BTreeMap ℕ ℤ → Self.Total → Type 0 };
 
-    /// Returns the amount that the trade posts, or `None` if it posts none. The map `terms` has the
-    /// broker and the tax status of each account.
+    /// Returns the amount that the trade posts, with its key, by the brokers and the tax statuses
+    /// of accounts in the map `terms`, or `None` if it posts none.
     fn posting_of_trade(
         terms: &BTreeMap<u64, AccountTerms>,
         trade: &TradeRow,
@@ -43,7 +43,8 @@ pub(crate) trait KeyedSum {
         ensures { IsTrue result ↔ has_sum sums.now row.now };
 }
 
-/// Returns the amounts that the trades post, in order. Fails with `Memory` only.
+/// Returns the amounts that the trades post, each with its key, in the order of the trades. Fails
+/// with `Memory` only.
 pub(crate) fn postings_of_trades<S: KeyedSum>(
     alloc: Global,
     terms: &BTreeMap<u64, AccountTerms>,

@@ -14,8 +14,8 @@ ghost use Rattle.brk_audit_theorems.specs.Passing.{PassesAudit};
 ghost use Rattle.brk_audit_theorems.specs.Told.{HasValidHistories, base_sorted_by_keys};
 
 /// Proves that the base that is read from rows that pass the audit of a schema satisfies the books
-/// invariant, and that the rows are the tables of this base in that schema. For the books
-/// invariant, the condition `Form` of some schema and the condition `Status` suffice.
+/// invariant, and that the rows are the tables of this base in that schema, each sorted by key. For
+/// the books invariant, the condition `Form` of some schema and the condition `Status` suffice.
 pub fn passing_rows_are_tables_of_their_base()
     ensures order { (schema : Schema) (rows : Tables) → IsTrue (satisfies_form_condition schema rows) → IsTrue (satisfies_status_condition rows)
         → BooksInvariant (base_of_tables rows) }

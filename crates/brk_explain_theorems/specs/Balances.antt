@@ -56,8 +56,8 @@ pub record PrintedBalancesMatchBase (base : Base) (t : Trade) : Type 0 where
   pub after : printed_balance_after_trade (sheets base) t ≡ balance_at_stamp base (last_status_stamp_of_trade t) t.account
 
 -- After the result of the trade `id` from `base` at the clock reading `now` and the price `price`,
--- and after any run that follows it, the printed balance after the trade is the balance of its
--- account in the base right after that result.
+-- in cents, as if `base` accepted it, and after any run of calls that follows it, the printed
+-- balance after the trade is the balance of its account in the base right after that result.
 abbrev pub RunsPreservePrintedBalanceAfterTrade : Base → ℕ → ℕ → ℕ → Type 0
 RunsPreservePrintedBalanceAfterTrade base now id price =
     (calls : List (ℕ × Call)) (outcomes : List Outcome) (later : Base) (u : Trade)
@@ -66,9 +66,9 @@ RunsPreservePrintedBalanceAfterTrade base now id price =
     ≡ balance_of_account (base_after_command base now (CompleteTrade id price)).accounts
     (postings_of_base (base_after_command base now (CompleteTrade id price))) u.account
 
--- The explanation of the account `a` lists all cash rows of the account. The last balance that it
--- prints is the account's balance, and this balance plus the market values of the account's
--- holdings equals the account's assets.
+-- The explanation of the account `a` lists all cash rows of the account. The last running balance
+-- that it prints, or the opening balance if the account has no cash rows, is the account's balance,
+-- and this balance plus the market values of the account's holdings equals the account's assets.
 pub record PrintedAccountMatchesBase (base : Base) (a : AccountRow) : Type 0 where
   pub posted : account_cash_rows_by_stamp (sheets base) a.id ≡ sorted_cash_rows_of_account (sheets base) a.id
   pub last : last_printed_balance (sheets base) a ≡ a.balance

@@ -18,8 +18,10 @@ abbrev pub order_details_in_base : Base → Trade → OrderDetails
 order_details_in_base base t = order_details_of_trade (sheets base) (trade_row t)
 
 -- The printed settlement of the trade `t` is its printed value less its charge, commission and
--- withheld tax, and equals its settlement amount. The due day, the cash moved, and the tax and the
--- commission at current rates equal the values that the model computes from the base.
+-- withheld tax, and equals its settlement amount. The cash moved is the settlement of a cash trade,
+-- and 0 for a margin trade. The due day is the day of completion plus the printed days to settle,
+-- and equals the due day that the model computes from the base. The tax and the commission at
+-- current rates equal the values that the model computes from the base.
 pub record PrintedSettlementMatchesBase (base : Base) (t : Trade) : Type 0 where
   -- Settlement is Value plus Charge, Commission and Tax withheld, which are printed below 0.
   pub sum : (result_details_in_base base t).settlement.amount

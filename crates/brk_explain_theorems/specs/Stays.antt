@@ -10,10 +10,10 @@ use Rattle.brk_explain_theorems.specs.Closings.{result_details_in_base}
 use Rattle.brk_explain_theorems.specs.Equations.{order_details_in_base}
 
 -- The explanation of the trade `u` of the base `later` prints the figures that the explanation of
--- the trade `t` of `base` prints: the columns of TRADE except the executor's name, the customer,
--- the broker, the tax status and the opening balance, the status changes, the price, the closings
--- and the lot that the trade opened, the settlement amount and the due day, the cash moved, the id
--- of the cash row and the number of cash rows before it, and the balances.
+-- the trade `t` of `base` prints: all columns of TRADE but the executor's name; the customer, the
+-- broker, the tax status and the opening balance of its account; the status changes, the price, the
+-- closings and the lot that the trade opened, the settlement amount and the due day, the cash
+-- moved, the id of the cash row and the number of cash rows before it, and the balances.
 pub record PrintsSameFigures (base later : Base) (t u : Trade) : Type 0 where
   -- All columns of the row of TRADE but the executor's name.
   pub row : record (trade_row u) { executor = [] } ≡ record (trade_row t) { executor = [] }

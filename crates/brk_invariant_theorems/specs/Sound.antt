@@ -72,9 +72,9 @@ has_cash_text_with_security_name t name =
     bytes_eq t.cash_name (cash_row_name_from_parts (codes " shares of ") t.kind t.qty name)
     || bytes_eq t.cash_name (cash_row_name_from_parts (codes " Shares of ") t.kind t.qty name)
 
--- True if the trade's cash text is the name of its type, a space, its quantity, ` shares of ` or `
--- Shares of `, and the name of its security in `securities`, or the empty text if the security is
--- not one of them.
+-- True if the trade's cash text is one of the two (`has_cash_text_with_security_name`) with the
+-- name of its security in `securities`, or with the empty text as name if the security is not one
+-- of them.
 abbrev pub has_cash_text_of_security : List Security → Trade → Bool
 has_cash_text_of_security securities t = has_cash_text_with_security_name t (security_name_in_list securities t.symbol)
 
@@ -213,11 +213,12 @@ pub record SumAuditInvariant (accounts : List Account) (done : List Trade) (move
 -- stored replies, brokers, customers, charges, tax rates and customers' taxes are unique, and no
 -- two customers have the same tax id. The records that permissions and customers' taxes refer to
 -- exist. The stamps of securities and status changes are at most the last stamp, and the stamps of
--- movements are strictly ascending. Each trade has a valid status sequence, and the price and the
--- texts that its status requires. Due days and the settlement day are within the calendar. The
--- accounts and the tax rates of customers, the number and the amounts of movements, and the
--- summaries, balances, commission totals and settlement amounts are within their limits. Each part
--- depends only on the fields of the base that it names.
+-- movements are strictly ascending. Each trade has a valid status sequence with strictly ascending
+-- stamps, and the price and the texts that its status and its kind (cash or margin) require. Due
+-- days and the settlement day are within the calendar. The accounts and the tax rates of customers,
+-- the number and the amounts of movements, and the summaries, balances, commission totals and
+-- settlement amounts are within their limits. Each part depends only on the fields of the base that
+-- it names.
 pub record AuditInvariant (base : Base) : Type 0 where
   pub keyed : StoredReplyAuditInvariant base.kept
   pub open keyed use *

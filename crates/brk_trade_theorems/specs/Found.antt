@@ -10,9 +10,9 @@ use Rattle.brk_model.specs.Form.{has_account, has_broker, has_customer, has_secu
 use Rattle.brk_book_theorems.specs.Reads.{contains_tax_id, account_count_of_customer, contains_permission, contains_charge, overlaps_some_band}
 use Rattle.brk_book_theorems.specs.Reads.{contains_tax_rate, rate_of_tax_rate_with_id, contains_customer_tax, customer_tax_rate_sum}
 
--- The facts `found` about a new account are true of the tables: whether an account with the id
--- `id`, the customer `customer` and the broker `broker` exist, and how many accounts the customer
--- has.
+-- The facts `found` about a new account are true of the tables: whether an account with the id `id`
+-- exists, whether the customer `customer` exists, whether the broker `broker` exists, and how many
+-- accounts the customer has.
 pub record AccountFactsMatchTables (t : Tables) (id customer broker : ℕ) (found : ReferenceFacts) : Type 0 where
   pub same_id : found.same_id ≡ has_account t id
   pub customer_there : found.customer ≡ has_customer t customer
@@ -20,17 +20,20 @@ pub record AccountFactsMatchTables (t : Tables) (id customer broker : ℕ) (foun
   pub count : found.accounts ≡ account_count_of_customer t customer
 
 -- The facts `found` about the tax `tax` of the customer `customer` are true of the tables: whether
--- the customer exists and already pays the tax, the rate of the tax (`None` if it does not exist),
--- and the sum of the customer's rates (`None` if it exceeds the greatest tax rate).
+-- the customer exists, whether the customer already pays the tax, the rate of the tax (`None` if it
+-- does not exist), and the sum of the customer's rates (`None` if it exceeds the greatest tax
+-- rate).
 pub record CustomerTaxFactsMatchTables (t : Tables) (customer tax : ℕ) (found : ReferenceFacts) : Type 0 where
   pub customer_there : found.customer ≡ has_customer t customer
   pub rate_there : found.rate ≡ rate_of_tax_rate_with_id t tax
   pub same_id : found.same_id ≡ contains_customer_tax t customer tax
   pub sum : SomeIff found.rates (customer_tax_rate_sum t customer ≤ greatest_tax_rate) (customer_tax_rate_sum t customer)
 
--- The facts `found` about a record of reference data are true of the tables: whether a record with
--- its key exists, for a customer also whether one with its tax id exists, whether the records that
--- it refers to exist, and the counts, rates and overlaps that its checks need. Facts that a record of its kind does not need may have any value.
+-- The facts `found` about a record of reference data are true of the tables: for a band, whether it
+-- overlaps a band in the tables, and for any other record, whether a record with its key exists.
+-- For a customer, also whether one with its tax id exists; for an account, a permission and a
+-- customer's tax, also whether the records that it refers to exist, and the counts and rates that
+-- its checks need. Facts that a record of its kind does not need may have any value.
 abbrev pub ReferenceFactsMatchTables : Tables → Reference → ReferenceFacts → Type 0
 ReferenceFactsMatchTables t (reference.Broker broker) found = found.same_id ≡ has_broker t broker.id
 ReferenceFactsMatchTables t (reference.Customer customer) found =

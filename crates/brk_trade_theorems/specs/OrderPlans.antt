@@ -37,8 +37,8 @@ PassesFirstOrderChecks n found = first_refusal (take n (order_checks found)) ≡
 -- The facts `found` about the order are true of the tables: its account, the last price, whether
 -- its executor is permitted, the charge, the commission rate, the sum of the customer's tax rates,
 -- the assets and the summary. A clause is vacuous if one of the checks that it names fails, since
--- the fact is not read then. A clause about the customer, the account or the security is also
--- vacuous if no such row exists.
+-- the fact is not read then. The clauses from `is_permitted` to `assets` are also vacuous if the
+-- account, the customer or the security whose row they read does not exist.
 pub record EstimateFactsMatchTables (t : Tables) (order : Order) (found : OrderPlanFacts) : Type 0 where
   pub account : found.account ≡ option_map order_account_of_row (account_row_with_id t order.account)
   pub last_price : PassesFirstOrderChecks 1 found → found.last_price ≡ last_price_of_symbol t order.symbol
@@ -65,8 +65,8 @@ pub record EstimateFactsMatchTables (t : Tables) (order : Order) (found : OrderP
   pub summary : PassesFirstOrderChecks 5 found → found.summary ≡ option_map (λ r. r.qty) (summary_row_of_position t order.account order.symbol)
 
 -- The facts `found` that an estimate of the order needs are true of the tables, and the last trade
--- of `found` is the id in the last row of TRADE. The last trade may have any value if one of the
--- five checks fails.
+-- of `found` is the id in the last row of TRADE, or `None` if there are no rows. The last trade may
+-- have any value if one of the five checks fails.
 pub record OrderFactsMatchTables (t : Tables) (order : Order) (found : OrderPlanFacts) : Type 0 where
   pub estimate : EstimateFactsMatchTables t order found
   pub last_trade : PassesFirstOrderChecks 5 found → found.last_trade ≡ trade_id_in_last_row t

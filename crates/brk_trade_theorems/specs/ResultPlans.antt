@@ -66,7 +66,8 @@ TradeLotsSatisfy t trade given = PositionLotsSatisfy t trade.account trade.symbo
 -- The precondition of planning the result of the trade `id`: the base satisfies the books
 -- invariant, the trade and its facts (`found` is `None` if it does not exist) and the last stamp
 -- are read from its tables, and the clock reading `now` is within the range of stamps. If the trade
--- is submitted, its lots satisfy `given`. The quantity of the trade is above 0.
+-- exists, its quantity is above 0, and, if it is submitted, the lots of its account in its symbol
+-- satisfy `given` (`TradeLotsSatisfy`).
 pub record PlanResultPrecondition (base : Base) (id : ℕ) (found : Option ResultPlanFacts) (given : List Lot → Type 0) (last : Option ℕ) (now : ℕ) : Type 0 where
   pub books : BooksInvariant base
   pub trade_read : trade_row_with_id (sheets base) id ≡ option_map (λ f. abstract_trade_row f.trade) found

@@ -23,8 +23,8 @@ cancel_checks_on_trade_row (Some r) last now = (not (is_same_trade_status r.stat
 -- ---- a feed
 
 -- The checks of a feed against the tables, in order: the symbol of each tick has a row of
--- LAST_TRADE, no volume exceeds the limit, and a stamp after the last stamp `last` is within the
--- range of stamps. Each check has the refusal that the feed gets if the check fails.
+-- LAST_TRADE, no volume exceeds the limit after all ticks, and a stamp after the last stamp `last`
+-- is within the range of stamps. Each check has the refusal that the feed gets if the check fails.
 abbrev pub feed_checks_on_tables : Tables → List Tick → Option ℕ → ℕ → List RefusalCheck
 feed_checks_on_tables t ticks last now =
     (list_any (is_tick_of_unknown_symbol t) ticks, NoSecurity) ∷ (list_any (is_symbol_volume_above_limit t ticks) ticks, Range limit.Volume)

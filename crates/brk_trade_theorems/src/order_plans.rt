@@ -27,9 +27,10 @@ ghost use Rattle.brk_book_theorems.specs.Books.{BooksInvariant};
 ghost use Rattle.brk_trade_theorems.specs.OrderPlans.{OrderLotsSatisfy, EstimateFactsMatchTables, PlanOrderPrecondition};
 ghost use Rattle.brk_trade_theorems.specs.Plans.{PlanImplementsCommand};
 
-/// Proves that the terms of an order that are computed from facts of the tables are the terms that
-/// the base has for the order (`AreOrderTermsInBase`, which says nothing of the shares held), if
-/// the order passes its checks against these facts and the base satisfies the books invariant.
+/// Proves that the terms of an order that are computed from facts that are true of the tables of a
+/// base (`EstimateFactsMatchTables`) are the terms of the order in this base
+/// (`AreOrderTermsInBase`, which says nothing of the shares held), if the order passes its checks
+/// against these facts and the base satisfies the books invariant.
 pub fn terms_from_order_facts_match_the_base()
     ensures { (base : Base) (order : Order) (found : OrderPlanFacts) → BooksInvariant base → EstimateFactsMatchTables (sheets base) order found
         → first_refusal (order_checks found) ≡ None → AreOrderTermsInBase base (abstract_order order) (terms_of_order order found) }

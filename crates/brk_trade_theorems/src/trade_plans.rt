@@ -31,10 +31,11 @@ pub fn feed_plans_implement_commands()
         → PlanFeedPrecondition base ticks quotes last now → FeedPlanImplementsCommand base ticks quotes last now }
 {}
 
-/// Proves that the quotes that a feed needs (`AreQuotesOfTicks`) can be read tick by tick. No
-/// quotes suffice for no ticks. A further tick whose symbol has a quote, or has no row of
-/// LAST_TRADE, needs no further quote. Any other tick of the feed needs one more quote, the quote
-/// of its symbol.
+/// Proves that the quotes that a feed needs (`AreQuotesOfTicks`) can be read tick by tick. The
+/// empty list of quotes suffices for the empty list of ticks. If quotes suffice for some ticks, the
+/// same quotes suffice for these and a further tick whose symbol has a quote or has no row of
+/// LAST_TRADE. If the symbol of the further tick has no quote and the tick belongs to the feed,
+/// these quotes suffice with the quote of that symbol added (`IsQuoteOfTick`).
 pub fn quotes_are_read_tick_by_tick()
     ensures none { (t : Tables) (all : List Tick) → AreQuotesOfTicks t all [] [] }
     ensures further { (t : Tables) (all ticks : List Tick) (tick : Tick) (quotes : List Quote)

@@ -28,8 +28,9 @@ pub fn refused_commands_return_their_refusal()
 
 /// Proves, for a base that satisfies the books invariant and a clock reading of at most the
 /// greatest stamp, that the checks of a cancel against the row of its trade refuse it exactly as
-/// the model does. If they pass, the model accepts the cancel, and its row changes lead to the
-/// tables after it.
+/// the model does. If they pass, the model accepts the cancel with the reply `CanceledTrade`. The
+/// tables after it are those of `tables_after_cancel`, with the stamp of the cancel as the last
+/// stamp, and the base after it satisfies the books invariant.
 pub fn cancel_row_changes_implement_commands()
     ensures first { (base : Base) (now id : ℕ) → BooksInvariant base → now ≤ greatest_stamp
         → first_refusal (cancel_checks_on_trade_row (trade_row_with_id (sheets base) id) (sheets base).last now)
@@ -42,8 +43,10 @@ pub fn cancel_row_changes_implement_commands()
 
 /// Proves, for a base that satisfies the books invariant and a clock reading of at most the
 /// greatest stamp, that the checks of a feed against the last trades of its symbols refuse it
-/// exactly as the model does. If they pass, the model accepts the feed, its row changes lead to the
-/// tables after it, and the reply lists the trades that it triggers.
+/// exactly as the model does. If they pass, the model accepts the feed with the reply `Ticked`,
+/// which lists the trades that it triggers. The tables after it are those of `tables_after_feed`,
+/// with the stamp of the feed as the last stamp, and the base after it satisfies the books
+/// invariant.
 pub fn feed_row_changes_implement_commands()
     ensures first { (base : Base) (now : ℕ) (ticks : List Tick) → BooksInvariant base → now ≤ greatest_stamp
         → first_refusal (feed_checks_on_tables (sheets base) ticks (sheets base).last now) ≡ refusal_of_command base now (FeedTicks ticks) }

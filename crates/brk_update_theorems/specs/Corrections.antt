@@ -26,7 +26,7 @@ use Rattle.brk_book_theorems.specs.Steps.{base_after_command}
 
 -- ---- facts
 
--- The row of SETTLEMENT of the trade with the id `trade`, or `None` if there is none.
+-- The first row of SETTLEMENT of the trade with the id `trade`, or `None` if there is none.
 abbrev pub settlement_row_of_trade : Tables → ℕ → Option SettlementRow
 settlement_row_of_trade t trade = find (λ r. r.trade == trade) t.settlements
 
@@ -84,8 +84,10 @@ SecurityHasName t symbol name = option_map (λ s. s.name) (security_row_with_sym
 -- The selection has exactly the trades that the update selects in the tables, with the columns from
 -- which their new texts are formed: the trades with its ids, or the first 20, at most, of the
 -- completed trades of its account or of the completed cash trades of its symbol, within its span of
--- stamps, the oldest first. The account or the security of the update exists. False if the
--- selection belongs to another kind of update.
+-- stamps, the oldest first. For a text update of settlements, the account exists; for one of cash
+-- rows, the security exists and has the name in the selection. False if one of the trades with the
+-- ids does not exist, if one of the selected trades lacks the settlement or the cash row to update,
+-- or if the selection belongs to another kind of update.
 abbrev pub SelectedTradesMatchTables : Tables → told.Update → TextUpdate → Type 0
 SelectedTradesMatchTables t (update.Executors ids) (corrected.Executors trades) = AreTradesWithIds t ids trades.items
 SelectedTradesMatchTables t (update.CashTypes account span) (corrected.CashTypes settled) =
@@ -148,21 +150,24 @@ abbrev pub cash_rows_without_texts : List MoveRow → List MoveRow
 cash_rows_without_texts rows = map cash_row_without_text rows
 
 -- The command, as if `base` accepted it at the clock reading `now`, changes only executor names in
--- TRADE and the last stamp. All other rows and columns are unchanged.
+-- TRADE, and sets the last stamp to the stamp of the command. All other rows and columns are
+-- unchanged.
 pub record ChangesOnlyExecutorNames (base : Base) (now : ℕ) (command : Command) : Type 0 where
   pub others : tables_after_command base now command
       ≡ tables_with_last_stamp (stamp_of_next_command base now) (record (sheets base) { trades = (tables_after_command base now command).trades })
   pub rows : trade_rows_without_executor_names (tables_after_command base now command).trades ≡ trade_rows_without_executor_names (sheets base).trades
 
 -- The command, as if `base` accepted it at the clock reading `now`, changes only texts in
--- SETTLEMENT and the last stamp. All other rows and columns are unchanged.
+-- SETTLEMENT, and sets the last stamp to the stamp of the command. All other rows and columns are
+-- unchanged.
 pub record ChangesOnlySettlementTexts (base : Base) (now : ℕ) (command : Command) : Type 0 where
   pub others : tables_after_command base now command
       ≡ tables_with_last_stamp (stamp_of_next_command base now) (record (sheets base) { settlements = (tables_after_command base now command).settlements })
   pub rows : settlement_rows_without_texts (tables_after_command base now command).settlements ≡ settlement_rows_without_texts (sheets base).settlements
 
--- The command, as if `base` accepted it at the clock reading `now`, changes only texts in CASH_MOVE
--- and the last stamp. All other rows and columns are unchanged.
+-- The command, as if `base` accepted it at the clock reading `now`, changes only texts in
+-- CASH_MOVE, and sets the last stamp to the stamp of the command. All other rows and columns are
+-- unchanged.
 pub record ChangesOnlyCashTexts (base : Base) (now : ℕ) (command : Command) : Type 0 where
   pub others : tables_after_command base now command
       ≡ tables_with_last_stamp (stamp_of_next_command base now) (record (sheets base) { moves = (tables_after_command base now command).moves })

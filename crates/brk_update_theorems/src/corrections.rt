@@ -32,8 +32,8 @@ pub fn update_plans_implement_commands()
 {}
 
 /// Proves that a text update, as if the base accepted it, changes only one text column of one
-/// table, and the last stamp. The column is the executor name of TRADE, the text of SETTLEMENT or
-/// the text of CASH_MOVE.
+/// table, and the last stamp. `ChangeExecutors` changes only executor names in TRADE,
+/// `ChangeCashTypes` only texts in SETTLEMENT, and `ChangeCashNames` only texts in CASH_MOVE.
 pub fn updates_change_one_text_column()
     ensures executors { (base : Base) (now : ℕ) (ids : List ℕ) → ChangesOnlyExecutorNames base now (ChangeExecutors ids) }
     ensures cash_types { (base : Base) (now account first last : ℕ) → ChangesOnlySettlementTexts base now (ChangeCashTypes account first last) }

@@ -10,18 +10,19 @@ ghost use Rattle.brk_model.specs.Tables.{TradeRow, tables_of_base};
 ghost use Rattle.brk_invariant_theorems.specs.Sound.{AuditInvariant};
 ghost use Rattle.brk_book_theorems.specs.Books.{BooksInvariant};
 
-/// Proves that the view of the trades that pass a test over the sorted tables of a base equals that
-/// view over its unsorted tables, if the base satisfies the books invariant and the audit
-/// invariant.
+/// Proves that the view of the 20 oldest trades that pass a test, each with its settlement, cash
+/// row and status changes, over the sorted tables of a base, equals that view over its unsorted
+/// tables, if the base satisfies the books invariant and the audit invariant.
 #[tactic(auto, using(crate::proofs::LookupRows::same_lookup))]
 pub fn sorting_tables_preserves_lookup_view()
     ensures { (base : Base) (test : TradeRow → Bool) → BooksInvariant base → AuditInvariant base
         → trade_lookup_view (sheets base) test ≡ trade_lookup_view (tables_of_base base) test }
 {}
 
-/// Proves that the view of the lots that the oldest trade of an account with a stamp of at least
-/// `first` touched, over the sorted tables of a base, equals that view over its unsorted tables, if
-/// the base satisfies the books invariant and the audit invariant.
+/// Proves that the view of the oldest trade of an account with a stamp of at least `first`, and of
+/// the first 20 changes of the lots that this trade touched, over the sorted tables of a base,
+/// equals that view over its unsorted tables, if the base satisfies the books invariant and the
+/// audit invariant.
 #[tactic(auto, using(crate::proofs::TouchRows::same_lots))]
 pub fn sorting_tables_preserves_lots_view()
     ensures { (base : Base) (account first : ℕ) → BooksInvariant base → AuditInvariant base

@@ -10,25 +10,27 @@ ghost use Rattle.brk_model.specs.Views.{view_of_tables};
 ghost use Rattle.brk_invariant_theorems.specs.Sound.{AuditInvariant};
 ghost use Rattle.brk_book_theorems.specs.Books.{BooksInvariant};
 
-/// Proves that the view of the positions of the customers that pass a test, over the sorted tables
-/// of a base, equals that view over its unsorted tables, if the base satisfies the books invariant.
+/// Proves that the view of the balances and the market values of the accounts of the customers that
+/// pass a test, over the sorted tables of a base, equals that view over its unsorted tables, if the
+/// base satisfies the books invariant.
 #[tactic(auto, using(crate::proofs::Worths::same_position))]
 pub fn sorting_tables_preserves_position_view()
     ensures { (base : Base) (test : Customer → Bool) → BooksInvariant base
         → customer_position_view (sheets base) test ≡ customer_position_view (tables_of_base base) test }
 {}
 
-/// Proves that the view of an account's recent trades over the sorted tables of a base equals that
-/// view over its unsorted tables, if the base satisfies the books invariant and the audit
-/// invariant.
+/// Proves that the view of an account's 10 most recent trades and of their status changes, over the
+/// sorted tables of a base, equals that view over its unsorted tables, if the base satisfies the
+/// books invariant and the audit invariant.
 #[tactic(auto, using(crate::proofs::RecentRows::same_recent))]
 pub fn sorting_tables_preserves_recent_view()
     ensures { (base : Base) (account : ℕ) → BooksInvariant base → AuditInvariant base
         → recent_trades_view (sheets base) account ≡ recent_trades_view (tables_of_base base) account }
 {}
 
-/// Proves that the view of an account and the statuses of its last trades, over the sorted tables
-/// of a base, equals that view over its unsorted tables, if the base satisfies the books invariant.
+/// Proves that the view of the names of an account's customer and broker and of the account's 50
+/// most recent trades, over the sorted tables of a base, equals that view over its unsorted tables,
+/// if the base satisfies the books invariant.
 #[tactic(auto, using(crate::proofs::StatusRows::same_status_view))]
 pub fn sorting_tables_preserves_status_view()
     ensures { (base : Base) (account : ℕ) → BooksInvariant base → trade_status_view (sheets base) account ≡ trade_status_view (tables_of_base base) account }

@@ -11,9 +11,10 @@ ghost use Rattle.brk_model.specs.VolumeView.{is_before_by_volume, sector_request
 ghost use Rattle.brk_invariant_theorems.specs.Sound.{AuditInvariant};
 ghost use Rattle.brk_book_theorems.specs.Books.{BooksInvariant};
 
-/// Proves that the view of the pending requests in a sector of the brokers with given names, over
-/// the sorted tables of a base, equals that view over its unsorted tables, if the base satisfies
-/// the books invariant and the audit invariant.
+/// Proves that the view of the brokers with given names that have pending requests in a sector,
+/// each with the value of these requests in cents, over the sorted tables of a base, equals that
+/// view over its unsorted tables, if the base satisfies the books invariant and the audit
+/// invariant.
 #[tactic(auto, using(crate::proofs::VolumeRows::same_volumes))]
 pub fn sorting_tables_preserves_volume_view()
     ensures { (base : Base) (sector : Text) (names : List Text) → BooksInvariant base → AuditInvariant base
