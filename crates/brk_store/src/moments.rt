@@ -61,8 +61,9 @@ impl<S: Alter> Store<S> {
     }
 
     /// Returns the oldest of the trades of an account whose last status change has a stamp of at
-    /// least `first`, and of several with the oldest stamp the one with the least id, or `None` if
-    /// there is none. If the database is still open, it is unchanged. Fails with `Store` only.
+    /// least `first`. If several have the least stamp, returns the one with the least id; if there
+    /// is none, returns `None`. If the database is still open, it is unchanged. Fails with `Store`
+    /// only.
     pub fn first_trade_of_account_since(
         &mut self,
         account: Id,

@@ -138,9 +138,9 @@ impl<S: Alter> Store<S> {
         brk_tables_trading::page_of_lots_newest_first(&mut tx, alloc, account, symbol, skipped)
     }
 
-    /// Returns the rows of HOLDING_SUMMARY of an account (its number of shares of each security,
-    /// below 0 if sold short), sorted by symbol, ascending. If the database is still open, it is
-    /// unchanged. Fails with `Memory` or `Store`.
+    /// Returns the rows of HOLDING_SUMMARY of an account (its number of shares in each security),
+    /// sorted by symbol, ascending. Shares sold short count below 0. If the database is still open,
+    /// it is unchanged. Fails with `Memory` or `Store`.
     pub fn summaries_of_account(
         &mut self,
         alloc: Global,
@@ -153,9 +153,9 @@ impl<S: Alter> Store<S> {
         brk_tables_trading::holding_summaries_of_account(&mut tx, alloc, account)
     }
 
-    /// Returns the row of HOLDING_SUMMARY of an account and a security (the account's number of
-    /// shares of the security, below 0 if sold short), or `None` if there is none. If the database
-    /// is still open, it is unchanged. Fails with `Store` only.
+    /// Returns the row of HOLDING_SUMMARY of an account and a security, or `None` if there is none.
+    /// The row has the number of shares of the position, below 0 if they were sold short. If the
+    /// database is still open, it is unchanged. Fails with `Store` only.
     pub fn summary_of_position(
         &mut self,
         account: Id,
