@@ -62,9 +62,9 @@ fn plan_result_over_lots<S: Alter>(
 
 // Plans the result of the trade in `found`, completed at `price`, from these facts and from the
 // lots of its position: returns its plan, or the refusal. If `found` is `None`, the trade does not
-// exist, and it returns the refusal `NoTrade`. If the database is still open, it is unchanged.
-// Fails with `Memory` or `Store` only; with `Store` also if one of the lots that it reads has no
-// shares, or if the number of lots read exceeds 32 bits.
+// exist, and the function returns the refusal `NoTrade` (5). If the database is still open, it is
+// unchanged. Fails with `Memory` or `Store` only; with `Store` also if one of the lots that it
+// reads has no shares, or if the number of lots read exceeds 32 bits.
 fn plan_result_from_facts<S: Alter>(
     alloc: Global,
     store: &mut Store<S>,
