@@ -24,8 +24,9 @@ fn booked_reply_text(alloc: Global, stamp: Stamp) -> Result<String, AllocError>
     String::from_str(alloc, digits.format(stamp.get().unsigned_abs()))
 }
 
-// Appends to `line` the seven fields of an estimate, each after a comma: the price, the buy value,
-// the sell value, the tax, the commission, the charge and the assets. Fails if memory runs out.
+// Appends to `line` the seven fields of an estimate, each such as `10.00` and after a comma: the
+// price, the buy value, the sell value, the tax, the commission, the charge and the assets. Fails
+// if memory runs out. A part of this text may then be appended.
 fn append_estimate_fields(line: &mut String, estimate: &Estimate) -> Result<(), AllocError>
     ensures { OnOk result (string_bytes line.new
         ≡ string_bytes line.old ++ fields_after_separators 44 (model.estimate_fields (abstract_estimate estimate.now))) }
@@ -68,7 +69,8 @@ fn ordered_reply_text(alloc: Global, ordered: &Ordered) -> Result<String, AllocE
     Ok(line)
 }
 
-// Appends to `line` a comma and the id of a trade, in decimal digits. Fails if memory runs out.
+// Appends to `line` a comma and the id of a trade, in decimal digits. Fails if memory runs out. A
+// part of this text may then be appended.
 fn append_trade_id_after_comma(line: &mut String, trade: Id) -> Result<(), AllocError>
     ensures { OnOk result (string_bytes line.new ≡ string_bytes line.old ++ (44 ∷ decimal trade)) }
 {
@@ -108,7 +110,8 @@ pub fn day_text(alloc: Global, day: Day) -> Result<String, Fault>
 }
 
 // Appends to `line` the commission, the tax and the settlement amount of a completed trade, each
-// after a comma. Fails if memory runs out.
+// such as `10.00` and after a comma. Fails if memory runs out. A part of this text may then be
+// appended.
 fn append_commission_tax_and_amount(
     line: &mut String,
     completed: &Completed,
@@ -123,7 +126,8 @@ fn append_commission_tax_and_amount(
     )
 }
 
-// Appends to `line` a comma and the text `day`, such as `2024-03-01`. Fails if memory runs out.
+// Appends to `line` a comma and the text `day`, such as `2024-03-01`. Fails if memory runs out. A
+// part of this text may then be appended.
 fn append_day_field(line: &mut String, day: &str) -> Result<(), AllocError>
     ensures { OnOk result (string_bytes line.new ≡ string_bytes line.old ++ fields_after_separators 44 (day.now ∷ [])) }
 {
@@ -131,7 +135,8 @@ fn append_day_field(line: &mut String, day: &str) -> Result<(), AllocError>
 }
 
 // Appends to `line` the buy value and the sell value of the shares that a completed trade closed,
-// and the balance of its account, each after a comma. Fails if memory runs out.
+// and the balance of its account, each such as `10.00` and after a comma. Fails if memory runs out.
+// A part of this text may then be appended.
 fn append_values_and_balance(line: &mut String, completed: &Completed) -> Result<(), AllocError>
     ensures { OnOk result (string_bytes line.new
         ≡ string_bytes line.old ++ fields_after_separators 44 (drop 4 (model.completion_fields (abstract_completion completed.now)))) }

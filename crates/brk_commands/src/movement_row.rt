@@ -15,7 +15,7 @@ use brk_ref::MovedAmount;
 use std::alloc::{AllocError, Global};
 
 // Returns the row of a deposit, as it is stored under a key: `deposit`, the account and the amount,
-// joined by byte 31. Fails if memory runs out.
+// such as `10.00`, joined by byte 31. Fails if memory runs out.
 fn deposit_row_text(alloc: Global, account: Id, amount: MovedAmount) -> Result<String, AllocError>
     ensures { IfOk result (λ row. string_bytes row ≡ model.row_text (DepositCash account amount)) }
 {
@@ -23,7 +23,7 @@ fn deposit_row_text(alloc: Global, account: Id, amount: MovedAmount) -> Result<S
 }
 
 // Returns the row of a withdrawal, as it is stored under a key: `withdraw`, the account and the
-// amount, joined by byte 31. Fails if memory runs out.
+// amount, such as `10.00`, joined by byte 31. Fails if memory runs out.
 fn withdrawal_row_text(
     alloc: Global,
     account: Id,
@@ -35,7 +35,8 @@ fn withdrawal_row_text(
 }
 
 /// Returns the row of a deposit or a withdrawal, as it is stored under a key: `deposit` or
-/// `withdraw`, the account and the amount, joined by byte 31. Fails if memory runs out.
+/// `withdraw`, the account and the amount, such as `10.00`, joined by byte 31. Fails if memory runs
+/// out.
 pub fn movement_row_text(alloc: Global, movement: &Movement) -> Result<String, AllocError>
     ensures { IfOk result (λ row. string_bytes row ≡ model.row_text (movement_command movement.now)) }
 {

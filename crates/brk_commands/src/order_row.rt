@@ -45,7 +45,7 @@ fn first_order_fields_text(alloc: Global, order: &Order) -> Result<String, Alloc
 }
 
 // Appends byte 31 and the price of `order_type`, such as `10.00`, or only byte 31 if this type has
-// no price. Fails if memory runs out.
+// no price. Fails if memory runs out. A part of this text may then be appended.
 fn append_price_field(row: &mut String, order_type: OrderType) -> Result<(), AllocError>
     ensures { OnOk result (string_bytes row.new
         ≡ string_bytes row.old ++ fields_after_separators 31 (option_map_or model.nonnegative_cents_text (price_of_order order_type) [] ∷ [])) }
@@ -57,7 +57,8 @@ fn append_price_field(row: &mut String, order_type: OrderType) -> Result<(), All
 }
 
 // Appends the last five fields of the row of an order, each after byte 31: `cash` or `margin`,
-// `lifo` or `fifo`, and the names and the tax id of its executor. Fails if memory runs out.
+// `lifo` or `fifo`, and the names and the tax id of its executor. Fails if memory runs out. A part
+// of this text may then be appended.
 fn append_last_order_fields(row: &mut String, order: &Order) -> Result<(), AllocError>
     ensures { OnOk result (string_bytes row.new ≡ string_bytes row.old ++ fields_after_separators 31 (drop 5 (model.order_fields (abstract_order order.now)))) }
 {
@@ -73,9 +74,9 @@ fn append_last_order_fields(row: &mut String, order: &Order) -> Result<(), Alloc
 }
 
 /// Returns the row of an order, as it is stored under a key: `order`, the account, the type, the
-/// symbol, the quantity, the price, `cash` or `margin`, `lifo` or `fifo`, and the names and the tax
-/// id of the executor, joined by byte 31. The price is empty if the type has none. Fails if memory
-/// runs out.
+/// symbol, the quantity, the price, such as `10.00`, `cash` or `margin`, `lifo` or `fifo`, and the
+/// names and the tax id of the executor, joined by byte 31. The price is empty if the type has
+/// none. Fails if memory runs out.
 pub fn order_row_text(alloc: Global, order: &Order) -> Result<String, AllocError>
     ensures { IfOk result (λ row. string_bytes row ≡ model.row_text (PlaceOrder (abstract_order order.now))) }
 {
@@ -85,8 +86,8 @@ pub fn order_row_text(alloc: Global, order: &Order) -> Result<String, AllocError
     Ok(row)
 }
 
-// Appends the three fields of a tick, each after byte 31: the symbol, the price and the quantity.
-// Fails if memory runs out.
+// Appends the three fields of a tick, each after byte 31: the symbol, the price, such as `10.00`,
+// and the quantity. Fails if memory runs out. A part of this text may then be appended.
 fn append_tick_fields(row: &mut String, tick: &Tick) -> Result<(), AllocError>
     ensures { OnOk result (string_bytes row.new ≡ string_bytes row.old ++ fields_after_separators 31 (model.tick_fields (abstract_tick tick.now))) }
 {
@@ -100,7 +101,8 @@ fn append_tick_fields(row: &mut String, tick: &Tick) -> Result<(), AllocError>
 }
 
 /// Returns the row of a feed with the ticks `ticks`, as it is stored under a key: `feed`, and the
-/// symbol, the price and the quantity of each tick, joined by byte 31. Fails if memory runs out.
+/// symbol, the price, such as `10.00`, and the quantity of each tick, joined by byte 31. Fails if
+/// memory runs out.
 pub fn feed_row_text(alloc: Global, ticks: &[Tick]) -> Result<String, AllocError>
     ensures { IfOk result (λ row. string_bytes row ≡ model.row_text (FeedTicks (abstract_ticks ticks.now))) }
 {
@@ -120,7 +122,7 @@ pub fn cancel_row_text(alloc: Global, trade: Id) -> Result<String, AllocError>
 }
 
 /// Returns the row that completes a trade, as it is stored under a key: `result`, the id of the
-/// trade and the price, joined by byte 31. Fails if memory runs out.
+/// trade and the price, such as `10.00`, joined by byte 31. Fails if memory runs out.
 pub fn result_row_text(alloc: Global, completion: &Completion) -> Result<String, AllocError>
     ensures { IfOk result (λ row. string_bytes row ≡ model.row_text (completion_command completion.now)) }
 {

@@ -53,8 +53,9 @@ fn parse_cash_text_update_command(alloc: Global, fields: &[&[u8]]) -> Planned<Co
 }
 
 // Parses a command of the kind `upname`, `upcash`, `uptext`, `deposit`, `withdraw` or `oneday` from
-// the fields after the kind. Refuses any other kind, malformed fields, or a wrong number of them,
-// with `BadText`, and otherwise more than 20 ids with `TooMany`. Fails with `Memory` only.
+// the fields after the kind. Refuses any other kind, malformed fields, an id that occurs twice, or
+// a wrong number of fields, with `BadText`, and otherwise more than 20 ids with `TooMany`. Fails
+// with `Memory` only.
 pub(crate) fn parse_update_or_movement_command(
     alloc: Global,
     kind: &[u8],

@@ -43,8 +43,8 @@ fn customer_row_text(alloc: Global, customer: &Customer) -> Result<String, Alloc
 }
 
 // Returns the row that adds an account, as it is stored under a key: `account`, the id, the
-// customer, the broker, the name, the number of the tax status and the opening balance, joined by
-// byte 31. Fails if memory runs out.
+// customer, the broker, the name, the number of the tax status and the opening balance, such as
+// `10.00`, joined by byte 31. Fails if memory runs out.
 fn account_row_text(alloc: Global, account: &Account) -> Result<String, AllocError>
     ensures { IfOk result (λ row. string_bytes row ≡ model.row_text (AddAccount (abstract_account account.now))) }
 {
@@ -76,7 +76,8 @@ fn permission_row_text(alloc: Global, permission: &Permission) -> Result<String,
 }
 
 // Returns the row that lists a security, as it is stored under a key: `security`, the symbol, the
-// name, the exchange, the sector and the first price, joined by byte 31. Fails if memory runs out.
+// name, the exchange, the sector and the first price, such as `10.00`, joined by byte 31. Fails if
+// memory runs out.
 fn listing_row_text(alloc: Global, listing: &Listing) -> Result<String, AllocError>
     ensures { IfOk result (λ row. string_bytes row ≡ model.row_text (AddSecurity (abstract_listing listing.now))) }
 {
@@ -92,7 +93,7 @@ fn listing_row_text(alloc: Global, listing: &Listing) -> Result<String, AllocErr
 }
 
 // Returns the row that adds a charge, as it is stored under a key: `charge`, the trade type, the
-// tier and the amount, joined by byte 31. Fails if memory runs out.
+// tier and the amount, such as `10.00`, joined by byte 31. Fails if memory runs out.
 fn charge_row_text(alloc: Global, charge: &Charge) -> Result<String, AllocError>
     ensures { IfOk result (λ row. string_bytes row ≡ model.row_text (AddCharge (abstract_charge charge.now))) }
 {

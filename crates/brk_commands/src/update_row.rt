@@ -11,7 +11,8 @@ use brk_orders::{Span, Update};
 use brk_ref::Symbol;
 use std::alloc::{AllocError, Global};
 
-// Appends to `row` byte 31 and the id of a trade, in decimal digits. Fails if memory runs out.
+// Appends to `row` byte 31 and the id of a trade, in decimal digits. Fails if memory runs out. A
+// part of this text may then be appended.
 fn append_trade_id_after_separator(row: &mut String, trade: Id) -> Result<(), AllocError>
     ensures { OnOk result (string_bytes row.new ≡ string_bytes row.old ++ 31 ∷ decimal trade) }
 {
@@ -31,8 +32,8 @@ fn executor_update_row_text(alloc: Global, trades: &[Id]) -> Result<String, Allo
 }
 
 // Returns the row that updates the settlement texts of an account's trades between two stamps, as
-// it is stored under a key: `upcash`, the account and the two stamps, joined by byte 31. Fails if
-// memory runs out.
+// it is stored under a key: `upcash`, the account and the two stamps, in milliseconds since
+// 1970-01-01 UTC, joined by byte 31. Fails if memory runs out.
 fn cash_type_update_row_text(alloc: Global, account: Id, span: Span) -> Result<String, AllocError>
     ensures { IfOk result (λ row. string_bytes row ≡ model.row_text (ChangeCashTypes account span.first span.last)) }
 {
@@ -45,8 +46,8 @@ fn cash_type_update_row_text(alloc: Global, account: Id, span: Span) -> Result<S
 }
 
 // Returns the row that updates the cash texts of a symbol's trades between two stamps, as it is
-// stored under a key: `uptext`, the symbol and the two stamps, joined by byte 31. Fails if memory
-// runs out.
+// stored under a key: `uptext`, the symbol and the two stamps, in milliseconds since 1970-01-01
+// UTC, joined by byte 31. Fails if memory runs out.
 fn cash_text_update_row_text(
     alloc: Global,
     symbol: &Symbol,

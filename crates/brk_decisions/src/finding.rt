@@ -169,10 +169,10 @@ fn read_tax_facts<S: Alter>(store: &mut Store<S>, id: Id) -> Result<ReferenceFac
     })
 }
 
-/// Returns the facts that decide on a new reference record. A fact that records of its kind do not
-/// need may have any value. If the database is still open, it is unchanged. Fails with `Memory` or
-/// `Store` only; with `Store` also if the record is a tax of a customer who already pays a tax that
-/// does not exist.
+/// Returns the facts that decide on a new reference record. A fact on which the decision on a
+/// record of this kind does not depend may have any value. If the database is still open, it is
+/// unchanged. Fails with `Memory` or `Store` only; with `Store` also if the record is a tax of a
+/// customer who already pays a tax that does not exist.
 pub(crate) fn read_reference_facts<S: Alter>(
     alloc: Global,
     store: &mut Store<S>,

@@ -24,10 +24,11 @@ use sqlite::Alter;
 use std::alloc::Global;
 
 // Plans an order from the facts `found` in the tables and from `lots`, the lots of the position:
-// returns its plan, or the refusal. It reads at most 16 lots more than the order would close or
-// reduce, also if it fails, and no lot if it refuses the order or the order closes no held shares.
-// Fails with `Memory` or `Store` only; with `Store` also if one of the lots that it reads has no
-// shares, or if the number of lots read exceeds 32 bits.
+// returns its plan, or the refusal. If these lots form a position that other trades opened, it
+// reads at most 16 lots more than the order would close or reduce, also if it fails. It reads no
+// lot if it refuses the order or the order closes no held shares. Fails with `Memory` or `Store`
+// only; with `Store` also if one of the lots that it reads has no shares, or if the number of lots
+// read exceeds 32 bits.
 fn plan_order_over_lots<S: Alter>(
     alloc: Global,
     order: &Order,
@@ -62,7 +63,8 @@ fn plan_order_over_lots<S: Alter>(
 
 /// Decides on an order at the clock reading `now` (Trade-Order): returns its plan, or the refusal.
 /// It is the decision of the model if the tables are those of a base that satisfies the books
-/// invariant. If the database is still open, it is unchanged.
+/// invariant. If the database is still open, it is unchanged. A crash after the call exposes only
+/// states that a crash before the call could expose.
 ///
 /// Fails with `Memory` or `Store` only; with `Store` also if the account's customer or one of the
 /// customer's taxes does not exist, the tax rates total more than the greatest rate, a held symbol

@@ -26,10 +26,10 @@ use std::alloc::Global;
 
 // Plans the result of a trade, completed at `price`, from the facts `found` in the tables and from
 // `lots`, the lots of its position: returns its plan, or the refusal. If these lots match the
-// account's holding summary, it reads at most 16 lots more than the trade closes or reduces, also
-// if it fails. It reads no lot if the trade closes no held shares. Fails with `Memory` or `Store`
-// only; with `Store` also if one of the lots that it reads has no shares, or if the number of lots
-// read exceeds 32 bits.
+// account's holding summary (`AreLotsBeforeTrade`), it reads at most 16 lots more than the trade
+// closes or reduces, also if it fails. It reads no lot if the trade closes no held shares. Fails
+// with `Memory` or `Store` only; with `Store` also if one of the lots that it reads has no shares,
+// or if the number of lots read exceeds 32 bits.
 fn plan_result_over_lots<S: Alter>(
     alloc: Global,
     found: &ResultPlanFacts,
@@ -62,9 +62,9 @@ fn plan_result_over_lots<S: Alter>(
 
 // Plans the result of the trade in `found`, completed at `price`, from these facts and from the
 // lots of its position: returns its plan, or the refusal. If `found` is `None`, the trade does not
-// exist, and it returns the refusal `NoTrade`. If the database is still open, it is unchanged.
-// Fails with `Memory` or `Store` only; with `Store` also if one of the lots that it reads has no
-// shares, or if the number of lots read exceeds 32 bits.
+// exist, and the function returns the refusal `NoTrade` (5). If the database is still open, it is
+// unchanged. Fails with `Memory` or `Store` only; with `Store` also if one of the lots that it
+// reads has no shares, or if the number of lots read exceeds 32 bits.
 fn plan_result_from_facts<S: Alter>(
     alloc: Global,
     store: &mut Store<S>,
@@ -95,7 +95,8 @@ fn plan_result_from_facts<S: Alter>(
 
 /// Decides on the result of a trade at the clock reading `now` (Trade-Result): returns its plan, or
 /// the refusal. It is the decision of the model if the tables are those of a base that satisfies
-/// the books invariant. If the database is still open, it is unchanged.
+/// the books invariant. If the database is still open, it is unchanged. A crash after the call
+/// exposes only states that a crash before the call could expose.
 ///
 /// Fails with `Memory` or `Store` only; with `Store` also if the trade exists and its account,
 /// customer, broker or security or one of the customer's taxes does not, the tax rates total more

@@ -69,7 +69,7 @@ pub struct Posting {
 
 // Returns the settlement day, or `None` if none is set, and the number of the next cash row. If the
 // database is still open, it is unchanged. Fails with `Memory` or `Store` only; with `Store` also
-// if no number is left.
+// if no number is left for a cash row.
 fn read_posting_facts<S: Alter>(store: &mut Store<S>) -> Result<Posting, Fault>
     ensures read { ReadPost S.Store store.old store.new result (λ posting t. PostingFactsMatchTables t posting) }
     ensures fault { IfErr result IsCallFault }
@@ -83,9 +83,9 @@ fn read_posting_facts<S: Alter>(store: &mut Store<S>) -> Result<Posting, Fault>
 // least 1 share, and what the tables have on its account, customer, broker, security and cash row.
 // If a check of the result fails, the facts that are needed only after it may have any value. If
 // the database is still open, it is unchanged. Fails with `Memory` or `Store` only; with `Store`
-// also if its account, customer, broker or security or one of the customer's taxes does not exist,
-// the tax rates total more than the greatest rate, a total of the broker is out of range, or no
-// number is left for a cash row.
+// also if the trade's account, customer, broker or security or one of the customer's taxes does not
+// exist, the tax rates total more than the greatest rate, a total of the broker is out of range, or
+// no number is left for a cash row.
 fn read_result_facts_of_trade<S: Alter>(
     alloc: Global,
     store: &mut Store<S>,
@@ -117,9 +117,10 @@ fn read_result_facts_of_trade<S: Alter>(
 /// Returns the facts that decide on a result of the trade with the id `trade`, whose quantity is at
 /// least 1 share, or `None` if the trade does not exist. If a check of the result fails, the facts
 /// that are needed only after it may have any value. If the database is still open, it is
-/// unchanged. Fails with `Memory` or `Store` only; with `Store` also if its account, customer,
-/// broker or security or one of the customer's taxes does not exist, the tax rates total more than
-/// the greatest rate, a total of the broker is out of range, or no number is left for a cash row.
+/// unchanged. Fails with `Memory` or `Store` only; with `Store` also if the trade exists and its
+/// account, customer, broker or security or one of the customer's taxes does not exist, the tax
+/// rates total more than the greatest rate, a total of the broker is out of range, or no number is
+/// left for a cash row.
 pub(crate) fn read_result_facts<S: Alter>(
     alloc: Global,
     store: &mut Store<S>,

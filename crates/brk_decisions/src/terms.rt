@@ -128,9 +128,10 @@ pub(crate) fn read_charge_facts<S: Alter>(
     })
 }
 
-// Returns the fact that decides on a new commission band: whether it shares a quantity with an
-// existing band of its tier, trade type and exchange. If the database is still open, it is
-// unchanged. Fails with `Memory` or `Store` only.
+// Returns the fact that decides on a new commission band: whether a band of its tier, trade type
+// and exchange exists such that the lower bound of each of the two bands is at most the upper bound
+// of the other. If the database is still open, it is unchanged. Fails with `Memory` or `Store`
+// only.
 pub(crate) fn read_band_facts<S: Alter>(
     alloc: Global,
     store: &mut Store<S>,

@@ -14,8 +14,9 @@ use brk_store::{Store, require_last_price};
 use sqlite::Alter;
 use std::alloc::Global;
 
-// Returns a holding summary with the last price of its symbol, in cents. Writes nothing. Fails with
-// `Memory` or `Store`; with `Store` also if the symbol has no last price.
+// Returns a holding summary with the last price of its symbol, in cents. If the database is still
+// open, it is unchanged. Fails with `Memory` or `Store`; with `Store` also if the symbol has no
+// last price.
 fn read_priced_holding<S: Alter>(
     store: &mut Store<S>,
     summary: SummaryRow,
@@ -28,8 +29,8 @@ fn read_priced_holding<S: Alter>(
 }
 
 // Returns the holding summaries of an account with the last prices of their symbols, sorted by
-// symbol, ascending. Writes nothing. Fails with `Memory` or `Store`; with `Store` also if a symbol
-// has no last price.
+// symbol, ascending. If the database is still open, it is unchanged. Fails with `Memory` or
+// `Store`; with `Store` also if a symbol has no last price.
 fn read_priced_holdings<S: Alter>(
     alloc: Global,
     store: &mut Store<S>,
@@ -52,7 +53,8 @@ fn read_priced_holdings<S: Alter>(
 /// ascending, or `None` if the account does not exist.
 ///
 /// Fails with `Memory` or `Store` only; with `Store` also if a symbol has no last price. If the
-/// database is still open, it is unchanged, whatever the result.
+/// database is still open, it is unchanged, whatever the result. A crash after the call exposes
+/// only states that a crash before the call could expose.
 pub fn read_account_details<S: Alter>(
     alloc: Global,
     store: &mut Store<S>,

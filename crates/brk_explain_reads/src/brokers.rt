@@ -20,7 +20,8 @@ use std::alloc::Global;
 /// exist.
 ///
 /// Fails with `Memory` or `Store` only. If the database is still open, it is unchanged, whatever
-/// the result.
+/// the result. A crash after the call exposes only states that a crash before the call could
+/// expose.
 pub fn read_broker_details<S: Alter>(
     alloc: Global,
     store: &mut Store<S>,
@@ -83,7 +84,8 @@ impl<E, V: Visitor<TradeRow, E>> Visitor<TradeRow, E> for AccountFilter<'_, V> {
 }
 
 /// Passes the completed trades of a broker's accounts to a visitor, sorted by the stamp of
-/// completion, ascending. Returns `Ok` only after the visitor has taken the last trade.
+/// completion and then by id, both ascending. Returns `Ok` only after the visitor has taken the
+/// last trade.
 ///
 /// Fails with `Cause` and the visitor's error, or with `Failed` and the fault `Memory` or `Store`
 /// after a prefix of the trades. If the database is still open, it is unchanged, whatever the

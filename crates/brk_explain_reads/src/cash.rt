@@ -57,7 +57,8 @@ impl Visitor<MoveRow, Fault> for EarlierCashSum {
     ghost stops = { λ _ _ e _. e ≡ Store };
 
     /// If the stamp of the cash row is before `until`, counts the row and adds its amount to the
-    /// total; otherwise does nothing. Fails with `Store` if the number or the total overflows.
+    /// total; otherwise does nothing. Fails with `Store`, and changes nothing, if the number or the
+    /// total overflows.
     fn visit(&mut self, item: &MoveRow) -> Result<(), Fault> {
         if item.stamp.get() < self.until.get() {
             self.sum = cash_sum_with_row(&self.sum, item.amount)?;
@@ -82,8 +83,8 @@ fn fault_of_failed_walk(stop: WalkError<Fault>) -> Fault
 }
 
 // Returns the number of the cash rows of an account with stamps before `until`, and the sum of
-// their amounts, in cents. Writes nothing. Fails with `Memory` or `Store`; with `Store` also if the
-// number or the sum overflows.
+// their amounts, in cents. If the database is still open, it is unchanged. Fails with `Memory` or
+// `Store`; with `Store` also if the number or the sum overflows.
 pub(crate) fn read_cash_sum_before<S: Alter>(
     store: &mut Store<S>,
     account: Id,

@@ -35,7 +35,7 @@ pub struct TradesAndLots {
 }
 
 // Returns the lot that `trade` opened with the change `opening`: its opened quantity is the
-// quantity after `opening`, and `changes` are its changes by later trades.
+// quantity after `opening`, and `changes` are its changes by other trades.
 fn lot_details_of_opening(
     trade: TradeRow,
     opening: &LotChange,
@@ -50,10 +50,10 @@ fn lot_details_of_opening(
     }
 }
 
-// Returns the lot that the trade with the id opened, with its later changes, or `None` if the trade
-// opened none. Writes nothing. Fails with `Memory` or `Store`; with `Store` also if a later trade
-// that changed the lot does not exist or has no price, or if the trade that opened the lot does not
-// exist.
+// Returns the lot that the trade with the id `trade` opened, with its changes by other trades, or
+// `None` if the trade opened none. If the database is still open, it is unchanged. Fails with
+// `Memory` or `Store`; with `Store` also if another trade that changed the lot does not exist or
+// has no price, or if the trade that opened the lot does not exist.
 fn read_lot_of_trade<S: Alter>(
     alloc: Global,
     store: &mut Store<S>,
@@ -74,9 +74,9 @@ fn read_lot_of_trade<S: Alter>(
     Ok(Some(lot_details_of_opening(row, &first, later_changes)))
 }
 
-// Returns the trade with the id and the lot that it opened, if any. Writes nothing. Fails with
-// `Memory` or `Store`; with `Store` also if the trade does not exist, or if a later trade that
-// changed the lot does not exist or has no price.
+// Returns the trade with the id `trade` and the lot that it opened, if any. If the database is
+// still open, it is unchanged. Fails with `Memory` or `Store`; with `Store` also if the trade does
+// not exist, or if another trade that changed the lot does not exist or has no price.
 fn read_trade_and_lot<S: Alter>(
     alloc: Global,
     store: &mut Store<S>,
@@ -103,7 +103,7 @@ fn push_lot_if_any(lots: &mut Vec<LotDetails>, lot: Option<LotDetails>) -> Resul
 }
 
 // Appends the trade of `one` to the trades of `held`, and the lot of `one`, if any, to the lots of
-// `held`. Fails with `Memory` only.
+// `held`. Fails with `Memory` only; the lot may then be appended without the trade.
 fn push_trade_and_lot(held: &mut TradesAndLots, one: TradeAndLot) -> Result<(), Fault>
     ensures done { OnOk result (held.new.done.items ≡ held.old.done.items ++ one.trade ∷ []) }
     ensures lots { OnOk result (map abstract_lot_details held.new.lots.items
@@ -117,9 +117,9 @@ fn push_trade_and_lot(held: &mut TradesAndLots, one: TradeAndLot) -> Result<(), 
 }
 
 /// Returns the completed trades of an account in a security, in the order of completion, and the
-/// lots that they opened with their later changes, in the order of opening. Writes nothing. Fails
-/// with `Memory` or `Store`; with `Store` also if a later trade that changed one of these lots does
-/// not exist or has no price.
+/// lots that they opened with their changes by other trades, in the order of opening. If the
+/// database is still open, it is unchanged. Fails with `Memory` or `Store`; with `Store` also if
+/// another trade that changed one of these lots does not exist or has no price.
 pub(crate) fn read_trades_and_lots_of_holding<S: Alter>(
     alloc: Global,
     store: &mut Store<S>,

@@ -18,7 +18,7 @@ use sqlite::Alter;
 use std::alloc::Global;
 
 /// The number of shares that an account holds, below 0 if they were sold short, and the last price
-/// of their security.
+/// of their security, in cents.
 #[derive(Clone, Copy)]
 pub struct QuantityAndPrice {
     pub shares: i64,
@@ -35,7 +35,7 @@ fn quantity_of_summary_or_zero(summary: Option<SummaryRow>) -> i64
     }
 }
 
-// Returns the pair of a number of shares and the last price of their security.
+// Returns the pair of a number of shares and the last price of their security, in cents.
 fn quantity_and_price(shares: i64, price: Price) -> QuantityAndPrice
     ensures { result ≡ record { shares = shares; price = price } }
 {
@@ -43,8 +43,8 @@ fn quantity_and_price(shares: i64, price: Price) -> QuantityAndPrice
 }
 
 // Returns the quantity that an account holds of a security, 0 if it has no holding summary, and the
-// last price of the security. Writes nothing. Fails with `Memory` or `Store`; with `Store` also if
-// the security has no last price.
+// last price of the security, in cents. If the database is still open, it is unchanged. Fails with
+// `Memory` or `Store`; with `Store` also if the security has no last price.
 fn read_quantity_and_price<S: Alter>(
     store: &mut Store<S>,
     account: Id,
@@ -80,12 +80,14 @@ fn holding_details_of_parts(
 
 /// Returns the facts that the explanation of the holding of an account in a security reads: the
 /// rows of the account and of the security, the completed trades of the account in the security,
-/// the lots that they opened, the quantity and the last price. Refuses with `NoAccount` if the
-/// account does not exist, and with `NoSecurity` if only the security does not exist.
+/// the lots that they opened, the quantity and the last price, in cents. Refuses with `NoAccount`
+/// (1) if the account does not exist, and with `NoSecurity` (4) if only the security does not
+/// exist.
 ///
 /// Fails with `Memory` or `Store` only; with `Store` also if the security has no last price, or if
-/// a later trade that changed one of these lots does not exist or has no price. If the database is
-/// still open, it is unchanged, whatever the result.
+/// another trade that changed one of these lots does not exist or has no price. If the database is
+/// still open, it is unchanged, whatever the result. A crash after the call exposes only states
+/// that a crash before the call could expose.
 pub fn read_holding_details<S: Alter>(
     alloc: Global,
     store: &mut Store<S>,

@@ -13,8 +13,8 @@ use brk_ref::{AccountRow, Customer, Security, Symbol, Tax};
 use brk_store::Store;
 use sqlite::Alter;
 
-// Returns the row of the trade with the id. Writes nothing. Fails with `Memory` or `Store`; with
-// `Store` also if the trade does not exist.
+// Returns the row of the trade with the id `id`. If the database is still open, it is unchanged.
+// Fails with `Memory` or `Store`; with `Store` also if the trade does not exist.
 pub(crate) fn read_existing_trade<S: Alter>(store: &mut Store<S>, id: Id) -> Result<TradeRow, Fault>
     ensures read { ReadPost S.Store store.old store.new result (λ trade t. trade_row_with_id t id ≡ Some (abstract_trade_row trade)) }
     ensures fault { IfErr result IsCallFault }
@@ -25,8 +25,8 @@ pub(crate) fn read_existing_trade<S: Alter>(store: &mut Store<S>, id: Id) -> Res
     }
 }
 
-// Returns the row of the account with the id. Writes nothing. Fails with `Memory` or `Store`; with
-// `Store` also if the account does not exist.
+// Returns the row of the account with the id `id`. If the database is still open, it is unchanged.
+// Fails with `Memory` or `Store`; with `Store` also if the account does not exist.
 pub(crate) fn read_existing_account<S: Alter>(
     store: &mut Store<S>,
     id: Id,
@@ -40,8 +40,8 @@ pub(crate) fn read_existing_account<S: Alter>(
     }
 }
 
-// Returns the customer with the id. Writes nothing. Fails with `Memory` or `Store`; with `Store`
-// also if the customer does not exist.
+// Returns the customer with the id `id`. If the database is still open, it is unchanged. Fails with
+// `Memory` or `Store`; with `Store` also if the customer does not exist.
 pub(crate) fn read_existing_customer<S: Alter>(
     store: &mut Store<S>,
     id: Id,
@@ -55,8 +55,8 @@ pub(crate) fn read_existing_customer<S: Alter>(
     }
 }
 
-// Returns the security with the symbol. Writes nothing. Fails with `Memory` or `Store`; with
-// `Store` also if the security does not exist.
+// Returns the security with the symbol `symbol`. If the database is still open, it is unchanged.
+// Fails with `Memory` or `Store`; with `Store` also if the security does not exist.
 pub(crate) fn read_existing_security<S: Alter>(
     store: &mut Store<S>,
     symbol: &Symbol,
@@ -70,8 +70,8 @@ pub(crate) fn read_existing_security<S: Alter>(
     }
 }
 
-// Returns the tax rate with the id. Writes nothing. Fails with `Memory` or `Store`; with `Store`
-// also if the tax rate does not exist.
+// Returns the tax with the id `id`, with its rate. If the database is still open, it is unchanged.
+// Fails with `Memory` or `Store`; with `Store` also if the tax does not exist.
 pub(crate) fn read_existing_tax<S: Alter>(store: &mut Store<S>, id: Id) -> Result<Tax, Fault>
     ensures read { ReadPost S.Store store.old store.new result (λ tax t. find (λ r. r.id == id) t.tax_rates ≡ Some (abstract_tax_rate tax)) }
     ensures fault { IfErr result IsCallFault }
@@ -82,8 +82,8 @@ pub(crate) fn read_existing_tax<S: Alter>(store: &mut Store<S>, id: Id) -> Resul
     }
 }
 
-// Returns the settlement of the trade with the id. Writes nothing. Fails with `Memory` or `Store`;
-// with `Store` also if the trade has no settlement.
+// Returns the settlement of the trade with the id `trade`. If the database is still open, it is
+// unchanged. Fails with `Memory` or `Store`; with `Store` also if the trade has no settlement.
 pub(crate) fn read_existing_settlement<S: Alter>(
     store: &mut Store<S>,
     trade: Id,

@@ -1,4 +1,4 @@
-//! The changes of a lot by later trades, and the change with which it was opened.
+//! The changes of a lot by other trades, and the change with which it was opened.
 
 ghost use Rattle.std.specs.Prelude.{◌≡◌, ◌==◌, ◌++◌, ◌∷◌, [], Err, IfErr, IfOk, OnErr, OnOk, filter, find, map, not, option_map};
 ghost use Rattle.brk_changes.specs.Rows.{abstract_lot_change_row};
@@ -19,12 +19,12 @@ use brk_store::Store;
 use sqlite::Alter;
 use std::alloc::Global;
 
-/// The changes of a lot: its opening, and the changes by later trades.
+/// The changes of a lot: its opening, and the changes by other trades.
 #[derive(Drop)]
 pub struct OpeningAndLaterChanges {
     /// The change with which the lot was opened, or `None` if there is none.
     pub opening: Option<LotChange>,
-    /// The changes by later trades.
+    /// The changes by other trades.
     pub later_changes: Vec<PricedLotChange>,
 }
 
@@ -35,8 +35,8 @@ fn is_change_by_opening_trade(change: &LotChange, lot: Id) -> bool
     change.trade == lot
 }
 
-// Returns the first of `changes` that is by the trade that opened `lot`, or `None` if none is by
-// it.
+// Returns the first of `changes` that is by the trade that opened `lot`, or `None` if there is
+// none.
 fn opening_change_of_lot(changes: &[LotChange], lot: Id) -> Option<LotChange>
     ensures { option_map abstract_lot_change_row result ≡ find (λ h. h.trade == lot) (map abstract_lot_change_row changes.now) }
 {
@@ -66,8 +66,8 @@ fn push_unless_by_opening_trade(
     Ok(())
 }
 
-// Returns the elements of `changes` that another trade made than the one that opened `lot`, in the
-// order of `changes`. Fails with `Memory` only.
+// Returns those of `changes` that are not by the trade that opened `lot`, in the order of
+// `changes`. Fails with `Memory` only.
 fn changes_by_later_trades(
     alloc: Global,
     changes: &[LotChange],
@@ -98,9 +98,9 @@ fn priced_lot_change(change: &LotChange, stamp: Stamp, price: Price) -> PricedLo
     }
 }
 
-// Returns a change of a lot, with the stamp and the price of the trade that made it. Writes
-// nothing. Fails with `Memory` or `Store`; with `Store` also if that trade does not exist or has no
-// price.
+// Returns a change of a lot, with the stamp and the price of the trade that made it. If the
+// database is still open, it is unchanged. Fails with `Memory` or `Store`; with `Store` also if
+// that trade does not exist or has no price.
 fn read_priced_lot_change<S: Alter>(
     store: &mut Store<S>,
     change: &LotChange,
@@ -116,9 +116,9 @@ fn read_priced_lot_change<S: Alter>(
     Ok(priced_lot_change(change, trade.stamp, price))
 }
 
-// Returns the change with which a lot was opened, if any, and its changes by later trades, sorted
-// by trade id, ascending. Writes nothing. Fails with `Memory` or `Store`; with `Store` also if a
-// later trade does not exist or has no price.
+// Returns the change with which a lot was opened, if any, and the lot's changes by other trades,
+// sorted by trade id, ascending. If the database is still open, it is unchanged. Fails with
+// `Memory` or `Store`; with `Store` also if one of the other trades does not exist or has no price.
 fn read_lot_changes_by_trade_id<S: Alter>(
     alloc: Global,
     store: &mut Store<S>,
@@ -155,9 +155,10 @@ fn sort_changes_by_stamp(
     Ok(sorted)
 }
 
-/// Returns the change with which a lot was opened, if any, and its changes by later trades, sorted
-/// by the stamps of these trades, ascending. Writes nothing. Fails with `Memory` or `Store`; with
-/// `Store` also if a later trade does not exist or has no price.
+/// Returns the change with which a lot was opened, if any, and the lot's changes by other trades,
+/// sorted by the stamps of these trades, ascending. If the database is still open, it is unchanged.
+/// Fails with `Memory` or `Store`; with `Store` also if one of the other trades does not exist or
+/// has no price.
 pub(crate) fn read_lot_changes_by_completion<S: Alter>(
     alloc: Global,
     store: &mut Store<S>,

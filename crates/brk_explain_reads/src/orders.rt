@@ -16,8 +16,8 @@ use brk_store::Store;
 use sqlite::Alter;
 use std::alloc::Global;
 
-// Returns the status changes of the trade with the id, the oldest first. Writes nothing. Fails with
-// `Memory` or `Store`.
+// Returns the status changes of the trade with the id `trade`, the oldest first. If the database is
+// still open, it is unchanged. Fails with `Memory` or `Store`.
 fn read_sorted_statuses<S: Alter>(
     alloc: Global,
     store: &mut Store<S>,
@@ -32,8 +32,8 @@ fn read_sorted_statuses<S: Alter>(
 }
 
 // Returns the trade with the rows of its account and its security and with its status changes, the
-// oldest first. Writes nothing. Fails with `Memory` or `Store`; with `Store` also if its account or
-// its security does not exist.
+// oldest first. If the database is still open, it is unchanged. Fails with `Memory` or `Store`;
+// with `Store` also if the trade's account or security does not exist.
 pub(crate) fn read_order_of_trade<S: Alter>(
     alloc: Global,
     store: &mut Store<S>,

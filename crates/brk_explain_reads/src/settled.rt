@@ -21,8 +21,10 @@ pub struct SettlementAndCash {
     pub rule: Option<Day>,
 }
 
-// Returns the settlement and the cash row of the trade with the id, and the settlement day. Writes
-// nothing. Fails with `Memory` or `Store`; with `Store` also if the trade has no settlement.
+// Returns the settlement and the cash row of the trade with the id `trade`, and the settlement day;
+// the cash row is `None` if the trade has none, and the settlement day if none is set. If the
+// database is still open, it is unchanged. Fails with `Memory` or `Store`; with `Store` also if the
+// trade has no settlement.
 pub(crate) fn read_settlement_and_cash<S: Alter>(
     store: &mut Store<S>,
     trade: Id,

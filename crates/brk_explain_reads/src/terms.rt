@@ -23,8 +23,9 @@ pub struct TaxRatesAndBand {
     pub band: Option<Band>,
 }
 
-// Returns the tax rates that a customer pays, sorted by id, ascending. Writes nothing. Fails with
-// `Memory` or `Store`; with `Store` also if one of them does not exist.
+// Returns the tax rates that a customer pays, sorted by id, ascending. If the database is still
+// open, it is unchanged. Fails with `Memory` or `Store`; with `Store` also if one of them does not
+// exist.
 fn read_tax_rates_of_customer<S: Alter>(
     alloc: Global,
     store: &mut Store<S>,
@@ -75,7 +76,7 @@ fn first_band_with_quantity(bands: Vec<Band>, qty: Qty) -> Option<Band>
 
 // Returns the first commission band of the customer tier `tier`, of the type of the order's trade
 // and of the exchange of its security, whose bounds contain the quantity of the trade, or `None` if
-// there is none. Writes nothing. Fails with `Memory` or `Store`.
+// there is none. If the database is still open, it is unchanged. Fails with `Memory` or `Store`.
 fn read_band_for_tier<S: Alter>(
     alloc: Global,
     store: &mut Store<S>,
@@ -91,8 +92,9 @@ fn read_band_for_tier<S: Alter>(
 }
 
 // Returns the tax rates of the customer of the order's account, and the commission band of the
-// order's trade, if any, as the tables have them now. Writes nothing. Fails with `Memory` or
-// `Store`; with `Store` also if the customer or one of the rates does not exist.
+// order's trade, if any, as the tables have them now. If the database is still open, it is
+// unchanged. Fails with `Memory` or `Store`; with `Store` also if the customer or one of the rates
+// does not exist.
 pub(crate) fn read_tax_rates_and_band<S: Alter>(
     alloc: Global,
     store: &mut Store<S>,

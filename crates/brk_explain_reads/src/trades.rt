@@ -27,12 +27,14 @@ fn is_completed(trade: &TradeRow) -> bool
 /// and status changes, and its results if it is completed. Returns `None` if the trade does not
 /// exist.
 ///
-/// Fails with `Memory` or `Store` only; with `Store` also if a row that another row requires does
-/// not exist. For a completed trade it fails with `Store` also if it or a trade that opened a lot
-/// of which it closed shares has no price, or if the number or the sum of the account's earlier
-/// cash rows overflows.
+/// Fails with `Memory` or `Store` only; with `Store` also if the trade's account or security does
+/// not exist. For a completed trade it fails with `Store` also if the account's customer, one of
+/// the customer's taxes, the trade's settlement or a trade that opened a lot of which this trade
+/// closed shares does not exist, if this trade or such a trade has no price, or if the number of
+/// the account's earlier cash rows or the sum of their amounts overflows.
 ///
-/// If the database is still open, it is unchanged, whatever the result.
+/// If the database is still open, it is unchanged, whatever the result. A crash after the call
+/// exposes only states that a crash before the call could expose.
 pub fn read_trade_details<S: Alter>(
     alloc: Global,
     store: &mut Store<S>,

@@ -123,18 +123,18 @@ pub record AuditPost {S : Type 0} (g : Ghosts S) (old new : Held S) (result : Re
 
 -- ---- an adoption
 
--- The database `db` contains the tables of some schema with rows that pass the audit of this
--- schema. The database `after` contains the tables of schema 3 with the rows of the base that these
--- rows determine. Every other table of `db` is in `after` with its rows, unless a foreign key of
--- this table changes or deletes the rows by CASCADE, SET NULL or SET DEFAULT.
+-- The database `db` contains the tables of some schema with rows that pass the audit of this schema
+-- and whose texts are UTF-8. The database `after` contains the tables of schema 3 with the rows of
+-- the base that these rows determine. Every other table of `db` is in `after` with its rows, unless
+-- a foreign key of this table changes or deletes the rows by CASCADE, SET NULL or SET DEFAULT.
 abbrev pub UpgradesAuditedRows : Database → Database → Type 0
 UpgradesAuditedRows db after =
     (schema : known.Schema) × (t : Tables) × (passed : StoresRowsWithAuditResult (abstract_schema schema) t db None)
     × HasDeskTables (sheets (base_of_tables t)) after × PreservesTablesOutside (IsTableOfSchema (abstract_schema schema)) passed.0.0 db after
 
 -- The database `db` contains the tables of a schema older than 3 with rows that pass the audit of
--- this schema, and `trees` are the disk contents of a database that contains the tables of schema 3
--- with the rows of the base that these rows determine.
+-- this schema and whose texts are UTF-8, and `trees` are the disk contents of a database that
+-- contains the tables of schema 3 with the rows of the base that these rows determine.
 abbrev pub IsUpgradedDiskContent : Database → Trees → Type 0
 IsUpgradedDiskContent db trees =
     (schema : known.Schema) × (t : Tables) × (schema ≢ Third) × StoresRowsWithAuditResult (abstract_schema schema) t db None

@@ -20,9 +20,10 @@ use sqlite::{Alter, Connection, Transaction};
 use std::alloc::Global;
 
 /// Returns the first condition of `schema` that the rows of its tables fail, or `None` if they
-/// pass. If the database is still open, it is unchanged. Fails with `Memory` or `Store` only. The
-/// result is specified only if the database has the schema (`DatabaseHasSchema`) and its tables
-/// have the definitions of the desk's tables (`TablesWithSchemaNamesAreDeskTables`).
+/// pass. If the function returns a value, the database was open and is unchanged. Fails with
+/// `Memory` or `Store` only. The result is specified only if the database has the schema
+/// (`DatabaseHasSchema`) and its tables have the definitions of the desk's tables
+/// (`TablesWithSchemaNamesAreDeskTables`).
 pub(crate) fn audit_rows_of_schema<S: Alter>(
     tx: &mut Transaction<'_, S>,
     alloc: Global,
@@ -42,9 +43,9 @@ pub(crate) fn audit_rows_of_schema<S: Alter>(
 }
 
 // Returns the first condition of schema 3 that the database fails, or `None` if it passes. If the
-// database is still open, it is unchanged. Fails with `Memory` or `Store` only. The result is
-// specified only if tables with the names and columns of schema 3 have the definitions of the
-// desk's tables (`TablesWithSchemaNamesAreDeskTables`).
+// function returns a value, the database was open and is unchanged. Fails with `Memory` or `Store`
+// only. The result is specified only if tables with the names and columns of schema 3 have the
+// definitions of the desk's tables (`TablesWithSchemaNamesAreDeskTables`).
 fn first_failing_condition<S: Alter>(
     tx: &mut Transaction<'_, S>,
     alloc: Global,
@@ -62,9 +63,11 @@ fn first_failing_condition<S: Alter>(
 }
 
 // Audits the database by the conditions of schema 3 in a transaction, which ends without a commit.
-// The connection must be in autocommit mode, and is so after the call. Fails with `Damaged` and the
-// first condition that fails, or with `Memory` or `Store`. The result is specified only if the
-// database satisfies `ConnectionTablesWithThirdSchemaNamesAreDeskTables`.
+// Returns `Ok` only if the rows pass. The connection must be in autocommit mode, and is so after
+// the call. Fails with `Damaged` and the first condition that fails, or with `Memory` or `Store`.
+// If the database is still open, it is unchanged. A crash after the call exposes only states that a
+// crash before the call could expose. The result is specified only if the database satisfies
+// `ConnectionTablesWithThirdSchemaNamesAreDeskTables`.
 fn audit_database<S: Alter>(conn: &mut Connection<S>, alloc: Global) -> Result<(), Fault>
     requires { conn.old.in_transaction ≡ false }
     ensures mode { conn.new.in_transaction ≡ false }

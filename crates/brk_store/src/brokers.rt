@@ -1,6 +1,7 @@
 //! Reads of brokers by name, of all requests, and of a broker's accounts. Each read begins a
 //! transaction and ends it without a commit (no clause states this). A read fails with `Store` also
-//! if a row is malformed or if the `sqlite` crate runs out of memory.
+//! if a row is malformed or if the `sqlite` crate runs out of memory. A crash after a read exposes
+//! only states that a crash before it could expose.
 
 ghost use Rattle.std.specs.Prelude.{◌≡◌, ◌==◌, IfErr, bytes_eq, filter, map};
 ghost use Rattle.brk_changes.specs.Rows.{abstract_request_row};

@@ -1,6 +1,7 @@
 //! Reads of cash rows and of the settlement day. Each read of the database begins a transaction and
 //! ends it without a commit (no clause states this). A read fails with `Store` also if a row is
-//! malformed, or if the `sqlite` crate or the decoding of a row runs out of memory.
+//! malformed, or if the `sqlite` crate or the decoding of a row runs out of memory. A crash after a
+//! read exposes only states that a crash before it could expose.
 
 ghost use Rattle.std.specs.Prelude.{◌≡◌, ◌+◌, Err, OnErr, filter, is_none, length, nat_le, option_map, reverse, slice_get};
 ghost use Rattle.brk_money.specs.declared.fault.Fault.TheVariants as fault;
@@ -53,9 +54,9 @@ impl<S: Alter> Store<S> {
         brk_tables_cash::cash_row_with_greatest_number(&mut tx)
     }
 
-    // Counts the deposits and withdrawals, and returns true if there are at least
-    // `GREATEST_MOVEMENT_COUNT`. The time of the call grows with the number of cash rows. If the
-    // database is still open, it is unchanged. Fails with `Store` only.
+    // Returns true if there are at least `GREATEST_MOVEMENT_COUNT` deposits and withdrawals, which
+    // are the cash rows without a trade. The query steps over these rows, so its time grows with
+    // their number. If the database is still open, it is unchanged. Fails with `Store` only.
     fn has_maximum_movements_by_count(&mut self) -> Result<bool, Fault>
         ensures read { ReadPost S.Store self.old self.new result (λ all t. all ≡ nat_le greatest_id (length (filter (λ r. is_none r.trade) t.moves))) }
         ensures fault { OnErr result (result ≡ Err fault.Store) }

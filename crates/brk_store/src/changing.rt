@@ -17,9 +17,10 @@ use brk_tables_schema::calls::statement_compiles;
 use sqlite::{Alter, Connection, Transaction};
 
 // Applies one change to the tables of a desk within the transaction, by one SQL statement. A change
-// that updates or deletes a row that does not exist changes nothing. Fails with `Store` only, also
-// if the row to add exists or breaks another constraint of its table, or if the `sqlite` crate runs
-// out of memory.
+// that updates or deletes a row that does not exist changes nothing. The rows of other tables are
+// unchanged, unless a foreign key of such a table changes or deletes them. Fails with `Store` only,
+// also if the row to add exists or breaks another constraint of its table, or if the `sqlite` crate
+// runs out of memory. What is applied within the transaction at a failure is then not specified.
 fn apply_change<S: Alter>(tx: &mut Transaction<'_, S>, change: &Change) -> Result<(), Fault>
     ensures same_reference { tx.new.conn.ghost_name ≡ tx.old.conn.ghost_name }
     ensures step { IsTransactionStep (state S.Store tx.old.conn.now) (state S.Store tx.new.conn.now) result
@@ -94,9 +95,10 @@ fn apply_change<S: Alter>(tx: &mut Transaction<'_, S>, change: &Change) -> Resul
     }
 }
 
-// Applies the changes in order within the transaction, up to the first that fails. Fails with
-// `Store` only, as `apply_change` does. What is applied within the transaction at a failure is then
-// not specified.
+// Applies the changes in order within the transaction, up to the first that fails. The rows of
+// other tables are unchanged, unless a foreign key of such a table changes or deletes them. Fails
+// with `Store` only, if `apply_change` does. What is applied within the transaction at a failure is
+// then not specified.
 fn apply_each_change<S: Alter>(tx: &mut Transaction<'_, S>, changes: &[Change]) -> Result<(), Fault>
     ensures same_reference { tx.new.conn.ghost_name ≡ tx.old.conn.ghost_name }
     ensures step { IsTransactionStep (state S.Store tx.old.conn.now) (state S.Store tx.new.conn.now) result
@@ -109,10 +111,15 @@ fn apply_each_change<S: Alter>(tx: &mut Transaction<'_, S>, changes: &[Change]) 
     Ok(())
 }
 
-/// Applies the changes in order in one transaction and commits it. The connection must be in
-/// autocommit mode, and is so after the call. If the call fails, a database that is still open is
-/// unchanged. Fails with `Store` only, also if a row to add exists or breaks another constraint of
-/// its table, or if the `sqlite` crate runs out of memory.
+/// Applies the changes in order in one transaction and commits it. The SQLite schema is unchanged,
+/// and so are the rows of each table that is not the desk's, unless a foreign key of that table
+/// changes or deletes them. The connection must be in autocommit mode, and is so after the call.
+///
+/// Fails with `Store` only, also if a row to add exists or breaks another constraint of its table,
+/// or if the `sqlite` crate runs out of memory. A database that is still open is then unchanged.
+///
+/// A crash after the call exposes a state that a crash before the call could expose or, in the
+/// desk's tables, the rows with all changes; after `Ok` only the latter.
 pub(crate) fn apply_changes_in_transaction<S: Alter>(
     conn: &mut Connection<S>,
     changes: &[Change],
@@ -135,10 +142,16 @@ pub(crate) fn apply_changes_in_transaction<S: Alter>(
     }
 }
 
-/// Creates the tables of schema 3 in one transaction and commits it. The connection must be in
-/// autocommit mode, and is so after the call. If the call fails, a database that is still open is
-/// unchanged. Fails with `Store`, also if the `sqlite` crate runs out of memory; or with
-/// `Damaged(NotEmpty)`, only if a table with the name of a desk's table exists.
+/// Creates the tables of schema 3, without rows, except for the one row of DESK, in one transaction
+/// and commits it. The rows of other tables are unchanged. The connection must be in autocommit
+/// mode, and is so after the call.
+///
+/// Fails with `Damaged(NotEmpty)` only if a table with the name of a desk's table exists; if one
+/// exists, fails with this fault or with `Store`. Fails with `Store` also if the `sqlite` crate
+/// runs out of memory. At an error, a database that is still open is unchanged.
+///
+/// A crash after the call exposes a state that a crash before the call could expose, or the tables
+/// without rows; after `Ok` only the latter.
 pub(crate) fn create_tables_in_transaction<S: Alter>(conn: &mut Connection<S>) -> Result<(), Fault>
     requires { conn.old.in_transaction ≡ false }
     ensures mode { conn.new.in_transaction ≡ false }

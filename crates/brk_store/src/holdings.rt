@@ -1,6 +1,7 @@
 //! Reads of the completed trades of a holding. Each read begins a transaction and ends it without a
 //! commit (no clause states this). A read fails with `Store` also if a row is malformed or if the
-//! `sqlite` crate runs out of memory.
+//! `sqlite` crate runs out of memory. A crash after a read exposes only states that a crash before
+//! it could expose.
 
 ghost use Rattle.std.specs.Prelude.{◌≡◌, ◌==◌, ◌&&◌, IfErr, bytes_eq, filter, map};
 ghost use Rattle.brk_model.specs.Joins.{trade_rows_oldest_first};

@@ -1,6 +1,7 @@
 //! Reads of lot changes, sorted by lot and then by trade. Each read begins a transaction and ends
 //! it without a commit (no clause states this). A read fails with `Store` also if a row is
-//! malformed or if the `sqlite` crate runs out of memory.
+//! malformed or if the `sqlite` crate runs out of memory. A crash after a read exposes only states
+//! that a crash before it could expose.
 
 ghost use Rattle.std.specs.Prelude.{◌==◌, IfErr};
 ghost use Rattle.brk_changes.specs.Rows.{abstract_lot_change_row};

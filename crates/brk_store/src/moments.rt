@@ -1,7 +1,7 @@
 //! Reads of trades of any status by the stamps of their last status. Each read begins a transaction
 //! and ends it without a commit (no clause states this). A read fails with `Store` also if a row is
 //! malformed or if the `sqlite` crate runs out of memory, and a read of a single row also if its
-//! decoding does.
+//! decoding does. A crash after a read exposes only states that a crash before it could expose.
 
 ghost use Rattle.std.specs.Prelude.{◌≡◌, ◌==◌, ◌&&◌, Err, IfErr, OnErr, bytes_eq, filter, map, nat_le, option_map, option_to_list, take};
 ghost use Rattle.brk_money.specs.declared.fault.Fault.TheVariants as fault;
@@ -21,10 +21,10 @@ use sqlite::Alter;
 use std::alloc::Global;
 
 impl<S: Alter> Store<S> {
-    /// Of the trades of an account whose last status change has a stamp in a span, both ends
-    /// included, returns the twenty oldest, or all if there are fewer, sorted by this stamp and
-    /// then by id, ascending. If the database is still open, it is unchanged. Fails with `Memory`
-    /// or `Store`.
+    /// Returns the twenty oldest of the trades of an account whose last status change has a stamp
+    /// in a span, both ends included, or all if there are fewer, sorted by this stamp and then by
+    /// id, ascending. If the database is still open, it is unchanged. Fails with `Memory` or
+    /// `Store`.
     pub fn first_twenty_trades_of_account(
         &mut self,
         alloc: Global,
@@ -41,10 +41,9 @@ impl<S: Alter> Store<S> {
         )
     }
 
-    /// Of the trades of a symbol whose last status change has a stamp in a span, both ends
-    /// included, returns the twenty oldest, or all if there are fewer, sorted by this stamp and
-    /// then by id, ascending. If the database is still open, it is unchanged. Fails with `Memory`
-    /// or `Store`.
+    /// Returns the twenty oldest of the trades of a symbol whose last status change has a stamp in
+    /// a span, both ends included, or all if there are fewer, sorted by this stamp and then by id,
+    /// ascending. If the database is still open, it is unchanged. Fails with `Memory` or `Store`.
     pub fn first_twenty_trades_of_symbol(
         &mut self,
         alloc: Global,
@@ -61,9 +60,10 @@ impl<S: Alter> Store<S> {
         )
     }
 
-    /// Of the trades of an account whose last status change has a stamp of at least `first`,
-    /// returns the oldest or, if several have its stamp, the one with the least id. Returns `None`
-    /// if there is none. If the database is still open, it is unchanged. Fails with `Store` only.
+    /// Returns the oldest of the trades of an account whose last status change has a stamp of at
+    /// least `first`. If several have the least stamp, returns the one with the least id; if there
+    /// is none, returns `None`. If the database is still open, it is unchanged. Fails with `Store`
+    /// only.
     pub fn first_trade_of_account_since(
         &mut self,
         account: Id,

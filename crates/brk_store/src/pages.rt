@@ -149,14 +149,14 @@ impl<S: Alter> Store<S> {
     ghost use Rattle.brk_book_theorems.specs.TradeReads.{lots_of_position};
 
     /// Returns a source of the lots of an account in a security, the newest first if `lifo`,
-    /// otherwise the oldest first. It has read no row yet.
+    /// otherwise the oldest first. It has read no row yet, and the store is unchanged.
     ///
     /// A call of the source may fail, with `Memory` or `Store` only; `Store` may also mean that the
     /// next page has more than 16 rows or a lot without shares, or that the number of rows read
     /// exceeds 32 bits. The remaining lots and the open database are then unchanged, so the call
     /// may be retried.
     ///
-    /// A crash after its reads exposes only states that a crash before them could expose.
+    /// A crash after reads of the source exposes only states that a crash before them could expose.
     pub fn lot_pages<'a>(
         &'a mut self,
         alloc: Global,
@@ -217,9 +217,10 @@ impl<S: Alter> Pages<'_, S, Page> {
         u64::from(self.read)
     }
 
-    // Reads the next page and adds the number of its rows to the number of rows read. Fails with
-    // `Memory` or `Store` only; with `Store` also if the page has more than 16 rows or a lot
-    // without shares, or if this number exceeds 32 bits. At an error the number is unchanged.
+    // Reads the next page, adds the number of its rows to the number of rows read, and returns its
+    // rows. If the database is still open, it is unchanged. Fails with `Memory` or `Store` only;
+    // with `Store` also if the page has more than 16 rows or a lot without shares, or if the number
+    // of rows read exceeds 32 bits. At an error this number is unchanged.
     fn read_next_page(&mut self) -> Result<Vec<HoldingRow>, Fault>
         // The store is the same and unchanged; of the source only the number of rows read changes.
         ensures same_reference { self.new.store.ghost_name ≡ self.old.store.ghost_name }
@@ -255,8 +256,9 @@ impl<S: Alter> Pages<'_, S, Page> {
         Ok(page)
     }
 
-    // Reads the next page and returns its first lot, or `None` if no lot remains. It requires that
-    // all lots of the current page were returned. Fails with `Memory` or `Store` only; with `Store`
+    // Returns the first lot of the next page, which it reads unless the last page was read, or
+    // `None` if no lot remains. All lots of the current page must have been returned. If the
+    // database is still open, it is unchanged. Fails with `Memory` or `Store` only; with `Store`
     // also if the page has more than 16 rows or a lot without shares, or if the number of rows read
     // exceeds 32 bits. The remaining lots are then unchanged.
     fn read_first_lot_of_next_page(&mut self) -> Result<Option<Lot>, Fault>
@@ -324,9 +326,9 @@ impl<S: Alter> LotSource for Pages<'_, S, Page> {
 
     /// Returns the next lot, or `None` if no lot remains. Fails with `Memory` or `Store` only;
     /// `Store` may also mean that the next page has more than 16 rows or a lot without shares, or
-    /// that the number of rows read exceeds 32 bits. The remaining lots are then unchanged. If the
-    /// database is still open, it is unchanged. At most 15 rows more are read than lots are
-    /// returned (`rows_read`).
+    /// that the number of rows read exceeds 32 bits. The remaining lots are then unchanged, and the
+    /// source counts the failure. If the database is still open, it is unchanged. At most 15 rows
+    /// more are read than lots are returned (`rows_read`).
     fn next(&mut self) -> Result<Option<Lot>, Fault> {
         match self.page.rows.get(self.page.returned) {
             Some(row) => {

@@ -84,10 +84,10 @@ impl<S: Alter> Store<S> {
     }
 
     /// Applies `changes` in order, in one transaction, and commits them. A change that updates or
-    /// deletes a row that does not exist changes nothing and is no error. The rows of each table
-    /// that is not the desk's are unchanged, unless a foreign key of that table changes or deletes
-    /// them by CASCADE, SET NULL or SET DEFAULT. The `sqlite` crate runs no trigger, and does not
-    /// write a table that has one.
+    /// deletes a row that does not exist changes nothing and is no error. The SQLite schema is
+    /// unchanged. The rows of each table that is not the desk's are unchanged, unless a foreign key
+    /// of that table changes or deletes them by CASCADE, SET NULL or SET DEFAULT. The `sqlite`
+    /// crate runs no trigger, and does not write a table that has one.
     ///
     /// Fails with `Store` only, which may also mean that a row to add exists or breaks another
     /// constraint of its table, or that the `sqlite` crate ran out of memory; none of these closes

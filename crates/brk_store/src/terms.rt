@@ -1,7 +1,8 @@
 //! Reads of the rows on which the terms of an order depend: permissions, securities, charges, bands
 //! and taxes. Each read begins a transaction and ends it without a commit (no clause states this).
 //! A read fails with `Store` also if a row is malformed or if the `sqlite` crate runs out of
-//! memory, and a read of a single row also if its decoding does.
+//! memory, and a read of a single row also if its decoding does. A crash after a read exposes only
+//! states that a crash before it could expose.
 
 ghost use Rattle.std.specs.Prelude.{◌≡◌, ◌==◌, ◌&&◌, Err, IfErr, OnErr, bytes_eq};
 ghost use Rattle.brk_money.specs.declared.fault.Fault.TheVariants as fault;

@@ -1,7 +1,7 @@
 //! Reads of trades, requests, last trades, lots and summaries. Each read begins a transaction and
 //! ends it without a commit (no clause states this). A read fails with `Store` also if a row is
 //! malformed or if the `sqlite` crate runs out of memory, and a read of a single row also if its
-//! decoding does.
+//! decoding does. A crash after a read exposes only states that a crash before it could expose.
 
 ghost use Rattle.std.specs.Prelude.{◌≡◌, ◌==◌, ◌&&◌, Err, IfErr, OnErr, bytes_eq, map, nat_le, option_map, reverse, slice_get};
 ghost use Rattle.brk_money.specs.declared.fault.Fault.TheVariants as fault;
@@ -139,8 +139,8 @@ impl<S: Alter> Store<S> {
     }
 
     /// Returns the rows of HOLDING_SUMMARY of an account (its number of shares in each security),
-    /// sorted by symbol, ascending. If the database is still open, it is unchanged. Fails with
-    /// `Memory` or `Store`.
+    /// sorted by symbol, ascending. Shares sold short count below 0. If the database is still open,
+    /// it is unchanged. Fails with `Memory` or `Store`.
     pub fn summaries_of_account(
         &mut self,
         alloc: Global,
@@ -153,9 +153,9 @@ impl<S: Alter> Store<S> {
         brk_tables_trading::holding_summaries_of_account(&mut tx, alloc, account)
     }
 
-    /// Returns the row of HOLDING_SUMMARY of an account and a security (its number of shares in
-    /// total), or `None` if there is none. If the database is still open, it is unchanged. Fails
-    /// with `Store` only.
+    /// Returns the row of HOLDING_SUMMARY of an account and a security, or `None` if there is none.
+    /// The row has the number of shares of the position, below 0 if they were sold short. If the
+    /// database is still open, it is unchanged. Fails with `Store` only.
     pub fn summary_of_position(
         &mut self,
         account: Id,

@@ -1,6 +1,7 @@
 //! Reads of trades for text updates. Each read begins a transaction and ends it without a commit
 //! (no clause states this). A read fails with `Store` also if a row is malformed or if the `sqlite`
-//! crate runs out of memory, and a read of a single row also if its decoding does.
+//! crate runs out of memory, and a read of a single row also if its decoding does. A crash after a
+//! read exposes only states that a crash before it could expose.
 
 ghost use Rattle.std.specs.Prelude.{◌≡◌, ◌==◌, Err, IfErr, OnErr, map};
 ghost use Rattle.brk_money.specs.declared.fault.Fault.TheVariants as fault;
@@ -21,9 +22,9 @@ use sqlite::Alter;
 use std::alloc::Global;
 
 impl<S: Alter> Store<S> {
-    /// Of the trades of an account that were completed in a span, both ends included, returns the
-    /// twenty oldest, or all if there are fewer, sorted by stamp and then by id, ascending. If the
-    /// database is still open, it is unchanged. Fails with `Memory` or `Store`.
+    /// Returns the twenty oldest of the trades of an account that were completed in a span, both
+    /// ends included, or all if there are fewer, sorted by the stamp of completion and then by id,
+    /// ascending. If the database is still open, it is unchanged. Fails with `Memory` or `Store`.
     pub fn first_twenty_completed_trades_of_account(
         &mut self,
         alloc: Global,
@@ -40,9 +41,9 @@ impl<S: Alter> Store<S> {
         )
     }
 
-    /// Of the cash trades of a symbol that were completed in a span, both ends included, returns
-    /// the twenty oldest, or all if there are fewer, sorted by stamp and then by id, ascending. If
-    /// the database is still open, it is unchanged. Fails with `Memory` or `Store`.
+    /// Returns the twenty oldest of the cash trades of a symbol that were completed in a span, both
+    /// ends included, or all if there are fewer, sorted by the stamp of completion and then by id,
+    /// ascending. If the database is still open, it is unchanged. Fails with `Memory` or `Store`.
     pub fn first_twenty_completed_cash_trades_of_symbol(
         &mut self,
         alloc: Global,

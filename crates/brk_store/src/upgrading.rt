@@ -17,8 +17,8 @@ use std::alloc::Global;
 // the schema is older than 3, upgrades the tables to schema 3 in the same transaction and commits
 // it. The connection must be in autocommit mode, and is so after the call. Fails with `Damaged` and
 // the first condition that fails, or with `Memory` or `Store`; a database that is still open is
-// then unchanged. The result is specified only if the database satisfies
-// `ConnectionTablesWithDeskNamesAreDeskTables`.
+// then unchanged. `Store::adopt` states what a crash after the call exposes. The result is
+// specified only if the database satisfies `ConnectionTablesWithDeskNamesAreDeskTables`.
 fn audit_and_upgrade_database<S: Alter>(
     conn: &mut Connection<S>,
     alloc: Global,
@@ -46,8 +46,11 @@ fn audit_and_upgrade_database<S: Alter>(
 
 impl<S: Alter> Store<S> {
     /// Audits the database of `conn` by the conditions of its own schema and, if its rows pass this
-    /// audit, opens it as a store. A database of an older schema is upgraded to schema 3 in one
-    /// transaction; one of schema 3 is not written.
+    /// audit, opens it as a store. The rows of the store pass the audit of schema 3. A database of
+    /// an older schema is upgraded to schema 3 in one transaction, and the store is open after the
+    /// upgrade; a database of schema 3 is not written. An upgrade does not change the rows of
+    /// tables that are not the desk's, unless a foreign key of such a table changes or deletes them
+    /// by CASCADE, SET NULL or SET DEFAULT.
     ///
     /// Errors return the connection; a database that is still open is unchanged. The fault is
     /// `Damaged` with the first condition that fails, `Memory` or `Store`. The fault `Store` is
@@ -58,8 +61,8 @@ impl<S: Alter> Store<S> {
     /// of an older schema passed their audit, the upgraded tables; after `Ok` of an upgrade only
     /// the latter. After an error it may expose the upgraded tables only if the database is closed.
     ///
-    /// The result, the rows of the store, the crash states, and that a database of schema 3 is not
-    /// written, are specified only if the database satisfies
+    /// The result, the rows of the store and of other tables, the crash states, and that a database
+    /// of schema 3 is not written, are specified only if the database satisfies
     /// `ConnectionTablesWithDeskNamesAreDeskTables`: if it has all tables of some schema, by their
     /// names and columns, then these tables have the definitions of the desk's tables, with the
     /// same types, keys and foreign keys, and no foreign key with CASCADE, SET NULL or SET DEFAULT.

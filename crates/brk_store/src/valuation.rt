@@ -1,4 +1,5 @@
-//! The market value of an account's holdings at last prices.
+//! The market value of an account's holdings at last prices. A crash after a read exposes only
+//! states that a crash before it could expose.
 
 ghost use Rattle.std.specs.Prelude.{◌≡◌, ◌+ℤ◌, ◌*ℤ◌, IfErr, IfSome, pos};
 ghost use Rattle.brk_changes.specs.Rows.{abstract_summary_row};

@@ -19,8 +19,8 @@ use sqlite::Alter;
 
 impl<S: Alter> Store<S> {
     /// Passes the cash rows of an account with stamps from `from` to `to`, both included, to a
-    /// visitor, sorted by stamp, ascending. Returns `Ok` only after the visitor has taken the last
-    /// row.
+    /// visitor, sorted by stamp, ascending. Rows with equal stamps are sorted by number (CM_ID),
+    /// ascending. Returns `Ok` only after the visitor has taken the last row.
     ///
     /// Fails with `Cause` and the visitor's error, or with `Failed` and the fault `Memory` or
     /// `Store` after a prefix of the rows. If the database is still open, it is unchanged, whatever
@@ -53,7 +53,8 @@ impl<S: Alter> Store<S> {
     }
 
     /// Passes the lots of an account to a visitor, sorted by symbol, then by opening stamp, both
-    /// ascending. Returns `Ok` only after the visitor has taken the last lot.
+    /// ascending. Lots with equal symbols and stamps are sorted by trade, ascending. Returns `Ok`
+    /// only after the visitor has taken the last lot.
     ///
     /// Fails with `Cause` and the visitor's error, or with `Failed` and the fault `Memory` or
     /// `Store` after a prefix of the lots. If the database is still open, it is unchanged, whatever
@@ -78,7 +79,8 @@ impl<S: Alter> Store<S> {
     }
 
     /// Passes the completed trades of all accounts to a visitor, sorted by the stamp of completion,
-    /// ascending. Returns `Ok` only after the visitor has taken the last trade.
+    /// ascending. Trades with equal stamps are sorted by id, ascending. Returns `Ok` only after the
+    /// visitor has taken the last trade.
     ///
     /// Fails with `Cause` and the visitor's error, or with `Failed` and the fault `Memory` or
     /// `Store` after a prefix of the trades. If the database is still open, it is unchanged,
@@ -101,7 +103,8 @@ impl<S: Alter> Store<S> {
     }
 
     /// Calls a closure with each cash row of an account with a stamp from `from` to `to`, both
-    /// included, sorted by stamp, ascending. Returns `Ok` only after the last row.
+    /// included, sorted by stamp, ascending. Rows with equal stamps are sorted by number (CM_ID),
+    /// ascending. Returns `Ok` only after the closure has returned `Ok` for the last row.
     ///
     /// Fails with the closure's first error, or with a fault (`Memory` or `Store`) as an error of
     /// type `E`, after a prefix of the rows. If the database is still open, it is unchanged,
@@ -132,7 +135,8 @@ impl<S: Alter> Store<S> {
     }
 
     /// Calls a closure with each lot of an account and its symbol, sorted by symbol, then by
-    /// opening stamp, both ascending. Returns `Ok` only after the last lot.
+    /// opening stamp, both ascending. Lots with equal symbols and stamps are sorted by trade,
+    /// ascending. Returns `Ok` only after the closure has returned `Ok` for the last lot.
     ///
     /// Fails with the closure's first error, or with a fault (`Memory` or `Store`) as an error of
     /// type `E`, after a prefix of the lots. If the database is still open, it is unchanged,

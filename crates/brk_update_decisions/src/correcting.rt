@@ -20,9 +20,9 @@ use sqlite::Alter;
 use std::alloc::Global;
 
 // Returns the trades that the update selects, with their texts, or `None` if a trade, account or
-// security that the update names does not exist. Changes nothing. Fails with `Memory` or `Store`
-// only; with `Store` also if a selected trade has no settlement, in an update of cash types, or no
-// cash row, in an update of cash names.
+// security that the update names does not exist. If the database is still open, it is unchanged.
+// Fails with `Memory` or `Store` only; with `Store` also if a selected trade has no settlement, in
+// an update of cash types, or no cash row, in an update of cash names.
 fn read_trades_of_update<S: Alter>(
     alloc: Global,
     store: &mut Store<S>,
@@ -43,7 +43,9 @@ fn read_trades_of_update<S: Alter>(
 }
 
 /// Decides on a text update at the clock reading `now` (Trade-Update): returns its plan, or the
-/// refusal. Changes nothing.
+/// refusal. It is the decision of the model if the tables are those of a base that satisfies the
+/// books invariant. If the database is still open, it is unchanged. A crash after the call exposes
+/// only states that a crash before the call could expose.
 ///
 /// Fails with `Memory` or `Store` only; with `Store` also if a selected trade has no settlement, in
 /// an update of cash types, or no cash row, in an update of cash names.

@@ -20,9 +20,9 @@ use sqlite::Alter;
 use std::alloc::Global;
 
 // Returns the trades of an account that an update of cash types selects, at most twenty, each with
-// the cash type of its settlement: the first that were completed in the span, the oldest first.
-// Changes nothing. Fails with `Memory` or `Store` only; with `Store` also if one of them has no
-// settlement.
+// the cash type of its settlement: the first that were completed in the span, the oldest first. If
+// the database is still open, it is unchanged. Fails with `Memory` or `Store` only; with `Store`
+// also if one of them has no settlement.
 fn read_trades_with_cash_types<S: Alter>(
     alloc: Global,
     store: &mut Store<S>,
@@ -47,9 +47,9 @@ fn read_trades_with_cash_types<S: Alter>(
 }
 
 // Returns the cash trades of a symbol that an update of cash names selects, at most twenty, each
-// with the name of its cash row: the first that were completed in the span, the oldest first.
-// Changes nothing. Fails with `Memory` or `Store` only; with `Store` also if one of them has no
-// cash row.
+// with the name of its cash row: the first that were completed in the span, the oldest first. If
+// the database is still open, it is unchanged. Fails with `Memory` or `Store` only; with `Store`
+// also if one of them has no cash row.
 fn read_cash_trades_with_names<S: Alter>(
     alloc: Global,
     store: &mut Store<S>,
@@ -74,8 +74,9 @@ fn read_cash_trades_with_names<S: Alter>(
     Ok(paid)
 }
 
-// Returns the trades with the ids `trades`, for an update of the names of their executors, or
-// `None` if one of them does not exist. Changes nothing. Fails with `Memory` or `Store` only.
+// Returns the trades with the ids `trades`, in the order of the ids, for an update of the names of
+// their executors, or `None` if one of them does not exist. If the database is still open, it is
+// unchanged. Fails with `Memory` or `Store` only.
 pub(crate) fn read_trades_of_executor_update<S: Alter>(
     alloc: Global,
     store: &mut Store<S>,
@@ -90,8 +91,8 @@ pub(crate) fn read_trades_of_executor_update<S: Alter>(
     }
 }
 
-// Returns true if the account with the id `account` exists. Changes nothing. Fails with `Memory` or
-// `Store` only.
+// Returns true if the account with the id `account` exists. If the database is still open, it is
+// unchanged. Fails with `Memory` or `Store` only.
 fn account_row_exists<S: Alter>(store: &mut Store<S>, account: Id) -> Result<bool, Fault>
     ensures read { ReadPost S.Store store.old store.new result (λ there t. there ≡ is_some (account_row_with_id t account)) }
     ensures fault { IfErr result IsCallFault }
@@ -100,8 +101,9 @@ fn account_row_exists<S: Alter>(store: &mut Store<S>, account: Id) -> Result<boo
 }
 
 // Returns the trades of an account that an update of cash types selects, each with the cash type of
-// its settlement, or `None` if the account does not exist. Changes nothing. Fails with `Memory` or
-// `Store` only; with `Store` also if one of the trades has no settlement.
+// its settlement, or `None` if the account does not exist. If the database is still open, it is
+// unchanged. Fails with `Memory` or `Store` only; with `Store` also if one of the trades has no
+// settlement.
 pub(crate) fn read_trades_of_cash_type_update<S: Alter>(
     alloc: Global,
     store: &mut Store<S>,
@@ -119,7 +121,7 @@ pub(crate) fn read_trades_of_cash_type_update<S: Alter>(
 }
 
 // Returns the name of the security with the symbol `symbol`, or `None` if the security does not
-// exist. Changes nothing. Fails with `Memory` or `Store` only.
+// exist. If the database is still open, it is unchanged. Fails with `Memory` or `Store` only.
 fn read_security_name<S: Alter>(
     store: &mut Store<S>,
     symbol: &Symbol,
@@ -135,9 +137,9 @@ fn read_security_name<S: Alter>(
 }
 
 // Returns the cash trades of a symbol that an update of cash names selects, each with the name of
-// its cash row, and the name of the security, or `None` if the security does not exist. Changes
-// nothing. Fails with `Memory` or `Store` only; with `Store` also if one of the trades has no cash
-// row.
+// its cash row, and the name of the security, or `None` if the security does not exist. If the
+// database is still open, it is unchanged. Fails with `Memory` or `Store` only; with `Store` also
+// if one of the trades has no cash row.
 pub(crate) fn read_trades_of_cash_name_update<S: Alter>(
     alloc: Global,
     store: &mut Store<S>,

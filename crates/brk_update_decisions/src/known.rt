@@ -12,8 +12,9 @@ use brk_store::Store;
 use brk_trade::CashType;
 use sqlite::Alter;
 
-// Returns the cash type of a trade's settlement (SE_CASH_TYPE). Changes nothing. Fails with
-// `Memory` or `Store` only; with `Store` also if the trade has no settlement.
+// Returns the cash type of a trade's settlement (SE_CASH_TYPE). If the database is still open, it
+// is unchanged. Fails with `Memory` or `Store` only; with `Store` also if the trade has no
+// settlement.
 pub(crate) fn require_cash_type<S: Alter>(
     store: &mut Store<S>,
     trade: Id,
@@ -28,8 +29,8 @@ pub(crate) fn require_cash_type<S: Alter>(
     }
 }
 
-// Returns the name of a trade's cash row (CM_NAME). Changes nothing. Fails with `Memory` or `Store`
-// only; with `Store` also if the trade has no cash row.
+// Returns the name of a trade's cash row (CM_NAME). If the database is still open, it is unchanged.
+// Fails with `Memory` or `Store` only; with `Store` also if the trade has no cash row.
 pub(crate) fn require_cash_name<S: Alter>(store: &mut Store<S>, trade: Id) -> Result<String, Fault>
     ensures read { ReadPost S.Store store.old store.new result (λ name t. Some (string_bytes name) ≡ option_map (λ c. c.name) (cash_row_of_trade t trade)) }
     ensures fault { IfErr result IsCallFault }

@@ -33,7 +33,7 @@ impl BrokerNames {
     pub const MOST: usize = 20;
 
     // Creates the list of the names `names`, which must be different. Refuses with `BadText` (18)
-    // if there are none, and with `TooMany` (20) if there are more than 20. Never allocates.
+    // if there is no name, and with `TooMany` (20) if there are more than 20. Never allocates.
     fn from_distinct_names(names: Vec<Name>) -> Result<BrokerNames, Refusal>
         requires { distinct_texts names.items ≡ names.items }
         ensures { ParsesAs (λ told. told) result (one_to_twenty_elements names.items) }
@@ -95,8 +95,9 @@ fn parse_distinct_names(alloc: Global, fields: &[&[u8]]) -> Planned<Vec<Name>>
 /// Parses 1 to 20 broker names, one from each field; a name that occurs more than once is counted
 /// once. Fails with `Memory` only.
 ///
-/// Refuses with `BadText` (18) if a field is malformed or there are none, and otherwise with
-/// `TooMany` (20) if there are more than 20. All fields are checked before the number of names.
+/// Refuses with `BadText` (18) if a field is malformed or there is no field, and otherwise with
+/// `TooMany` (20) if there are more than 20 different names. All fields are checked before the
+/// number of names.
 pub fn parse_broker_names(alloc: Global, fields: &[&[u8]]) -> Planned<BrokerNames>
     ensures read { IfOk result (λ read. ParsesAs (λ names. names) read (read_broker_names (texts_of_fields fields.now))) }
     ensures fault { OnErr result (result ≡ Err Memory) }

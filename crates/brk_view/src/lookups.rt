@@ -130,9 +130,9 @@ pub fn lookup_ids(trades: Vec<LookedUp>) -> View
     View::Lookup(trades)
 }
 
-/// Returns the view of an account's trades between two stamps (Trade-Lookup), without reading a
-/// table. The caller passes the first 20 of them with their settlement, cash row and history, the
-/// oldest first. Does not allocate.
+/// Returns the view of an account's trades between two stamps, both included (Trade-Lookup),
+/// without reading a table. The caller passes the first 20 of them with their settlement, cash row
+/// and history, the oldest first. Does not allocate.
 pub fn lookup_account(trades: Vec<LookedUp>) -> View
     ensures records { records_of_view result ≡ flat_map records_of_looked_up_trade trades.items }
     ensures value { result ≡ views.Lookup trades }
@@ -145,9 +145,9 @@ pub fn lookup_account(trades: Vec<LookedUp>) -> View
     View::Lookup(trades)
 }
 
-/// Returns the view of a symbol's trades between two stamps (Trade-Lookup), without reading a
-/// table. The caller passes the first 20 of them with their settlement, cash row and history, the
-/// oldest first. Does not allocate.
+/// Returns the view of a symbol's trades between two stamps, both included (Trade-Lookup), without
+/// reading a table. The caller passes the first 20 of them with their settlement, cash row and
+/// history, the oldest first. Does not allocate.
 pub fn lookup_symbol(trades: Vec<LookedUp>) -> View
     ensures records { records_of_view result ≡ flat_map records_of_looked_up_trade trades.items }
     ensures value { result ≡ views.Lookup trades }

@@ -52,14 +52,16 @@ fn parse_estimate_query(alloc: Global, arguments: &[&[u8]]) -> Planned<Query>
 /// `Submitted` has no argument, and `Estimate` the ten fields of an order. `Customer` has the id of
 /// a customer, `TaxId` a tax id, `Recent` and `Status` the id of an account. `Trades` has 1 to 20
 /// different trade ids, `AccountTrades` an account and two stamps, `SymbolTrades` a symbol and two
-/// stamps, `Lots` an account and a stamp. `Volume` has a sector and 1 to 20 different broker names;
-/// a name that occurs more than once is counted once.
+/// stamps, `Lots` an account and a stamp, all stamps in milliseconds since 1970-01-01 UTC. `Volume`
+/// has a sector and 1 to 20 different broker names; a name that occurs more than once is counted
+/// once.
 ///
 /// Refuses more than 20 different trade ids or broker names with `TooMany` (20), if the arguments
 /// are otherwise well-formed and no trade id is repeated. Refuses any other wrong number of
 /// arguments, a malformed argument or a repeated trade id with `BadText` (18). But if all fields of
-/// an order except its quantity, price and type are well-formed, refuses these with `BadQty` (8),
-/// `BadPrice` (9) or `BadType` (7), the first that applies.
+/// an order except its quantity, price and type are well-formed, refuses a malformed quantity with
+/// `BadQty` (8), a malformed price, or one that does not fit the type, with `BadPrice` (9), and an
+/// unknown type with `BadType` (7), the first that applies.
 #[tactic(auto, unfolding(brk_model::specs::Ask::parse_query))]
 pub fn parse_query_of_view(alloc: Global, view: ViewName, arguments: &[&[u8]]) -> Planned<Query>
     ensures read { IfOk result (λ read. ParsesAs abstract_query read (model.parse_query (text_of_view_name view) (texts_of_fields arguments.now))) }

@@ -16,7 +16,7 @@ use brk_ref::{Name, Symbol, parse_id};
 use std::alloc::Global;
 
 // Parses the query of trades from its arguments, 1 to 20 different ids. Refuses with `BadText` if
-// an argument is malformed, if an id occurs twice, or if there are none, and otherwise with
+// an argument is malformed, if an id occurs twice, or if there is no argument, and otherwise with
 // `TooMany` if there are more than 20. Fails with `Memory` only.
 pub(crate) fn parse_trades_query(alloc: Global, arguments: &[&[u8]]) -> Planned<Query>
     ensures read { IfOk result (λ read. ParsesAs abstract_query read (read_and_wrap TradesWith read_distinct_ids (texts_of_fields arguments.now))) }

@@ -84,7 +84,7 @@ fn recent_trade_records(alloc: Global, trades: &[TradeRow]) -> Result<Vec<Vec<St
 
 // Appends to `records` a record for each status of an account's last trades, in sequence: the word
 // `history`, the id of the trade, the name of the status and its stamp. Fails only if memory runs
-// out.
+// out. Some of these records may then be appended.
 fn append_recent_status_records(
     alloc: Global,
     records: &mut Vec<Vec<String>>,
@@ -141,7 +141,7 @@ fn first_five_status_texts(alloc: Global, trade: &TradeRow) -> Result<Vec<String
 
 // Appends to `texts` the last five of the ten fields of the record of a trade in the view of an
 // account's status: its quantity, executor and charge, and the name and the exchange of its
-// security. Fails only if memory runs out.
+// security. Fails only if memory runs out. Some of these fields may then be appended.
 fn append_last_five_status_texts(
     alloc: Global,
     texts: &mut Vec<String>,
@@ -173,7 +173,8 @@ fn trade_status_texts(alloc: Global, status: &TradeStatus) -> Result<Vec<String>
 }
 
 // Appends to `records` the record of each of `trades`, in sequence: the ten fields of a trade with
-// its security (`trade_status_texts`). Fails only if memory runs out.
+// its security (`trade_status_texts`). Fails only if memory runs out. Some of these records may
+// then be appended.
 fn append_trade_status_records(
     alloc: Global,
     records: &mut Vec<Vec<String>>,

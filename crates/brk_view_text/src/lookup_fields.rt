@@ -31,7 +31,8 @@ fn first_five_trade_texts(alloc: Global, trade: &TradeRow) -> Result<Vec<String>
 }
 
 // Appends to `texts` the fields 6 to 9 of the fifteen fields of the record of a looked-up trade:
-// its symbol, quantity, bid price and executor. Fails only if memory runs out.
+// its symbol, quantity, bid price and executor. Fails only if memory runs out. Some of these fields
+// may then be appended.
 fn append_order_texts(
     alloc: Global,
     texts: &mut Vec<String>,
@@ -47,7 +48,7 @@ fn append_order_texts(
 
 // Appends to `texts` the fields 10 to 13 of the fifteen fields of the record of a looked-up trade:
 // its price, which is empty if the trade has none, its charge, commission and tax. Fails only if
-// memory runs out.
+// memory runs out. Some of these fields may then be appended.
 fn append_price_and_cost_texts(
     alloc: Global,
     texts: &mut Vec<String>,
@@ -63,7 +64,7 @@ fn append_price_and_cost_texts(
 
 // Appends to `texts` the last two of the fifteen fields of the record of a looked-up trade: `cash`
 // or, if it is no cash trade, `margin`; and `lifo` if it closes the newest lots first, otherwise
-// `fifo`. Fails only if memory runs out.
+// `fifo`. Fails only if memory runs out. Some of these fields may then be appended.
 fn append_cash_and_lifo_texts(
     alloc: Global,
     texts: &mut Vec<String>,
@@ -161,7 +162,8 @@ fn append_cash_record(
 }
 
 // Appends to `records` a record for each status of a trade, in sequence: the word `history`, the
-// stamp of the status and its code. Fails only if memory runs out.
+// stamp of the status and its code. Fails only if memory runs out. Some of these records may then
+// be appended.
 fn append_history_records(
     alloc: Global,
     records: &mut Vec<Vec<String>>,
@@ -191,7 +193,7 @@ fn append_trade_record(
 
 // Appends to `records` the records of a looked-up trade: one for the trade, one for its settlement
 // and one for its cash row, if they exist, and one for each of its statuses. Fails only if memory
-// runs out.
+// runs out. Some of these records may then be appended.
 fn append_looked_up_records(
     alloc: Global,
     records: &mut Vec<Vec<String>>,

@@ -24,8 +24,8 @@ fn lot_change_texts(alloc: Global, touch: LotTouch) -> Result<Vec<String>, Alloc
 }
 
 // Appends to `records` a record for each of the lot changes `touches`, in sequence: the lot, the
-// trade that made the change, and the number of shares of the lot before and after it. Fails only
-// if memory runs out.
+// trade that made the change, and the number of shares of the lot before and after it, below 0 if
+// they were sold short. Fails only if memory runs out. Some of these records may then be appended.
 fn append_lot_change_records(
     alloc: Global,
     records: &mut Vec<Vec<String>>,
