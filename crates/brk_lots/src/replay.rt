@@ -41,7 +41,7 @@ fn append_closing_changes(
 }
 
 // Appends to `rows` the change by which `trade` opened a lot, from 0 to its quantity, or nothing if
-// `opened` is `None`. Fails with `Memory` only.
+// `opened` is `None`. Fails with `Memory` only; `rows` is then unchanged.
 fn append_opening_change(
     rows: &mut Vec<DealTouch>,
     trade: Id,
