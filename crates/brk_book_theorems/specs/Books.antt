@@ -101,7 +101,8 @@ pub record MovementBooksInvariant (all_accounts : List Account) (last : Option �
 abbrev pub HasOrderedBounds : Band → Type 0
 HasOrderedBounds b = nat_le b.from_qty b.to_qty ≡ true
 
--- No two bands of the list that have the same tier, trade type and exchange share a quantity.
+-- No two bands of the list overlap (`bands_overlap`): of two bands with the same tier, trade type
+-- and exchange, the lower bound of one exceeds the upper bound of the other.
 abbrev pub HasDisjointBands : List Band → Type 0
 HasDisjointBands [] = ⊤
 HasDisjointBands (b ∷ bs) = AllByRecursion (λ c. bands_overlap b c ≡ false) bs × HasDisjointBands bs
@@ -137,7 +138,7 @@ pub record AccountBooksInvariant (all_brokers : List Broker) (all_customers : Li
 
 -- The part of the books invariant that concerns securities and bands: no two securities have the
 -- same symbol, volumes are within the limit, the lower bound of each band is at most its upper
--- bound, and no two bands of one tier, trade type and exchange share a quantity.
+-- bound, and no two bands overlap (`bands_overlap`).
 pub record SecurityBooksInvariant (all_securities : List Security) (all_bands : List Band) : Type 0 where
   -- No two securities have one symbol, so a tick changes one last trade.
   pub symbols : HasDistinctSymbols all_securities
@@ -176,9 +177,9 @@ pub record CompletionBooksInvariant (last : Option ℕ) (done : List Trade) : Ty
 
 -- The base satisfies the books invariant: the records that accounts, trades and movements refer to
 -- exist; account ids, permissions, symbols, and the stamps of completions and movements are unique;
--- volumes are within their limit; the lower bound of each band is at most its upper bound, and
--- bands are disjoint; trades are numbered from 1; a pending trade has exactly one status change,
--- and a submitted trade has no completion; no completion and no movement has a stamp after the last
+-- volumes are within their limit; the lower bound of each band is at most its upper bound, and no
+-- two bands overlap; trades are numbered from 1; a pending trade has exactly one status change, and
+-- a submitted trade has no completion; no completion and no movement has a stamp after the last
 -- stamp; the last stamp, if it is set, is at most the greatest stamp. Each part concerns only the
 -- fields of the base that it names.
 pub record BooksInvariant (base : Base) : Type 0 where

@@ -31,8 +31,8 @@ abbrev pub commission_bands_of_tier_type_and_exchange : Tables → ℕ → Trade
 commission_bands_of_tier_type_and_exchange t tier kind exchange =
     filter (λ r. (r.tier == tier) && is_same_trade_type r.kind kind && bytes_eq r.exchange exchange) t.bands
 
--- True if a band in the tables with the tier, type and exchange of the band `b` shares a quantity
--- with `b`.
+-- True if a band in the tables with the tier, type and exchange of the band `b` overlaps `b`: the
+-- lower bound of each is at most the upper bound of the other (`bands_overlap`).
 abbrev pub overlaps_some_band : Tables → Band → Bool
 overlaps_some_band t b = list_any (bands_overlap b) (commission_bands_of_tier_type_and_exchange t b.tier b.kind b.exchange)
 

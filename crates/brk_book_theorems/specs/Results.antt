@@ -21,8 +21,8 @@ use Rattle.brk_book_theorems.specs.Trading.{history_row_of_status}
 pub record ResultRows : Type 0 where
   -- The row of the trade after its completion.
   pub trade : TradeRow
-  -- The lots that the trade closes or reduces, in order, and the lot that it opens, if it opens
-  -- one.
+  -- The lots that the trade closes or reduces, in the sequence in which it closes them, and the lot
+  -- that it opens, if it opens one.
   pub touched : List Touch
   pub opened : List Lot
   -- The quantity of the position's summary before the result and after it.
@@ -58,8 +58,8 @@ holding_history_row_of_touch trade touch = record { lot = touch.lot; trade = tra
 abbrev pub tables_with_touched_holding : Touch → Tables → Tables
 tables_with_touched_holding touch t = if is_zero touch.after then tables_without_lot touch.lot t else tables_with_lot_quantity touch.lot touch.after t
 
--- The tables with each lot of `touched`, in order, reduced or deleted, and a row of HOLDING_HISTORY
--- by the trade `trade` added for it.
+-- The tables with each lot of `touched`, one after the other, reduced or deleted, and a row of
+-- HOLDING_HISTORY by the trade `trade` added for it.
 abbrev pub tables_with_lots_touched : ℕ → List Touch → Tables → Tables
 tables_with_lots_touched trade touched t =
     fold (λ t touch. tables_with_lot_change (holding_history_row_of_touch trade touch) (tables_with_touched_holding touch t)) t touched
@@ -73,16 +73,17 @@ holding_row_of_lot r lot = record { trade = lot.trade; account = r.account; symb
 abbrev pub opening_holding_history_row : Lot → HoldingHistoryRow
 opening_holding_history_row lot = record { lot = lot.trade; trade = lot.trade; before = pos 0; after = lot.qty }
 
--- The tables with the lots `opened` added in order, each with the account and the symbol of the
--- trade `r` and with its row of HOLDING_HISTORY. A trade opens at most one lot.
+-- The tables with the lots `opened` added one after the other, each with the account and the symbol
+-- of the trade `r` and with its row of HOLDING_HISTORY.
 abbrev pub tables_with_lots_opened : TradeRow → List Lot → Tables → Tables
 tables_with_lots_opened r opened t =
     fold (λ t lot. tables_with_lot_change (opening_holding_history_row lot) (tables_with_lot (holding_row_of_lot r lot) t)) t opened
 
 -- ---- its summary, which has no row if it is 0
 
--- The tables with a holding summary changed from the quantity `before` to the quantity `after`. Its
--- row is deleted if `after` is 0, added as `row` if only `before` is 0, and otherwise set to `row`.
+-- The tables with a holding summary changed from the quantity `before` to the quantity `after`. The
+-- row of the account and the symbol of `row` is deleted if `after` is 0; `row` is added if only
+-- `before` is 0; otherwise the quantity of `row` is set.
 abbrev pub tables_with_summary_changed : (before after : ℤ) → SummaryRow → Tables → Tables
 tables_with_summary_changed before after row t =
     if is_zero after then tables_without_summary row.account row.symbol t
@@ -97,9 +98,10 @@ tables_with_cash_row_if_cash_trade is_cash cash account balance t = if is_cash t
 
 -- ---- the whole result
 
--- The tables after a result with the rows and figures `c`: the trade completed, its lots closed and
--- opened, the summary, the broker totals, the settlement and, for a cash trade, the cash row and
--- the balance.
+-- The tables after a result with the rows and figures `c`: the trade completed and its history row
+-- added; its lots closed, reduced and opened, with their rows of HOLDING_HISTORY; the summary
+-- added, set or deleted; the broker totals set; the settlement added; and, for a cash trade, the
+-- cash row added and the balance set.
 abbrev pub tables_after_result : ResultRows → Tables → Tables
 tables_after_result c t =
     tables_with_cash_row_if_cash_trade c.trade.is_cash c.cash c.trade.account c.balance

@@ -56,8 +56,8 @@ abbrev pub LotHasSummary : Tables → HoldingRow → Type 0
 LotHasSummary t h = is_some (summary_row_of_position t h.account h.symbol) ≡ true
 
 -- The broker totals, balances and summaries in the tables equal the sums of the rows that they
--- count. Each lot has a summary, the lots of an account in a symbol form a position, and the
--- changes of each lot form a chain.
+-- count. No summary is 0, each lot has a summary, the lots of an account in a symbol form a
+-- position, and the changes of each lot form a chain.
 pub record TableSumsMatchTheirRows (t : Tables) : Type 0 where
   pub brokers : AllByRecursion (BrokerTotalsMatchTrades t) t.brokers
   pub balances : AllByRecursion (BalanceMatchesCashRows t) t.accounts

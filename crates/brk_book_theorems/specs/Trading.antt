@@ -34,14 +34,14 @@ tables_after_order r waits broker t =
 
 -- ---- a trade that is no longer pending
 
--- The tables with the status of the trade `id` set to `status` at the stamp `stamp`, a row of
--- TRADE_HISTORY added for it, and the trade's row of TRADE_REQUEST deleted.
+-- The tables with the status of the trade `id` set to `status` and its stamp to `stamp`, a row of
+-- TRADE_HISTORY added for this status, and the trade's row of TRADE_REQUEST deleted.
 abbrev pub tables_after_change_from_pending : ℕ → Status → ℕ → Tables → Tables
 tables_after_change_from_pending id status stamp t =
     tables_without_request id (tables_with_history_row (history_row_of_status id status stamp) (tables_with_trade_status id status stamp t))
 
--- The tables with the trade `id` canceled at the stamp `stamp`: its status set, a row of
--- TRADE_HISTORY added, and its row of TRADE_REQUEST deleted.
+-- The tables with the trade `id` canceled at the stamp `stamp`: its status and its stamp set, a row
+-- of TRADE_HISTORY added, and its row of TRADE_REQUEST deleted.
 abbrev pub tables_after_cancel : ℕ → ℕ → Tables → Tables
 tables_after_cancel stamp id t = tables_after_change_from_pending id Canceled stamp t
 
@@ -66,17 +66,18 @@ is_triggered_request tick r = bytes_eq r.symbol tick.symbol && is_triggering_pri
 abbrev pub trade_ids_triggered_by_tick : Tick → Tables → List ℕ
 trade_ids_triggered_by_tick tick t = map (λ r. r.trade) (filter (is_triggered_request tick) t.requests)
 
--- The tables with each trade whose id is in `trades` submitted at the stamp `stamp`, in order: its
--- status set, a row of TRADE_HISTORY added, and its row of TRADE_REQUEST deleted.
+-- The tables with the trades whose ids are in `trades` submitted at the stamp `stamp`, one after
+-- the other: the status and the stamp of each set, a row of TRADE_HISTORY added, and its row of
+-- TRADE_REQUEST deleted.
 abbrev pub tables_with_trades_submitted : ℕ → List ℕ → Tables → Tables
 tables_with_trades_submitted stamp trades t = fold (λ t id. tables_after_change_from_pending id Submitted stamp t) t trades
 
--- The tables after the tick at the stamp `stamp`: the row of LAST_TRADE of its symbol is updated,
--- and the trades that the tick triggers are submitted.
+-- The tables after the tick at the stamp `stamp`: the row of LAST_TRADE of its symbol, if there is
+-- one, is updated, and the trades whose requests the tick triggers are submitted.
 abbrev pub tables_after_tick : ℕ → Tick → Tables → Tables
 tables_after_tick stamp tick t = tables_with_trades_submitted stamp (trade_ids_triggered_by_tick tick t) (tables_with_last_trade_after_tick stamp tick t)
 
--- The tables after all ticks of a feed, executed in order at the stamp `stamp`.
+-- The tables after the ticks `ticks` of a feed, executed one after the other at the stamp `stamp`.
 abbrev pub tables_after_feed : ℕ → List Tick → Tables → Tables
 tables_after_feed stamp ticks t = fold (λ t tick. tables_after_tick stamp tick t) t ticks
 

@@ -62,17 +62,19 @@ pub fn orders_change_only_their_rows()
         (not (is_market_type (trade_type_of_order o.order_type))) (broker_id_of_account base o.account)) }
 {}
 
-/// Proves, if the base satisfies the books invariant, that an accepted cancel sets its trade's
-/// status, adds a row of TRADE_HISTORY, deletes the trade's row of TRADE_REQUEST, and sets the last
-/// stamp. No other row changes.
+/// Proves, if the base satisfies the books invariant, that an accepted cancel sets the status of
+/// its trade to `Canceled` and the stamp of the trade's row, adds a row of TRADE_HISTORY, deletes
+/// the trade's row of TRADE_REQUEST, and sets the last stamp. No other row changes.
 pub fn cancels_change_only_their_rows()
     ensures { (base : Base) (now id : ℕ) → HasTableEffect base now (CancelTrade id) (tables_after_cancel (stamp_of_next_command base now) id) }
 {}
 
 /// Proves, if the base satisfies the books invariant, that an accepted feed, tick by tick, updates
 /// the row of LAST_TRADE of the tick's symbol and submits the trades whose requests the tick's
-/// price triggers, and then sets the last stamp. No other row changes (`rows`). The ids of the
-/// submitted trades are those of the triggered trades of the model (`triggered`).
+/// price triggers, and then sets the last stamp. To submit a trade is to set its status and stamp,
+/// to add a row of TRADE_HISTORY and to delete its row of TRADE_REQUEST. No other row changes
+/// (`rows`). The ids of the submitted trades are those of the triggered trades of the model
+/// (`triggered`).
 pub fn feeds_change_only_their_rows()
     ensures rows { (base : Base) (now : ℕ) (ticks : List Tick)
         → HasTableEffect base now (FeedTicks ticks) (tables_after_feed (stamp_of_next_command base now) ticks) }
@@ -81,11 +83,11 @@ pub fn feeds_change_only_their_rows()
 {}
 
 /// Proves, if the base satisfies the books invariant and the trade exists, that an accepted result
-/// completes its trade and adds the completion to TRADE_HISTORY. It reduces or deletes the lots
-/// that the trade closes and adds the lot that the trade opens, each with a row of HOLDING_HISTORY.
-/// It adds, sets or deletes the summary, adds the settlement, adds the cash row of a cash trade and
-/// sets the balance of its account, sets the broker totals, and sets the last stamp. No other row
-/// changes.
+/// sets the status, stamp, price, commission and tax of its trade and adds the completion to
+/// TRADE_HISTORY. It reduces or deletes the lots that the trade closes and adds the lot that the
+/// trade opens, each with a row of HOLDING_HISTORY. It adds, sets or deletes the summary, adds the
+/// settlement, adds the cash row of a cash trade and sets the balance of its account, sets the
+/// broker totals, and sets the last stamp. No other row changes.
 pub fn results_change_only_their_rows()
     ensures { (base : Base) (now id price : ℕ) (t : Trade) → trade_with_id base id ≡ Some t
         → HasTableEffect base now (CompleteTrade id price) (tables_after_result (result_rows_of_trade base (stamp_of_next_command base now) price t)) }

@@ -72,7 +72,8 @@ pub fn rows_by_key_match_records()
 {}
 
 /// Proves that a band overlaps a band of the tables if and only if it overlaps a band of the base.
-/// Two bands overlap if they have the same tier, trade type and exchange and share a quantity.
+/// Two bands overlap if they have the same tier, trade type and exchange and the lower bound of
+/// each is at most the upper bound of the other.
 pub fn band_overlaps_match_the_base()
     ensures { (base : Base) (b : Band) → overlaps_some_band (sheets base) b ≡ list_any (bands_overlap b) base.bands }
 {}
@@ -194,7 +195,8 @@ pub fn lot_shares_match_the_base()
 
 /// Proves that the lots of an account in a symbol, the oldest first, form a position with the
 /// shares that the account holds in the base, if the base satisfies the books invariant. Each lot
-/// was opened before the stamp of the next command, and no trade that is not completed opened one.
+/// was opened before the stamp of the next command, and no trade of the base that is not completed
+/// opened one of them.
 pub fn lots_form_a_position()
     ensures position { (base : Base) (account : ℕ) (symbol : Text) → BooksInvariant base → IsPosition (lots_of_position (sheets base) account symbol) }
     ensures shares { (base : Base) (account : ℕ) (symbol : Text) → BooksInvariant base

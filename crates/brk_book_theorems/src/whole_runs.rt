@@ -54,8 +54,8 @@ pub fn lots_match_replayed_shares()
 
 /// Proves that, after any run from a base that satisfies the books invariant, the quantities of the
 /// lots of an account in a symbol sum to the quantities bought minus the quantities sold. The cost
-/// basis of these lots is the value of the purchases minus the value of the sales plus the realised
-/// gains.
+/// basis of these lots, in cents, is the value of the purchases minus the value of the sales plus
+/// the realised gains.
 pub fn lot_sums_match_deals()
     ensures quantities { (base after : Base) (calls : List (ℕ × Call)) (outcomes : List Outcome) (account : ℕ) (symbol : Text)
         → BooksInvariant base → Run base calls outcomes after
@@ -68,9 +68,10 @@ pub fn lot_sums_match_deals()
 {}
 
 /// Proves that the broker totals, balances and summaries in the tables of a base match the rows
-/// that they count, that each lot has a summary, that the lots of an account in a symbol form a
-/// position, and that the changes of each lot form a chain (`TableSumsMatchTheirRows`), if the base
-/// satisfies the books invariant, and also after any run from such a base.
+/// that they count, that no summary is 0, that each lot has a summary, that the lots of an account
+/// in a symbol form a position, and that the changes of each lot form a chain
+/// (`TableSumsMatchTheirRows`), if the base satisfies the books invariant, and also after any run
+/// from such a base.
 pub fn table_sums_match_their_rows()
     ensures base { (base : Base) → BooksInvariant base → TableSumsMatchTheirRows (sheets base) }
     ensures run { (base after : Base) (calls : List (ℕ × Call)) (outcomes : List Outcome)

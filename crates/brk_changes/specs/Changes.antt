@@ -34,7 +34,7 @@ tables_with_broker b t = record t { brokers = insert_row_by_key broker_key (reco
 abbrev pub tables_with_customer : Customer → Tables → Tables
 tables_with_customer c t = record t { customers = insert_row_by_key customer_key c t.customers }
 
--- The tables `t` with the account `a` inserted in key order, whose balance is its opening balance.
+-- The tables `t` with the account `a` inserted in key order; its balance is its opening balance.
 abbrev pub tables_with_account : Account → Tables → Tables
 tables_with_account a t = record t {
   accounts = insert_row_by_key account_key

@@ -49,8 +49,8 @@ impl Schema {
         }
     }
 
-    /// Returns the greatest quantity, in shares, that the schema allows of an order and of a bound
-    /// of a band.
+    /// Returns the greatest quantity, in shares, that the schema allows for a trade, a request and
+    /// a bound of a commission band.
     pub fn greatest_qty(self) -> u32
         ensures { result ≡ (abstract_schema self).greatest_qty }
     {

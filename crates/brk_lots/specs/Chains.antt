@@ -24,9 +24,9 @@ abbrev pub ShrinksTowardZero : ℤ → List Touch → ℤ → Type 0
 ShrinksTowardZero from [] to = from ≡ to
 ShrinksTowardZero from (row ∷ rows) to = (row.before ≡ from) × IsNearerToZero row.after row.before × ShrinksTowardZero row.after rows to
 
--- The changes are the history of a lot that ends at `to`: the first starts at 0 and opens the lot,
--- and each later one starts where the one before it ended and ends strictly nearer to 0. Without
--- changes `to` is 0.
+-- The changes are the history of a lot that ends at `to`: the first starts at 0, each later one
+-- starts where the one before it ended and ends strictly nearer to 0, and the last ends at `to`.
+-- Without changes `to` is 0.
 abbrev pub IsLotHistory : List Touch → ℤ → Type 0
 IsLotHistory [] to = pos 0 ≡ to
 IsLotHistory (row ∷ rows) to = (row.before ≡ pos 0) × ShrinksTowardZero row.after rows to

@@ -9,8 +9,8 @@ use Rattle.brk_lots.specs.Position.{IsPositionInAnyOrder}
 abbrev pub AreLotsOfFaithfulSource : Type 0 → (List Lot → Type 0) → List Lot → Type 0
 AreLotsOfFaithfulSource told remaining ls = told × remaining ls
 
--- The lots `ls` form a position, in any order, and a source that satisfies `given` yields them from
--- one end: `given` holds of the list `ls`, reversed if `lifo` is true.
+-- The lots `ls` form a position, in any order, and a source yields them from one end: `given`,
+-- which relates the source to its lots, holds of the list `ls`, reversed if `lifo` is true.
 abbrev pub YieldsPosition : (List Lot → Type 0) → Bool → List Lot → Type 0
 YieldsPosition given lifo ls = given (list_reversed_if_lifo lifo ls) × IsPositionInAnyOrder ls
 

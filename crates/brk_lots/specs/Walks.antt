@@ -18,8 +18,9 @@ abbrev pub closed_share_count : Side → ℕ → List Lot → ℕ
 closed_share_count side q [] = 0
 closed_share_count side q (l ∷ ls) = if is_same_side (side_of_qty l.qty) side then 0 else min q (length (shares_of_lots (l ∷ ls)))
 
--- The lot changes by which the first `k` shares of the lots, each of at least one share, are
--- closed: one for each lot that loses a share, with its quantity before and after.
+-- The lot changes that close the first `k` shares of the lots, or all shares if there are fewer:
+-- one for each lot that loses a share, with its quantity before and after. Supposes that each lot
+-- has at least one share.
 abbrev pub touches_of_first_shares : ℕ → List Lot → List Touch
 touches_of_first_shares k [] = []
 touches_of_first_shares k (l ∷ ls) =

@@ -70,9 +70,11 @@ pub(crate) fn opened_lot(
 /// value of the closed shares as `Amount`s. They are specified as the effect of the trade only over
 /// the lots of a position, none of which `trade` opened, and only under the disk assumption.
 ///
-/// Requests at most one lot for each share. At `Ok` it requests at most one lot more than it closes
-/// or reduces; if it fails, at most one more than the trade would close or reduce, over the lots of
-/// a position under the disk assumption. Fails with a fault of the source or with `Memory`.
+/// Requests at most one lot for each share of the trade. At `Ok` it requests at most one lot more
+/// than it closes or reduces. Over the lots of such a position, under the disk assumption, it
+/// requests at most one lot more than the trade closes or reduces, also if it fails. Fails with a
+/// fault of the source or with `Memory`. The lots that it did not take then remain in the source,
+/// under the disk assumption.
 pub fn close_with_amounts<L: LotSource>(
     alloc: Global,
     source: &mut L,
@@ -124,9 +126,11 @@ pub fn close_with_amounts<L: LotSource>(
 /// specified as the effect of the trade only over the lots of a position, none of which `trade`
 /// opened, and only under the disk assumption.
 ///
-/// Requests at most one lot for each share. At `Ok` it requests at most one lot more than it closes
-/// or reduces; if it fails, at most one more than the trade would close or reduce, over the lots of
-/// a position under the disk assumption. Fails with a fault of the source or with `Memory`.
+/// Requests at most one lot for each share of the trade. At `Ok` it requests at most one lot more
+/// than it closes or reduces. Over the lots of such a position, under the disk assumption, it
+/// requests at most one lot more than the trade closes or reduces, also if it fails. Fails with a
+/// fault of the source or with `Memory`. The lots that it did not take then remain in the source,
+/// under the disk assumption.
 pub fn close<L: LotSource>(
     alloc: Global,
     source: &mut L,

@@ -8,7 +8,8 @@ use crate::lot::{Lot, Touch};
 
 // Closes the lots before the index `last`, which must be the index of a lot, and sets the quantity
 // of the lot at `last` to `qty`, or closes this lot too if `qty` is 0. Returns the index of the
-// first remaining lot; the closed lots before this index are not removed from the vector.
+// first remaining lot, or the length of the vector if no lot remains. The closed lots before this
+// index are not removed from the vector.
 fn close_front_lots(lots: &mut Vec<Lot>, last: usize, qty: i64) -> usize
     // `last` is the index of a lot.
     requires { last < vec_len lots.old }
@@ -54,7 +55,8 @@ fn remove_back_lots(lots: &mut Vec<Lot>, last: usize, qty: i64)
 // Applies the lot changes `touched` to the lots from the index `first` on, which must form a
 // position. `touched` must have one change for each of the first, or of the last, of these lots, in
 // sequence from that end; each change closes its lot, except that the last change may only reduce
-// its lot. Returns the index of the first remaining lot.
+// its lot. Returns the index of the first remaining lot, or the length of the vector if no lot
+// remains; closed lots before this index are not removed from the vector.
 pub(crate) fn apply_touches_to_lots(lots: &mut Vec<Lot>, first: usize, touched: &[Touch]) -> usize
     // The lots from `first` on form a position; the changes are those of its shares from one end.
     requires within { first ≤ vec_len lots.old }

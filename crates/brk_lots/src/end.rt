@@ -47,7 +47,8 @@ impl LotSource for PositionEnd<'_> {
 
     ghost fails = { λ _ _ _. ⊥ };
 
-    // Returns the next lot from the end of the source, or `None` after the last. Never fails.
+    // Returns the last remaining lot if the source is `lifo`, otherwise the first one, or `None` if
+    // no lot remains. Never fails.
     fn next(&mut self) -> Result<Option<Lot>, Fault> {
         if self.lifo {
             let [rest @ .., last] = self.lots else {

@@ -71,8 +71,8 @@ fn sort_lots_by_stamp(lots: &mut [Lot])
 
 // Returns true if the lots form a position, the oldest first: no lot has 0 shares, all have one
 // side, no two were opened by the same trade, and the stamps are strictly ascending. The lots are
-// unchanged after the call, which sorts them by trade, to compare neighbours, and then by stamp
-// again.
+// unchanged after the call. It sorts them by trade, to compare neighbours, and then by stamp again,
+// unless an earlier check fails.
 pub(crate) fn is_position(lots: &mut [Lot]) -> bool
     ensures lots { lots.new ≡ lots.old }
     ensures position { IsTrue result ↔ IsPosition lots.old }

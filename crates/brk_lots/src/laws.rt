@@ -23,12 +23,13 @@ pub fn replayed_lots_match_their_deals()
         → lot_cost_basis ls ≡ realised_gain_sum deals [] +ℤ purchases_minus_sales deals }
 {}
 
-/// Proves for deals of distinct trades with strictly ascending stamps that the changes of each lot
-/// form a chain. The first starts at 0 and opens the lot, each later one starts where the one
-/// before it ended and ends strictly nearer to 0, and the last ends at the current quantity, which
-/// is 0 if there is no change. Proves also for a deal whose trade opened no lot of the position
-/// that the signed quantity of the lot of this trade after the deal is the quantity of the deal
-/// minus the number of shares that the deal closes, below 0 for a sale.
+/// Proves for deals of distinct trades with strictly ascending stamps, applied from the empty
+/// position on, that the changes of each lot form a chain. The first change starts at 0, each later
+/// one starts where the one before it ended and ends strictly nearer to 0, and the last ends at the
+/// quantity of the lot after the deals, which is 0 if there is no change. Proves also for a deal
+/// whose trade opened no lot of the position that the signed quantity of the lot of this trade
+/// after the deal is the quantity of the deal minus the number of shares that the deal closes,
+/// negated for a sale.
 pub fn lot_histories_are_chains()
     ensures history { (deals : List Deal) (trade : ℕ) → AreDistinctAscendingDeals deals
         → IsLotHistory (changes_of_lot trade deals []) (lot_quantity (replay deals) trade) }

@@ -21,7 +21,7 @@ pub struct DealTouch {
 }
 
 // Appends to `rows` the changes `touched` of the lots that `trade` closed or reduced, in sequence.
-// Fails with `Memory` only.
+// Fails with `Memory` only; some of the changes may then be appended.
 fn append_closing_changes(
     rows: &mut Vec<DealTouch>,
     trade: Id,
@@ -41,7 +41,7 @@ fn append_closing_changes(
 }
 
 // Appends to `rows` the change by which `trade` opened a lot, from 0 to its quantity, or nothing if
-// `opened` is `None`. Fails with `Memory` only.
+// `opened` is `None`. Fails with `Memory` only; `rows` is then unchanged.
 fn append_opening_change(
     rows: &mut Vec<DealTouch>,
     trade: Id,
@@ -63,7 +63,8 @@ fn append_opening_change(
 }
 
 // Appends to `rows` the changes of the lots that `trade` closed or reduced, in sequence, and then
-// the change by which it opened a lot, if it opened one. Fails with `Memory` only.
+// the change by which it opened a lot, if it opened one. Fails with `Memory` only; some of the
+// changes may then be appended.
 fn append_lot_changes(rows: &mut Vec<DealTouch>, trade: Id, closing: &Closing) -> Result<(), Fault>
     ensures added { OnOk result (map abstract_deal_touch rows.new.items ≡ map abstract_deal_touch rows.old.items
         ++ map (holding_history_row trade) (map abstract_touch closing.now.touched.items
@@ -91,7 +92,7 @@ impl Position {
     ///
     /// Appends to `rows`, for each deal, the changes of the lots that it closed or reduced, in the
     /// sequence in which it closed them, and then the change by which it opened a lot, if it opened
-    /// one. Fails with `Memory` only.
+    /// one. Fails with `Memory` only; some of the changes may then be appended.
     pub fn replay_with_lot_changes(
         alloc: Global,
         deals: &[Deal],

@@ -42,11 +42,13 @@ pub(crate) fn closing_values(side: Side, traded: u64, opened: u64) -> Values
 }
 
 /// Returns the buy value and the sell value, in cents, of the shares that an order at `price` would
-/// close (Trade-Order).
+/// close (Trade-Order). They are specified only over the lots of a position under the disk
+/// assumption.
 ///
-/// Requests at most one lot for each share and, over the lots of a position under the disk
-/// assumption, at most one lot more than a trade that opened none of them would close or reduce,
-/// also if it fails. Fails with a fault of the source only.
+/// Requests at most one lot for each share of the order and, over the lots of a position under the
+/// disk assumption, at most one lot more than a trade that opened none of them would close or
+/// reduce, also if it fails. Fails with a fault of the source only. The lots that it did not take
+/// remain in the source, also if it fails, under the disk assumption.
 pub fn estimate_closing_values<L: LotSource>(
     source: &mut L,
     side: Side,

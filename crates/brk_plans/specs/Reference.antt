@@ -29,9 +29,9 @@ account_checks found =
 abbrev pub permission_checks : ReferenceFacts → List RefusalCheck
 permission_checks found = (not found.account, NoAccount) ∷ duplicate_check found.same_id ∷ []
 
--- The checks of a new commission band `band` against the facts `found`, in this order: its bounds
--- are not reversed (`BadQty`), and no band of its tier, type and exchange shares a quantity with it
--- (`Overlap`).
+-- The checks of a new commission band `band` against the facts `found`, in this order: its upper
+-- bound is not below its lower bound (`BadQty`), and no band of its tier, type and exchange
+-- overlaps it (`Overlap`).
 abbrev pub band_checks : Band → ReferenceFacts → List RefusalCheck
 band_checks band found = (nat_lt band.to_qty band.from_qty, BadQty) ∷ (found.overlaps, Overlap) ∷ []
 

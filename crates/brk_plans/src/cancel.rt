@@ -39,8 +39,8 @@ fn create_cancel_changes(alloc: Global, trade: Id, stamp: Stamp) -> Result<Vec<C
 /// Plans the cancel of a trade. `found` is its status, or `None` if there is no such trade, `last`
 /// the stamp of the last accepted command, and `now` the clock reading.
 ///
-/// The plan sets the status to `Canceled`, adds a history row, deletes the request and sets the
-/// last stamp. Its reply has the stamp.
+/// The plan sets the status to `Canceled` and the stamp of the trade, adds a history row, deletes
+/// the request and sets the last stamp. Its reply has the stamp.
 ///
 /// Refuses with the first that applies of `NoTrade`; `WrongStatus`, if the trade is not pending;
 /// and `ClockEnd`, if no later stamp exists. Fails with `Memory` only.

@@ -100,7 +100,8 @@ fn create_last_trade_change(last: &LastTrade) -> Result<Change, Fault>
 }
 
 // Appends to `changes` the row changes that submit, at `stamp`, the trades of those requests that
-// the price triggers, and to `ids` the ids of these trades. Fails with `Memory` only.
+// the price triggers, and to `ids` the ids of these trades. Fails with `Memory` only; a part of the
+// row changes and of the ids may then be appended.
 fn append_submission_changes(
     stamp: Stamp,
     price: Price,
@@ -182,8 +183,8 @@ fn apply_tick_to_quote(
 
 // Returns the quotes after the tick. Appends the row changes of the tick to `changes`, and the ids
 // of the trades that it triggers to `ids`. Refuses with `Range(Volume)` if a volume would exceed
-// its limit; a part of the row changes and of the ids may then be appended. Fails with `Memory`
-// only.
+// its limit. Fails with `Memory` only. If it refuses or fails, a part of the row changes and of the
+// ids may be appended.
 fn apply_tick_to_quotes(
     alloc: Global,
     stamp: Stamp,
@@ -229,8 +230,8 @@ fn prove_volumes_are_within_limit(quotes: &[Quote])
 
 // Applies the ticks in sequence to the quotes. Appends their row changes to `changes`, and the ids
 // of the trades that they trigger to `ids`. Refuses with `Range(Volume)` if a volume would exceed
-// its limit; a part of the row changes and of the ids may then be appended. Fails with `Memory`
-// only.
+// its limit. Fails with `Memory` only. If it refuses or fails, a part of the row changes and of the
+// ids may be appended.
 fn apply_ticks_to_quotes(
     alloc: Global,
     stamp: Stamp,
@@ -269,8 +270,9 @@ fn apply_ticks_to_quotes(
 /// stamp of the last accepted command, and `now` the clock reading.
 ///
 /// Each tick in sequence sets the last trade of its symbol and submits the trades whose requests it
-/// triggers, after the changes of the ticks before it. The plan then sets the last stamp. Its reply
-/// has the stamp and the triggered trades.
+/// triggers, after the changes of the ticks before it. For each submitted trade the plan sets its
+/// status and its stamp, adds a history row and deletes its request. The plan then sets the last
+/// stamp. Its reply has the stamp and the ids of the triggered trades.
 ///
 /// Refuses with the first that applies of `NoSecurity`, if a tick has no quote; `Range(Volume)`, if
 /// a volume exceeds its limit after all ticks; and `ClockEnd`, if no later stamp exists. Fails with

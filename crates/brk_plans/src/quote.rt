@@ -15,8 +15,8 @@ pub struct Quote {
     pub requests: Vec<RequestRow>,
 }
 
-/// Returns the quote of a security with its last trade and with its requests of each pending type,
-/// sorted by trade, ascending. Fails with `Memory` only.
+/// Returns the quote with the last trade `last` and with all requests of the three lists, sorted by
+/// trade, ascending. Fails with `Memory` only.
 pub fn create_quote(
     last: LastTrade,
     stop_losses: Vec<RequestRow>,

@@ -50,7 +50,8 @@ pub struct ReferenceFacts {
     pub accounts: usize,
     /// True if its account exists.
     pub account: bool,
-    /// True if a band of its tier, type and exchange shares a quantity with it.
+    /// True if a band of its tier, type and exchange overlaps it: the lower bound of each is at
+    /// most the upper bound of the other.
     pub overlaps: bool,
     /// The rate of its tax rate, or `None` if that does not exist.
     pub rate: Option<TaxRate>,
@@ -117,8 +118,8 @@ fn permission_refusal(found: ReferenceFacts) -> Option<Refusal>
     refusal_if_exists(found.same_id)
 }
 
-// Returns the first refusal that applies to a new commission band: `BadQty`, if its bounds are
-// reversed, or `Overlap`, if a band of its tier, type and exchange shares a quantity with it.
+// Returns the first refusal that applies to a new commission band: `BadQty`, if its upper bound is
+// below its lower bound, or `Overlap`, if a band of its tier, type and exchange overlaps it.
 // Returns `None` if neither applies.
 fn band_refusal(band: &Band, found: ReferenceFacts) -> Option<Refusal>
     ensures { result ≡ first_refusal (band_checks band.now found) }
@@ -220,8 +221,8 @@ fn create_reference_changes(
 /// The plan adds the row of the record, for a listing also its LAST_TRADE row, and sets the last
 /// stamp. Its reply has the stamp.
 ///
-/// Refuses with the first that applies of `BadQty` (the bounds of a band are reversed),
-/// `NoAccount`, `NoCustomer`, `NoBroker`, `NoTax`, `Exists`, `Overlap`, `TaxSum` and
+/// Refuses with the first that applies of `BadQty` (the upper bound of a band is below its lower
+/// bound), `NoAccount`, `NoCustomer`, `NoBroker`, `NoTax`, `Exists`, `Overlap`, `TaxSum` and
 /// `Range(Accounts)`; and then with `ClockEnd`, if no later stamp exists. Fails with `Memory` only.
 pub fn plan_reference(
     alloc: Global,

@@ -6,8 +6,8 @@ use brk_changes::{Change, HistoryRow};
 use brk_money::{Fault, Id, Stamp, Status};
 
 // Appends to `changes` the row changes by which a pending trade changes to the status `status` at
-// `stamp`: its status is set, a history row is added, and its request is deleted. Fails with
-// `Memory` only.
+// `stamp`: its status and its stamp are set, a history row is added, and its request is deleted.
+// Fails with `Memory` only; a part of the row changes may then be appended.
 pub(crate) fn append_pending_trade_changes(
     trade: Id,
     status: Status,

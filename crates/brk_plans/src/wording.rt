@@ -69,7 +69,7 @@ pub fn toggle_cash_type(is_cash: bool, cash_type: CashType) -> CashType
 }
 
 // Appends to `text` a space, the quantity in decimal digits, and the text `words`. Fails if memory
-// runs out.
+// runs out; a part may then be appended.
 fn append_quantity_and_words(text: &mut String, qty: Qty, words: &str) -> Result<(), AllocError>
     ensures { OnOk result (string_bytes text.new ≡ string_bytes text.old ++ 32 ∷ decimal qty ++ words.now) }
 {

@@ -52,10 +52,10 @@ pub record AreOrderTermsInBase (base : Base) (o : Order) (terms : Terms) : Type 
 abbrev pub deal_from_terms : Terms → (trade stamp : ℕ) → Bool → Deal
 deal_from_terms terms trade stamp lifo = record { trade = trade; side = terms.side; qty = terms.qty; price = terms.price; stamp = stamp; is_lifo = lifo }
 
--- For all lots that the source may return (`given`), none of them opened by the trade of the order:
--- from `before` to `after`, the number of lots requested from the source grew by at most one more
--- than the number of lots that an order with the terms `terms` closes or reduces. Vacuous if the
--- source may return no such list of lots.
+-- For all lots of a position that the source may return (`given`) from one of its ends, none of
+-- them opened by the trade of the order: from `before` to `after`, the number of lots requested
+-- from the source grew by at most one more than the number of lots that an order with the terms
+-- `terms` closes or reduces. Vacuous if the source may return no such list of lots.
 abbrev pub OrderReadsAtMostOneLotMore : Terms → (List Lot → Type 0) → (before after : ℕ) → Type 0
 OrderReadsAtMostOneLotMore terms given before after =
     (ls : List Lot) (trade stamp : ℕ) (lifo : Bool) → YieldsPosition given lifo ls → AreOpenedByOtherTrades trade ls

@@ -87,8 +87,9 @@ pub record EstimatesCheckedOrder (order : Order) (found : OrderPlanFacts) (given
   pub accepted : first_refusal (order_checks found) ≡ None
   pub estimated : MatchesModelEstimate (terms_of_order order found) given estimate
 
--- The check that a free id exists for a new trade (`Range(Trades)`), where `last` is the greatest
--- id in use, or none if there are no trades. Trades are numbered from 1 without a gap.
+-- The check that a free id exists for a new trade (`Range(Trades)`): `last`, the greatest id in
+-- use, is below the greatest id. It passes if `last` is `None`, which means that there are no
+-- trades.
 abbrev pub free_trade_id_check : Option ℕ → RefusalCheck
 free_trade_id_check last = (nat_le greatest_id (unwrap_or last 0), Range limit.Trades)
 

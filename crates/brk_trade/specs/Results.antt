@@ -98,8 +98,8 @@ cash_row_of_result found completed =
 abbrev pub row_changes_of_cash_row : ℕ → ℤ → MoveRow → List Change
 row_changes_of_cash_row account balance row = change.AddMove row ∷ change.SetBalance account balance ∷ []
 
--- The row changes of the completed trade itself: the values of its completion are set, and its
--- TRADE_HISTORY row is added.
+-- The row changes of the completed trade itself: the status, stamp, price, commission and tax of
+-- its completion are set, and its TRADE_HISTORY row is added.
 abbrev pub row_changes_of_completed_trade : ℕ → ℕ → Completed → List Change
 row_changes_of_completed_trade trade price completed =
     change.CompleteTrade trade completed.stamp price completed.commission completed.tax

@@ -18,8 +18,9 @@ use brk_plans::Completed;
 use brk_ref::Name;
 use std::alloc::{AllocError, Global};
 
-// Appends to `changes` the row changes of the completed trade itself: the values of its completion
-// are set, and its TRADE_HISTORY row is added. Fails with `Memory` only.
+// Appends to `changes` the row changes of the completed trade itself: the status, stamp, price,
+// commission and tax of its completion are set, and its TRADE_HISTORY row is added. Fails with
+// `Memory` only; a part of the row changes may then be appended.
 fn append_completed_trade_changes(
     trade: Id,
     price: Price,
@@ -72,7 +73,8 @@ fn create_lot_history_change(trade: Id, touch: &Touch) -> Change
 }
 
 // Appends to `changes` the row changes of one lot that `trade` touched: of its HOLDING row, and of
-// its new HOLDING_HISTORY row. Fails with `Memory` only.
+// its new HOLDING_HISTORY row. Fails with `Memory` only; a part of the row changes may then be
+// appended.
 fn append_touched_lot_changes(
     trade: Id,
     touch: &Touch,
@@ -86,8 +88,9 @@ fn append_touched_lot_changes(
     Ok(())
 }
 
-// Appends to `changes` the row changes of all lots that `trade` touched, in sequence: of their
-// HOLDING rows, and of their new HOLDING_HISTORY rows. Fails with `Memory` only.
+// Appends to `changes` the row changes of all lots that `trade` touched, in sequence: of the
+// HOLDING row and of the new HOLDING_HISTORY row of each. Fails with `Memory` only; a part of the
+// row changes may then be appended.
 fn append_changes_of_all_touched_lots(
     trade: Id,
     touched: &[Touch],
@@ -103,7 +106,8 @@ fn append_changes_of_all_touched_lots(
 }
 
 // Appends to `changes` the row changes that add the lot that the trade opens and its
-// HOLDING_HISTORY row, or nothing if it opens none. Fails with `Memory` only.
+// HOLDING_HISTORY row, or nothing if it opens none. Fails with `Memory` only; a part of the row
+// changes may then be appended.
 fn append_opened_lot_changes(
     trade: &TradeRow,
     opened: Option<Lot>,
@@ -197,7 +201,8 @@ fn create_settlement_change(trade: &TradeRow, completed: &Completed) -> Change
 }
 
 // Appends to `changes` the row changes of the account's summary, of the broker's totals and of the
-// settlement, in this sequence. Fails with `Memory` only.
+// settlement, in this sequence. Fails with `Memory` only; a part of the row changes may then be
+// appended.
 fn append_summary_broker_settlement_changes(
     found: &ResultPlanFacts,
     outcome: &ResultFigures,
@@ -214,7 +219,7 @@ fn append_summary_broker_settlement_changes(
 }
 
 // Appends to `name` a space, the quantity in decimal digits, and the text " shares of ". Fails if
-// memory runs out.
+// memory runs out; a part may then be appended.
 fn append_quantity_text(name: &mut String, qty: Qty) -> Result<(), AllocError>
     ensures { OnOk result (string_bytes name.new ≡ string_bytes name.old ++ spec.cash_text_part_with_quantity qty) }
 {
@@ -260,7 +265,8 @@ fn create_result_cash_row(
 }
 
 // Appends to `changes` the row changes of the cash row: it is added, and the balance of the account
-// is set. Appends nothing if `cash` is `None`. Fails with `Memory` only.
+// is set. Appends nothing if `cash` is `None`. Fails with `Memory` only; a part of the row changes
+// may then be appended.
 fn append_cash_row_changes(
     account: Id,
     completed: &Completed,

@@ -118,11 +118,14 @@ fn checked_placement(order: &Order, found: &OrderPlanFacts) -> Result<Placement,
 
 /// Plans the estimate of an order from the facts in the tables and the lots of its account and
 /// symbol, which `source` returns in the sequence in which the order closes them (Trade-Order):
-/// returns the estimate or the refusal.
+/// returns the estimate or the refusal. The estimate is specified only if the quantities of these
+/// lots sum to the shares held, and only under the disk assumption.
 ///
 /// Refuses with the first that applies of `NoAccount`, `NoSecurity`, `NotPermitted`, `NoCharge` and
-/// `NoRate`. Fails only with a fault of the source. Reads no lot if it refuses, or if the account
-/// holds no shares that the order would close.
+/// `NoRate`. Reads no lot if it refuses, or if the account holds no shares that the order would
+/// close; otherwise, over the lots of a position under the disk assumption, at most one lot more
+/// than the order would close or reduce, also if it fails. Fails only with a fault of the source;
+/// the lots that it did not take then remain in the source, under the disk assumption.
 pub fn plan_estimate<L: LotSource>(
     order: &Order,
     found: &OrderPlanFacts,
@@ -189,9 +192,9 @@ fn executor_name(alloc: Global, executor: &Executor) -> Result<String, AllocErro
     Ok(name)
 }
 
-// Returns the TRADE row of a new order with the terms, their commission in cents, the id, the
-// stamp, the symbol and the executor's name that are passed: in its first status, without a price,
-// with tax 0.
+// Returns the TRADE row of a new order with the terms, the commission in cents, the id, the stamp,
+// the symbol and the executor's name that are passed: in its first status, without a price, with
+// tax 0. `commission` must be the commission of the terms.
 fn create_trade_row_with_texts(
     order: &Order,
     terms: &Terms,
@@ -223,9 +226,9 @@ fn create_trade_row_with_texts(
     }
 }
 
-// Returns the TRADE row of a new order with the terms, their commission in cents, the id and the
-// stamp that are passed: in its first status, without a price, with tax 0. Fails if memory runs
-// out.
+// Returns the TRADE row of a new order with the terms, the commission in cents, the id and the
+// stamp that are passed: in its first status, without a price, with tax 0. `commission` must be the
+// commission of the terms. Fails if memory runs out.
 fn create_order_trade_row(
     alloc: Global,
     order: &Order,
@@ -289,9 +292,10 @@ fn create_new_trade_changes(
     Ok(changes)
 }
 
-// Returns the row changes of an accepted order with the placement, its commission in cents, the id
+// Returns the row changes of an accepted order with the placement, the commission in cents, the id
 // and the stamp that are passed: its TRADE row, its first TRADE_HISTORY row and its request, if
-// any, are added, and the last stamp is set. Fails if memory runs out.
+// any, are added, and the last stamp is set. `commission` must be the commission of the placement's
+// terms. Fails if memory runs out.
 fn create_order_changes(
     alloc: Global,
     order: &Order,
@@ -314,13 +318,17 @@ fn create_order_changes(
 /// which `source` returns in the sequence in which the order closes them (Trade-Order). `last` is
 /// the stamp of the last accepted command, and `now` the clock reading.
 ///
-/// The plan adds the trade with its first status, and its request if it is pending, and sets the
-/// last stamp. Its reply has the stamp, the number, the status and the estimate.
+/// The plan adds the trade in its first status, a history row for this status and, if it is
+/// pending, its request, and sets the last stamp. Its reply has the stamp, the id, the status and
+/// the estimate. The estimate is specified only if the quantities of the lots sum to the shares
+/// held, and only under the disk assumption.
 ///
 /// Refuses with the first that applies of `NoAccount`, `NoSecurity`, `NotPermitted`, `NoCharge`,
-/// `NoRate`; `Range(Trades)`, if no free id exists; and `ClockEnd`, if no later stamp exists. Fails
-/// with `Memory` or a fault of the source. Reads no lot if it refuses, or if the account holds no
-/// shares that the order would close.
+/// `NoRate`; `Range(Trades)`, if no free id exists; and `ClockEnd`, if no later stamp exists. Reads
+/// no lot if it refuses, or if the account holds no shares that the order would close; otherwise,
+/// over the lots of a position under the disk assumption, at most one lot more than the order would
+/// close or reduce, also if it fails. Fails with `Memory` or a fault of the source; the lots that
+/// it did not take then remain in the source, under the disk assumption.
 pub fn plan_order<L: LotSource>(
     alloc: Global,
     order: &Order,

@@ -22,8 +22,11 @@ use brk_plans::{Plan, Reply};
 use std::alloc::Global;
 
 // Returns the effect of the trade at `price` and `stamp` on the lots: the lots that it closes or
-// reduces, the lot that it opens, if any, and the values of the closed shares. Fails with `Memory`
-// or a fault of the source. Reads no lot if the account holds no shares that the trade would close.
+// reduces, the lot that it opens, if any, and the values of the closed shares. They are specified
+// only over the lots of a position, none of them opened by this trade, whose quantities sum to the
+// shares held, and only under the disk assumption. Reads no lot if the account holds no shares that
+// the trade would close. Fails with `Memory` or a fault of the source; the lots that it did not
+// take then remain in the source, under the disk assumption.
 fn effect_of_trade_on_lots<L: LotSource>(
     alloc: Global,
     source: &mut L,
@@ -67,17 +70,23 @@ fn effect_of_trade_on_lots<L: LotSource>(
 /// in the sequence in which the trade closes them, `last` is the stamp of the last accepted
 /// command, and `now` the clock reading.
 ///
-/// The plan completes the trade: it closes lots, opens one with the rest of the quantity, if any,
-/// changes the summary, adds to the broker totals and adds the settlement. For a cash trade it adds
-/// a cash row and changes the balance of the account. The plan then sets the last stamp. Its reply
-/// has the figures of the completion.
+/// The plan completes the trade: it sets the status, stamp, price, commission and tax of the trade
+/// and adds a history row. It closes or reduces lots and opens one with the rest of the quantity,
+/// if any, and adds the lot changes (HOLDING_HISTORY). It adds, sets or deletes the summary, sets
+/// the broker totals and adds the settlement. For a cash trade it adds a cash row and sets the
+/// balance of the account. The plan then sets the last stamp. Its reply has the figures of the
+/// completion.
 ///
 /// Refuses with the first that applies of `NoTrade`; `WrongStatus`, if the trade is not submitted;
 /// `NoRate`; `Range(Summary)`; `Range(Balance)`, of a cash trade; `Range(Broker)`; and `ClockEnd`,
 /// if no later stamp exists or the due day is after 9999-12-31.
 ///
-/// Fails with `Memory` or a fault of the source. Reads no lot if there is no such trade, or if the
-/// account holds no shares that the trade would close.
+/// The changes of lots and the values of the closed shares are specified only over the lots of a
+/// position, none of them opened by this trade, whose quantities sum to the shares held, and only
+/// under the disk assumption. Reads no lot if there is no such trade, or if the account holds no
+/// shares that the trade would close; otherwise, over such lots, at most one lot more than the
+/// trade would close or reduce, also if it refuses or fails. Fails with `Memory` or a fault of the
+/// source; the lots that it did not take then remain in the source, under the disk assumption.
 pub fn plan_result<L: LotSource>(
     alloc: Global,
     found: Option<&ResultPlanFacts>,
