@@ -69,8 +69,8 @@ fn put_trade_id_or_hyphen(out: &mut Vec<u8>, trade: Option<Id>) -> Result<(), Fa
 }
 
 // Appends to `out` the line of a cash row, with a line feed: the word `Posted`, its timestamp, its
-// id, the id of its trade or a hyphen, its amount, `balance`, which is the balance after it, and
-// its name. Fails with `Memory` only; a part of the line may then be appended.
+// id, the id of its trade or a hyphen, its amount, `balance`, which is the balance after it in
+// cents, and its name. Fails with `Memory` only; a part of the line may then be appended.
 #[tactic(auto, unfolding(brk_explain_model::specs::AccountLines::cash_posting_line))]
 fn put_cash_posting(
     alloc: Global,
@@ -90,8 +90,8 @@ fn put_cash_posting(
 }
 
 /// Returns the line of a cash row, with a line feed: the word `Posted`, its timestamp, its id, the
-/// id of its trade or a hyphen, its amount, `balance`, which is the balance after it, and its name.
-/// Fails with `Memory` only.
+/// id of its trade or a hyphen, its amount, `balance`, which is the balance after it in cents, and
+/// its name. Fails with `Memory` only.
 pub fn cash_posting_text(alloc: Global, row: &MoveRow, balance: Wide) -> Result<Vec<u8>, Fault>
     ensures line { IfOk result (λ line. line.items ≡ line_with_line_feed (lines.cash_posting_line (abstract_move_row row.now) balance)) }
     ensures fault { OnErr result (result ≡ Err Memory) }
