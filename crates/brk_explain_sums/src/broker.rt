@@ -46,9 +46,9 @@ pub fn broker_header_text(alloc: Global, row: &BrokerRow) -> Result<Vec<u8>, Fau
 }
 
 // Appends to `out` the line of a completed trade in the explanation of a broker, with a line feed:
-// the word `Trade`, its timestamp, its id, its account, its commission, and `total`, the sum of the
-// commissions up to and including this trade. Fails with `Memory` only; a part of the line may then
-// be appended.
+// the word `Trade`, its timestamp, its id, its account, its commission, and `total`, in cents, the
+// sum of the commissions up to and including this trade. Fails with `Memory` only; a part of the
+// line may then be appended.
 #[tactic(auto, unfolding(brk_explain_model::specs::BrokerLines::trade_commission_line))]
 fn put_trade_commission(
     alloc: Global,
@@ -68,8 +68,8 @@ fn put_trade_commission(
 }
 
 /// Returns the line of a completed trade in the explanation of a broker, with a line feed: the word
-/// `Trade`, its timestamp, its id, its account, its commission, and `total`, the sum of the
-/// commissions up to and including this trade. Fails with `Memory` only.
+/// `Trade`, its timestamp, its id, its account, its commission, and `total`, in cents, the sum of
+/// the commissions up to and including this trade. Fails with `Memory` only.
 pub fn trade_commission_text(alloc: Global, row: &TradeRow, total: Wide) -> Result<Vec<u8>, Fault>
     ensures line { IfOk result (λ line. line.items ≡ line_with_line_feed (lines.trade_commission_line (abstract_trade_row row.now) total)) }
     ensures fault { OnErr result (result ≡ Err Memory) }
