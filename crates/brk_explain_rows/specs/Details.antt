@@ -28,7 +28,7 @@ abbrev pub abstract_closing : closing.Closing → Closing
 abstract_closing c = record { lot = c.lot; stamp = c.stamp; price = c.price; before = c.before; after = c.after }
 
 -- The model's facts of a trade as ordered that have the values of the typed facts `o`: of its
--- trade, account and security, and its status changes in order.
+-- trade, account and security, and its status changes, in the same order.
 abbrev pub abstract_order_details : order_details.OrderDetails → OrderDetails
 abstract_order_details o = record {
   trade = abstract_trade_row o.trade;
