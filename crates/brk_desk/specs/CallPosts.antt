@@ -48,7 +48,8 @@ use Rattle.brk_desk.specs.declared.call.Outcome.TheVariants as came
 -- The postcondition of a query, which writes nothing: the result equals that of the model for every
 -- base that the store represented, or it is a fault, `Memory` or `Store`. A view has the rows that
 -- `HasRowsOfQuery` specifies. The store represents every base that it represented, a database that
--- is still open is unchanged, and a crash exposes no new state.
+-- is still open is unchanged, and a crash after the query exposes only states that a crash before
+-- it could expose.
 pub record AskPost {S : Type 0} (g : Ghosts S) (old new : Held S) (query : Query) (result : Result (Result View Refusal) Fault) : Type 0 where
   -- At `Ok` the result, a view or a refusal, equals that of the model for each base that the store
   -- represented. Vacuous if the disk assumption fails.
