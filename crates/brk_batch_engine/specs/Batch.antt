@@ -51,9 +51,10 @@ abbrev pub HasRecordAfterRows : Option Text → Text → List Fields → Type 0
 HasRecordAfterRows text name rows = 0 < length rows → (next : Fields) × BeginsWithRecords text (batch_header name ∷ (rows ++ (next ∷ [])))
 
 -- The progress of a batch that a fault ended: after the header of the batch `name`, the text begins
--- with the rows `rows`, which have the answers `answers`, and if there are rows, with one more
--- record. The clock was read once for each of the timestamps `moments` of these rows. The list
--- `told` has the `count` answers that the batch decided.
+-- with the rows `rows`, which have the answers `answers` in the model and lead to the base after
+-- the batch, and if there are rows, with one more record. The clock was read once for each of the
+-- timestamps `moments` of these rows. The list `told`, of all decided answers, has `count`
+-- elements; where this record is used, another condition relates `told` to `answers`.
 pub record BatchProgress {S X C : Type 0} (form : Fields → ReadResult X) (step : RowStep S X) (gives : C → ℕ → C → Type 0)
     (text : Option Text) (span : EnvironmentChange S C) (count : ℕ) : Type 0 where
   -- The name of the batch, its first rows with their answers, and all decided answers.
@@ -104,8 +105,10 @@ MayAddLastRowRefusal text name rows answers told = (told ≡ answers) ⊎ model.
 -- and nothing changed. `NoEnd` and `BadEnd`: the batch ends as that of the model (`BatchEndsWith`).
 -- `Read`: the lines of all decided rows were written, or no row was decided and nothing changed.
 -- `Write`: all lines but the last and a part of the last one were written, or all lines and a part
--- of the end line. `Desk`: the lines of the decided rows were written, and the next row failed; or
--- memory ran out, and the lines of the decided rows were written, or of all of them but the last.
+-- of the end line; a part may be empty or whole. `Desk`: memory ran out, no row was decided, and
+-- nothing changed; or the lines of the decided rows were written, and the clock was read at most
+-- once more; or memory ran out, and the lines of the decided rows were written, or of all of them
+-- but the last.
 abbrev pub BatchFailsWith : {S X C : Type 0} → (Fields → ReadResult X) → RowStep S X → (C → ℕ → C → Type 0) → Option Text → EnvironmentChange S C → ℕ
     → FaultKind → Type 0
 BatchFailsWith form step gives text span count kinds.BadHeader =
@@ -137,8 +140,8 @@ IsBatchResult form step gives text span (Ok counts) =
     (c : BatchEndsWith form step gives text span model.CorrectEnd (counts.ok + counts.again + counts.no)) × (counts ≡ counts_of_answers c.answered.answers)
 IsBatchResult form step gives text span (Err fault) = BatchFailsWith form step gives text span fault.rows fault.kind
 
--- The call of the row after the decided rows failed with the fault `cause` of the desk, which ended
--- the batch. This row has a record after it and is a command, for which the clock was read once,
+-- The batch ended with the fault `cause` of the desk, `Memory` or `Store`, at the row after the
+-- decided rows. This row has a record after it and is a command, for which the clock was read once,
 -- and exactly the lines of the decided rows were written.
 pub record NextRowFails {S X C : Type 0} (form : Fields → ReadResult X) (step : RowStep S X) (gives : C → ℕ → C → Type 0)
     (text : Option Text) (span : EnvironmentChange S C) (fault : BatchFault) : Type 0 where

@@ -46,16 +46,18 @@ HasNoRecordLeft rem reader =
 abbrev pub IsReadFault : FaultKind → Type 0
 IsReadFault kind = (kind ≡ kinds.Read) ⊎ (kind ≡ kinds.Desk Memory)
 
--- No record was read after the header, and the batch ended with `fault`, before any row was
--- decided: with `NoEnd` if no record is left, otherwise with a fault of reading (`IsReadFault`).
+-- The batch ended with `fault` at the read of the first record after the header, before any row was
+-- decided: either with `NoEnd`, and then no record is left, or with a fault of reading
+-- (`IsReadFault`).
 abbrev pub FirstRowEndsBatchWith : {R : Type 0} → (R → Option Text) → Reader R → BatchFault → Type 0
 FirstRowEndsBatchWith rem reader fault =
     ((fault ≡ record { rows = 0; kind = kinds.NoEnd }) × HasNoRecordLeft rem reader)
     ⊎ ((kind : FaultKind) × (fault ≡ record { rows = 0; kind = kind }) × IsReadFault kind)
 
--- No record after the row was read, and the batch ended with `fault`. Either reading failed, the
--- row is not decided, and nothing was written; or no record is left, the row is refused with
--- `BadText`, and its line was written or writing it failed (`LastRowEndsBatchWith`).
+-- The batch ended with `fault` at the read of the record after the row `settled + 1`. Either the
+-- fault is one of reading (`IsReadFault`), the row is not decided, and nothing was written; or no
+-- record is left, the row is decided and refused with `BadText`, and its line was written or
+-- writing it failed (`LastRowEndsBatchWith`).
 abbrev pub NextRecordEndsBatchWith : {R : Type 0} → (R → Option Text) → Reader R → ℕ → Option Text → Option Text → BatchFault → Type 0
 NextRecordEndsBatchWith rem reader settled old new fault =
     ((kind : FaultKind) × (fault ≡ record { rows = settled; kind = kind }) × IsReadFault kind × (new ≡ old))
@@ -88,8 +90,8 @@ pub record RowIsNotDecided {D S X C : Type 0} (meets_disk_assumption : D → Typ
   pub represented : PreservesRepresentedBases meets_disk_assumption represents first last
   pub unwritten : outside.new ≡ outside.old
 
--- The row has an answer, but writing its line failed (`LineWriteFailsWith`), and the batch ended
--- with `fault`: a prefix of the line was written, perhaps all of it, or nothing.
+-- The row has an answer and is decided, but writing its line failed (`LineWriteFailsWith`), and the
+-- batch ended with `fault`: a prefix of the line was written, perhaps all of it, or nothing.
 pub record RowLineWriteFails {D S X C : Type 0} (meets_disk_assumption : D → Type 0) (represents : D → S → Type 0)
     (crash_exposes_only : D → S → S → Type 0) (acts : RowCallRelation D X) (step : RowStep S X) (gives : C → ℕ → C → Type 0)
     (read : ReadResult X) (batch : Text) (settled : ℕ) (first last : D) (outside : ClockAndWriterChange C) (fault : BatchFault) : Type 0 where

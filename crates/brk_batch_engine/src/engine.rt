@@ -32,7 +32,8 @@ use std::mem;
 // Writes the line of the answer `answer` to row `n`: `n,ok,FIELDS`, `n,again,FIELDS` or
 // `n,no,FIELDS`.
 //
-// Fails with `Write`, after a prefix of the line, or with `Desk(Memory)` and nothing written.
+// Fails with `Write`, after a prefix of the line, perhaps all of it, or with `Desk(Memory)` and
+// nothing written.
 fn write_answer_line<W: Write, D: Rows>(
     alloc: Global,
     writer: &mut W,
@@ -53,8 +54,9 @@ fn write_answer_line<W: Write, D: Rows>(
 }
 
 // Writes the line that refuses row `n`, the last row of an input without an end record, with
-// `BadText`. Returns the fault that ends the batch: `NoEnd`, or `Write` or `Desk(Memory)` if the
-// line could not be written.
+// `BadText`. Returns the fault that ends the batch: `NoEnd` if the line was written, `Write` if the
+// writer failed after a prefix of the line, perhaps all of it, or `Desk(Memory)` if memory ran out
+// and nothing was written.
 fn write_refusal_of_last_row<W: Write, D: Rows>(alloc: Global, writer: &mut W, n: u64) -> FaultKind
     ensures { LastRowEndsBatchWith (W.contents writer.old) (W.contents writer.new) (answer_line n (Refused BadText)) result }
 {
@@ -68,7 +70,7 @@ fn write_refusal_of_last_row<W: Write, D: Rows>(alloc: Global, writer: &mut W, n
 // line with the counts `counts`.
 //
 // Fails, with `n` decided rows, with `BadEnd` if the record is wrong, or with `Desk(Memory)`, and
-// nothing is then written; or with `Write` after a prefix of the line.
+// nothing is then written; or with `Write` after a prefix of the line, perhaps all of it.
 fn check_end_record_and_write_end_line<W: Write>(
     alloc: Global,
     writer: &mut W,
@@ -104,8 +106,8 @@ fn check_end_record_and_write_end_line<W: Write>(
 
 // Reads the first record, the header `batch,NAME`, and returns the name of the batch.
 //
-// Fails with `BadHeader` if there is no record or it is no such header, with `Read` if the reader
-// fails, and with `Desk(Memory)` if memory runs out.
+// Fails with `BadHeader` if there is no record or the first one is no such header with a
+// well-formed name, with `Read` if the reader fails, and with `Desk(Memory)` if memory runs out.
 fn read_batch_name<R: Read>(alloc: Global, records: &mut Reader<R>) -> Result<BatchName, FaultKind>
     // The reader has the settings for a batch, before the call and, at `Ok`, after it.
     requires { IsBatchReader records.old }
@@ -158,8 +160,9 @@ fn read_record_after_header<R: Read>(records: &mut Reader<R>, row: &mut ByteReco
 // writes the line that refuses this row with `BadText`. `settled` must be less than 67,108,864.
 //
 // Fails with `Read` or `Desk(Memory)`, and nothing written, if the record could not be read; the
-// row is then not decided. If no record is left, fails with `NoEnd`, or with `Write` or
-// `Desk(Memory)` if the line could not be written; the row is then decided.
+// row is then not decided. If no record is left, fails with `NoEnd` after the line, with `Write`
+// after a prefix of the line, perhaps all of it, or with `Desk(Memory)` and nothing written; the
+// row is then decided.
 fn read_record_after_row<R: Read, W: Write, D: Rows>(
     alloc: Global,
     records: &mut Reader<R>,
@@ -195,8 +198,10 @@ fn read_record_after_row<R: Read, W: Write, D: Rows>(
 // counts with its answer added. `settled` must be less than 67,108,864 and equal the sum of the
 // counts.
 //
-// Fails with `Desk(Memory)` or `Desk(Store)`, and nothing written, if the row is not decided; with
-// `Write` or `Desk(Memory)` if the row is decided and its line could not be written.
+// Fails with `Desk(Memory)` or `Desk(Store)`, and nothing written, if the row is not decided; the
+// desk then represents every base that it represented before, but a crash may expose the row as
+// committed. If the row is decided, fails with `Write` after a prefix of its line, perhaps all of
+// it, or with `Desk(Memory)` and nothing written.
 fn execute_row_and_write_line<W: Write, C: Clock, D: Rows>(
     alloc: Global,
     name: &BatchName,
@@ -239,8 +244,12 @@ fn execute_row_and_write_line<W: Write, C: Clock, D: Rows>(
 // of rows, and of turns of the loop, to the number of bytes.
 //
 // At an error returns the fault with the number of decided rows, whose changes remain: `NoEnd` if
-// the input ends without an end record, `BadEnd` if the end record is wrong, `Read` or `Write` if
-// the reader or the writer fails, or `Desk` with `Memory` or `Store`.
+// the input ends without an end record (its last row, if it has one, is then refused with
+// `BadText`), `BadEnd` if the end record is wrong, `Read` or `Write` if the reader or the writer
+// fails, or `Desk` with `Memory` or `Store`. The lines of the decided rows are then written; but
+// after `Write` the line of the last one, or the end line, is written in part, perhaps not at all
+// or whole, and after `Desk(Memory)` the line of the last one may be missing. After a fault of the
+// desk, a crash may also expose the next row as committed.
 fn execute_rows_and_write_lines<R: Read, W: Write, C: Clock, D: Rows>(
     alloc: Global,
     records: &mut Reader<R>,
@@ -280,10 +289,14 @@ fn execute_rows_and_write_lines<R: Read, W: Write, C: Clock, D: Rows>(
 /// counts of the answers. Only the first `MAXIMUM_INPUT_BYTES` bytes are read, and a row is
 /// executed only if a record follows it.
 ///
-/// At an error returns the fault with the number of decided rows, whose changes remain:
-/// `BadHeader`, `NoEnd` or `BadEnd` if the header or the end record is missing or wrong, `Read` or
-/// `Write` if the reader or the writer fails, or `Desk` with `Memory` or `Store`. After a fault of
-/// the desk, a crash may also expose the next row as committed.
+/// At an error returns the fault with the number of decided rows, whose changes remain: `BadHeader`
+/// if the input has no header (nothing is then executed or written), `NoEnd` if there is no end
+/// record (the last row, if there is one, is then refused with `BadText`), `BadEnd` if the end
+/// record is wrong, `Read` or `Write` if the reader or the writer fails, or `Desk` with `Memory` or
+/// `Store`. The lines of the decided rows are then written; but after `Write` the line of the last
+/// one, or the end line, is written in part, perhaps not at all or whole, and after `Desk(Memory)`
+/// the line of the last one may be missing. After a fault of the desk, a crash may also expose the
+/// next row as committed.
 pub fn execute_batch_on_desk<R: Read + Drop, W: Write, C: Clock, D: Rows>(
     alloc: Global,
     reader: R,

@@ -36,7 +36,8 @@ pub fn new_record_reader<R: Read + Drop>(alloc: Global, reader: R) -> Reader<Tak
 
 /// Reads the next record into `row` and returns true, or returns false if no record is left.
 ///
-/// Fails with `Read` if the reader fails, or with `Desk(Memory)` if memory runs out.
+/// Fails with `Read` if the reader fails, or with `Desk(Memory)` if memory runs out. No clause
+/// states what `row` and the reader then contain.
 pub fn read_record<R: Read>(
     records: &mut Reader<R>,
     row: &mut ByteRecord,
@@ -62,7 +63,8 @@ pub fn read_record<R: Read>(
     }
 }
 
-/// Returns the bytes of the fields of a record, in order. Fails only if memory runs out.
+/// Returns the bytes of each field of a record, in the order of the fields. Fails only if memory
+/// runs out.
 pub fn record_fields(alloc: Global, row: &ByteRecord) -> Result<Vec<&[u8]>, AllocError>
     ensures { IfOk result (λ all. texts_of_fields all.items ≡ fields_of row.now) }
 {

@@ -45,8 +45,9 @@ IsDiskContentAfterCommand g old now command key trees =
 -- store. At `Ok` the call refines the model's step for the command. A refusal, a stored reply or an
 -- error changes nothing in a store that is still open. A crash after the call exposes a state that
 -- a crash before it could expose, or the tables after the command; after `Done` only these tables.
--- `brk_store/specs/Holds.antt` explains the terms of the clauses; `g` is the specification of the
--- storage `S`.
+-- An error is `Memory` or `Store`, and the command and its key are well-formed. The clauses on the
+-- answer and on `Done` are vacuous if the disk assumption fails. `brk_store/specs/Holds.antt`
+-- explains the terms of the clauses; `g` is the specification of the storage `S`.
 pub record CommandPost {S : Type 0} (g : Ghosts S) (old new : Held S) (now : ℕ) (command : Command) (key : Option Key)
     (result : Result CommandAnswer Fault) : Type 0 where
   -- At `Ok` the call refines the model's step. Vacuous if the disk assumption fails.

@@ -17,21 +17,21 @@ use Rattle.brk_changes.specs.Changes.{tables_with_stored_reply}
 abbrev pub optional_model_key : Option given.Key → Option Key
 optional_model_key key = option_map abstract_key key
 
--- The row of KEPT with the batch name and the row number of the key, or `None` if there is no key
--- or no such row.
+-- The first row of KEPT with the batch name and the row number of the key, or `None` if there is no
+-- key or no such row.
 abbrev pub kept_row_under_key : Tables → Option Key → Option Kept
 kept_row_under_key t None = None
 kept_row_under_key t (Some key) = find (λ k. bytes_eq k.key.batch key.batch && (k.key.row == key.row)) t.kept
 
--- With a key: the tables `t` with one more row of KEPT, which stores `command` and `reply` under
--- the key. Without a key: `t` unchanged.
+-- With a key: the tables `t` with one more row of KEPT, inserted in key order, which stores
+-- `command` and `reply` under the key. Without a key: `t` unchanged.
 abbrev pub tables_with_stored_command : Option Key → Command → Reply → Tables → Tables
 tables_with_stored_command None command reply t = t
 tables_with_stored_command (Some key) command reply t = tables_with_stored_reply (stored_reply_row key command reply) t
 
--- The postcondition of reading the row of KEPT under a key. With a key it satisfies `ReadPost`, and
--- the result is the row under the key, or `None` if there is none. Without a key the result is
--- `None` and the store is unchanged.
+-- The postcondition of reading the row of KEPT under a key. With a key it is that of a read
+-- (`ReadPost`) whose value is the row under the key, or `None` if there is none. Without a key the
+-- result is `None`, not a fault, and the store is unchanged.
 abbrev pub ReadStoredReplyPost : {S : Type 0} → Ghosts S → Held S → Held S → Option Key → Result (Option row.Kept) Fault → Type 0
 ReadStoredReplyPost g old new None result = (new ≡ old) × (result ≡ Ok None)
 ReadStoredReplyPost g old new (Some key) result = ReadPost g old new result (λ kept t. option_map abstract_kept_row kept ≡ kept_row_under_key t (Some key))

@@ -62,8 +62,9 @@ pub(crate) fn answer_retry(
     }
 }
 
-// Returns `plan` with one more change, which adds the row of KEPT that stores the command and its
-// reply under the key. Without a key, returns `plan` unchanged. Fails with `Memory` only.
+// Returns `plan` with one more change, the last, which adds the row of KEPT that stores the command
+// and its reply under the key. Without a key, returns `plan` unchanged and does not fail. Otherwise
+// fails with `Memory` only.
 pub(crate) fn plan_with_stored_reply(
     alloc: Global,
     plan: Plan,

@@ -46,12 +46,17 @@ use Rattle.brk_desk.specs.declared.call.Outcome.{Outcome}
 use Rattle.brk_desk.specs.declared.call.Outcome.TheVariants as came
 
 -- The postcondition of a query, which writes nothing: the result equals that of the model for every
--- base that the store represented, or it is a fault.
+-- base that the store represented, or it is a fault, `Memory` or `Store`. A view has the rows that
+-- `HasRowsOfQuery` specifies. The store represents every base that it represented, a database that
+-- is still open is unchanged, and a crash after the query exposes only states that a crash before
+-- it could expose.
 pub record AskPost {S : Type 0} (g : Ghosts S) (old new : Held S) (query : Query) (result : Result (Result View Refusal) Fault) : Type 0 where
   -- At `Ok` the result, a view or a refusal, equals that of the model for each base that the store
   -- represented. Vacuous if the disk assumption fails.
   pub answered : HasCleanDisk (state g new) → IfOk result (λ seen. (base : Base) → Represents g old base → ask base query ≡ model_query_result seen)
-  -- A returned view has the variant of the query, and carries the rows that the query selects from
+  -- A returned view satisfies `HasRowsOfQuery`: it has the variant of the query and, for a query of
+  -- recent trades, of an account's status, of trades with their settlements, cash rows and
+  -- histories, or of touched lots, carries the trades or lot changes that the query selects from
   -- the tables of the base, also in columns that no text of the view shows (`answered` is on its
   -- texts only). Vacuous if the disk assumption fails.
   pub carried : HasCleanDisk (state g new)
@@ -106,7 +111,9 @@ CrashMayExposeDiskContent g old calls outcomes trees =
 
 -- The postcondition of a sequence of calls that were executed in order, from the state `old` to the
 -- state `new`. For every base that the store represented, the calls with their outcomes are a run
--- of the model (`Run`), and the store represents the base after this run.
+-- of the model (`Run`), and the store represents the base after this run. The other clauses are on
+-- the number and the faults of the outcomes, on an unchanged database, on crashes, and on
+-- well-formed commands and keys.
 pub record RunPost {S : Type 0} (g : Ghosts S) (old new : Held S) (calls : List (ℕ × Call)) (outcomes : List Outcome) : Type 0 where
   -- There is exactly one outcome for each call.
   pub count : length outcomes ≡ length calls

@@ -102,11 +102,11 @@ impl<S: Alter> Desk<S> {
     ///
     /// Fails with `Memory` or `Store` only. `Memory` means that an allocation of the desk's own
     /// code was refused. `Store` may also mean that the `sqlite` crate ran out of memory, that a
-    /// row that another row requires does not exist, that a lot has no shares, that a number or a
-    /// sum is out of range, or that no number is left for a cash row; none of these closes the
-    /// store. A refusal, a stored reply or a fault changes nothing in a store that is still open,
-    /// and records no key. After a fault that closed the store a crash may expose the command as
-    /// committed (`Desk`).
+    /// row that it reads is malformed, that a row that another row requires does not exist, that a
+    /// lot has no shares, that a number or a sum is out of range, or that no number is left for a
+    /// cash row; none of these closes the store. A refusal, a stored reply or a fault changes
+    /// nothing in a store that is still open, and records no key. After a fault that closed the
+    /// store a crash may expose the command as committed (`Desk`).
     ///
     /// A crash after the call exposes a state that a crash before the call could expose, or the
     /// tables after the command; after `Done` it exposes only the tables after the command.
@@ -130,8 +130,9 @@ impl<S: Alter> Desk<S> {
     /// Returns the view of a query, or the refusal.
     ///
     /// Fails with `Memory` or `Store` only; `Store` may also mean that a row that another row
-    /// requires does not exist, that a lot has no shares, or that a sum overflows or exceeds its
-    /// limit. If the database is still open, it is unchanged, whatever the result.
+    /// requires does not exist, that a lot has no shares, that the number of lots read exceeds 32
+    /// bits, or that a sum overflows or exceeds its limit. If the database is still open, it is
+    /// unchanged, whatever the result.
     ///
     /// A crash after the call exposes only states that a crash before the call could expose.
     pub fn ask(&mut self, alloc: Global, query: &Query) -> Planned<View>
@@ -140,9 +141,9 @@ impl<S: Alter> Desk<S> {
         answer_query(alloc, &mut self.store, query)
     }
 
-    /// Executes exactly the calls in order, each at its clock reading, and appends one outcome for
-    /// each to `out`. A query, a refusal, a stored reply or a fault changes nothing in a store that
-    /// is still open, and the next call is executed.
+    /// Executes exactly the calls in `calls`, in this order, each at its clock reading, and appends
+    /// one outcome for each to `out`. A query, a refusal, a stored reply or a fault changes nothing
+    /// in a store that is still open, and the next call is executed.
     ///
     /// Fails with `Memory` only. The desk and the outcomes in `out` are then unchanged. The fault
     /// of an outcome is `Memory` or `Store`.
@@ -174,9 +175,10 @@ impl<S: Alter> Desk<S> {
         Ok(())
     }
 
-    // Executes the call `call`, a command or a query, at the clock reading `now` and returns its
-    // outcome: the answer to a command, the view or the refusal of a query, or the fault of the
-    // call.
+    // Executes the call `call`, a command at the clock reading `now` or a query, which does not use
+    // `now`, and returns its outcome: the answer to a command, the view or the refusal of a query,
+    // or the fault of the call, `Memory` or `Store`. Any outcome but `Done` changes nothing in a
+    // store that is still open.
     fn execute_call(&mut self, alloc: Global, now: Stamp, call: &Call) -> Outcome
         ensures executed { OutcomePost S.Store self.old self.new now call.now result }
     {
@@ -242,11 +244,11 @@ impl<S: Alter> Desk<S> {
         read_trade_details(alloc, &mut self.store, trade)
     }
 
-    /// Returns the row of an account and its holding summaries with last prices, or `None` if the
-    /// account does not exist.
+    /// Returns the row of an account and its holding summaries, sorted by symbol, ascending, each
+    /// with the last price of its symbol, or `None` if the account does not exist.
     ///
-    /// Fails with `Memory` or `Store` only; `Store` may also mean that a symbol has no last price.
-    /// If the database is still open, it is unchanged, whatever the result.
+    /// Fails with `Memory` or `Store` only; `Store` may also mean that one of these symbols has no
+    /// last price. If the database is still open, it is unchanged, whatever the result.
     ///
     /// A crash after the call exposes only states that a crash before the call could expose.
     pub fn account_details(
@@ -262,13 +264,14 @@ impl<S: Alter> Desk<S> {
 
     /// Returns the facts that the explanation of the holding of an account in a security reads: the
     /// rows of the account and of the security; the completed trades of the account in the
-    /// security; every lot that they opened, closed ones too, each with its later changes; the
-    /// number of shares held; the last price. Refuses with `NoAccount` if the account does not
-    /// exist, and with `NoSecurity` if the account exists and the security does not.
+    /// security; every lot that these trades opened, also if it was closed, each with its later
+    /// changes; the number of shares held, 0 if there is no holding summary; and the last price.
+    /// Refuses with `NoAccount` if the account does not exist, and with `NoSecurity` if the account
+    /// exists and the security does not.
     ///
     /// Fails with `Memory` or `Store` only; `Store` may also mean that the security has no last
-    /// price, or that a trade that changed a lot does not exist or has no price. If the database is
-    /// still open, it is unchanged, whatever the result.
+    /// price, or that a later trade that changed one of these lots does not exist or has no price.
+    /// If the database is still open, it is unchanged, whatever the result.
     ///
     /// A crash after the call exposes only states that a crash before the call could expose.
     pub fn holding_details(
@@ -389,7 +392,8 @@ impl<S: Alter> Desk<S> {
     /// whatever the result.
     ///
     /// `callable`: the closure must accept every record, at its first and at each later call.
-    /// `called`: it is called with each row, in order, until its first error.
+    /// `called`: the closure is called with the rows, in order and one at a time, until its first
+    /// error or a fault.
     ///
     /// A crash after the call exposes only states that a crash before the call could expose.
     pub fn walk_cash<E: From<Fault>, F: FnMut(&MoveRow) -> Result<(), E> + Drop>(
@@ -414,7 +418,8 @@ impl<S: Alter> Desk<S> {
     /// whatever the result.
     ///
     /// `callable`: the closure must accept every record, at its first and at each later call.
-    /// `called`: it is called with each lot, in order, until its first error.
+    /// `called`: the closure is called with the lots, in order and one at a time, until its first
+    /// error or a fault.
     ///
     /// A crash after the call exposes only states that a crash before the call could expose.
     pub fn walk_lots<E: From<Fault>, F: FnMut(&str, &Lot) -> Result<(), E> + Drop>(

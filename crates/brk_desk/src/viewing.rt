@@ -1,4 +1,5 @@
-//! The views of all queries.
+//! The view of a query of any kind, and the view of an estimate. `brk_queries` returns the views of
+//! all other kinds.
 
 ghost use Rattle.std.specs.Prelude.{IfErr};
 ghost use Rattle.brk_model.specs.Queries.{EstimateOf};
@@ -21,13 +22,14 @@ use brk_view::{Query, View};
 use sqlite::Alter;
 use std::alloc::Global;
 
-// Returns the view of the estimated figures of an order: its price, the buy and the sell value of
-// the shares that it would close, the tax, the commission, the charge and the assets of the
-// account; or the refusal of the order. Accepts no order. If the database is still open, it is
-// unchanged. Fails with `Memory` or `Store` only; with `Store` also if the account's customer or
-// one of the customer's taxes does not exist, the tax rates total more than the greatest rate, a
-// held symbol has no last price, a sum overflows, a lot that was read has no shares, or the number
-// of lots read exceeds 32 bits.
+// Returns the view of the estimated figures of an order, in cents: its price, the buy and the sell
+// value of the shares that it would close, the tax, the commission, the charge and the assets of
+// the account; or the refusal of the order. Accepts no order. The result is that of the model if
+// the tables are those of a base that satisfies the books invariant and the audit invariant. If the
+// database is still open, it is unchanged. Fails with `Memory` or `Store` only; with `Store` also
+// if the account's customer or one of the customer's taxes does not exist, the tax rates total more
+// than the greatest rate, a held symbol has no last price, a sum overflows, a lot that was read has
+// no shares, or the number of lots read exceeds 32 bits.
 fn view_of_estimate<S: Alter>(
     alloc: Global,
     store: &mut Store<S>,
@@ -42,9 +44,9 @@ fn view_of_estimate<S: Alter>(
     }
 }
 
-// Executes a query: reads the rows that it selects and returns them as a view, or returns the
-// refusal of the query. The result is that of the model if the tables are those of a base that
-// satisfies the books invariant and the audit invariant.
+// Executes a query of any kind: reads the rows that it needs and returns its view, or its refusal.
+// The result is that of the model if the tables are those of a base that satisfies the books
+// invariant and the audit invariant.
 //
 // Fails with `Memory` or `Store` only; with `Store` also if a row that another row requires does
 // not exist, a lot that was read has no shares, the number of lots read exceeds 32 bits, or a sum

@@ -16,7 +16,7 @@ use brk_report_lines::append_left_aligned;
 use std::alloc::Global;
 
 /// Appends to `out` a label, padded with spaces to 15 bytes (a longer one whole), and a space.
-/// Fails with `Memory` only.
+/// Fails with `Memory` only; a part of these bytes may then be appended.
 pub fn put_label(out: &mut Vec<u8>, label: &str) -> Result<(), Fault>
     ensures ok { OnOk result (out.new.items ≡ out.old.items ++ left_aligned_text 15 label.now ++ 32 ∷ []) }
     ensures fault { OnErr result (result ≡ Err Memory) }
@@ -27,7 +27,7 @@ pub fn put_label(out: &mut Vec<u8>, label: &str) -> Result<(), Fault>
 }
 
 /// Appends to `out` a label, left-aligned in 15 places (a longer one whole), a space, and a text.
-/// Fails with `Memory` only.
+/// Fails with `Memory` only; a part of these bytes may then be appended.
 #[tactic(auto, unfolding(brk_explain_model::specs::Texts::labeled_text))]
 pub fn put_labeled_text(out: &mut Vec<u8>, label: &str, text: &[u8]) -> Result<(), Fault>
     ensures ok { OnOk result (out.new.items ≡ out.old.items ++ texts.labeled_text label.now text.now) }
@@ -38,7 +38,8 @@ pub fn put_labeled_text(out: &mut Vec<u8>, label: &str, text: &[u8]) -> Result<(
 }
 
 /// Appends to `out` a label, left-aligned in 15 places (a longer one whole), a space, and a number
-/// in decimal digits, right-aligned in 22 places. Fails with `Memory` only.
+/// in decimal digits, right-aligned in 22 places. Fails with `Memory` only; a part of these bytes
+/// may then be appended.
 #[tactic(auto, unfolding(brk_explain_model::specs::Texts::labeled_number, brk_explain_model::specs::Texts::labeled_value))]
 pub fn put_labeled_number(out: &mut Vec<u8>, label: &str, n: u64) -> Result<(), Fault>
     ensures ok { OnOk result (out.new.items ≡ out.old.items ++ texts.labeled_number label.now n) }
@@ -50,7 +51,7 @@ pub fn put_labeled_number(out: &mut Vec<u8>, label: &str, n: u64) -> Result<(), 
 
 /// Appends to `out` a label, left-aligned in 15 places, a space, and an amount in cents, written
 /// with two decimal places and right-aligned in 22 places. A longer label or amount is appended
-/// whole. Fails with `Memory` only.
+/// whole. Fails with `Memory` only; a part of these bytes may then be appended.
 #[tactic(auto, unfolding(brk_explain_model::specs::Texts::labeled_amount, brk_explain_model::specs::Texts::labeled_value))]
 pub fn put_labeled_amount(
     alloc: Global,
@@ -66,7 +67,8 @@ pub fn put_labeled_amount(
 }
 
 /// Appends to `out` the line of a label, left-aligned in 15 places (a longer one whole), a space,
-/// and a text, with its line feed. Fails with `Memory` only.
+/// and a text, with its line feed. Fails with `Memory` only; a part of the line may then be
+/// appended.
 pub fn put_labeled_text_line(out: &mut Vec<u8>, label: &str, text: &[u8]) -> Result<(), Fault>
     ensures ok { OnOk result (out.new.items ≡ out.old.items ++ line_with_line_feed (texts.labeled_text label.now text.now)) }
     ensures fault { OnErr result (result ≡ Err Memory) }
@@ -77,7 +79,7 @@ pub fn put_labeled_text_line(out: &mut Vec<u8>, label: &str, text: &[u8]) -> Res
 
 /// Appends to `out` the line of a label, left-aligned in 15 places, a space, and a text `value`,
 /// right-aligned in 22 places, with its line feed. A longer label or text is appended whole. Fails
-/// with `Memory` only.
+/// with `Memory` only; a part of the line may then be appended.
 #[tactic(auto, unfolding(brk_explain_model::specs::Texts::labeled_value))]
 pub fn put_labeled_value_line(out: &mut Vec<u8>, label: &str, value: &[u8]) -> Result<(), Fault>
     ensures ok { OnOk result (out.new.items ≡ out.old.items ++ line_with_line_feed (texts.labeled_value label.now value.now)) }
@@ -90,7 +92,7 @@ pub fn put_labeled_value_line(out: &mut Vec<u8>, label: &str, value: &[u8]) -> R
 
 /// Appends to `out` the line of a label, left-aligned in 15 places (a longer one whole), a space,
 /// and a number in decimal digits, right-aligned in 22 places, with its line feed. Fails with
-/// `Memory` only.
+/// `Memory` only; a part of the line may then be appended.
 pub fn put_labeled_number_line(out: &mut Vec<u8>, label: &str, n: u64) -> Result<(), Fault>
     ensures ok { OnOk result (out.new.items ≡ out.old.items ++ line_with_line_feed (texts.labeled_number label.now n)) }
     ensures fault { OnErr result (result ≡ Err Memory) }
@@ -101,7 +103,7 @@ pub fn put_labeled_number_line(out: &mut Vec<u8>, label: &str, n: u64) -> Result
 
 /// Appends to `out` the line of a label, left-aligned in 15 places (a longer one whole), a space,
 /// and a number in decimal digits, with a minus sign if it is below 0, right-aligned in 22 places,
-/// with its line feed. Fails with `Memory` only.
+/// with its line feed. Fails with `Memory` only; a part of the line may then be appended.
 #[tactic(auto, unfolding(brk_explain_model::specs::Texts::labeled_value))]
 pub fn put_labeled_integer_line(out: &mut Vec<u8>, label: &str, n: i64) -> Result<(), Fault>
     ensures ok { OnOk result (out.new.items ≡ out.old.items ++ line_with_line_feed (texts.labeled_value label.now (signed_decimal n))) }
@@ -114,7 +116,8 @@ pub fn put_labeled_integer_line(out: &mut Vec<u8>, label: &str, n: i64) -> Resul
 
 /// Appends to `out` the line of a label, left-aligned in 15 places, a space, and an amount in
 /// cents, written with two decimal places and right-aligned in 22 places, with its line feed. A
-/// longer label or amount is appended whole. Fails with `Memory` only.
+/// longer label or amount is appended whole. Fails with `Memory` only; a part of the line may then
+/// be appended.
 pub fn put_labeled_amount_line(
     alloc: Global,
     out: &mut Vec<u8>,
@@ -129,7 +132,8 @@ pub fn put_labeled_amount_line(
 }
 
 /// Appends to `out` the line of a label, left-aligned in 15 places (a longer one whole), a space,
-/// and a day in the format YYYY-MM-DD, with its line feed. Fails with `Memory` only.
+/// and a day in the format YYYY-MM-DD, with its line feed. Fails with `Memory` only; a part of the
+/// line may then be appended.
 #[tactic(auto, unfolding(brk_explain_model::specs::Texts::labeled_text))]
 pub fn put_labeled_day_line(out: &mut Vec<u8>, label: &str, day: Day) -> Result<(), Fault>
     ensures ok { OnOk result (out.new.items ≡ out.old.items ++ line_with_line_feed (texts.labeled_text label.now (day_text day))) }

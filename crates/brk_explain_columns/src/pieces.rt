@@ -13,7 +13,7 @@ use brk_report_lines::append_right_aligned;
 use itoa::Buffer;
 use std::alloc::Global;
 
-/// Appends to `out` a line feed. Fails with `Memory` only.
+/// Appends to `out` a line feed. Fails with `Memory` only; `out` is then unchanged.
 pub fn end_line(out: &mut Vec<u8>) -> Result<(), Fault>
     ensures ok { OnOk result (out.new.items ≡ out.old.items ++ 10 ∷ []) }
     ensures fault { OnErr result (result ≡ Err Memory) }
@@ -22,7 +22,7 @@ pub fn end_line(out: &mut Vec<u8>) -> Result<(), Fault>
     Ok(())
 }
 
-/// Appends to `out` a text. Fails with `Memory` only.
+/// Appends to `out` a text. Fails with `Memory` only; `out` is then unchanged.
 pub fn put_text(out: &mut Vec<u8>, text: &[u8]) -> Result<(), Fault>
     ensures ok { OnOk result (out.new.items ≡ out.old.items ++ text.now) }
     ensures fault { OnErr result (result ≡ Err Memory) }
@@ -31,7 +31,8 @@ pub fn put_text(out: &mut Vec<u8>, text: &[u8]) -> Result<(), Fault>
     Ok(())
 }
 
-/// Appends to `out` a text and a line feed. Fails with `Memory` only.
+/// Appends to `out` a text and a line feed. Fails with `Memory` only; a part of the line may then
+/// be appended.
 pub fn put_text_line(out: &mut Vec<u8>, text: &[u8]) -> Result<(), Fault>
     ensures ok { OnOk result (out.new.items ≡ out.old.items ++ line_with_line_feed text.now) }
     ensures fault { OnErr result (result ≡ Err Memory) }
@@ -40,7 +41,8 @@ pub fn put_text_line(out: &mut Vec<u8>, text: &[u8]) -> Result<(), Fault>
     end_line(out)
 }
 
-/// Appends to `out` a space and a text. Fails with `Memory` only.
+/// Appends to `out` a space and a text. Fails with `Memory` only; a part of these bytes may then be
+/// appended.
 pub fn put_spaced_text(out: &mut Vec<u8>, text: &[u8]) -> Result<(), Fault>
     ensures ok { OnOk result (out.new.items ≡ out.old.items ++ 32 ∷ text.now) }
     ensures fault { OnErr result (result ≡ Err Memory) }
@@ -49,7 +51,8 @@ pub fn put_spaced_text(out: &mut Vec<u8>, text: &[u8]) -> Result<(), Fault>
     put_text(out, text)
 }
 
-/// Appends to `out` a space, a text and a line feed. Fails with `Memory` only.
+/// Appends to `out` a space, a text and a line feed. Fails with `Memory` only; a part of the line
+/// may then be appended.
 pub fn put_spaced_text_line(out: &mut Vec<u8>, text: &[u8]) -> Result<(), Fault>
     ensures ok { OnOk result (out.new.items ≡ out.old.items ++ 32 ∷ line_with_line_feed text.now) }
     ensures fault { OnErr result (result ≡ Err Memory) }
@@ -58,7 +61,7 @@ pub fn put_spaced_text_line(out: &mut Vec<u8>, text: &[u8]) -> Result<(), Fault>
     put_text_line(out, text)
 }
 
-/// Appends to `out` a number in decimal digits. Fails with `Memory` only.
+/// Appends to `out` a number in decimal digits. Fails with `Memory` only; `out` is then unchanged.
 pub fn put_number(out: &mut Vec<u8>, n: u64) -> Result<(), Fault>
     ensures ok { OnOk result (out.new.items ≡ out.old.items ++ decimal n) }
     ensures fault { OnErr result (result ≡ Err Memory) }
@@ -68,7 +71,7 @@ pub fn put_number(out: &mut Vec<u8>, n: u64) -> Result<(), Fault>
 }
 
 /// Appends to `out` a text and, directly after it, a number in decimal digits. Fails with `Memory`
-/// only.
+/// only; a part of these bytes may then be appended.
 pub fn put_text_and_number(out: &mut Vec<u8>, text: &str, n: u64) -> Result<(), Fault>
     ensures ok { OnOk result (out.new.items ≡ out.old.items ++ text.now ++ decimal n) }
     ensures fault { OnErr result (result ≡ Err Memory) }
@@ -78,7 +81,8 @@ pub fn put_text_and_number(out: &mut Vec<u8>, text: &str, n: u64) -> Result<(), 
 }
 
 /// Appends to `out` the title line of an explanation: a text, directly after it an id in decimal
-/// digits, the text `, times in UTC`, and a line feed. Fails with `Memory` only.
+/// digits, the text `, times in UTC`, and a line feed. Fails with `Memory` only; a part of the line
+/// may then be appended.
 pub fn put_title_line(out: &mut Vec<u8>, text: &str, id: Id) -> Result<(), Fault>
     ensures ok { OnOk result (out.new.items ≡ out.old.items ++ line_with_line_feed (text.now ++ decimal id ++ codes ", times in UTC")) }
     ensures fault { OnErr result (result ≡ Err Memory) }
@@ -88,7 +92,7 @@ pub fn put_title_line(out: &mut Vec<u8>, text: &str, id: Id) -> Result<(), Fault
 }
 
 /// Appends to `out` a space, and a text, right-aligned in `places` places, at most 22; a longer
-/// text is appended whole. Fails with `Memory` only.
+/// text is appended whole. Fails with `Memory` only; a part of these bytes may then be appended.
 pub fn put_column(out: &mut Vec<u8>, places: usize, text: &[u8]) -> Result<(), Fault>
     requires { places ≤ 22 }
     ensures ok { OnOk result (out.new.items ≡ out.old.items ++ 32 ∷ right_aligned_text places text.now) }
@@ -99,7 +103,8 @@ pub fn put_column(out: &mut Vec<u8>, places: usize, text: &[u8]) -> Result<(), F
 }
 
 /// Appends to `out` a space, and a number in decimal digits, right-aligned in `places` places, at
-/// most 22; a longer number is appended whole. Fails with `Memory` only.
+/// most 22; a longer number is appended whole. Fails with `Memory` only; a part of these bytes may
+/// then be appended.
 pub fn put_number_column(out: &mut Vec<u8>, places: usize, n: u64) -> Result<(), Fault>
     requires { places ≤ 22 }
     ensures ok { OnOk result (out.new.items ≡ out.old.items ++ 32 ∷ right_aligned_text places (decimal n)) }
@@ -111,7 +116,7 @@ pub fn put_number_column(out: &mut Vec<u8>, places: usize, n: u64) -> Result<(),
 
 /// Appends to `out` a space, and a number in decimal digits, with a minus sign if it is below 0,
 /// right-aligned in `places` places, at most 22; a longer number is appended whole. Fails with
-/// `Memory` only.
+/// `Memory` only; a part of these bytes may then be appended.
 pub fn put_integer_column(out: &mut Vec<u8>, places: usize, n: i128) -> Result<(), Fault>
     requires { places ≤ 22 }
     ensures ok { OnOk result (out.new.items ≡ out.old.items ++ 32 ∷ right_aligned_text places (signed_decimal n)) }
@@ -123,7 +128,7 @@ pub fn put_integer_column(out: &mut Vec<u8>, places: usize, n: i128) -> Result<(
 
 /// Appends to `out` a space, and an amount in cents, written with two decimal places and
 /// right-aligned in `places` places, at most 22; a longer amount is appended whole. Fails with
-/// `Memory` only.
+/// `Memory` only; a part of these bytes may then be appended.
 pub fn put_cents_column(
     alloc: Global,
     out: &mut Vec<u8>,

@@ -14,7 +14,8 @@ use brk_report_lines::append_left_aligned;
 use std::alloc::Global;
 
 /// Appends to `out` a word, left-aligned in 6 places (a longer one whole), a space, and the text of
-/// a stamp as date and time in UTC. Fails with `Memory` only.
+/// a stamp as date and time in UTC. Fails with `Memory` only; a part of these bytes may then be
+/// appended.
 pub fn put_word_and_timestamp(out: &mut Vec<u8>, word: &str, stamp: Stamp) -> Result<(), Fault>
     ensures ok { OnOk result (out.new.items ≡ out.old.items ++ left_aligned_text 6 word.now ++ 32 ∷ timestamp_text stamp) }
     ensures fault { OnErr result (result ≡ Err Memory) }
@@ -25,7 +26,7 @@ pub fn put_word_and_timestamp(out: &mut Vec<u8>, word: &str, stamp: Stamp) -> Re
 }
 
 // Appends to `out` a space, and 23 spaces in place of the text of a stamp. Fails with `Memory`
-// only.
+// only; a part of these bytes may then be appended.
 fn put_blank_timestamp(out: &mut Vec<u8>) -> Result<(), Fault>
     ensures ok { OnOk result (out.new.items ≡ out.old.items ++ 32 ∷ blank_timestamp_text) }
     ensures fault { OnErr result (result ≡ Err Memory) }
@@ -35,7 +36,7 @@ fn put_blank_timestamp(out: &mut Vec<u8>) -> Result<(), Fault>
 
 // Appends to `out`, each after a space and right-aligned, an id in 13 places, a number of shares,
 // which may be below 0, in 11 places, and a price with two decimal places in 10 places. A longer
-// one is appended whole. Fails with `Memory` only.
+// one is appended whole. Fails with `Memory` only; a part of these bytes may then be appended.
 fn put_id_shares_and_price(
     alloc: Global,
     out: &mut Vec<u8>,
@@ -56,7 +57,8 @@ fn put_id_shares_and_price(
 /// Appends to `out` the first columns of a row about a trade or a lot, separated by spaces: a word,
 /// left-aligned in 6 places, the text of a stamp as date and time in UTC, and, right-aligned, an id
 /// in 13, a number of shares, which may be below 0, in 11 and a price with two decimal places in 10
-/// places. A longer word, id, number or price is appended whole. Fails with `Memory` only.
+/// places. A longer word, id, number or price is appended whole. Fails with `Memory` only; a part
+/// of these bytes may then be appended.
 #[tactic(auto, unfolding(brk_explain_model::specs::Texts::leading_row_columns))]
 pub fn put_leading_row_columns(
     alloc: Global,
@@ -77,7 +79,8 @@ pub fn put_leading_row_columns(
 /// Appends to `out` the first columns of a row without a stamp, separated by spaces: a word,
 /// left-aligned in 6 places, 23 spaces in place of the text of a stamp, and, right-aligned, an id
 /// in 13, a number of shares, which may be below 0, in 11 and a price with two decimal places in 10
-/// places. A longer word, id, number or price is appended whole. Fails with `Memory` only.
+/// places. A longer word, id, number or price is appended whole. Fails with `Memory` only; a part
+/// of these bytes may then be appended.
 #[tactic(auto, unfolding(brk_explain_model::specs::Texts::leading_row_columns))]
 pub fn put_leading_columns_without_stamp(
     alloc: Global,
@@ -96,7 +99,8 @@ pub fn put_leading_columns_without_stamp(
 }
 
 /// Appends to `out` a space, and an amount in cents, written with two decimal places and
-/// right-aligned in 16 places; a longer amount is appended whole. Fails with `Memory` only.
+/// right-aligned in 16 places; a longer amount is appended whole. Fails with `Memory` only; a part
+/// of these bytes may then be appended.
 #[tactic(auto, unfolding(brk_explain_model::specs::Texts::value_column))]
 pub fn put_value_column(alloc: Global, out: &mut Vec<u8>, amount: Wide) -> Result<(), Fault>
     ensures ok { OnOk result (out.new.items ≡ out.old.items ++ value_column amount) }
@@ -106,7 +110,8 @@ pub fn put_value_column(alloc: Global, out: &mut Vec<u8>, amount: Wide) -> Resul
 }
 
 /// Appends to `out` a space, and an amount in cents, written with two decimal places and
-/// right-aligned in 22 places; a longer amount is appended whole. Fails with `Memory` only.
+/// right-aligned in 22 places; a longer amount is appended whole. Fails with `Memory` only; a part
+/// of these bytes may then be appended.
 #[tactic(auto, unfolding(brk_explain_model::specs::Texts::amount_column))]
 pub fn put_amount_column(alloc: Global, out: &mut Vec<u8>, amount: Wide) -> Result<(), Fault>
     ensures ok { OnOk result (out.new.items ≡ out.old.items ++ amount_column amount) }
@@ -116,7 +121,8 @@ pub fn put_amount_column(alloc: Global, out: &mut Vec<u8>, amount: Wide) -> Resu
 }
 
 /// Appends to `out` a space, and a number of shares, which may be below 0, right-aligned in 11
-/// places; a longer number is appended whole. Fails with `Memory` only.
+/// places; a longer number is appended whole. Fails with `Memory` only; a part of these bytes may
+/// then be appended.
 #[tactic(auto, unfolding(brk_explain_model::specs::Texts::shares_column))]
 pub fn put_shares_column(out: &mut Vec<u8>, shares: i64) -> Result<(), Fault>
     ensures ok { OnOk result (out.new.items ≡ out.old.items ++ shares_column shares) }

@@ -25,7 +25,7 @@ use std::alloc::Global;
 
 // Appends to `out` the first lines of the explanation of an account: the title, the name, the
 // customer, the broker, the tax status, the opening balance, and the column headings of the cash
-// rows. Fails with `Memory` only.
+// rows. Fails with `Memory` only; a part of the lines may then be appended.
 #[tactic(auto, unfolding(brk_explain_model::specs::AccountLines::account_header_lines))]
 fn put_account_header(alloc: Global, out: &mut Vec<u8>, row: &AccountRow) -> Result<(), Fault>
     ensures ok { OnOk result (out.new.items ≡ out.old.items ++ text_of_lines (lines.account_header_lines (abstract_account_row row.now))) }
@@ -57,7 +57,7 @@ pub fn account_header_text(alloc: Global, row: &AccountRow) -> Result<Vec<u8>, F
 }
 
 // Appends to `out` a space, and the id of a trade, or a hyphen if it is `None`, right-aligned in 13
-// places. Fails with `Memory` only.
+// places. Fails with `Memory` only; a part of these bytes may then be appended.
 fn put_trade_id_or_hyphen(out: &mut Vec<u8>, trade: Option<Id>) -> Result<(), Fault>
     ensures ok { OnOk result (out.new.items ≡ out.old.items ++ 32 ∷ right_aligned_text 13 (lines.trade_id_or_hyphen trade)) }
     ensures fault { OnErr result (result ≡ Err Memory) }
@@ -69,8 +69,8 @@ fn put_trade_id_or_hyphen(out: &mut Vec<u8>, trade: Option<Id>) -> Result<(), Fa
 }
 
 // Appends to `out` the line of a cash row, with a line feed: the word `Posted`, its timestamp, its
-// id, the id of its trade or a hyphen, its amount, `balance`, which is the balance after it, and
-// its name. Fails with `Memory` only.
+// id, the id of its trade or a hyphen, its amount, `balance`, which is the balance after it in
+// cents, and its name. Fails with `Memory` only; a part of the line may then be appended.
 #[tactic(auto, unfolding(brk_explain_model::specs::AccountLines::cash_posting_line))]
 fn put_cash_posting(
     alloc: Global,
@@ -90,8 +90,8 @@ fn put_cash_posting(
 }
 
 /// Returns the line of a cash row, with a line feed: the word `Posted`, its timestamp, its id, the
-/// id of its trade or a hyphen, its amount, `balance`, which is the balance after it, and its name.
-/// Fails with `Memory` only.
+/// id of its trade or a hyphen, its amount, `balance`, which is the balance after it in cents, and
+/// its name. Fails with `Memory` only.
 pub fn cash_posting_text(alloc: Global, row: &MoveRow, balance: Wide) -> Result<Vec<u8>, Fault>
     ensures line { IfOk result (λ line. line.items ≡ line_with_line_feed (lines.cash_posting_line (abstract_move_row row.now) balance)) }
     ensures fault { OnErr result (result ≡ Err Memory) }
@@ -102,7 +102,7 @@ pub fn cash_posting_text(alloc: Global, row: &MoveRow, balance: Wide) -> Result<
 }
 
 // Appends to `out` the line of the balance of an account and the line of the column headings of its
-// lots and holdings. Fails with `Memory` only.
+// lots and holdings. Fails with `Memory` only; a part of the lines may then be appended.
 #[tactic(auto, unfolding(brk_explain_model::specs::AccountLines::balance_header_lines))]
 fn put_balance_header(alloc: Global, out: &mut Vec<u8>, row: &AccountRow) -> Result<(), Fault>
     ensures ok { OnOk result (out.new.items ≡ out.old.items ++ text_of_lines (lines.balance_header_lines (abstract_account_row row.now))) }
@@ -127,7 +127,7 @@ pub fn balance_header_text(alloc: Global, row: &AccountRow) -> Result<Vec<u8>, F
 }
 
 // Appends to `out` the word `Lot`, padded with spaces to 6 bytes, a space, and the text `lot`.
-// Fails with `Memory` only.
+// Fails with `Memory` only; a part of these bytes may then be appended.
 fn put_word_before_lot(out: &mut Vec<u8>, lot: &[u8]) -> Result<(), Fault>
     ensures ok { OnOk result (out.new.items ≡ out.old.items ++ left_aligned_text 6 (codes "Lot") ++ 32 ∷ lot.now) }
     ensures fault { OnErr result (result ≡ Err Memory) }
@@ -173,7 +173,7 @@ fn market_value_of_holdings(all: &[PricedHolding]) -> Result<Wide, Fault>
 }
 
 // Appends to `out` the first columns of the line of a holding: the word `Held`, its symbol, and an
-// empty column of 13 places. Fails with `Memory` only.
+// empty column of 13 places. Fails with `Memory` only; a part of these bytes may then be appended.
 #[tactic(auto, unfolding(brk_explain_model::specs::AccountLines::holding_line_start))]
 fn put_holding_line_start(out: &mut Vec<u8>, symbol: &[u8]) -> Result<(), Fault>
     ensures ok { OnOk result (out.new.items ≡ out.old.items ++ lines.holding_line_start symbol.now) }
@@ -185,7 +185,7 @@ fn put_holding_line_start(out: &mut Vec<u8>, symbol: &[u8]) -> Result<(), Fault>
 }
 
 // Appends to `out` a quantity, right-aligned in 11 places, and a price, right-aligned in 10 places,
-// each after a space. Fails with `Memory` only.
+// each after a space. Fails with `Memory` only; a part of these bytes may then be appended.
 #[tactic(auto, unfolding(brk_explain_model::specs::AccountLines::quantity_and_price_columns))]
 fn put_quantity_and_price(
     alloc: Global,
@@ -202,7 +202,7 @@ fn put_quantity_and_price(
 
 // Appends to `out` the line of a holding, with a line feed: the word `Held`, its symbol, its
 // quantity, its last price and its market value. Fails with `Memory` or `Store`; with `Store` if
-// the market value overflows.
+// the market value overflows. After an error a part of the line may be appended.
 #[tactic(auto, unfolding(brk_explain_model::specs::AccountLines::holding_line))]
 fn put_holding_line(alloc: Global, out: &mut Vec<u8>, held: &PricedHolding) -> Result<(), Fault>
     ensures ok { OnOk result (out.new.items ≡ out.old.items ++ line_with_line_feed (lines.holding_line (abstract_priced_holding held.now))) }
@@ -215,8 +215,8 @@ fn put_holding_line(alloc: Global, out: &mut Vec<u8>, held: &PricedHolding) -> R
     end_line(out)
 }
 
-// Appends to `out` the line of each holding, in order. Fails with `Memory` or `Store`; with `Store`
-// if a market value overflows.
+// Appends to `out` the line of each holding, in the order of `all`. Fails with `Memory` or `Store`;
+// with `Store` if a market value overflows. After an error a part of the lines may be appended.
 fn put_holding_lines(alloc: Global, out: &mut Vec<u8>, all: &[PricedHolding]) -> Result<(), Fault>
     ensures ok { OnOk result (out.new.items ≡ out.old.items ++ text_of_lines (map lines.holding_line (map abstract_priced_holding all.now))) }
     ensures fault { IfErr result IsCallFault }
@@ -228,7 +228,8 @@ fn put_holding_lines(alloc: Global, out: &mut Vec<u8>, all: &[PricedHolding]) ->
 }
 
 // Appends to `out` the last line of the explanation of an account, with the numbers of its cash
-// rows (`cash`), of its lots and of the symbols that it holds. Fails with `Memory` only.
+// rows (`cash`), of its lots and of the symbols that it holds. Fails with `Memory` only; a part of
+// the line may then be appended.
 fn put_account_counts_line(
     out: &mut Vec<u8>,
     cash: u64,
@@ -246,7 +247,8 @@ fn put_account_counts_line(
 
 // Appends to `out` the lines of the market value of the holdings, of the assets, and of the numbers
 // of cash rows (`cash`), lots and symbols. The assets are the balance plus the market value, in
-// cents. Fails with `Memory` or `Store`; with `Store` if the assets overflow.
+// cents. Fails with `Memory` or `Store`; with `Store` if the assets overflow. After an error a part
+// of the lines may be appended.
 #[tactic(auto, unfolding(brk_explain_model::specs::AccountLines::account_total_lines))]
 fn put_account_total_lines(
     alloc: Global,
@@ -268,7 +270,8 @@ fn put_account_total_lines(
 
 // Appends to `out` the last lines of the explanation of an account: one for each holding, the
 // market value of the holdings, the assets, and the numbers of cash rows (`cash`), of lots (`lots`)
-// and of held symbols. Fails with `Memory` or `Store`; with `Store` if an amount overflows.
+// and of held symbols. Fails with `Memory` or `Store`; with `Store` if an amount overflows. After
+// an error a part of the lines may be appended.
 fn put_holdings_and_totals(
     alloc: Global,
     out: &mut Vec<u8>,

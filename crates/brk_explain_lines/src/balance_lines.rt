@@ -20,7 +20,7 @@ use brk_money::{Fault, Wide};
 use std::alloc::Global;
 
 // Appends to `out` the line of the cash row of a trade: its id and its name, or `none` if the trade
-// has no cash row. Fails with `Memory` only.
+// has no cash row. Fails with `Memory` only; a part of the line may then be appended.
 #[tactic(auto, unfolding(brk_explain_model::specs::TradeLines::trade_cash_row_line))]
 fn put_cash_row_line(out: &mut Vec<u8>, row: &Option<MoveRow>) -> Result<(), Fault>
     ensures ok { OnOk result (out.new.items ≡ out.old.items ++ line_with_line_feed (lines.trade_cash_row_line (option_map abstract_move_row row.now))) }
@@ -36,7 +36,8 @@ fn put_cash_row_line(out: &mut Vec<u8>, row: &Option<MoveRow>) -> Result<(), Fau
 /// Appends to `out` the lines of the cash row of a completed trade (`none` without one), of the
 /// opening balance, of the sum of the earlier cash rows, of the balance before the trade, of the
 /// amount of the cash row (0.00 without one), and of the balance after the trade. Fails with
-/// `Memory` or `Store`; with `Store` if a balance overflows.
+/// `Memory` or `Store`; with `Store` if a balance overflows. After an error a part of the lines may
+/// be appended.
 #[tactic(auto, unfolding(brk_explain_model::specs::TradeLines::trade_balance_lines))]
 pub(crate) fn put_balance_lines(
     alloc: Global,
@@ -63,7 +64,7 @@ pub(crate) fn put_balance_lines(
 
 // Appends to `out` the last line of the explanation of a completed trade, with the numbers of its
 // status changes (`statuses`), of the lots of which it closed shares (`lots`), and of the account's
-// earlier cash rows (`cash`). Fails with `Memory` only.
+// earlier cash rows (`cash`). Fails with `Memory` only; a part of these bytes may then be appended.
 fn put_counts_line_of_trade(
     out: &mut Vec<u8>,
     statuses: usize,
@@ -81,7 +82,8 @@ fn put_counts_line_of_trade(
 
 /// Appends to `out` the last line of the explanation of the completed trade `order` with the
 /// results `details`: the numbers of its status changes, of the lots of which it closed shares, and
-/// of the account's earlier cash rows. Fails with `Memory` only.
+/// of the account's earlier cash rows. Fails with `Memory` only; a part of the line may then be
+/// appended.
 #[tactic(auto, unfolding(brk_explain_model::specs::TradeLines::counts_lines_of_trade))]
 pub(crate) fn put_counts_of_completed_trade(
     out: &mut Vec<u8>,

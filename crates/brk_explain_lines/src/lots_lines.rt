@@ -24,7 +24,7 @@ use brk_money::{Fault, Price, Side, Wide};
 use std::alloc::Global;
 
 // Appends to `out` the line of the price of a completed trade, and the line of the column headings
-// of its lots. Fails with `Memory` only.
+// of its lots. Fails with `Memory` only; a part of the lines may then be appended.
 #[tactic(auto, unfolding(brk_explain_model::specs::TradeLines::price_and_lot_header_lines))]
 fn put_price_and_lot_header_lines(
     alloc: Global,
@@ -44,7 +44,8 @@ fn put_price_and_lot_header_lines(
 // Appends to `out` the line of a closing by a trade on `side` at `price`: the word `Closed`, the
 // stamp and the id of the trade that opened the lot, the number of closed shares, the lot's price,
 // the buy value and the sell value of these shares, and the lot's quantity after the closing. Fails
-// with `Memory` or `Store`; with `Store` if a value overflows.
+// with `Memory` or `Store`; with `Store` if a value overflows. After an error a part of the line
+// may be appended.
 #[tactic(auto, unfolding(brk_explain_model::specs::TradeLines::closed_lot_line))]
 fn put_closed_lot_line(
     alloc: Global,
@@ -74,8 +75,9 @@ fn put_closed_lot_line(
     end_line(out)
 }
 
-// Appends to `out` a line for each closing by a trade on `side` at `price`. Fails with `Memory` or
-// `Store`; with `Store` if a value overflows.
+// Appends to `out` a line for each closing by a trade on `side` at `price`, in the order of
+// `closings`. Fails with `Memory` or `Store`; with `Store` if a value overflows. After an error a
+// part of the lines may be appended.
 fn put_closed_lot_lines(
     alloc: Global,
     out: &mut Vec<u8>,
@@ -94,7 +96,7 @@ fn put_closed_lot_lines(
 
 // Appends to `out` the line of the lot that `trade` opened at `price`: the word `Opened`, the stamp
 // and the id of the trade, the quantity after the change `lot`, and the price. Fails with `Memory`
-// only.
+// only; a part of the line may then be appended.
 #[tactic(auto, unfolding(brk_explain_model::specs::TradeLines::opened_lot_line))]
 fn put_opened_lot_line(
     alloc: Global,
@@ -113,7 +115,7 @@ fn put_opened_lot_line(
 }
 
 // Appends to `out` the line of the lot that `trade` opened at `price` by the change `lot`, or
-// nothing if `lot` is `None`. Fails with `Memory` only.
+// nothing if `lot` is `None`. Fails with `Memory` only; a part of these bytes may then be appended.
 #[tactic(auto, unfolding(brk_explain_model::specs::TradeLines::opened_lot_lines))]
 fn put_opened_lot_line_if_any(
     alloc: Global,
@@ -144,7 +146,7 @@ fn count_of_opened_shares(details: &ResultDetails) -> u64
 
 // Appends to `out` the lines of the number of shares that a trade closed and of the number of
 // shares that it opened. Fails with `Memory` or `Store`; with `Store` if the number of closed
-// shares overflows.
+// shares overflows. After an error a part of the lines may be appended.
 #[tactic(auto, unfolding(brk_explain_model::specs::TradeLines::share_count_lines))]
 fn put_share_count_lines(out: &mut Vec<u8>, details: &ResultDetails) -> Result<(), Fault>
     ensures ok { OnOk result (out.new.items ≡ out.old.items ++ text_of_lines (lines.share_count_lines (abstract_result_details details.now))) }
@@ -156,7 +158,8 @@ fn put_share_count_lines(out: &mut Vec<u8>, details: &ResultDetails) -> Result<(
 }
 
 // Appends to `out` the lines of the buy value, the sell value and the realised gain of the shares
-// that a trade closed. Fails with `Memory` or `Store`; with `Store` if an amount overflows.
+// that a trade closed. Fails with `Memory` or `Store`; with `Store` if an amount overflows. After
+// an error a part of the lines may be appended.
 #[tactic(auto, unfolding(brk_explain_model::specs::TradeLines::realised_gain_lines))]
 fn put_realised_gain_lines(
     alloc: Global,
@@ -180,7 +183,8 @@ fn put_realised_gain_lines(
 /// Appends to `out` the lines of the price of a completed trade, of the column headings of its
 /// lots, of its closings, of the lot that it opened, if any, of the numbers of closed and opened
 /// shares, and of the buy value, the sell value and the realised gain. Fails with `Memory` or
-/// `Store`; with `Store` if a number of shares or an amount overflows.
+/// `Store`; with `Store` if a number of shares or an amount overflows. After an error a part of the
+/// lines may be appended.
 #[tactic(auto, unfolding(brk_explain_model::specs::TradeLines::lot_and_gain_lines, brk_explain_model::specs::TradeLines::closed_lot_lines))]
 pub(crate) fn put_lot_and_gain_lines(
     alloc: Global,

@@ -21,7 +21,7 @@ use brk_report_lines::append_left_aligned;
 use std::alloc::Global;
 
 // Appends to `out` the line of a status change: the word `Status`, its timestamp, and the code and
-// the name of the status. Fails with `Memory` only.
+// the name of the status. Fails with `Memory` only; a part of the line may then be appended.
 #[tactic(auto, unfolding(brk_explain_model::specs::TradeLines::status_change_line))]
 fn put_status_line(out: &mut Vec<u8>, row: &HistoryRow) -> Result<(), Fault>
     ensures ok { OnOk result (out.new.items ≡ out.old.items ++ line_with_line_feed (lines.status_change_line (abstract_history_row row.now))) }
@@ -32,7 +32,8 @@ fn put_status_line(out: &mut Vec<u8>, row: &HistoryRow) -> Result<(), Fault>
     put_spaced_text_line(out, row.status.name().as_bytes())
 }
 
-// Appends to `out` the line of each status change, in order. Fails with `Memory` only.
+// Appends to `out` the line of each status change, in the order of `rows`. Fails with `Memory`
+// only; a part of the lines may then be appended.
 fn put_status_lines(out: &mut Vec<u8>, rows: &[HistoryRow]) -> Result<(), Fault>
     ensures ok { OnOk result (out.new.items ≡ out.old.items ++ text_of_lines (map lines.status_change_line (map abstract_history_row rows.now))) }
     ensures fault { OnErr result (result ≡ Err Memory) }
@@ -44,7 +45,7 @@ fn put_status_lines(out: &mut Vec<u8>, rows: &[HistoryRow]) -> Result<(), Fault>
 }
 
 // Appends to `out` the line of the account of a trade: its id and its name. Fails with `Memory`
-// only.
+// only; a part of the line may then be appended.
 fn put_account_line(out: &mut Vec<u8>, order: &OrderDetails) -> Result<(), Fault>
     ensures ok { OnOk result (out.new.items ≡ out.old.items ++ line_with_line_feed (lines.trade_account_line (abstract_order_details order.now))) }
     ensures fault { OnErr result (result ≡ Err Memory) }
@@ -54,7 +55,7 @@ fn put_account_line(out: &mut Vec<u8>, order: &OrderDetails) -> Result<(), Fault
 }
 
 // Appends to `out` the title of the explanation of a trade, and the lines of its account, customer,
-// broker and executor. Fails with `Memory` only.
+// broker and executor. Fails with `Memory` only; a part of the lines may then be appended.
 #[tactic(auto, unfolding(brk_explain_model::specs::TradeLines::title_and_party_lines))]
 fn put_title_and_party_lines(out: &mut Vec<u8>, order: &OrderDetails) -> Result<(), Fault>
     ensures ok { OnOk result (out.new.items ≡ out.old.items ++ text_of_lines (lines.title_and_party_lines (abstract_order_details order.now))) }
@@ -70,7 +71,7 @@ fn put_title_and_party_lines(out: &mut Vec<u8>, order: &OrderDetails) -> Result<
 }
 
 // Appends to `out` the line of the type of a trade: its code and its name. Fails with `Memory`
-// only.
+// only; a part of the line may then be appended.
 fn put_trade_type_line(out: &mut Vec<u8>, order: &OrderDetails) -> Result<(), Fault>
     ensures ok { OnOk result (out.new.items ≡ out.old.items ++ line_with_line_feed (lines.trade_type_line (abstract_order_details order.now))) }
     ensures fault { OnErr result (result ≡ Err Memory) }
@@ -80,7 +81,7 @@ fn put_trade_type_line(out: &mut Vec<u8>, order: &OrderDetails) -> Result<(), Fa
 }
 
 // Appends to `out` the line of the security of a trade: its symbol, left-aligned in 15 places, and
-// its name. Fails with `Memory` only.
+// its name. Fails with `Memory` only; a part of the line may then be appended.
 #[tactic(auto, unfolding(brk_explain_model::specs::Texts::labeled_text))]
 fn put_security_line(out: &mut Vec<u8>, order: &OrderDetails) -> Result<(), Fault>
     ensures ok { OnOk result (out.new.items ≡ out.old.items ++ line_with_line_feed (lines.trade_security_line (abstract_order_details order.now))) }
@@ -112,7 +113,7 @@ fn closing_order_words(is_lifo: bool) -> &'static str
 
 // Appends to `out` the lines of the terms of an order: its type, security, quantity and price,
 // whether it settles in cash or on margin, and the order in which it closes lots. Fails with
-// `Memory` only.
+// `Memory` only; a part of the lines may then be appended.
 #[tactic(auto, unfolding(brk_explain_model::specs::TradeLines::order_terms_lines))]
 fn put_order_terms_lines(
     alloc: Global,
@@ -137,7 +138,8 @@ fn put_order_terms_lines(
 }
 
 /// Appends to `out` the lines of the title of the explanation of a trade, of its parties, of the
-/// terms of its order, and of its status changes. Fails with `Memory` only.
+/// terms of its order, and of its status changes. Fails with `Memory` only; a part of the lines may
+/// then be appended.
 #[tactic(auto, unfolding(brk_explain_model::specs::TradeLines::order_and_status_lines))]
 pub(crate) fn put_order_and_status_lines(
     alloc: Global,

@@ -21,7 +21,7 @@ use std::alloc::Global;
 
 /// Appends to `out` the lines of the signed value of a completed trade, of its negated charge,
 /// commission and withheld tax, of its settlement amount, and of its cash type. Fails with `Memory`
-/// only.
+/// only; a part of the lines may then be appended.
 #[tactic(auto, unfolding(brk_explain_model::specs::TradeLines::trade_settlement_lines))]
 pub(crate) fn put_settlement_lines(
     alloc: Global,
@@ -52,7 +52,7 @@ pub(crate) fn put_settlement_lines(
 }
 
 // Appends to `out` the line of a label and a day in the format YYYY-MM-DD, or of the label and
-// `none` if `day` is `None`. Fails with `Memory` only.
+// `none` if `day` is `None`. Fails with `Memory` only; a part of the line may then be appended.
 fn put_day_or_none_line(out: &mut Vec<u8>, label: &str, day: Option<Day>) -> Result<(), Fault>
     ensures ok { OnOk result (out.new.items ≡ out.old.items ++ line_with_line_feed (labeled_text label.now (option_map_or day_text day (codes "none")))) }
     ensures fault { OnErr result (result ≡ Err Memory) }
@@ -65,7 +65,7 @@ fn put_day_or_none_line(out: &mut Vec<u8>, label: &str, day: Option<Day>) -> Res
 
 /// Appends to `out` the lines of the day of completion of a trade, of the settlement day or `none`,
 /// of the number of days from completion to settlement, and of the due day. Fails with `Memory`
-/// only.
+/// only; a part of the lines may then be appended.
 #[tactic(auto, unfolding(brk_explain_model::specs::TradeLines::due_day_lines))]
 pub(crate) fn put_due_day_lines(
     out: &mut Vec<u8>,

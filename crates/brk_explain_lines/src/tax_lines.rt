@@ -23,7 +23,8 @@ use brk_report_lines::append_left_aligned;
 use std::alloc::Global;
 
 // Appends to `out` the line of a tax rate: the word `Rate`, its id, the rate in
-// hundred-thousandths, and its name. Fails with `Memory` only.
+// hundred-thousandths, and its name. Fails with `Memory` only; a part of the line may then be
+// appended.
 #[tactic(auto, unfolding(brk_explain_model::specs::TradeLines::tax_rate_line))]
 fn put_tax_rate_line(out: &mut Vec<u8>, rate: &Tax) -> Result<(), Fault>
     ensures ok { OnOk result (out.new.items ≡ out.old.items ++ line_with_line_feed (lines.tax_rate_line (abstract_tax_rate rate.now))) }
@@ -35,7 +36,8 @@ fn put_tax_rate_line(out: &mut Vec<u8>, rate: &Tax) -> Result<(), Fault>
     put_spaced_text_line(out, rate.name.as_str().as_bytes())
 }
 
-// Appends to `out` the line of each tax rate, in order. Fails with `Memory` only.
+// Appends to `out` the line of each tax rate, in the order of `rates`. Fails with `Memory` only; a
+// part of the lines may then be appended.
 fn put_tax_rate_lines(out: &mut Vec<u8>, rates: &[Tax]) -> Result<(), Fault>
     ensures ok { OnOk result (out.new.items ≡ out.old.items ++ text_of_lines (map lines.tax_rate_line (map abstract_tax_rate rates.now))) }
     ensures fault { OnErr result (result ≡ Err Memory) }
@@ -47,7 +49,7 @@ fn put_tax_rate_lines(out: &mut Vec<u8>, rates: &[Tax]) -> Result<(), Fault>
 }
 
 // Appends to `out` the line of the number, 0 to 2, of the tax status of a trade's account. Fails
-// with `Memory` only.
+// with `Memory` only; a part of the line may then be appended.
 #[tactic(auto, unfolding(brk_explain_model::specs::TradeLines::account_tax_status_lines))]
 fn put_tax_status_line(out: &mut Vec<u8>, order: &OrderDetails) -> Result<(), Fault>
     ensures ok { OnOk result (out.new.items ≡ out.old.items ++ text_of_lines (lines.account_tax_status_lines (abstract_order_details order.now))) }
@@ -58,7 +60,7 @@ fn put_tax_status_line(out: &mut Vec<u8>, order: &OrderDetails) -> Result<(), Fa
 }
 
 // Appends to `out` the line of the sum of tax rates, in hundred-thousandths: the label `Rates now`,
-// the sum, and ` of 100000`. Fails with `Memory` only.
+// the sum, and ` of 100000`. Fails with `Memory` only; a part of the line may then be appended.
 fn put_tax_rate_sum_line(out: &mut Vec<u8>, rates: TaxRate) -> Result<(), Fault>
     ensures ok { OnOk result (out.new.items ≡ out.old.items ++ line_with_line_feed (labeled_number (codes "Rates now") rates ++ codes " of 100000")) }
     ensures fault { OnErr result (result ≡ Err Memory) }
@@ -70,7 +72,8 @@ fn put_tax_rate_sum_line(out: &mut Vec<u8>, rates: TaxRate) -> Result<(), Fault>
 // Appends to `out` the lines of the sum of the customer's current tax rates, of the tax on the
 // trade's realised gain at this sum, and of the tax that the trade records. Fails with `Memory` or
 // `Store`; with `Store` if a sum overflows, if the tax rates total more than the greatest rate, or
-// if the account is taxable and the absolute value of the gain exceeds the greatest amount.
+// if the account is taxable and the absolute value of the gain exceeds the greatest amount. After
+// an error a part of the lines may be appended.
 #[tactic(auto, unfolding(brk_explain_model::specs::TradeLines::current_and_recorded_tax_lines))]
 fn put_current_and_recorded_tax_lines(
     alloc: Global,
@@ -92,7 +95,8 @@ fn put_current_and_recorded_tax_lines(
 /// Appends to `out` the lines of the tax status of a trade's account, of each current tax rate of
 /// its customer, and of the current and the recorded tax. Fails with `Memory` or `Store`; with
 /// `Store` if a sum overflows, if the tax rates total more than the greatest rate, or if the
-/// account is taxable and the absolute value of the gain exceeds the greatest amount.
+/// account is taxable and the absolute value of the gain exceeds the greatest amount. After an
+/// error a part of the lines may be appended.
 #[tactic(auto, unfolding(brk_explain_model::specs::TradeLines::trade_tax_lines))]
 pub(crate) fn put_tax_lines(
     alloc: Global,
@@ -110,7 +114,7 @@ pub(crate) fn put_tax_lines(
 }
 
 // Appends to `out` the text after the rate of a commission band: ` of 10000 for `, its lower bound,
-// ` to ` and its upper bound. Fails with `Memory` only.
+// ` to ` and its upper bound. Fails with `Memory` only; a part of these bytes may then be appended.
 #[tactic(auto, unfolding(brk_explain_model::specs::TradeLines::band_unit_and_bounds_text))]
 fn put_band_bounds(out: &mut Vec<u8>, band: &Band) -> Result<(), Fault>
     ensures ok { OnOk result (out.new.items ≡ out.old.items ++ lines.band_unit_and_bounds_text (abstract_band band.now)) }
@@ -121,7 +125,7 @@ fn put_band_bounds(out: &mut Vec<u8>, band: &Band) -> Result<(), Fault>
 }
 
 // Appends to `out` the text after the bounds of a commission band: `, tier `, its tier, `, ` and
-// its exchange. Fails with `Memory` only.
+// its exchange. Fails with `Memory` only; a part of these bytes may then be appended.
 #[tactic(auto, unfolding(brk_explain_model::specs::TradeLines::band_tier_and_exchange_text))]
 fn put_band_tier_and_exchange(out: &mut Vec<u8>, band: &Band) -> Result<(), Fault>
     ensures ok { OnOk result (out.new.items ≡ out.old.items ++ lines.band_tier_and_exchange_text (abstract_band band.now)) }
@@ -133,7 +137,8 @@ fn put_band_tier_and_exchange(out: &mut Vec<u8>, band: &Band) -> Result<(), Faul
 }
 
 // Appends to `out` the line of the current commission band: its rate in ten-thousandths, its
-// bounds, its tier and its exchange, or `none` if there is no band. Fails with `Memory` only.
+// bounds, its tier and its exchange, or `none` if there is no band. Fails with `Memory` only; a
+// part of the line may then be appended.
 #[tactic(auto, unfolding(brk_explain_model::specs::TradeLines::commission_band_line))]
 fn put_commission_band_line(out: &mut Vec<u8>, band: &Option<Band>) -> Result<(), Fault>
     ensures ok { OnOk result (out.new.items ≡ out.old.items ++ line_with_line_feed (lines.commission_band_line (option_map abstract_band band.now))) }
@@ -149,7 +154,8 @@ fn put_commission_band_line(out: &mut Vec<u8>, band: &Option<Band>) -> Result<()
 }
 
 // Appends to `out` the line of `commission`, which is the commission at the rate of the current
-// band, in cents, or of `none` if `commission` is `None`. Fails with `Memory` only.
+// band, in cents, or of `none` if `commission` is `None`. Fails with `Memory` only; a part of the
+// line may then be appended.
 #[tactic(auto, unfolding(brk_explain_model::specs::TradeLines::current_commission_line))]
 fn put_current_commission_line(
     alloc: Global,
@@ -166,7 +172,8 @@ fn put_current_commission_line(
 }
 
 /// Appends to `out` the line of the current commission band of a completed trade, and the line of
-/// the commission at its rate, each with `none` if there is no band. Fails with `Memory` only.
+/// the commission at its rate, each with `none` if there is no band. Fails with `Memory` only; a
+/// part of the lines may then be appended.
 #[tactic(auto, unfolding(brk_explain_model::specs::TradeLines::band_and_commission_lines))]
 pub(crate) fn put_band_and_commission_lines(
     alloc: Global,

@@ -18,8 +18,8 @@ use std::alloc::Global;
 
 // Appends to `out`, for a completed trade, the lines after its status changes: lots and gain, tax,
 // commission, settlement, due day, balance and counts. Fails with `Memory` or `Store`; with `Store`
-// if an amount overflows or exceeds its limit, or if the tax rates total more than the greatest
-// rate.
+// if an amount or a number of shares overflows or exceeds its limit, or if the tax rates total more
+// than the greatest rate. After an error a part of the lines may be appended.
 #[tactic(auto, unfolding(brk_explain_model::specs::TradeLines::completed_trade_lines))]
 fn put_completed_trade_lines(
     alloc: Global,
@@ -42,8 +42,9 @@ fn put_completed_trade_lines(
 
 // Appends to `out` the lines after the status changes of a trade: the lines of a completed trade if
 // `details` has its results, otherwise the lines of a trade that is not completed. Fails with
-// `Memory` or `Store`; with `Store` if an amount overflows or exceeds its limit, or if the tax
-// rates total more than the greatest rate.
+// `Memory` or `Store`; with `Store` if an amount or a number of shares overflows or exceeds its
+// limit, or if the tax rates total more than the greatest rate. After an error a part of the lines
+// may be appended.
 #[tactic(auto, unfolding(brk_explain_model::specs::TradeLines::lines_after_statuses))]
 fn put_lines_after_statuses(
     alloc: Global,

@@ -41,7 +41,7 @@ fn commission_remark(status: Status) -> &'static str
 }
 
 // Appends to `out` the text `words` and the price `price` with two decimal places. Fails with
-// `Memory` only.
+// `Memory` only; a part of these bytes may then be appended.
 fn put_text_and_price(out: &mut Vec<u8>, words: &str, price: Price) -> Result<(), Fault>
     ensures ok { OnOk result (out.new.items ≡ out.old.items ++ (words.now ++ nonnegative_cents_text price)) }
     ensures fault { OnErr result (result ≡ Err Memory) }
@@ -52,7 +52,8 @@ fn put_text_and_price(out: &mut Vec<u8>, words: &str, price: Price) -> Result<()
 
 // Appends to `out` the text of the event for which a pending trade of the type `kind` waits: for a
 // stop-loss or a limit buy a tick at or below `price`, for a limit sell a tick at or above `price`,
-// and for a market type a cancel. Fails with `Memory` only.
+// and for a market type a cancel. Fails with `Memory` only; a part of these bytes may then be
+// appended.
 fn put_trigger_condition(out: &mut Vec<u8>, kind: TradeType, price: Price) -> Result<(), Fault>
     ensures ok { OnOk result (out.new.items ≡ out.old.items ++ lines.trigger_condition_text kind price) }
     ensures fault { OnErr result (result ≡ Err Memory) }
@@ -68,7 +69,7 @@ fn put_trigger_condition(out: &mut Vec<u8>, kind: TradeType, price: Price) -> Re
 
 // Appends to `out` the text of the event for which a trade waits, by its status: if it is pending,
 // the tick that triggers it (`a cancel` for a market type); if it is submitted, `a result`; and
-// otherwise `nothing`. Fails with `Memory` only.
+// otherwise `nothing`. Fails with `Memory` only; a part of these bytes may then be appended.
 fn put_awaited_event(
     out: &mut Vec<u8>,
     status: Status,
@@ -86,7 +87,7 @@ fn put_awaited_event(
 }
 
 // Appends to `out` the line of the label `Waits for` and the event for which a trade waits. Fails
-// with `Memory` only.
+// with `Memory` only; a part of the line may then be appended.
 #[tactic(auto, unfolding(brk_explain_model::specs::Texts::labeled_text))]
 fn put_awaited_event_line(out: &mut Vec<u8>, trade: &TradeRow) -> Result<(), Fault>
     ensures ok { OnOk result (out.new.items
@@ -99,7 +100,8 @@ fn put_awaited_event_line(out: &mut Vec<u8>, trade: &TradeRow) -> Result<(), Fau
 }
 
 // Appends to `out` the line of a label, an amount in cents, written with two decimal places and
-// right-aligned in 22 places, a space, and the text `words`. Fails with `Memory` only.
+// right-aligned in 22 places, a space, and the text `words`. Fails with `Memory` only; a part of
+// these bytes may then be appended.
 fn put_amount_line_with_remark(
     alloc: Global,
     out: &mut Vec<u8>,
@@ -115,7 +117,7 @@ fn put_amount_line_with_remark(
 }
 
 // Appends to `out` the line of the word `Statuses` and the number `count` of status changes. Fails
-// with `Memory` only.
+// with `Memory` only; a part of the line may then be appended.
 fn put_status_count_line(out: &mut Vec<u8>, count: usize) -> Result<(), Fault>
     ensures ok { OnOk result (out.new.items ≡ out.old.items ++ line_with_line_feed (codes "Statuses " ++ decimal count)) }
     ensures fault { OnErr result (result ≡ Err Memory) }
@@ -126,7 +128,8 @@ fn put_status_count_line(out: &mut Vec<u8>, count: usize) -> Result<(), Fault>
 
 /// Appends to `out`, for a trade that is not completed, the lines after its status changes: its
 /// charge and its commission, each with a remark, the event for which it waits, 0 shares and 0.00
-/// of cash moved, and the number of its status changes. Fails with `Memory` only.
+/// of cash moved, and the number of its status changes. Fails with `Memory` only; a part of the
+/// lines may then be appended.
 #[tactic(auto, unfolding(brk_explain_model::specs::TradeLines::uncompleted_trade_lines))]
 pub(crate) fn put_uncompleted_trade_lines(
     alloc: Global,

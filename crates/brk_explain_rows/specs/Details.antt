@@ -28,7 +28,7 @@ abbrev pub abstract_closing : closing.Closing → Closing
 abstract_closing c = record { lot = c.lot; stamp = c.stamp; price = c.price; before = c.before; after = c.after }
 
 -- The model's facts of a trade as ordered that have the values of the typed facts `o`: of its
--- trade, account and security, and its status changes in order.
+-- trade, account and security, and its status changes, in the same order.
 abbrev pub abstract_order_details : order_details.OrderDetails → OrderDetails
 abstract_order_details o = record {
   trade = abstract_trade_row o.trade;
@@ -72,8 +72,8 @@ abbrev pub abstract_priced_holding : held.PricedHolding → PricedHolding
 abstract_priced_holding h = record { summary = abstract_summary_row h.summary; price = h.price }
 
 -- The facts `s` are the row of `account` in the tables `t`, and its holding summaries, in the order
--- of the table, each with the last price of its symbol. They are `None` if and only if the account
--- does not exist.
+-- of the table, each with the last price of its symbol, or 0 if the symbol has none. They are
+-- `None` if and only if the account does not exist.
 abbrev pub AreDetailsOfAccount : ℕ → Option account_details.AccountDetails → Tables → Type 0
 AreDetailsOfAccount account None t = account_row_with_id t account ≡ None
 AreDetailsOfAccount account (Some s) t =
@@ -90,8 +90,9 @@ abstract_lot_details l = record { trade = abstract_trade_row l.trade; opened = l
 -- The facts `s` are exactly the facts that the explanation of the holding of `account` in the
 -- security `symbol` reads from the tables `t`: the rows of the account and of the security, the
 -- completed trades of the account in the security, the lots that these trades opened, the quantity
--- in the holding summary, 0 without one, and the last price. A refusal is `NoAccount` if the
--- account does not exist, and `NoSecurity` if the account exists and the security does not.
+-- in the holding summary, 0 without one, and the last price, 0 without one. A refusal is
+-- `NoAccount` if the account does not exist, and `NoSecurity` if the account exists and the
+-- security does not.
 abbrev pub AreDetailsOfHolding : ℕ → Text → Result holding_details.HoldingDetails Refusal → Tables → Type 0
 AreDetailsOfHolding account symbol (Err refusal) t =
     ((account_row_with_id t account ≡ None) × (refusal ≡ NoAccount))

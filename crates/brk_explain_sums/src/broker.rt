@@ -19,7 +19,8 @@ use brk_ref::BrokerRow;
 use std::alloc::Global;
 
 // Appends to `out` the first lines of the explanation of a broker: the title, the name, and the
-// column headings of the trades. Fails with `Memory` only.
+// column headings of the trades. Fails with `Memory` only; a part of the lines may then be
+// appended.
 #[tactic(auto, unfolding(brk_explain_model::specs::BrokerLines::broker_header_lines))]
 fn put_broker_header(out: &mut Vec<u8>, row: &BrokerRow) -> Result<(), Fault>
     ensures ok { OnOk result (out.new.items ≡ out.old.items ++ text_of_lines (lines.broker_header_lines (abstract_broker_row row.now))) }
@@ -45,8 +46,9 @@ pub fn broker_header_text(alloc: Global, row: &BrokerRow) -> Result<Vec<u8>, Fau
 }
 
 // Appends to `out` the line of a completed trade in the explanation of a broker, with a line feed:
-// the word `Trade`, its timestamp, its id, its account, its commission, and `total`, the sum of the
-// commissions up to and including this trade. Fails with `Memory` only.
+// the word `Trade`, its timestamp, its id, its account, its commission, and `total`, in cents, the
+// sum of the commissions up to and including this trade. Fails with `Memory` only; a part of the
+// line may then be appended.
 #[tactic(auto, unfolding(brk_explain_model::specs::BrokerLines::trade_commission_line))]
 fn put_trade_commission(
     alloc: Global,
@@ -66,8 +68,8 @@ fn put_trade_commission(
 }
 
 /// Returns the line of a completed trade in the explanation of a broker, with a line feed: the word
-/// `Trade`, its timestamp, its id, its account, its commission, and `total`, the sum of the
-/// commissions up to and including this trade. Fails with `Memory` only.
+/// `Trade`, its timestamp, its id, its account, its commission, and `total`, in cents, the sum of
+/// the commissions up to and including this trade. Fails with `Memory` only.
 pub fn trade_commission_text(alloc: Global, row: &TradeRow, total: Wide) -> Result<Vec<u8>, Fault>
     ensures line { IfOk result (λ line. line.items ≡ line_with_line_feed (lines.trade_commission_line (abstract_trade_row row.now) total)) }
     ensures fault { OnErr result (result ≡ Err Memory) }
@@ -78,7 +80,8 @@ pub fn trade_commission_text(alloc: Global, row: &TradeRow, total: Wide) -> Resu
 }
 
 // Appends to `out` the last line of the explanation of a broker: `accounts` as the number of its
-// accounts, and `trades` as the number of their completed trades. Fails with `Memory` only.
+// accounts, and `trades` as the number of their completed trades. Fails with `Memory` only; a part
+// of the line may then be appended.
 fn put_broker_counts_line(out: &mut Vec<u8>, accounts: usize, trades: u64) -> Result<(), Fault>
     ensures ok { OnOk result (out.new.items ≡ out.old.items ++ line_with_line_feed (lines.broker_counts_line accounts trades)) }
     ensures fault { OnErr result (result ≡ Err Memory) }
@@ -90,7 +93,7 @@ fn put_broker_counts_line(out: &mut Vec<u8>, accounts: usize, trades: u64) -> Re
 
 // Appends to `out` the last lines of the explanation of a broker: the commission total and the
 // trade count in its row, `accounts` as the number of its accounts, and `trades` as the number of
-// their completed trades. Fails with `Memory` only.
+// their completed trades. Fails with `Memory` only; a part of the lines may then be appended.
 #[tactic(auto, unfolding(brk_explain_model::specs::BrokerLines::broker_total_lines))]
 fn put_broker_totals(
     alloc: Global,

@@ -19,7 +19,7 @@ use brk_ref::{AccountRow, Security};
 use std::alloc::Global;
 
 // Appends to `out` the title line of the explanation of a holding, with the account and the symbol.
-// Fails with `Memory` only.
+// Fails with `Memory` only; a part of the line may then be appended.
 fn put_holding_title_line(out: &mut Vec<u8>, account: Id, symbol: &[u8]) -> Result<(), Fault>
     ensures ok { OnOk result (out.new.items ≡ out.old.items ++ line_with_line_feed (lines.holding_title account symbol.now)) }
     ensures fault { OnErr result (result ≡ Err Memory) }
@@ -31,7 +31,8 @@ fn put_holding_title_line(out: &mut Vec<u8>, account: Id, symbol: &[u8]) -> Resu
 }
 
 // Appends to `out` the title of the explanation of a holding, the names of the account and of the
-// security, and the column headings of the trades. Fails with `Memory` only.
+// security, and the column headings of the trades. Fails with `Memory` only; a part of the lines
+// may then be appended.
 #[tactic(auto, unfolding(brk_explain_model::specs::HoldingLines::holding_header_lines))]
 fn put_holding_header_lines(
     out: &mut Vec<u8>,
@@ -54,7 +55,7 @@ fn put_holding_header_lines(
 }
 
 // Appends to `out` the line of the column headings of the lots of a holding. Fails with `Memory`
-// only.
+// only; a part of the line may then be appended.
 fn put_lot_columns_header(out: &mut Vec<u8>) -> Result<(), Fault>
     ensures ok { OnOk result (out.new.items ≡ out.old.items ++ line_with_line_feed lines.lot_columns_header) }
     ensures fault { OnErr result (result ≡ Err Memory) }
@@ -67,7 +68,8 @@ fn put_lot_columns_header(out: &mut Vec<u8>) -> Result<(), Fault>
 
 // Appends to `out` all lines of the explanation of a holding: its header, its completed trades, its
 // lots with their changes, and its totals. Fails with `Memory` or `Store`; with `Store` if an
-// amount, a quantity or a number of lots or changes overflows, or if a trade has no price.
+// amount, a quantity or a number of lots or changes overflows, or if a trade has no price. After an
+// error a part of the lines may be appended.
 #[tactic(auto, unfolding(brk_explain_model::specs::HoldingLines::holding_lines_from_trades_and_lots))]
 fn put_holding_lines(
     alloc: Global,

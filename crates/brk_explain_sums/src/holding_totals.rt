@@ -23,7 +23,8 @@ use brk_money::{Fault, Price, Wide};
 use std::alloc::Global;
 
 // Appends to `out` the lines of the total purchases `bought`, the total sales `sold`, the realised
-// gain `gain` and the cost basis `cost` of a holding, in cents. Fails with `Memory` only.
+// gain `gain` and the cost basis `cost` of a holding, in cents. Fails with `Memory` only; a part of
+// the lines may then be appended.
 #[tactic(auto, unfolding(brk_explain_model::specs::HoldingLines::purchase_sale_gain_and_cost_lines))]
 fn put_purchase_sale_and_cost_lines(
     alloc: Global,
@@ -44,7 +45,8 @@ fn put_purchase_sale_and_cost_lines(
 
 // Appends to `out` the lines of the quantity `shares`, the last price `price`, the market value and
 // the unrealised gain of a holding; the gain is the market value minus the cost basis `cost`, in
-// cents. Fails with `Memory` or `Store`; with `Store` if an amount overflows.
+// cents. Fails with `Memory` or `Store`; with `Store` if an amount overflows. After an error a part
+// of the lines may be appended.
 #[tactic(auto, unfolding(brk_explain_model::specs::HoldingLines::holding_value_lines))]
 fn put_holding_value_lines(
     alloc: Global,
@@ -66,7 +68,7 @@ fn put_holding_value_lines(
 
 // Appends to `out` the last line of the explanation of a holding: the numbers of its trades, of its
 // lots, of the lots that are not fully closed, and of the later changes of lots. Fails with
-// `Memory` only.
+// `Memory` only; a part of the line may then be appended.
 fn put_holding_counts_line(
     out: &mut Vec<u8>,
     trades: usize,
@@ -88,7 +90,7 @@ fn put_holding_counts_line(
 /// gain, cost basis, the quantity `shares`, the last price `price`, the market value, the
 /// unrealised gain, and the numbers of trades, lots, open lots and changes. Fails with `Memory` or
 /// `Store`; with `Store` if an amount or a number of lots or changes overflows, or if a trade has
-/// no price.
+/// no price. After an error a part of the lines may be appended.
 #[tactic(auto, unfolding(brk_explain_model::specs::HoldingLines::holding_total_lines))]
 pub(crate) fn put_holding_total_lines(
     alloc: Global,

@@ -21,6 +21,7 @@ use std::alloc::Global;
 // Appends to `out` the line of a completed trade: the word `Trade`, its stamp, its id, its signed
 // quantity, its price, its signed value, the quantity `held` after it, and the code of its type.
 // Fails with `Memory` or `Store`; with `Store` if the value overflows or the trade has no price.
+// After an error a part of the line may be appended.
 #[tactic(auto, unfolding(brk_explain_model::specs::HoldingLines::holding_trade_line))]
 fn put_holding_trade_line(
     alloc: Global,
@@ -40,9 +41,10 @@ fn put_holding_trade_line(
     put_spaced_text_line(out, row.kind.code().as_bytes())
 }
 
-/// Appends to `out` a line for each completed trade of a holding, in order, with the quantity of
-/// the holding after this trade. Fails with `Memory` or `Store`; with `Store` if a quantity or a
-/// value overflows or a trade has no price.
+/// Appends to `out` a line for each completed trade of a holding, in the order of `done`, with the
+/// quantity of the holding after this trade. Fails with `Memory` or `Store`; with `Store` if a
+/// quantity or a value overflows or a trade has no price. After an error a part of the lines may be
+/// appended.
 pub(crate) fn put_holding_trade_lines(
     alloc: Global,
     out: &mut Vec<u8>,

@@ -24,9 +24,9 @@ CallScript = List (ℕ × Call) × List Outcome
 abbrev pub IsNextScriptedCall : CallRelation CallScript
 IsNextScriptedCall script now call outcome rest = (script.0 ≡ (now, call) ∷ rest.0) × (script.1 ≡ outcome ∷ rest.1)
 
--- The stream with the content `input` makes exactly the calls of `script`, in order, which has
--- exactly one outcome for each, and the replies and the result of the stream follow from these
--- outcomes.
+-- The stream with the content `input` makes exactly the calls of `script`, in the order of
+-- `script`. The script has exactly one outcome for each of these calls, and the replies and the
+-- result of the stream follow from the outcomes.
 abbrev pub StreamMatchesScript : {C : Type 0} → RequestParsers → (C → ℕ → C → Type 0) → Text → CallScript → ClockAndWriterChange C → Result ℕ ServeFault
     → Type 0
 StreamMatchesScript forms gives input script outside result =

@@ -73,8 +73,10 @@ ExchangeFailsWith forms does gives n input span kinds.Memory =
 ExchangeFailsWith forms does gives n input span kinds.Write =
     (reply : Text) × (next : StreamState) × (k : ℕ) × ExchangeHasReply forms does gives n input span reply next × Appends span.old span.new (take k reply)
 
--- The stream with the content `input` completed: exactly its `count` replies were written, and the
--- clock was read once for each of the timestamps `moments`.
+-- The stream with the content `input` completed: exactly its `count` replies were written, which in
+-- the model are the replies of the stream by calls from the base before it to the base after it,
+-- and the clock was read once for each of the timestamps `moments`. The condition on what was
+-- written is vacuous if the writer's content before is unknown.
 pub record StreamCompletesWith {B C : Type 0} (forms : RequestParsers) (does : CallRelation B) (gives : C → ℕ → C → Type 0) (input : Text)
     (span : EnvironmentChange B C) (count : ℕ) : Type 0 where
   pub moments : List ℕ
@@ -84,8 +86,10 @@ pub record StreamCompletesWith {B C : Type 0} (forms : RequestParsers) (does : C
   pub written : Appends span.old span.new (concat replies)
   pub counted : count ≡ length replies
 
--- A fault ended the stream with the content `input`: the first `count` replies were written, and
--- the next turn failed with `kind`.
+-- A fault ended the stream with the content `input`: the first `count` replies, which in the model
+-- are the first replies of the stream, were written, and the next turn failed with `kind`
+-- (`ExchangeFailsWith`). The clock was read once for each of the timestamps `moments` of these
+-- replies.
 pub record StreamFailsWith {B C : Type 0} (forms : RequestParsers) (does : CallRelation B) (gives : C → ℕ → C → Type 0) (input : Text)
     (span : EnvironmentChange B C) (kind : FaultKind) (count : ℕ) : Type 0 where
   -- The timestamps and the bytes of the first replies.

@@ -142,7 +142,8 @@ fn response_body<D: Service>(
     }
 }
 
-// Appends a line and its line end, CR LF, to the head. Fails only if memory runs out.
+// Appends a line and its line end, CR LF, to the head. Fails only if memory runs out; a part of the
+// line may then be appended.
 fn append_head_line(head: &mut String, line: &str) -> Result<(), AllocError>
     ensures { OnOk result (string_bytes head.new ≡ string_bytes head.old ++ head_line line.now) }
 {
@@ -150,7 +151,7 @@ fn append_head_line(head: &mut String, line: &str) -> Result<(), AllocError>
 }
 
 // Appends a line and its line end, CR LF, to the head if the flag `is_wanted` is true, and
-// otherwise nothing. Fails only if memory runs out.
+// otherwise nothing. Fails only if memory runs out; a part of the line may then be appended.
 fn append_head_line_if(head: &mut String, is_wanted: bool, line: &str) -> Result<(), AllocError>
     ensures { OnOk result (string_bytes head.new ≡ string_bytes head.old ++ head_line_if is_wanted line.now) }
 {

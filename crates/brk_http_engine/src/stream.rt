@@ -23,10 +23,14 @@ pub struct ServeFault {
     pub kind: FaultKind,
 }
 
-// Serves the requests of a stream, in order, at most 1,000, and returns the number of replies. The
-// router must have exactly the three routes, and no view may have an empty name.
+// Serves the requests of a stream, in order, until the input ends or a reply is the last of the
+// stream, at the latest after 1,000 requests, and returns the number of replies. The router must
+// have exactly the three routes, and no view may have an empty name.
 //
-// Fails with the fault, `Read`, `Write` or `Memory`, and the number of replies before it.
+// Fails with the fault, `Read`, `Write` or `Memory`, and the number of replies before it. If the
+// content of the reader is specified: after a fault of memory or of the writer, the next request
+// may have been executed; after a fault of the reader it was not. After a fault of the writer, a
+// prefix of the reply to the next request is written, perhaps all of it.
 fn serve_with_router<R: Read + Drop, W: Write, C: Clock, D: Service>(
     alloc: Global,
     router: &Router<RouteKind>,
@@ -69,13 +73,15 @@ fn serve_with_router<R: Read + Drop, W: Write, C: Clock, D: Service>(
     }
 }
 
-/// Serves the requests of a stream, in order, at most 1,000, and returns the number of replies. No
-/// view may have an empty name.
+/// Serves the requests of a stream, in order, until the input ends or a reply is the last of the
+/// stream, at the latest after 1,000 requests, and returns the number of replies. No view may have
+/// an empty name.
 ///
 /// Each request makes at most one call of the desk. Fails with the fault, `Read`, `Write` or
 /// `Memory`, and the number of replies before it; with `Memory` and 0 also if the router cannot be
 /// created. If the content of the reader is specified: after a fault of memory or of the writer,
-/// the next request may have been executed; after a fault of the reader it was not.
+/// the next request may have been executed; after a fault of the reader it was not. After a fault
+/// of the writer, a prefix of the reply to the next request is written, perhaps all of it.
 pub fn serve_requests<R: Read + Drop, W: Write, C: Clock, D: Service>(
     alloc: Global,
     reader: R,

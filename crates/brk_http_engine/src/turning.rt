@@ -124,8 +124,9 @@ fn execute_and_format_reply<C: Clock, D: Service>(
 }
 
 /// Reads the next request, after `done` replies, executes it and writes its reply. Returns `Ended`
-/// if no input is left, `Closed` if the reply is the last of the stream, otherwise `Open`. A
-/// request that cannot be read is not executed: the reply names its problem and is the last.
+/// if no input is left, `Closed` if the reply is the last of the stream, otherwise `Open`; the
+/// buffer is then without the request. A request that cannot be read is not executed: the reply
+/// names its problem and is the last.
 ///
 /// Fails with `Read` if the reader fails, with `Memory` if memory runs out, or with `Write` if the
 /// writer fails or accepts no byte. If the content of the reader is specified: at `Read` no request

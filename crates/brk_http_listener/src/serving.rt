@@ -11,7 +11,7 @@ use std::alloc::Global;
 // reader or writer.
 //
 // Fails with `Stream` if the stream ended because memory ran out, and with `Net` if no stream could
-// be accepted.
+// be accepted. Unless a stream was accepted, the clock and the desk are unchanged.
 fn serve_next_stream<L: Listener, H: StreamServer<Stream = L::Stream>>(
     alloc: Global,
     listener: &mut L,
@@ -41,7 +41,8 @@ fn serve_next_stream<L: Listener, H: StreamServer<Stream = L::Stream>>(
 /// as one, and so does one that a fault of its reader or writer ended early.
 ///
 /// Fails with `Stream` at the first stream that ended because memory ran out, and with `Net` if no
-/// stream could be accepted. No stream is accepted after a fault.
+/// stream could be accepted. No stream is accepted after a fault. The clock and the desk change
+/// only by the serving of accepted streams, whose changes remain at a fault.
 pub fn serve_each_stream<L: Listener, H: StreamServer<Stream = L::Stream>>(
     alloc: Global,
     listener: &mut L,

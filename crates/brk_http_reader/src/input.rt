@@ -95,7 +95,8 @@ pub fn read_into_buffer<R: Read>(reader: &mut R, buffer: &mut Vec<u8>) -> Result
 /// at least 16,384 bytes and the first 16,384 do not contain its end, or `Cut` if the input ended
 /// earlier.
 ///
-/// Fails with `Read` if the reader fails, or with `Memory` if memory runs out.
+/// Fails with `Read` if the reader fails, or with `Memory` if memory runs out. No clause states
+/// what the buffer and the reader then contain.
 pub fn read_head<R: Read>(reader: &mut R, buffer: &mut Vec<u8>) -> Result<HeadEnd, InputFault>
     ensures moves { OnOk result (ReadsIntoBuffer (R.remaining reader.old) (R.remaining reader.new) buffer.old.items buffer.new.items) }
     ensures within { IfOk result (λ end. HeadEndIsWithin end (length buffer.new.items)) }
@@ -121,9 +122,10 @@ pub fn read_head<R: Read>(reader: &mut R, buffer: &mut Vec<u8>) -> Result<HeadEn
 }
 
 /// Reads until the buffer has at least `len` bytes, and returns true. Returns false if the input
-/// ends before the buffer has so many bytes.
+/// ends before the buffer has `len` bytes; all bytes that the reader still had are then appended.
 ///
-/// Fails with `Read` if the reader fails, or with `Memory` if memory runs out.
+/// Fails with `Read` if the reader fails, or with `Memory` if memory runs out. No clause states
+/// what the buffer and the reader then contain.
 pub fn read_to_length<R: Read>(
     reader: &mut R,
     buffer: &mut Vec<u8>,

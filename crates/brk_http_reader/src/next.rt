@@ -41,7 +41,8 @@ pub enum NextRequest {
 /// more than 100 fields; otherwise the problem with the body length (`facts_from_fields`), or
 /// `BadRequest` if the input ends within the body.
 ///
-/// Fails with `Read` if the reader fails, or with `Memory` if memory runs out.
+/// Fails with `Read` if the reader fails, or with `Memory` if memory runs out. No clause states
+/// what the buffer and the reader then contain.
 pub fn read_next_request<R: Read>(
     reader: &mut R,
     buffer: &mut Vec<u8>,

@@ -25,16 +25,19 @@ model_query_result (Err refusal) = Err refusal
 abbrev pub EqualsModelQueryResult : Query → Result View Refusal → Tables → Type 0
 EqualsModelQueryResult query seen t = (base : Base) → BooksInvariant base → AuditInvariant base → t ≡ sheets base → ask base query ≡ model_query_result seen
 
--- The view that `seen` contains is of the kind of `query`, and its rows of trades and of lot
--- changes are those that the query selects from the tables `t` (`HasRowsOfQuery`). Vacuous if
--- `seen` is a refusal, and if `t` are not the tables of a base that satisfies the books invariant
--- and the audit invariant.
+-- The view that `seen` contains satisfies `HasRowsOfQuery`: it is of the kind of `query` and, if
+-- the query is for an account's status, for trades with their settlements, cash rows and histories,
+-- or for touched lots, has the trades or lot changes that the query selects from the tables `t`,
+-- and if it is for recent trades, these trades. For any other query only the kind is stated.
+-- Vacuous if `seen` is a refusal, and if `t` are not the tables of a base that satisfies the books
+-- invariant and the audit invariant.
 abbrev pub ViewHasSelectedRows : Query → Result View Refusal → Tables → Type 0
 ViewHasSelectedRows query seen t = IfOk seen (λ view. (base : Base) → BooksInvariant base → AuditInvariant base → t ≡ sheets base → HasRowsOfQuery query view t)
 
--- The result `seen` of `query` equals the result of the model, as records of texts or a refusal,
--- and a view is of the kind of `query` and has the rows of trades and of lot changes that the query
--- selects from the tables `t`. Vacuous if `t` are not the tables of a base that satisfies the books
--- invariant and the audit invariant.
+-- The result `seen` of `query` equals the result of the model, as records of texts or a refusal
+-- (`EqualsModelQueryResult`), and a view satisfies `HasRowsOfQuery` with the tables `t`: it is of
+-- the kind of `query` and, only for the queries that `ViewHasSelectedRows` names, has the selected
+-- rows. Vacuous if `t` are not the tables of a base that satisfies the books invariant and the
+-- audit invariant.
 abbrev pub AnswersQueryAsModel : Query → Result View Refusal → Tables → Type 0
 AnswersQueryAsModel query seen t = EqualsModelQueryResult query seen t × ViewHasSelectedRows query seen t

@@ -15,9 +15,10 @@ use brk_view::{AccountWorth, View, position};
 use sqlite::Alter;
 use std::alloc::Global;
 
-// Returns the id and the balance of an account, and the market value of its holdings at last
-// prices, both in cents. If the database is still open, it is unchanged. Fails with `Memory` or
-// `Store` only; with `Store` also if a held symbol has no last price or the sum overflows.
+// Returns the id and the balance of the account in the row `row`, and the market value of its
+// holdings at last prices, both amounts in cents. If the database is still open, it is unchanged.
+// Fails with `Memory` or `Store` only; with `Store` also if a held symbol has no last price or the
+// sum overflows.
 fn read_balance_and_market_value<S: Alter>(
     alloc: Global,
     store: &mut Store<S>,
@@ -34,9 +35,10 @@ fn read_balance_and_market_value<S: Alter>(
     })
 }
 
-// Returns the balances and the market values of all accounts of a customer, in cents, in the order
-// of the table of accounts. If the database is still open, it is unchanged. Fails with `Memory` or
-// `Store` only; with `Store` also if a held symbol has no last price or a sum overflows.
+// Returns the ids, the balances and the market values of all accounts of the customer with the id
+// `customer`, both amounts in cents, in the order of the table of accounts. If the database is
+// still open, it is unchanged. Fails with `Memory` or `Store` only; with `Store` also if a held
+// symbol has no last price or a sum overflows.
 fn read_balances_and_market_values<S: Alter>(
     alloc: Global,
     store: &mut Store<S>,
@@ -57,8 +59,10 @@ fn read_balances_and_market_values<S: Alter>(
 
 /// Returns the view of the balances and the market values of the accounts of the customer with the
 /// id `customer`, sorted by market value, then by id, ascending. Refuses with `NoCustomer` if there
-/// is no such customer. If the database is still open, it is unchanged. Fails with `Memory` or
-/// `Store` only; with `Store` also if a held symbol has no last price or a sum overflows.
+/// is no such customer. The result is that of the model if the tables are those of a base that
+/// satisfies the books invariant and the audit invariant. If the database is still open, it is
+/// unchanged. Fails with `Memory` or `Store` only; with `Store` also if a held symbol has no last
+/// price or a sum overflows.
 pub fn view_of_account_values<S: Alter>(
     alloc: Global,
     store: &mut Store<S>,
@@ -77,8 +81,10 @@ pub fn view_of_account_values<S: Alter>(
 
 /// Returns the view of the balances and the market values of the accounts of the customer with the
 /// tax id `tax_id`, sorted by market value, then by id, ascending. Refuses with `NoCustomer` if
-/// there is no such customer. If the database is still open, it is unchanged. Fails with `Memory` or
-/// `Store` only; with `Store` also if a held symbol has no last price or a sum overflows.
+/// there is no such customer. The result is that of the model if the tables are those of a base
+/// that satisfies the books invariant and the audit invariant. If the database is still open, it is
+/// unchanged. Fails with `Memory` or `Store` only; with `Store` also if a held symbol has no last
+/// price or a sum overflows.
 pub fn view_of_account_values_by_tax_id<S: Alter>(
     alloc: Global,
     store: &mut Store<S>,

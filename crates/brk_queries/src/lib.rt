@@ -1,5 +1,6 @@
-//! The answers to queries, read from a store: each is a view of typed rows, or a refusal. Also the
-//! figures of an account's statement that are not rows.
+//! The answers to all queries except that for the estimate of an order, read from a store: each is
+//! a view of typed rows, or a refusal. Also the figures of an account's statement that are not
+//! rows.
 #![tactic(auto)]
 
 pub mod accounts;

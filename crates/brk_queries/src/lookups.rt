@@ -40,10 +40,10 @@ fn read_all_rows_of_trade<S: Alter>(
     create_looked_up_trade(alloc, trade, settlement, cash, &history)
 }
 
-// Returns the trades `trades`, in order, each with its settlement and its cash row, if they exist,
-// and its history. These rows are specified only if the tables are those of a base that satisfies
-// the books invariant and the audit invariant. If the database is still open, it is unchanged.
-// Fails with `Memory` or `Store` only.
+// Returns the trades `trades`, in the order of this list, each with its settlement and its cash
+// row, if they exist, and its history. The result is specified only if the tables are those of a
+// base that satisfies the books invariant and the audit invariant. If the database is still open,
+// it is unchanged. Fails with `Memory` or `Store` only.
 fn read_all_rows_of_trades<S: Alter>(
     alloc: Global,
     store: &mut Store<S>,
@@ -62,9 +62,11 @@ fn read_all_rows_of_trades<S: Alter>(
     Ok(found)
 }
 
-/// Returns the view of the trades with the ids in `trades`, the oldest first, each with its
-/// settlement, cash row and history. Refuses with `NoTrade` if one of the trades does not exist. If
-/// the database is still open, it is unchanged. Fails with `Memory` or `Store` only.
+/// Returns the view of the trades with the ids in `trades`, sorted by stamp, then by id, ascending,
+/// each with its settlement and its cash row, if they exist, and its history. Refuses with
+/// `NoTrade` if one of the trades does not exist. The result is that of the model if the tables are
+/// those of a base that satisfies the books invariant and the audit invariant. If the database is
+/// still open, it is unchanged. Fails with `Memory` or `Store` only.
 pub fn view_of_trades_by_ids<S: Alter>(
     alloc: Global,
     store: &mut Store<S>,
@@ -83,10 +85,12 @@ pub fn view_of_trades_by_ids<S: Alter>(
     Ok(Ok(lookup_ids(found)))
 }
 
-/// Returns the view of the first 20 trades of an account whose stamps are in `span`, both ends
-/// included, the oldest first, each with its settlement, cash row and history. Refuses with
-/// `NoAccount` if the account does not exist. If the database is still open, it is unchanged. Fails
-/// with `Memory` or `Store` only.
+/// Returns the view of the first 20 trades of an account, or of all if there are fewer, whose
+/// stamps are in `span`, both ends included, sorted by stamp, then by id, ascending, each with its
+/// settlement and its cash row, if they exist, and its history. Refuses with `NoAccount` if the
+/// account does not exist. The result is that of the model if the tables are those of a base that
+/// satisfies the books invariant and the audit invariant. If the database is still open, it is
+/// unchanged. Fails with `Memory` or `Store` only.
 pub fn view_of_account_trades<S: Alter>(
     alloc: Global,
     store: &mut Store<S>,
@@ -104,10 +108,12 @@ pub fn view_of_account_trades<S: Alter>(
     Ok(Ok(lookup_account(found)))
 }
 
-/// Returns the view of the first 20 trades of a symbol whose stamps are in `span`, both ends
-/// included, the oldest first, each with its settlement, cash row and history. Refuses with
-/// `NoSecurity` if the security does not exist. If the database is still open, it is unchanged.
-/// Fails with `Memory` or `Store` only.
+/// Returns the view of the first 20 trades of a symbol, or of all if there are fewer, whose stamps
+/// are in `span`, both ends included, sorted by stamp, then by id, ascending, each with its
+/// settlement and its cash row, if they exist, and its history. Refuses with `NoSecurity` if the
+/// security does not exist. The result is that of the model if the tables are those of a base that
+/// satisfies the books invariant and the audit invariant. If the database is still open, it is
+/// unchanged. Fails with `Memory` or `Store` only.
 pub fn view_of_symbol_trades<S: Alter>(
     alloc: Global,
     store: &mut Store<S>,

@@ -14,8 +14,9 @@ use brk_view::{LotTouch, TouchedLots, View, lookup_lots, merge_lot_changes_into_
 use sqlite::Alter;
 use std::alloc::Global;
 
-// Returns the stamp of the last status of a trade. If the database is still open, it is unchanged.
-// Fails with `Memory` or `Store` only; with `Store` also if the trade does not exist.
+// Returns the stamp of the last status of the trade with the id `trade`. If the database is still
+// open, it is unchanged. Fails with `Memory` or `Store` only; with `Store` also if the trade does
+// not exist.
 fn require_last_status_stamp<S: Alter>(store: &mut Store<S>, trade: Id) -> Result<Stamp, Fault>
     ensures read { ReadPost S.Store store.old store.new result (λ stamp t. stamp ≡ last_status_stamp t trade) }
     ensures fault { IfErr result IsCallFault }
@@ -26,9 +27,10 @@ fn require_last_status_stamp<S: Alter>(store: &mut Store<S>, trade: Id) -> Resul
     }
 }
 
-// Returns all changes of a lot, in the order of HOLDING_HISTORY, each with the stamp of the last
-// status of the trade that made it. If the database is still open, it is unchanged. Fails with
-// `Memory` or `Store` only; with `Store` also if one of these trades does not exist.
+// Returns all changes of the lot with the id `lot`, in the order of HOLDING_HISTORY, each with the
+// stamp of the last status of the trade that made it. If the database is still open, it is
+// unchanged. Fails with `Memory` or `Store` only; with `Store` also if one of these trades does not
+// exist.
 fn read_stamped_changes_of_lot<S: Alter>(
     alloc: Global,
     store: &mut Store<S>,
@@ -50,10 +52,10 @@ fn read_stamped_changes_of_lot<S: Alter>(
     Ok(touches)
 }
 
-// Returns the id of a trade and at most 20 changes, by any trade, of the lots that it touched: the
-// first of all of them by stamp, then by lot, ascending. If the database is still open, it is
-// unchanged. Fails with `Memory` or `Store` only; with `Store` also if a trade that made one of the
-// changes does not exist.
+// Returns the id `trade` and at most 20 changes, by any trade, of the lots that the trade with this
+// id touched: the first when all of them are sorted by stamp, then by lot, ascending. If the
+// database is still open, it is unchanged. Fails with `Memory` or `Store` only; with `Store` also
+// if a trade that made one of the changes does not exist.
 fn read_changes_of_touched_lots<S: Alter>(
     alloc: Global,
     store: &mut Store<S>,
@@ -76,10 +78,12 @@ fn read_changes_of_touched_lots<S: Alter>(
 
 /// Returns the view of the lots that one trade touched, the oldest trade of the account whose last
 /// status has the stamp `first` or a later one (of equally old trades the one with the least id):
-/// the first 20 changes of these lots, sorted by stamp, then by lot, ascending. Without such a trade
-/// the view has no record. Refuses with `NoAccount` if the account does not exist. If the database
-/// is still open, it is unchanged. Fails with `Memory` or `Store` only; with `Store` also if a trade
-/// that made one of the changes does not exist.
+/// the id of this trade, and the first 20 changes of these lots, by any trade, or all if there are
+/// fewer, sorted by stamp, then by lot, ascending. Without such a trade the view has no record.
+/// Refuses with `NoAccount` if the account does not exist. The result is that of the model if the
+/// tables are those of a base that satisfies the books invariant and the audit invariant. If the
+/// database is still open, it is unchanged. Fails with `Memory` or `Store` only; with `Store` also
+/// if a trade that made one of the changes does not exist.
 pub fn view_of_touched_lots<S: Alter>(
     alloc: Global,
     store: &mut Store<S>,

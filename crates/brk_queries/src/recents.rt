@@ -16,7 +16,8 @@ use brk_view::{View, recent};
 use sqlite::Alter;
 use std::alloc::Global;
 
-// Appends the status changes `rows` (of TRADE_HISTORY) to `history`. Fails if memory runs out.
+// Appends the status changes `rows` (of TRADE_HISTORY) to `history`. Fails only if memory runs out;
+// some of the first rows may then be appended.
 fn append_history_rows(history: &mut Vec<HistoryRow>, rows: &[HistoryRow]) -> Result<(), Fault>
     ensures added { OnOk result (history.new.items ≡ history.old.items ++ rows.now) }
     ensures fault { IfErr result IsCallFault }
@@ -49,9 +50,11 @@ fn read_recent_trades_with_history<S: Alter>(
     Ok((trades, history))
 }
 
-/// Returns the view of the last ten trades of an account, the most recent first, with their status
-/// changes. Refuses with `NoAccount` if the account does not exist. If the database is still open,
-/// it is unchanged. Fails with `Memory` or `Store` only.
+/// Returns the view of the last ten trades of an account, or of all if it has fewer, the most
+/// recent first, with their status changes. Refuses with `NoAccount` if the account does not exist.
+/// The result is that of the model if the tables are those of a base that satisfies the books
+/// invariant and the audit invariant. If the database is still open, it is unchanged. Fails with
+/// `Memory` or `Store` only.
 pub fn view_of_recent_trades<S: Alter>(
     alloc: Global,
     store: &mut Store<S>,

@@ -38,7 +38,7 @@ fn is_security_in_sector<S: Alter>(
 
 // Appends the pending request `row` to `found` if `row` is one of the broker `broker` and its
 // security exists and is in the sector. If the database is still open, it is unchanged. Fails with
-// `Memory` or `Store` only.
+// `Memory` or `Store` only; `found` is then unchanged.
 fn append_request_if_of_broker_in_sector<S: Alter>(
     store: &mut Store<S>,
     sector: &Name,
@@ -69,7 +69,8 @@ fn append_request_if_of_broker_in_sector<S: Alter>(
 }
 
 // Returns the requests in `requests` that are of the broker and for a security in the sector, in
-// order. If the database is still open, it is unchanged. Fails with `Memory` or `Store` only.
+// the order of `requests`. If the database is still open, it is unchanged. Fails with `Memory` or
+// `Store` only.
 fn read_sector_requests_of_broker<S: Alter>(
     alloc: Global,
     store: &mut Store<S>,
@@ -92,7 +93,7 @@ fn read_sector_requests_of_broker<S: Alter>(
 // sector: the sum, in cents, of quantity times bid price over its pending requests for securities
 // in the sector. Appends nothing if it has no such request. What it appends is specified only if
 // `requests` are all pending requests, in the order of the table. If the database is still open, it
-// is unchanged. Fails with `Memory` or `Store` only.
+// is unchanged. Fails with `Memory` or `Store` only; `found` is then unchanged.
 fn append_broker_volume<S: Alter>(
     alloc: Global,
     store: &mut Store<S>,
@@ -120,9 +121,10 @@ fn append_broker_volume<S: Alter>(
 }
 
 // Appends to `found` the volumes in the sector, in cents, of the brokers with the name `name` that
-// have a pending request for a security in it, in the order of the table. What it appends is
-// specified only if `requests` are all pending requests, in the order of the table. If the database
-// is still open, it is unchanged. Fails with `Memory` or `Store` only.
+// have a pending request for a security in it, in the order of the table of brokers. What it
+// appends is specified only if `requests` are all pending requests, in the order of their table. If
+// the database is still open, it is unchanged. Fails with `Memory` or `Store` only; the volumes of
+// some of the brokers may then be appended.
 fn append_volumes_of_brokers_named<S: Alter>(
     alloc: Global,
     store: &mut Store<S>,
@@ -143,8 +145,9 @@ fn append_volumes_of_brokers_named<S: Alter>(
 }
 
 // Returns the volumes in the sector, in cents, of the brokers with the names `names` that have a
-// pending request for a security in it, in the order of the names. Reads all requests once. If the
-// database is still open, it is unchanged. Fails with `Memory` or `Store` only.
+// pending request for a security in it, in the order of `names` and, for one name, in the order of
+// the table of brokers. Reads all requests once. If the database is still open, it is unchanged.
+// Fails with `Memory` or `Store` only.
 fn read_volumes_of_brokers_named<S: Alter>(
     alloc: Global,
     store: &mut Store<S>,
@@ -165,8 +168,9 @@ fn read_volumes_of_brokers_named<S: Alter>(
 
 /// Returns the view of the volumes in the sector, in cents, of the brokers with the names `names`
 /// that have a pending request for a security in it, sorted by volume, descending, then by name and
-/// id, ascending. Never refuses. If the database is still open, it is unchanged. Fails with `Memory`
-/// or `Store` only.
+/// id, ascending. Never refuses. The view is that of the model if the tables are those of a base
+/// that satisfies the books invariant and the audit invariant. If the database is still open, it is
+/// unchanged. Fails with `Memory` or `Store` only.
 pub fn view_of_broker_volumes<S: Alter>(
     alloc: Global,
     store: &mut Store<S>,

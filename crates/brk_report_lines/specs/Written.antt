@@ -12,13 +12,15 @@ abbrev pub line_with_line_feed : Text → Text
 line_with_line_feed line = line ++ 10 ∷ []
 
 -- The first lines of `lines` were written whole, perhaps none of them, and at least the last line
--- of `lines` was not written. Never holds if `lines` is empty.
+-- of `lines` was not written. Never holds if `lines` is empty. If the writer's content before is
+-- unknown, it states only that `lines` is not empty.
 abbrev pub WritesProperPrefixOfLines : List Text → Option Text → Option Text → Type 0
 WritesProperPrefixOfLines lines old new =
     (first : List Text) × (next : Text) × (rest : List Text) × (first ++ next ∷ rest ≡ lines) × Appends old new (text_of_lines first)
 
 -- The first lines of `lines` were written whole, perhaps none of them, and then a prefix of the
--- next line with its line feed, perhaps empty or all of it. Never holds if `lines` is empty.
+-- next line with its line feed, perhaps empty or all of it. Never holds if `lines` is empty. If the
+-- writer's content before is unknown, it states only that `lines` is not empty.
 abbrev pub WritesLinesAndPartOfNext : List Text → Option Text → Option Text → Type 0
 WritesLinesAndPartOfNext lines old new =
     (first : List Text) × (next : Text) × (rest : List Text) × (k : ℕ) × (first ++ next ∷ rest ≡ lines)
@@ -26,7 +28,7 @@ WritesLinesAndPartOfNext lines old new =
 
 -- Writing `lines` failed with this fault. `Desk`: its fault is `Memory` or `Store`, and the first
 -- lines were written whole, perhaps none and never the last one. `Write`: the first lines were
--- written whole, perhaps none, and then a prefix of the next one.
+-- written whole, perhaps none, and then a prefix of the next one, perhaps empty or all of it.
 abbrev pub FailsWithinLines : List Text → Option Text → Option Text → LinesFault → Type 0
 FailsWithinLines lines old new (Desk fault) = IsCallFault fault × WritesProperPrefixOfLines lines old new
 FailsWithinLines lines old new Write = WritesLinesAndPartOfNext lines old new
@@ -34,7 +36,7 @@ FailsWithinLines lines old new Write = WritesLinesAndPartOfNext lines old new
 -- Writing a longer text that begins with `lines` failed with this fault within `lines`. `Desk`: its
 -- fault is `Memory` or `Store`, and the first of `lines` were written whole, perhaps none or all of
 -- them. `Write`: the first of `lines` were written whole, perhaps none, and then a prefix of the
--- next one.
+-- next one, perhaps empty or all of it.
 abbrev pub FailsWithinFirstLines : List Text → Option Text → Option Text → LinesFault → Type 0
 FailsWithinFirstLines lines old new (Desk fault) =
     IsCallFault fault × ((first : List Text) × (rest : List Text) × (first ++ rest ≡ lines) × Appends old new (text_of_lines first))

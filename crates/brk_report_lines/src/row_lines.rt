@@ -12,9 +12,9 @@ use brk_money::{Fault, Wide, day_of, write_cents, write_day};
 use itoa::Buffer;
 use std::alloc::Global;
 
-/// Returns the line of a cash row, with its line feed: its day, its amount with two decimal places,
-/// right-aligned in 22 bytes (a longer one is written whole), and its name, separated by spaces.
-/// Fails with `Memory` only.
+/// Returns the line of a cash row, with its line feed: its day (YYYY-MM-DD), its amount with two
+/// decimal places, right-aligned in 22 bytes (a longer one is written whole), and its name,
+/// separated by spaces. Fails with `Memory` only.
 pub fn cash_row_line(alloc: Global, row: &MoveRow) -> Result<Vec<u8>, Fault>
     ensures line { IfOk result (λ line. line.items ≡ line_with_line_feed (statement.cash_row_line (abstract_move_row row.now))) }
     ensures fault { OnErr result (result ≡ Err Memory) }
