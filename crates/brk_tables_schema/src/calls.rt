@@ -34,9 +34,9 @@ pub fn execute_statement<S: Alter>(
 }
 
 /// Returns the rows that the statement `text`, which must have no RETURNING clause, selects with
-/// the parameters `params`, in the order of its result. If it returns rows, the database was open
-/// and is unchanged. Fails with `Store` only; the database is then unchanged or the transaction is
-/// rolled back. Commits nothing.
+/// the parameters `params`, in the order of its result. If the function returns a value, the
+/// database was open and is unchanged. Fails with `Store` only; the database is then unchanged or
+/// the transaction is rolled back. Commits nothing.
 pub fn select_rows<S: Alter>(
     tx: &mut Transaction<'_, S>,
     text: &str,
