@@ -2,8 +2,10 @@
 //! cover history, requests, last trades, lots and their changes, summaries, settlements, balances,
 //! broker totals and text updates.
 //!
-//! Each function is called within an open transaction. An error of the `sqlite` crate and a
-//! malformed row are reported as the fault `Store`.
+//! Each function is called within an open transaction, and commits nothing. An error of the
+//! `sqlite` crate, also if this crate runs out of memory, and a malformed row are reported as the
+//! fault `Store`; the database is then unchanged or the transaction is rolled back. No clause
+//! states what a call does outside a transaction or in a database without all tables of a desk.
 #![tactic(auto)]
 
 pub mod balances;
