@@ -1,6 +1,7 @@
 //! The SQL statements on cash rows and on the settlement day, and the statements that upgrade an
 //! older file. Each function is called within an open transaction, and commits nothing. An error of
-//! the `sqlite` crate is returned as `Store`, also if the crate runs out of memory. No clause
+//! the `sqlite` crate, also if this crate runs out of memory, and a malformed row are reported as
+//! the fault `Store`; the database is then unchanged or the transaction is rolled back. No clause
 //! states what a call does outside a transaction or in a database without all tables of a desk.
 #![tactic(auto)]
 
