@@ -3,7 +3,8 @@
 //! Each function is called within an open transaction, and commits nothing. An error of the
 //! `sqlite` crate, also if this crate runs out of memory, and a malformed row are reported as the
 //! fault `Store`; the database is then unchanged or the transaction is rolled back. No clause
-//! states what a call does outside a transaction or in a database without all tables of a desk.
+//! states the effect of a call on the tables, or the value that it returns, outside a transaction
+//! or in a database without all tables of a desk.
 #![tactic(auto)]
 
 pub mod accounts;
