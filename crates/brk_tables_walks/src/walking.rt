@@ -15,7 +15,7 @@ use sqlite_value::value::ValueRef;
 /// The reason why a walk ended before its last record.
 #[derive(Debug, Drop)]
 pub enum WalkError<E> {
-    /// A fault: out of memory, or an error of the database.
+    /// A fault: out of memory, an error of the database, or a malformed row.
     Failed(Fault),
     /// The visitor's own error.
     Cause(E),
