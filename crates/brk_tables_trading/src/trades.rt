@@ -51,7 +51,8 @@ pub fn add_trade<S: Alter>(tx: &mut Transaction<'_, S>, trade: &TradeRow) -> Res
 }
 
 /// Sets the status of a trade (T_ST_ID) and the stamp at which the trade reached it (T_DTS).
-/// Changes nothing if the trade does not exist. Fails with `Store` only.
+/// Inserts no row of TRADE_HISTORY. Changes nothing if the trade does not exist. Fails with `Store`
+/// only.
 pub fn set_trade_status<S: Alter>(
     tx: &mut Transaction<'_, S>,
     id: Id,
@@ -74,8 +75,8 @@ pub fn set_trade_status<S: Alter>(
 }
 
 /// Sets the status of a trade to completed, its stamp to `stamp`, its price per share, and its
-/// commission and tax, all three in cents. Changes nothing if the trade does not exist. Fails with
-/// `Store` only.
+/// commission and tax, all three in cents. Inserts no row of TRADE_HISTORY. Changes nothing if the
+/// trade does not exist. Fails with `Store` only.
 pub fn complete_trade<S: Alter>(
     tx: &mut Transaction<'_, S>,
     trade: Id,
