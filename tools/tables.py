@@ -1136,7 +1136,7 @@ def read_whole(d):
     """The function that reads one whole table"""
     columns, keys = ', '.join(c[0] for c in d[7]), ', '.join(key_columns(d))
     mark, kind = ('//', 'fn') if d[0] in LATER else ('///', 'pub fn')
-    about = remark(f'Returns all rows of {d[1]}, sorted by key, ascending. Changes nothing. Fails with `Store` only.', mark)
+    about = remark(f'Returns all rows of {d[1]}, sorted by key, ascending. If the function returns a value, the database was open and is unchanged. Fails with `Store` only.', mark)
     head = f'{about}\n{kind}'
     return f"""
 {head} {rows_name(d)}<S: Alter>(tx: &mut Transaction<'_, S>) -> Result<Vec<Row>, Fault>
@@ -1155,7 +1155,7 @@ def read_whole(d):
 def read_later_table(d):
     """The function that reads a table which not every schema has"""
     return f"""
-{remark(f'Returns all rows of {d[1]}, sorted by key, ascending, or no rows if `schema` lacks the table. Changes nothing. Fails with `Store` only.', '///')}
+{remark(f'Returns all rows of {d[1]}, sorted by key, ascending, or no rows if `schema` lacks the table. If the function returns a value, the database is unchanged. Fails with `Store` only.', '///')}
 pub fn {rows_name(d)}_in_schema<S: Alter>(
     tx: &mut Transaction<'_, S>,
     alloc: Global,
@@ -1211,13 +1211,14 @@ def read_group(word, field, tables):
     counted = {'DeskAndCustomer': ', or DESK not exactly one row with the number of `schema`,', 'LaterSchema': ', or SETTLE_RULE two rows or more,'}.get(word, ',')
     what = 'value' if by_schema else 'rows'
     malformed = f'If a table has a malformed row{counted} sets `are_well_formed` of the decoder to false and returns no {what} of this table.'
+    unchanged = 'If the function returns a value, the database is unchanged.' if word == 'LaterSchema' else 'If the function returns a value, the database was open and is unchanged.'
     return f"""
 {remark(f'The typed rows of {named(tables)}.', '///')}
 #[derive(Drop)]
 pub struct {word}Sheets {{
 {types}}}
 
-{remark(f'{shown} {malformed} Fails with `Memory` or `Store` only.', '//')}
+{remark(f'{shown} {malformed} {unchanged} Fails with `Memory` or `Store` only.', '//')}
 fn {group_function('read', word)}<S: Alter>(
     tx: &mut Transaction<'_, S>,
     alloc: Global,
@@ -1257,7 +1258,7 @@ use std::alloc::Global;
     out += ''.join(read_group(word, field, tables) for word, field, _, tables in groups())
     schema = lambda word: 'schema, ' if word in ('DeskAndCustomer', 'LaterSchema') else ''
     out += f"""
-{remark('Returns the decoded rows of the tables of `schema`, of KEPT the keys alone, each list sorted by key, ascending. The list of a table that `schema` lacks is empty. If a table has a malformed row, DESK not exactly one row with the number of `schema`, or SETTLE_RULE two rows or more, sets `are_well_formed` of the decoder to false and returns no rows of this table. Fails with `Memory` or `Store` only.', '///')}
+{remark('Returns the decoded rows of the tables of `schema`, of KEPT the keys alone, each list sorted by key, ascending. The list of a table that `schema` lacks is empty. If a table has a malformed row, DESK not exactly one row with the number of `schema`, or SETTLE_RULE two rows or more, sets `are_well_formed` of the decoder to false and returns no rows of this table. If the function returns a value, the database was open and is unchanged. Fails with `Memory` or `Store` only.', '///')}
 pub(crate) fn read_all_tables<S: Alter>(
     tx: &mut Transaction<'_, S>,
     alloc: Global,
@@ -1315,7 +1316,7 @@ abbrev pub IsUnchangedAndOpen : State → State → Type 0
 IsUnchangedAndOpen old new = IsTrue old.is_open × (new.now ≡ old.now)
 
 -- The database was open, and the reads changed nothing. The lists `a`, `b`, `c` and `d` have all
--- rows of the tables `first`, `second`, `third` and `fourth`, each sorted by key. The clause on a
+-- rows of the tables `first`, `second`, `third` and `fourth` (`ShowsAllRows`). The clause on a
 -- table is vacuous if the database does not define it as a desk does.
 pub record ShowsFourTables (first second third fourth : DeskTable) (a b c d : List Row) (old new : State) : Type 0 where
   pub stays : IsUnchangedAndOpen old new
@@ -1326,13 +1327,13 @@ pub record ShowsFourTables (first second third fourth : DeskTable) (a b c d : Li
 """
     for word, _, _, tables in groups()[:-1]:
         out += f"""
-{remark(f'The database was open, the reads changed nothing, and the raw rows are all rows of {named(tables)}, sorted by key. The clause on a table is vacuous if the database does not define it as a desk does.')}
+{remark(f'The database was open, the reads changed nothing, and the raw rows are all rows of {named(tables)} (`ShowsAllRows`). The clause on a table is vacuous if the database does not define it as a desk does.')}
 abbrev pub Shows{word}Tables : {word}Rows → State → State → Type 0
 Shows{word}Tables raw = ShowsFourTables {' '.join(d[2] for d in tables)} {' '.join(f'raw.{raw_field(d)}' for d in tables)}
 """
     out += f"""
--- The reads changed nothing, and the raw rows are all rows of CASH_MOVE and SETTLE_RULE, sorted by
--- key; there are none of a table that the schema `desk` does not have. The clause on a table is
+-- The reads changed nothing, and the raw rows are all rows of CASH_MOVE and SETTLE_RULE, or none of
+-- a table that the schema `desk` does not have (`ShowsRowsIfPresent`). The clause on a table is
 -- vacuous if the database does not define it as a desk does.
 pub record ShowsLaterSchemaTables (desk : Schema) (raw : LaterSchemaRows) (old new : State) : Type 0 where
   pub same : new.now ≡ old.now
@@ -1373,11 +1374,12 @@ def reads_group(word, field, tables):
     first, later = 'desk ' if word == 'DeskAndCustomer' else '', 'desk ' if word == 'LaterSchema' else ''
     but_texts = ', but for the texts of KEPT' if word == 'DeskAndCustomer' else ''
     none = ', or none of a table that the schema `desk` does not have' if word == 'LaterSchema' else ''
-    counted = {'DeskAndCustomer': ', a row is malformed, or DESK does not have exactly one row', 'LaterSchema': ', a row is malformed, or SETTLE_RULE has two rows or more'}
+    counted = {'DeskAndCustomer': ', a row is malformed, or DESK does not have exactly one row, with the number of the schema `desk`', 'LaterSchema': ', a row is malformed, or SETTLE_RULE has two rows or more'}
     false = f'If it is false, the flag `old` before the decoding was false{counted.get(word, " or a row is malformed")}.'
     true = f'If the flag `new` after the decoding is true, the typed rows `sheets` are the decoded rows{but_texts}.'
-    opened = ', sorted by key' if word == 'LaterSchema' else ', sorted by key, from an open database'
-    told = f'The reads return all rows of {named(tables)}{opened}{none}, and change nothing. {true} {false} The clause on the rows of a table is vacuous if the database does not define it as a desk does.'
+    opened = '' if word == 'LaterSchema' else ' from an open database'
+    shows = '`ShowsRowsIfPresent`' if word == 'LaterSchema' else '`ShowsAllRows`'
+    told = f'The reads return all rows of {named(tables)}{opened}{none} ({shows}), and change nothing. {true} {false} The clause on the rows of a table is vacuous if the database does not define it as a desk does.'
     return f"""
 {remark(told)}
 pub record Reads{word}Tables {desk}(old new : Bool) (sheets : {word}Sheets) (a b : State) : Type 0 where
@@ -1423,9 +1425,10 @@ pub record DecodesSheets (desk : Schema) (sheets : Sheets) (raw : RawSheets) : T
   pub keys : keys_of_kept_rows whole ≡ map abstract_key sheets.kept.items
   pub encoded : (w : DeskTable) → map (encoded_row w) (rows_of_table_in_schema desk w (tables_with_whole_kept_rows whole sheets)) ≡ raw_rows_of_table raw w
 
--- A step of a decoding of raw rows. A flag, `old` before the step and `new` after it, is true only
--- if all raw rows so far are well-formed. `are_well_formed` is true if the raw rows of this step
--- are well-formed, and `Decodes` states that the step decodes them.
+-- A step of a decoding of raw rows, with a flag that is `old` before the step and `new` after it.
+-- If `new` is true, `old` is true and `Decodes` holds, which states that the step decodes its rows.
+-- If `new` is false, `old` is false or `are_well_formed` is false, which is true if the raw rows of
+-- this step are well-formed.
 pub record ContinuesDecoding (old new are_well_formed : Bool) (Decodes : Type 0) : Type 0 where
   -- If the flag is true after the step, it was true before it.
   pub before : new ≡ true → old ≡ true
@@ -1434,10 +1437,10 @@ pub record ContinuesDecoding (old new are_well_formed : Bool) (Decodes : Type 0)
   -- If the flag is false after the step, it was false before it, or a row of the step is malformed.
   pub form : new ≡ false → (old ≡ false) ⊎ (are_well_formed ≡ false)
 {''.join(reads_group(word, field, tables) for word, field, _, tables in groups())}
--- The reads return all rows of each table of the schema `desk`, sorted by key, and none of other
--- tables. The database was open, and the reads changed nothing. If the flag `new` after the
--- decoding is true, the typed rows `sheets` are the decoded rows, but for the texts of KEPT. If it
--- is false, the flag `old` before the decoding was false or the rows are malformed
+-- The reads return all rows of each table of the schema `desk`, and none of other tables
+-- (`ShowsRowsIfPresent`). The database was open, and the reads changed nothing. If the flag `new`
+-- after the decoding is true, the typed rows `sheets` are the decoded rows, but for the texts of
+-- KEPT. If it is false, the flag `old` before the decoding was false or the rows are malformed
 -- (`are_raw_sheets_well_formed`). The clause on the rows of a table is vacuous if the database does
 -- not define it as a desk does.
 pub record ReadsAndDecodesDeskTables (desk : Schema) (old new : Bool) (sheets : Sheets) (a b : State) : Type 0 where

@@ -53,10 +53,11 @@ abbrev pub foreign_key : ℕ → List ℕ → List ℕ → Reference
 foreign_key place parent column =
     record { columns = place ∷ []; parent = parent; parent_columns = column ∷ []; on_delete = NoAction; on_update = NoAction; is_deferred = false }
 
--- A table with this name, tree, columns and foreign keys (`references`), and without checks and
--- computed columns. `key` is the index of its INTEGER PRIMARY KEY column, or `None`; `primary` are
--- the places of its PRIMARY KEY, and `uniques` those of each UNIQUE constraint, including a PRIMARY
--- KEY that is not the rowid.
+-- A table with this name, tree, columns and foreign keys (`references`), without checks, without
+-- AUTOINCREMENT, and without defaults that are no literals. `key` is the index of its INTEGER
+-- PRIMARY KEY column, or `None`; `primary` are the places of its PRIMARY KEY, and `uniques` those
+-- of each UNIQUE constraint, including a PRIMARY KEY that is not the rowid. The index of each of
+-- these constraints is ascending, with the collation BINARY.
 abbrev pub table_without_checks : List ℕ → ℕ → List Column → Option ℕ → List ℕ → List (List ℕ) → List Reference → Table
 table_without_checks name tree columns key primary uniques references = record {
   name = name;
@@ -100,7 +101,7 @@ abbrev pub has_no_writing_foreign_keys_if_at : ℕ → Table → Bool
 has_no_writing_foreign_keys_if_at tree t = not (t.tree == tree) || list_all (λ ref. not (foreign_key_writes_rows ref)) t.references
 
 -- No foreign key of a table whose rows are at `tree` changes or deletes rows. Vacuous if the schema
--- has no table whose rows are there.
+-- has no table whose rows are at `tree`.
 abbrev pub HasNoWritingForeignKeysAt : Schema → ℕ → Type 0
 HasNoWritingForeignKeysAt schema tree = list_all (has_no_writing_foreign_keys_if_at tree) schema.tables ≡ true
 

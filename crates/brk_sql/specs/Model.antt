@@ -7,10 +7,11 @@ use Rattle.sqlite.specs.Held.{state}
 use Rattle.sqlite.specs.State.{State, HasCleanDisk, KeepsCommit, Survives, Executes, Shown}
 use Rattle.brk_sql.specs.Desk.{ProgramTables, ChangesTablesBy, TablesSatisfy}
 
--- Under the disk assumption the call commits nothing, and a crash after it exposes only states that
--- a crash before it could expose. Also under the disk assumption, if a transaction is open and the
--- call returns `Ok v`, the transaction is still open after it, and `Made v` relates the states
--- before and after the call.
+-- Under the disk assumption the call commits nothing, a crash after it exposes only states that a
+-- crash before it could expose, and the call closes an open database only if the disk fails in the
+-- call (`Survives`). Also under the disk assumption, if a transaction is open and the call returns
+-- `Ok v`, the transaction is still open after it, and `Made v` relates the states before and after
+-- the call.
 pub record IsTransactionStep {V E : Type 0} (old new : State) (result : Result V E) (Made : V → State → State → Type 0) : Type 0 where
   pub commits_nothing : HasCleanDisk new → KeepsCommit old new
   pub relates_states : HasCleanDisk new → IsTrue old.in_transaction → IfOk result (λ v. IsTrue new.in_transaction × Made v old new)
@@ -33,20 +34,22 @@ abbrev pub IsUnchangedAndSatisfies : {W T : Type 0} → ProgramTables W T → (T
 IsUnchangedAndSatisfies desk P old new = IsTrue old.is_open × (new.now ≡ old.now) × TablesSatisfy desk P old.now
 
 -- A call on a transaction, `old` before the call and `new` after it, is a step
--- (`IsTransactionStep`) of the transaction's connection: if it returns `Ok v`, `Made v` relates the
--- states of the connection before and after the call.
+-- (`IsTransactionStep`) of the transaction's connection: under the disk assumption, if the
+-- transaction is open and the call returns `Ok v`, `Made v` relates the states of the connection
+-- before and after the call.
 abbrev pub IsConnectionStep : {S V E : Type 0} → Ghosts S → Transaction S → Transaction S → Result V E → (V → State → State → Type 0) → Type 0
 IsConnectionStep g old new result Made = IsTransactionStep (state g old.conn.now) (state g new.conn.now) result Made
 
--- If the call succeeds, it changes the records of the program's tables from `t` to `f t`, for all
--- `t`, and no other table, unless a foreign key of that table changes or deletes its rows
--- (`ChangesTablesBy`). It commits nothing. Nothing is said of the tables if the disk assumption
--- fails, outside a transaction, or if the database does not contain all these tables.
+-- Under the disk assumption and within a transaction: if the call succeeds, it changes the records
+-- of the program's tables from `t` to `f t`, for all `t`, and no other table, unless a foreign key
+-- of that table changes or deletes its rows (`ChangesTablesBy`, which is vacuous if the database
+-- does not contain all these tables). Under the disk assumption the call commits nothing.
 abbrev pub WritesTables : {W T S V E : Type 0} → ProgramTables W T → Ghosts S → Transaction S → Transaction S → Result V E → (T → T) → Type 0
 WritesTables desk g old new result f = IsConnectionStep g old new result (λ _ a b. ChangesTablesBy desk f a.now b.now)
 
--- If the call succeeds, it changes nothing, and `Told` relates the returned value to the records of
--- the program's tables. Nothing is said of them if the disk assumption fails, outside a
--- transaction, or if the database does not contain all these tables.
+-- Under the disk assumption and within a transaction: if the call succeeds, the database was open
+-- and is unchanged, and `Told` relates the returned value to the records of the program's tables.
+-- The last part is vacuous if the database does not contain all these tables. Under the disk
+-- assumption the call commits nothing.
 abbrev pub ReadsTables : {W T S V E : Type 0} → ProgramTables W T → Ghosts S → Transaction S → Transaction S → Result V E → (V → T → Type 0) → Type 0
 ReadsTables desk g old new result Told = IsConnectionStep g old new result (λ v. IsUnchangedAndSatisfies desk (Told v))

@@ -31,8 +31,8 @@ pub fn numbers_strictly_ascend(numbers: &[i64]) -> bool
     true
 }
 
-/// Returns the numbers in column `at` of the rows, in the order of the rows. Fails if a row has no
-/// such column or no INTEGER in it, or if memory runs out.
+/// Returns the numbers in the column with the index `at`, from 0, of each row, in the order of the
+/// rows. Fails if a row has no such column or no INTEGER in it, or if memory runs out.
 pub fn integers_in_column(alloc: Global, rows: &[Row], at: usize) -> Result<Vec<i64>, Error>
     ensures { IfOk result (λ all. map Int all.items ≡ map (λ r. column r at) rows.now) }
 {
@@ -43,9 +43,11 @@ pub fn integers_in_column(alloc: Global, rows: &[Row], at: usize) -> Result<Vec<
     Ok(all)
 }
 
-/// Returns true if the statement `text` compiles, and false if it names a table that does not
-/// exist. The statement is not executed. If the function returns a value, the database was open and
-/// is unchanged. Fails with any other error of the compilation or of the database.
+/// Returns true if the statement `text` compiles, and false if it does not, because a table that it
+/// names does not exist. The statement is not executed. If the function returns a value, the
+/// database was open and is unchanged. Fails with any other error of the compilation or of the
+/// database. Commits nothing; at an error the database is unchanged or the open transaction is
+/// rolled back.
 pub fn statement_compiles<S: Alter>(tx: &mut Transaction<'_, S>, text: &str) -> Result<bool, Error>
     ensures same_reference { tx.new.conn.ghost_name ≡ tx.old.conn.ghost_name }
     ensures step { IsConnectionStep S.Store tx.old tx.new result (λ has old new. IsTrue old.is_open × (new.now ≡ old.now)

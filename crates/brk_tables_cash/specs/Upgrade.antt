@@ -12,8 +12,8 @@ tables_without_cash_transactions t = record t { cash = [] }
 
 -- If the database `old` contains all tables of a desk with the rows `t` and the number of some
 -- schema, `new` contains them with the rows `t` and the number 3, at the same trees. Other tables
--- are unchanged, unless a foreign key of their own writes their rows. Vacuous if `old` does not
--- contain all these tables.
+-- are unchanged, unless a foreign key of their own changes or deletes their rows. Vacuous if `old`
+-- does not contain all these tables.
 abbrev pub SetsSchemaNumberToThree : Database → Database → Type 0
 SetsSchemaNumberToThree old new =
     (schema : Schema) (t : Tables) (tree : DeskTable → ℕ) → HasTables (desk_tables_of_schema schema) t tree old

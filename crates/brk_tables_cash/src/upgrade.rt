@@ -27,8 +27,9 @@ pub fn set_schema_number_to_three<S: Alter>(tx: &mut Transaction<'_, S>) -> Resu
     )
 }
 
-/// Deletes all rows of CASH_TRANSACTION. Fails with `Store` only, also if a constraint is broken or
-/// memory runs out. The effect is specified only if all tables of a desk in schema 3 exist.
+/// Deletes all rows of CASH_TRANSACTION. Fails with `Store` only, also if a constraint is broken,
+/// such as a foreign key of another table to one of these rows, or if memory runs out. The effect
+/// is specified only if all tables of a desk in schema 3 exist.
 pub fn remove_cash_transactions<S: Alter>(tx: &mut Transaction<'_, S>) -> Result<(), Fault>
     ensures same_reference { tx.new.conn.ghost_name ≡ tx.old.conn.ghost_name }
     ensures step { WritesDeskTables S.Store tx.old tx.new result tables_without_cash_transactions }

@@ -25,9 +25,9 @@ fn create_desk_table<S: Alter>(tx: &mut Transaction<'_, S>, table: Table) -> Res
     execute_statement(tx, table.create_table_text(), &[])
 }
 
-// Creates each of `tables`, in order, without rows, and leaves the rows of existing tables
-// unchanged. Fails with `Store` only, also if a table with the name of one of them exists; the
-// tables before this one may then be created.
+// Creates the tables `tables`, one after the other, without rows, and leaves the rows of existing
+// tables unchanged. Fails with `Store` only, also if a table with the name of one of them exists.
+// After an error, the tables before the one that failed may exist in the transaction.
 fn create_each_table<S: Alter>(tx: &mut Transaction<'_, S>, tables: &[Table]) -> Result<(), Fault>
     ensures same_reference { tx.new.conn.ghost_name ≡ tx.old.conn.ghost_name }
     ensures step { IsConnectionStep S.Store tx.old tx.new result
@@ -55,8 +55,9 @@ fn add_desk_row<S: Alter>(tx: &mut Transaction<'_, S>) -> Result<(), Fault>
 }
 
 /// Creates the tables of schema 3, without rows, except for the one row of DESK, and leaves the
-/// rows of existing tables unchanged. Fails with `Store` only, also if a table with the name of a
-/// table of schema 3 exists; the tables before this one may then be created.
+/// rows of existing tables unchanged. Commits nothing. Fails with `Store` only, also if a table
+/// with the name of a table of schema 3 exists. After an error, some of these tables, or all
+/// without the row of DESK, may exist in the transaction.
 pub fn create_third_schema_tables<S: Alter>(tx: &mut Transaction<'_, S>) -> Result<(), Fault>
     ensures same_reference { tx.new.conn.ghost_name ≡ tx.old.conn.ghost_name }
     ensures step { IsConnectionStep S.Store tx.old tx.new result (λ _ a b. CreatesDeskTables a.now b.now) }
@@ -68,8 +69,8 @@ pub fn create_third_schema_tables<S: Alter>(tx: &mut Transaction<'_, S>) -> Resu
 
 /// Creates the tables that `schema` does not have and later schemas add, without rows: CASH_MOVE
 /// and SETTLE_RULE for schema 1, SETTLE_RULE for schema 2, none for schema 3. Leaves the rows of
-/// existing tables unchanged. Fails with `Store` only, also if one of the tables to be created
-/// exists; the table before it may then be created.
+/// existing tables unchanged. Commits nothing. Fails with `Store` only, also if a table with the
+/// name of one of these exists. After an error, CASH_MOVE may exist in the transaction.
 pub fn create_tables_of_later_schemas<S: Alter>(
     tx: &mut Transaction<'_, S>,
     schema: Schema,

@@ -65,7 +65,8 @@ fn has_each_of_tables<S: Alter>(
 }
 
 /// Returns true if the database has a table with the name of some table of a desk. If the function
-/// returns a value, the database is unchanged. Fails with `Store` only.
+/// returns a value, the database is unchanged. Fails with `Store` only, also if the statement of a
+/// look-up does not compile for another reason than that no table has the name.
 pub fn has_some_desk_table<S: Alter>(tx: &mut Transaction<'_, S>) -> Result<bool, Fault>
     ensures same_reference { tx.new.conn.ghost_name ≡ tx.old.conn.ghost_name }
     ensures step { IsConnectionStep S.Store tx.old tx.new result (λ has a b. (b.now ≡ a.now) × (has ≡ has_table_of_desk a.now.schema)) }
@@ -124,7 +125,8 @@ fn has_exactly_tables_of_schema<S: Alter>(
 
 /// Returns true if a table with the name of each table of `schema` exists, and none with the name
 /// of a table that a later schema adds. If the function returns a value, the database was open and
-/// is unchanged. Fails with `Store` only.
+/// is unchanged. Fails with `Store` only, also if the statement of a look-up does not compile for
+/// another reason than that no table has the name.
 pub fn has_exact_tables_by_name<S: Alter>(
     tx: &mut Transaction<'_, S>,
     schema: Schema,

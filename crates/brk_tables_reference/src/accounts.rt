@@ -39,7 +39,7 @@ pub fn add_account<S: Alter>(tx: &mut Transaction<'_, S>, account: &Account) -> 
 }
 
 /// Returns the account with the id `id`, or `None` if there is none. Changes nothing if it
-/// succeeds. Fails with `Store` only.
+/// succeeds. Fails with `Store` only, also if the row is malformed or memory runs out.
 pub fn account_by_id<S: Alter>(
     tx: &mut Transaction<'_, S>,
     id: Id,
@@ -57,7 +57,8 @@ pub fn account_by_id<S: Alter>(
 }
 
 /// Returns the accounts of the customer with the id `customer`, sorted by id, ascending. Changes
-/// nothing if it succeeds. Fails with `Memory` or `Store` only.
+/// nothing if it succeeds. Fails with `Memory` or `Store` only; with `Store` also if a row is
+/// malformed.
 pub fn accounts_of_customer<S: Alter>(
     tx: &mut Transaction<'_, S>,
     alloc: Global,

@@ -40,7 +40,8 @@ pub fn add_band<S: Alter>(tx: &mut Transaction<'_, S>, band: &Band) -> Result<()
 }
 
 /// Returns the commission bands of a customer tier, a trade type and an exchange, sorted by lower
-/// bound, ascending. Changes nothing if it succeeds. Fails with `Memory` or `Store` only.
+/// bound, ascending. Changes nothing if it succeeds. Fails with `Memory` or `Store` only; with
+/// `Store` also if a row is malformed.
 pub fn bands_by_tier_type_and_exchange<S: Alter>(
     tx: &mut Transaction<'_, S>,
     alloc: Global,

@@ -30,7 +30,7 @@ pub fn add_broker<S: Alter>(tx: &mut Transaction<'_, S>, broker: &Broker) -> Res
 }
 
 /// Returns the broker with the id `id`, or `None` if there is none. Changes nothing if it succeeds.
-/// Fails with `Store` only.
+/// Fails with `Store` only, also if the row is malformed or memory runs out.
 pub fn broker_by_id<S: Alter>(
     tx: &mut Transaction<'_, S>,
     id: Id,

@@ -34,7 +34,8 @@ pub fn add_charge<S: Alter>(tx: &mut Transaction<'_, S>, charge: &Charge) -> Res
 }
 
 /// Returns the charge of a trade type and a customer tier, or `None` if there is none. Changes
-/// nothing if it succeeds. Fails with `Store` only.
+/// nothing if it succeeds. Fails with `Store` only, also if the row is malformed or memory runs
+/// out.
 pub fn charge_by_type_and_tier<S: Alter>(
     tx: &mut Transaction<'_, S>,
     kind: TradeType,

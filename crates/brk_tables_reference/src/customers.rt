@@ -33,7 +33,7 @@ pub fn add_customer<S: Alter>(tx: &mut Transaction<'_, S>, customer: &Customer) 
 }
 
 /// Returns the customer with the id `id`, or `None` if there is none. Changes nothing if it
-/// succeeds. Fails with `Store` only.
+/// succeeds. Fails with `Store` only, also if the row is malformed or memory runs out.
 pub fn customer_by_id<S: Alter>(
     tx: &mut Transaction<'_, S>,
     id: Id,
@@ -51,7 +51,7 @@ pub fn customer_by_id<S: Alter>(
 }
 
 /// Returns the customer with the tax id `tax_id`, or `None` if there is none. Changes nothing if it
-/// succeeds. Fails with `Store` only.
+/// succeeds. Fails with `Store` only, also if the row is malformed or memory runs out.
 pub fn customer_by_tax_id<S: Alter>(
     tx: &mut Transaction<'_, S>,
     tax_id: &TaxId,

@@ -37,7 +37,7 @@ pub fn add_permission<S: Alter>(
 }
 
 /// Returns the permission of an account for a tax id, or `None` if there is none. Changes nothing
-/// if it succeeds. Fails with `Store` only.
+/// if it succeeds. Fails with `Store` only, also if the row is malformed or memory runs out.
 pub fn permission_by_account_and_tax_id<S: Alter>(
     tx: &mut Transaction<'_, S>,
     account: Id,

@@ -56,7 +56,7 @@ pub fn add_last_trade<S: Alter>(
 }
 
 /// Returns the security with the symbol `symbol`, or `None` if there is none. Changes nothing if it
-/// succeeds. Fails with `Store` only.
+/// succeeds. Fails with `Store` only, also if the row is malformed or memory runs out.
 pub fn security_by_symbol<S: Alter>(
     tx: &mut Transaction<'_, S>,
     symbol: &Symbol,

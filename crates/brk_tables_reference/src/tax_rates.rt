@@ -51,7 +51,7 @@ pub fn add_customer_tax<S: Alter>(
 }
 
 /// Returns the tax rate with the id `id`, or `None` if there is none. Changes nothing if it
-/// succeeds. Fails with `Store` only.
+/// succeeds. Fails with `Store` only, also if the row is malformed or memory runs out.
 pub fn tax_rate_by_id<S: Alter>(tx: &mut Transaction<'_, S>, id: Id) -> Result<Option<Tax>, Fault>
     ensures same_reference { tx.new.conn.ghost_name ≡ tx.old.conn.ghost_name }
     ensures step { ReadsFirstMatch S.Store tx.old tx.new result TaxRates abstract_tax_rate (λ r. r.id == id) }
@@ -67,7 +67,7 @@ pub fn tax_rate_by_id<S: Alter>(tx: &mut Transaction<'_, S>, id: Id) -> Result<O
 
 /// Returns the row of CUSTOMER_TAXRATE with the customer `customer` and the tax rate `tax`, or
 /// `None` if the customer does not pay this tax. Changes nothing if it succeeds. Fails with `Store`
-/// only.
+/// only, also if the row is malformed or memory runs out.
 pub fn customer_tax_by_customer_and_tax<S: Alter>(
     tx: &mut Transaction<'_, S>,
     customer: Id,
@@ -86,7 +86,8 @@ pub fn customer_tax_by_customer_and_tax<S: Alter>(
 }
 
 /// Returns the rows of CUSTOMER_TAXRATE with the customer `customer`, sorted by the id of the tax
-/// rate, ascending. Changes nothing if it succeeds. Fails with `Memory` or `Store` only.
+/// rate, ascending. Changes nothing if it succeeds. Fails with `Memory` or `Store` only; with
+/// `Store` also if a row is malformed.
 pub fn taxes_of_customer<S: Alter>(
     tx: &mut Transaction<'_, S>,
     alloc: Global,

@@ -146,9 +146,10 @@ pub record DecodesSheets (desk : Schema) (sheets : Sheets) (raw : RawSheets) : T
   pub keys : keys_of_kept_rows whole ≡ map abstract_key sheets.kept.items
   pub encoded : (w : DeskTable) → map (encoded_row w) (rows_of_table_in_schema desk w (tables_with_whole_kept_rows whole sheets)) ≡ raw_rows_of_table raw w
 
--- A step of a decoding of raw rows. A flag, `old` before the step and `new` after it, is true only
--- if all raw rows so far are well-formed. `are_well_formed` is true if the raw rows of this step
--- are well-formed, and `Decodes` states that the step decodes them.
+-- A step of a decoding of raw rows, with a flag that is `old` before the step and `new` after it.
+-- If `new` is true, `old` is true and `Decodes` holds, which states that the step decodes its rows.
+-- If `new` is false, `old` is false or `are_well_formed` is false, which is true if the raw rows of
+-- this step are well-formed.
 pub record ContinuesDecoding (old new are_well_formed : Bool) (Decodes : Type 0) : Type 0 where
   -- If the flag is true after the step, it was true before it.
   pub before : new ≡ true → old ≡ true
@@ -157,18 +158,19 @@ pub record ContinuesDecoding (old new are_well_formed : Bool) (Decodes : Type 0)
   -- If the flag is false after the step, it was false before it, or a row of the step is malformed.
   pub form : new ≡ false → (old ≡ false) ⊎ (are_well_formed ≡ false)
 
--- The reads return all rows of DESK, KEPT, BROKER and CUSTOMER, sorted by key, from an open
--- database, and change nothing. If the flag `new` after the decoding is true, the typed rows
--- `sheets` are the decoded rows, but for the texts of KEPT. If it is false, the flag `old` before
--- the decoding was false, a row is malformed, or DESK does not have exactly one row. The clause on
--- the rows of a table is vacuous if the database does not define it as a desk does.
+-- The reads return all rows of DESK, KEPT, BROKER and CUSTOMER from an open database
+-- (`ShowsAllRows`), and change nothing. If the flag `new` after the decoding is true, the typed
+-- rows `sheets` are the decoded rows, but for the texts of KEPT. If it is false, the flag `old`
+-- before the decoding was false, a row is malformed, or DESK does not have exactly one row, with
+-- the number of the schema `desk`. The clause on the rows of a table is vacuous if the database
+-- does not define it as a desk does.
 pub record ReadsDeskAndCustomerTables (desk : Schema) (old new : Bool) (sheets : DeskAndCustomerSheets) (a b : State) : Type 0 where
   pub raw : DeskAndCustomerRows
   pub shown : ShowsDeskAndCustomerTables raw a b
   pub decoded : ContinuesDecoding old new (are_desk_and_customer_rows_well_formed desk raw) (DecodesDeskAndCustomerTables desk sheets raw)
 
--- The reads return all rows of CUSTOMER_ACCOUNT, ACCOUNT_PERMISSION, SECURITY and LAST_TRADE,
--- sorted by key, from an open database, and change nothing. If the flag `new` after the decoding is
+-- The reads return all rows of CUSTOMER_ACCOUNT, ACCOUNT_PERMISSION, SECURITY and LAST_TRADE from
+-- an open database (`ShowsAllRows`), and change nothing. If the flag `new` after the decoding is
 -- true, the typed rows `sheets` are the decoded rows. If it is false, the flag `old` before the
 -- decoding was false or a row is malformed. The clause on the rows of a table is vacuous if the
 -- database does not define it as a desk does.
@@ -177,8 +179,8 @@ pub record ReadsAccountAndSecurityTables (old new : Bool) (sheets : AccountAndSe
   pub shown : ShowsAccountAndSecurityTables raw a b
   pub decoded : ContinuesDecoding old new (are_account_and_security_rows_well_formed raw) (DecodesAccountAndSecurityTables sheets raw)
 
--- The reads return all rows of CHARGE, COMMISSION_RATE, TAXRATE and CUSTOMER_TAXRATE, sorted by
--- key, from an open database, and change nothing. If the flag `new` after the decoding is true, the
+-- The reads return all rows of CHARGE, COMMISSION_RATE, TAXRATE and CUSTOMER_TAXRATE from an open
+-- database (`ShowsAllRows`), and change nothing. If the flag `new` after the decoding is true, the
 -- typed rows `sheets` are the decoded rows. If it is false, the flag `old` before the decoding was
 -- false or a row is malformed. The clause on the rows of a table is vacuous if the database does
 -- not define it as a desk does.
@@ -187,19 +189,19 @@ pub record ReadsChargeAndRateTables (old new : Bool) (sheets : ChargeAndRateShee
   pub shown : ShowsChargeAndRateTables raw a b
   pub decoded : ContinuesDecoding old new (are_charge_and_rate_rows_well_formed raw) (DecodesChargeAndRateTables sheets raw)
 
--- The reads return all rows of TRADE, TRADE_HISTORY, TRADE_REQUEST and HOLDING, sorted by key, from
--- an open database, and change nothing. If the flag `new` after the decoding is true, the typed
--- rows `sheets` are the decoded rows. If it is false, the flag `old` before the decoding was false
--- or a row is malformed. The clause on the rows of a table is vacuous if the database does not
--- define it as a desk does.
+-- The reads return all rows of TRADE, TRADE_HISTORY, TRADE_REQUEST and HOLDING from an open
+-- database (`ShowsAllRows`), and change nothing. If the flag `new` after the decoding is true, the
+-- typed rows `sheets` are the decoded rows. If it is false, the flag `old` before the decoding was
+-- false or a row is malformed. The clause on the rows of a table is vacuous if the database does
+-- not define it as a desk does.
 pub record ReadsTradeAndHoldingTables (old new : Bool) (sheets : TradeAndHoldingSheets) (a b : State) : Type 0 where
   pub raw : TradeAndHoldingRows
   pub shown : ShowsTradeAndHoldingTables raw a b
   pub decoded : ContinuesDecoding old new (are_trade_and_holding_rows_well_formed raw) (DecodesTradeAndHoldingTables sheets raw)
 
--- The reads return all rows of HOLDING_SUMMARY, HOLDING_HISTORY, SETTLEMENT and CASH_TRANSACTION,
--- sorted by key, from an open database, and change nothing. If the flag `new` after the decoding is
--- true, the typed rows `sheets` are the decoded rows. If it is false, the flag `old` before the
+-- The reads return all rows of HOLDING_SUMMARY, HOLDING_HISTORY, SETTLEMENT and CASH_TRANSACTION
+-- from an open database (`ShowsAllRows`), and change nothing. If the flag `new` after the decoding
+-- is true, the typed rows `sheets` are the decoded rows. If it is false, the flag `old` before the
 -- decoding was false or a row is malformed. The clause on the rows of a table is vacuous if the
 -- database does not define it as a desk does.
 pub record ReadsSummaryAndSettlementTables (old new : Bool) (sheets : SummaryAndSettlementSheets) (a b : State) : Type 0 where
@@ -207,8 +209,8 @@ pub record ReadsSummaryAndSettlementTables (old new : Bool) (sheets : SummaryAnd
   pub shown : ShowsSummaryAndSettlementTables raw a b
   pub decoded : ContinuesDecoding old new (are_summary_and_settlement_rows_well_formed raw) (DecodesSummaryAndSettlementTables sheets raw)
 
--- The reads return all rows of CASH_MOVE and SETTLE_RULE, sorted by key, or none of a table that
--- the schema `desk` does not have, and change nothing. If the flag `new` after the decoding is
+-- The reads return all rows of CASH_MOVE and SETTLE_RULE, or none of a table that the schema `desk`
+-- does not have (`ShowsRowsIfPresent`), and change nothing. If the flag `new` after the decoding is
 -- true, the typed rows `sheets` are the decoded rows. If it is false, the flag `old` before the
 -- decoding was false, a row is malformed, or SETTLE_RULE has two rows or more. The clause on the
 -- rows of a table is vacuous if the database does not define it as a desk does.
@@ -217,10 +219,10 @@ pub record ReadsLaterSchemaTables (desk : Schema) (old new : Bool) (sheets : Lat
   pub shown : ShowsLaterSchemaTables desk raw a b
   pub decoded : ContinuesDecoding old new (are_later_schema_rows_well_formed raw) (DecodesLaterSchemaTables sheets raw)
 
--- The reads return all rows of each table of the schema `desk`, sorted by key, and none of other
--- tables. The database was open, and the reads changed nothing. If the flag `new` after the
--- decoding is true, the typed rows `sheets` are the decoded rows, but for the texts of KEPT. If it
--- is false, the flag `old` before the decoding was false or the rows are malformed
+-- The reads return all rows of each table of the schema `desk`, and none of other tables
+-- (`ShowsRowsIfPresent`). The database was open, and the reads changed nothing. If the flag `new`
+-- after the decoding is true, the typed rows `sheets` are the decoded rows, but for the texts of
+-- KEPT. If it is false, the flag `old` before the decoding was false or the rows are malformed
 -- (`are_raw_sheets_well_formed`). The clause on the rows of a table is vacuous if the database does
 -- not define it as a desk does.
 pub record ReadsAndDecodesDeskTables (desk : Schema) (old new : Bool) (sheets : Sheets) (a b : State) : Type 0 where

@@ -24,9 +24,10 @@ select_all_text w = codes "SELECT * FROM " ++ table_name w
 abbrev pub heading_of_table : DeskTable → Heading
 heading_of_table w = (select_all_text w, (table_and_column_names (table_definition_at_tree w 0)).columns)
 
--- If `has` is true, as it is for an empty list, the result of each statement has exactly the column
--- names of its heading, in order. If `has` is false, the result of some statement does not have
--- them. Each statement up to this one compiles in the schema.
+-- If `has` is true, as it is for an empty list, each statement compiles in the schema, and its
+-- result has exactly the column names of its heading, in order. If `has` is false, this holds for
+-- the first statements, possibly none, and the next statement compiles, but its result does not
+-- have the column names of its heading.
 abbrev pub AreHeadingCheckOutcomes : List Heading → Bool → Schema → Type 0
 AreHeadingCheckOutcomes [] has schema = has ≡ true
 AreHeadingCheckOutcomes (h ∷ headings) has schema =

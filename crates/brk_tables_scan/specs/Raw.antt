@@ -63,7 +63,7 @@ abbrev pub IsUnchangedAndOpen : State → State → Type 0
 IsUnchangedAndOpen old new = IsTrue old.is_open × (new.now ≡ old.now)
 
 -- The database was open, and the reads changed nothing. The lists `a`, `b`, `c` and `d` have all
--- rows of the tables `first`, `second`, `third` and `fourth`, each sorted by key. The clause on a
+-- rows of the tables `first`, `second`, `third` and `fourth` (`ShowsAllRows`). The clause on a
 -- table is vacuous if the database does not define it as a desk does.
 pub record ShowsFourTables (first second third fourth : DeskTable) (a b c d : List Row) (old new : State) : Type 0 where
   pub stays : IsUnchangedAndOpen old new
@@ -73,37 +73,37 @@ pub record ShowsFourTables (first second third fourth : DeskTable) (a b c d : Li
   pub four : ShowsAllRows fourth d old.now
 
 -- The database was open, the reads changed nothing, and the raw rows are all rows of DESK, KEPT,
--- BROKER and CUSTOMER, sorted by key. The clause on a table is vacuous if the database does not
+-- BROKER and CUSTOMER (`ShowsAllRows`). The clause on a table is vacuous if the database does not
 -- define it as a desk does.
 abbrev pub ShowsDeskAndCustomerTables : DeskAndCustomerRows → State → State → Type 0
 ShowsDeskAndCustomerTables raw = ShowsFourTables TheDesk KeptRows Brokers Customers raw.desk raw.kept raw.brokers raw.customers
 
 -- The database was open, the reads changed nothing, and the raw rows are all rows of
--- CUSTOMER_ACCOUNT, ACCOUNT_PERMISSION, SECURITY and LAST_TRADE, sorted by key. The clause on a
+-- CUSTOMER_ACCOUNT, ACCOUNT_PERMISSION, SECURITY and LAST_TRADE (`ShowsAllRows`). The clause on a
 -- table is vacuous if the database does not define it as a desk does.
 abbrev pub ShowsAccountAndSecurityTables : AccountAndSecurityRows → State → State → Type 0
 ShowsAccountAndSecurityTables raw = ShowsFourTables Accounts Permissions Securities LastTrades raw.accounts raw.permissions raw.securities raw.last_trades
 
 -- The database was open, the reads changed nothing, and the raw rows are all rows of CHARGE,
--- COMMISSION_RATE, TAXRATE and CUSTOMER_TAXRATE, sorted by key. The clause on a table is vacuous if
--- the database does not define it as a desk does.
+-- COMMISSION_RATE, TAXRATE and CUSTOMER_TAXRATE (`ShowsAllRows`). The clause on a table is vacuous
+-- if the database does not define it as a desk does.
 abbrev pub ShowsChargeAndRateTables : ChargeAndRateRows → State → State → Type 0
 ShowsChargeAndRateTables raw = ShowsFourTables Charges Bands TaxRates CustomerTaxes raw.charges raw.bands raw.tax_rates raw.customer_taxes
 
 -- The database was open, the reads changed nothing, and the raw rows are all rows of TRADE,
--- TRADE_HISTORY, TRADE_REQUEST and HOLDING, sorted by key. The clause on a table is vacuous if the
--- database does not define it as a desk does.
+-- TRADE_HISTORY, TRADE_REQUEST and HOLDING (`ShowsAllRows`). The clause on a table is vacuous if
+-- the database does not define it as a desk does.
 abbrev pub ShowsTradeAndHoldingTables : TradeAndHoldingRows → State → State → Type 0
 ShowsTradeAndHoldingTables raw = ShowsFourTables Trades TradeHistory Requests Holdings raw.trades raw.history raw.requests raw.holdings
 
 -- The database was open, the reads changed nothing, and the raw rows are all rows of
--- HOLDING_SUMMARY, HOLDING_HISTORY, SETTLEMENT and CASH_TRANSACTION, sorted by key. The clause on a
--- table is vacuous if the database does not define it as a desk does.
+-- HOLDING_SUMMARY, HOLDING_HISTORY, SETTLEMENT and CASH_TRANSACTION (`ShowsAllRows`). The clause on
+-- a table is vacuous if the database does not define it as a desk does.
 abbrev pub ShowsSummaryAndSettlementTables : SummaryAndSettlementRows → State → State → Type 0
 ShowsSummaryAndSettlementTables raw = ShowsFourTables Summaries HoldingHistory Settlements CashRows raw.summaries raw.holding_history raw.settlements raw.cash
 
--- The reads changed nothing, and the raw rows are all rows of CASH_MOVE and SETTLE_RULE, sorted by
--- key; there are none of a table that the schema `desk` does not have. The clause on a table is
+-- The reads changed nothing, and the raw rows are all rows of CASH_MOVE and SETTLE_RULE, or none of
+-- a table that the schema `desk` does not have (`ShowsRowsIfPresent`). The clause on a table is
 -- vacuous if the database does not define it as a desk does.
 pub record ShowsLaterSchemaTables (desk : Schema) (raw : LaterSchemaRows) (old new : State) : Type 0 where
   pub same : new.now ≡ old.now

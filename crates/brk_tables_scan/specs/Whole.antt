@@ -22,39 +22,41 @@ use Rattle.brk_tables_scan.specs.Schemas.{HasDistinctRowids}
 
 -- The list `rows` has the rows at the tree `tree` of the table `w`, each as often as it occurs
 -- there. If the table contains records, `rows` are their encodings, in the order of the key.
--- Conversely, if `rows` are the encodings of records, and the rowids are distinct integers, the
--- table contains these records.
+-- Conversely, if `rows` are the encodings of records, the rowids are distinct integers, and the
+-- database satisfies `IsDatabase`, the table contains these records.
 pub record AreTableRows (w : DeskTable) (rows : List Row) (db : Database) (tree : ℕ) : Type 0 where
   -- The rows are all rows of the tree, each as often as it occurs there.
   pub all : IsPermutation (map (cells_in_column_order (table_definition_at_tree w tree)) (db.trees tree)) rows
   -- If the table contains records, the rows are their encodings, in order.
   pub rows_encode_records : (xs : List (RecordOfTable w))
       → TreeHoldsRecords (table_definition_at_tree w tree) (encoded_row w) (ordering_by_primary_key w) xs (db.trees tree) → rows ≡ map (encoded_row w) xs
-  -- If the rows are the encodings of records, the table contains these records.
+  -- If the rows are the encodings of records, the rowids are distinct integers, and the database
+  -- satisfies `IsDatabase`, the table contains these records.
   pub table_holds_records : (xs : List (RecordOfTable w)) → IsDatabase db → HasDistinctRowids (db.trees tree) → map (encoded_row w) xs ≡ rows
       → TreeHoldsRecords (table_definition_at_tree w tree) (encoded_row w) (ordering_by_primary_key w) xs (db.trees tree)
 
--- The list `rows` has all rows of the table `w`, sorted by key (`AreTableRows`). Vacuous if no
--- table of the database is defined as a desk defines `w`.
+-- The list `rows` has all rows of the table `w`, and if the table contains records, in the order of
+-- the key (`AreTableRows`). Vacuous if no table of the database is defined as a desk defines `w`.
 abbrev pub ShowsAllRows : DeskTable → List Row → Database → Type 0
 ShowsAllRows w rows db = (at tree : ℕ) → IsTableAt db.schema (table_definition_at_tree w tree) at → AreTableRows w rows db tree
 
--- If the call succeeds, it changes nothing and returns all rows of the table `w`, sorted by key
--- (`ShowsAllRows`). Nothing is said of the rows if the disk assumption fails, outside a
--- transaction, or if no table of the database is defined as a desk defines `w`.
+-- Under the disk assumption and within a transaction: if the call succeeds, the database was open
+-- and is unchanged, and the call returns all rows of the table `w` (`ShowsAllRows`, which is
+-- vacuous if no table of the database is defined as a desk defines `w`). Under the disk assumption
+-- the call commits nothing.
 abbrev pub ReadsAllRows : {S E : Type 0} → Ghosts S → Transaction S → Transaction S → Result (Vec Row) E → DeskTable → Type 0
 ReadsAllRows g old new result w = IsConnectionStep g old new result (λ rows a b. IsTrue a.is_open × (b.now ≡ a.now) × ShowsAllRows w rows.items a.now)
 
--- If the schema `desk` has the table `w`, the list `rows` has all rows of this table, sorted by key
+-- If the schema `desk` has the table `w`, the list `rows` has all rows of this table
 -- (`ShowsAllRows`, which is vacuous if the database does not define the table as a desk does).
 -- Otherwise the list is empty.
 abbrev pub ShowsRowsIfPresent : Schema → DeskTable → List Row → Database → Type 0
 ShowsRowsIfPresent desk w rows db = (IsTableOfSchema desk w → ShowsAllRows w rows db) × (schema_has_table desk w ≡ false → rows ≡ [])
 
--- If the call succeeds, it changes nothing and returns all rows of the table `w`, sorted by key, or
--- none if the schema `desk` does not have this table (`ShowsRowsIfPresent`). Nothing is said of the
--- rows if the disk assumption fails, outside a transaction, or if no table of the database is
--- defined as a desk defines `w`.
+-- Under the disk assumption and within a transaction: if the call succeeds, the database is
+-- unchanged, and the call returns all rows of the table `w` (`ShowsAllRows`, which is vacuous if no
+-- table of the database is defined as a desk defines `w`), or none if the schema `desk` does not
+-- have this table. Under the disk assumption the call commits nothing.
 abbrev pub ReadsRowsIfPresent : {S E : Type 0} → Ghosts S → Transaction S → Transaction S → Result (Vec Row) E → Schema → DeskTable → Type 0
 ReadsRowsIfPresent g old new result desk w = IsConnectionStep g old new result (λ rows a b. (b.now ≡ a.now) × ShowsRowsIfPresent desk w rows.items a.now)
 
@@ -67,8 +69,8 @@ pub record AreSheetsExceptKeptTexts (desk : Schema) (db : Database) (sheets : Sh
 
 -- The database contains the tables of the schema with the typed rows `sheets`, but for the texts of
 -- KEPT (`AreSheetsExceptKeptTexts`). For `None`: if the database contains the tables of the schema
--- with some rows, a row of them is malformed or a text is not UTF-8. The case `None` is vacuous if
--- it does not contain them.
+-- with some rows, these rows fail the audit condition `Form`, or one of their texts is not UTF-8.
+-- The case `None` is vacuous if the database does not contain these tables.
 abbrev pub AreSheetsOfDatabase : Schema → Database → Option Sheets → Type 0
 AreSheetsOfDatabase desk db (Some sheets) = AreSheetsExceptKeptTexts desk db sheets
 AreSheetsOfDatabase desk db None = (t : Tables) → HasDeskTablesInSchema desk t db → satisfies_form_condition desk t && has_utf8_texts t ≡ false

@@ -16,9 +16,9 @@ use brk_tables_schema::calls::statement_has_columns;
 use sqlite::{Alter, Transaction};
 
 // Returns true if the result of the statement of each heading has exactly the column names of the
-// heading, in order. Checks the headings in order until one does not match. If the function returns
-// a value, the database is unchanged. Fails with `Store` only, also if a checked statement does not
-// compile, for example because its table does not exist.
+// heading, in order. Checks the headings one after the other until one does not match. If the
+// function returns a value, the database is unchanged. Fails with `Store` only, also if a checked
+// statement does not compile, for example because its table does not exist.
 fn each_heading_matches<S: Alter>(
     tx: &mut Transaction<'_, S>,
     headings: &[(&str, &[&str])],
@@ -50,8 +50,8 @@ fn table_count(schema: Schema) -> usize
 }
 
 // Returns true if each table of `schema` has exactly its column names, in order. Checks the tables
-// in order until one differs. If the function returns a value, the database is unchanged. Fails
-// with `Store` only, also if a checked table does not exist.
+// one after the other until one differs. If the function returns a value, the database is
+// unchanged. Fails with `Store` only, also if a checked table does not exist.
 fn tables_have_columns<S: Alter>(tx: &mut Transaction<'_, S>, schema: Schema) -> Result<bool, Fault>
     ensures same_reference { tx.new.conn.ghost_name ≡ tx.old.conn.ghost_name }
     ensures step { IsConnectionStep S.Store tx.old tx.new result (λ has a b. (b.now ≡ a.now)
@@ -63,7 +63,8 @@ fn tables_have_columns<S: Alter>(tx: &mut Transaction<'_, S>, schema: Schema) ->
 
 /// Returns true if each table of `schema` exists by name, with exactly its column names, in order,
 /// and no table exists that a later schema adds. Other properties of the tables are not checked. If
-/// it returns a value, the database was open and is unchanged. Fails with `Store` only.
+/// the function returns a value, the database was open and is unchanged. Fails with `Store` only,
+/// also if a statement of the check does not compile for another reason than a missing table.
 pub fn has_exact_tables_and_columns<S: Alter>(
     tx: &mut Transaction<'_, S>,
     schema: Schema,

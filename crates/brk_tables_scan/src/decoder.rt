@@ -101,8 +101,9 @@ impl Decoder {
         }
     }
 
-    /// Returns the decoded rows of a table, of which `read` has the raw rows (`decode`). Fails with
-    /// the fault of `read`, if it is one, or with `Memory`.
+    /// Returns the decoded rows of a table, whose raw rows `read` contains, in order. If a row is
+    /// malformed, sets `are_well_formed` to false and returns no records (`decode`). Fails with the
+    /// fault in `read`, if `read` is an error, or with `Memory`.
     pub(crate) fn decode_read<R: Record>(
         &mut self,
         alloc: Global,
@@ -116,9 +117,9 @@ impl Decoder {
         self.decode(alloc, read?)
     }
 
-    /// Decodes the rows of KEPT, drops each once it is decoded, and returns their keys, in order:
-    /// no condition of an audit reads their texts. If a row is malformed, sets `are_well_formed` to
-    /// false and returns no keys. Fails with `Memory` only.
+    /// Decodes the rows of KEPT, drops each once it is decoded, and returns their keys, in order,
+    /// without their texts, which no condition of an audit reads. If a row is malformed, sets
+    /// `are_well_formed` to false and returns no keys. Fails with `Memory` only.
     pub(crate) fn decode_kept_keys(
         &mut self,
         alloc: Global,
@@ -138,9 +139,10 @@ impl Decoder {
         }
     }
 
-    /// Returns the stamp of the last accepted command from all rows of DESK, or `None` if none is
-    /// stored. If there is not exactly one row, well-formed and with the number of `schema`, sets
-    /// `are_well_formed` to false and returns `None`. Fails with `Memory` only.
+    /// Returns the stamp of the last accepted command from all rows of DESK, in milliseconds since
+    /// 1970-01-01 UTC, or `None` if none is stored. If there is not exactly one row, well-formed,
+    /// with the id 1 and the number of `schema`, sets `are_well_formed` to false and returns
+    /// `None`. Fails with `Memory` only.
     pub(crate) fn decode_last_stamp(
         &mut self,
         schema: Schema,
@@ -162,8 +164,9 @@ impl Decoder {
     }
 
     /// Returns the settlement day, in days since 1970-01-01, from all rows of SETTLE_RULE, or
-    /// `None` if there is no row. If there are two rows or more, or a malformed one, sets
-    /// `are_well_formed` to false and returns `None`. Fails with `Memory` only.
+    /// `None` if there is no row. If there are two rows or more, or if the row is malformed or has
+    /// another id than 1, sets `are_well_formed` to false and returns `None`. Fails with `Memory`
+    /// only.
     pub(crate) fn decode_settlement_day(&mut self, rows: Vec<Row>) -> Result<Option<Day>, Fault>
         ensures decoding { IfOk result (λ day. ContinuesDecoding self.old.are_well_formed self.new.are_well_formed
             (has_at_most_one_valid_rule_row rows.items)

@@ -14,7 +14,8 @@ use brk_tables_schema::calls::select_rows;
 use sqlite::{Alter, Row, Transaction};
 use std::alloc::Global;
 
-/// Returns all rows of DESK, sorted by key, ascending. Changes nothing. Fails with `Store` only.
+/// Returns all rows of DESK, sorted by key, ascending. If the function returns a value, the
+/// database was open and is unchanged. Fails with `Store` only.
 pub fn desk_rows<S: Alter>(tx: &mut Transaction<'_, S>) -> Result<Vec<Row>, Fault>
     ensures same_reference { tx.new.conn.ghost_name ≡ tx.old.conn.ghost_name }
     ensures step { ReadsAllRows S.Store tx.old tx.new result TheDesk }
@@ -27,7 +28,8 @@ pub fn desk_rows<S: Alter>(tx: &mut Transaction<'_, S>) -> Result<Vec<Row>, Faul
     )
 }
 
-/// Returns all rows of KEPT, sorted by key, ascending. Changes nothing. Fails with `Store` only.
+/// Returns all rows of KEPT, sorted by key, ascending. If the function returns a value, the
+/// database was open and is unchanged. Fails with `Store` only.
 pub fn kept_rows<S: Alter>(tx: &mut Transaction<'_, S>) -> Result<Vec<Row>, Fault>
     ensures same_reference { tx.new.conn.ghost_name ≡ tx.old.conn.ghost_name }
     ensures step { ReadsAllRows S.Store tx.old tx.new result KeptRows }
@@ -40,7 +42,8 @@ pub fn kept_rows<S: Alter>(tx: &mut Transaction<'_, S>) -> Result<Vec<Row>, Faul
     )
 }
 
-/// Returns all rows of BROKER, sorted by key, ascending. Changes nothing. Fails with `Store` only.
+/// Returns all rows of BROKER, sorted by key, ascending. If the function returns a value, the
+/// database was open and is unchanged. Fails with `Store` only.
 pub fn broker_rows<S: Alter>(tx: &mut Transaction<'_, S>) -> Result<Vec<Row>, Fault>
     ensures same_reference { tx.new.conn.ghost_name ≡ tx.old.conn.ghost_name }
     ensures step { ReadsAllRows S.Store tx.old tx.new result Brokers }
@@ -53,8 +56,8 @@ pub fn broker_rows<S: Alter>(tx: &mut Transaction<'_, S>) -> Result<Vec<Row>, Fa
     )
 }
 
-/// Returns all rows of CUSTOMER, sorted by key, ascending. Changes nothing. Fails with `Store`
-/// only.
+/// Returns all rows of CUSTOMER, sorted by key, ascending. If the function returns a value, the
+/// database was open and is unchanged. Fails with `Store` only.
 pub fn customer_rows<S: Alter>(tx: &mut Transaction<'_, S>) -> Result<Vec<Row>, Fault>
     ensures same_reference { tx.new.conn.ghost_name ≡ tx.old.conn.ghost_name }
     ensures step { ReadsAllRows S.Store tx.old tx.new result Customers }
@@ -67,8 +70,8 @@ pub fn customer_rows<S: Alter>(tx: &mut Transaction<'_, S>) -> Result<Vec<Row>, 
     )
 }
 
-/// Returns all rows of CUSTOMER_ACCOUNT, sorted by key, ascending. Changes nothing. Fails with
-/// `Store` only.
+/// Returns all rows of CUSTOMER_ACCOUNT, sorted by key, ascending. If the function returns a value,
+/// the database was open and is unchanged. Fails with `Store` only.
 pub fn account_rows<S: Alter>(tx: &mut Transaction<'_, S>) -> Result<Vec<Row>, Fault>
     ensures same_reference { tx.new.conn.ghost_name ≡ tx.old.conn.ghost_name }
     ensures step { ReadsAllRows S.Store tx.old tx.new result Accounts }
@@ -82,8 +85,8 @@ pub fn account_rows<S: Alter>(tx: &mut Transaction<'_, S>) -> Result<Vec<Row>, F
     )
 }
 
-/// Returns all rows of ACCOUNT_PERMISSION, sorted by key, ascending. Changes nothing. Fails with
-/// `Store` only.
+/// Returns all rows of ACCOUNT_PERMISSION, sorted by key, ascending. If the function returns a
+/// value, the database was open and is unchanged. Fails with `Store` only.
 pub fn permission_rows<S: Alter>(tx: &mut Transaction<'_, S>) -> Result<Vec<Row>, Fault>
     ensures same_reference { tx.new.conn.ghost_name ≡ tx.old.conn.ghost_name }
     ensures step { ReadsAllRows S.Store tx.old tx.new result Permissions }
@@ -97,8 +100,8 @@ pub fn permission_rows<S: Alter>(tx: &mut Transaction<'_, S>) -> Result<Vec<Row>
     )
 }
 
-/// Returns all rows of SECURITY, sorted by key, ascending. Changes nothing. Fails with `Store`
-/// only.
+/// Returns all rows of SECURITY, sorted by key, ascending. If the function returns a value, the
+/// database was open and is unchanged. Fails with `Store` only.
 pub fn security_rows<S: Alter>(tx: &mut Transaction<'_, S>) -> Result<Vec<Row>, Fault>
     ensures same_reference { tx.new.conn.ghost_name ≡ tx.old.conn.ghost_name }
     ensures step { ReadsAllRows S.Store tx.old tx.new result Securities }
@@ -111,8 +114,8 @@ pub fn security_rows<S: Alter>(tx: &mut Transaction<'_, S>) -> Result<Vec<Row>, 
     )
 }
 
-/// Returns all rows of LAST_TRADE, sorted by key, ascending. Changes nothing. Fails with `Store`
-/// only.
+/// Returns all rows of LAST_TRADE, sorted by key, ascending. If the function returns a value, the
+/// database was open and is unchanged. Fails with `Store` only.
 pub fn last_trade_rows<S: Alter>(tx: &mut Transaction<'_, S>) -> Result<Vec<Row>, Fault>
     ensures same_reference { tx.new.conn.ghost_name ≡ tx.old.conn.ghost_name }
     ensures step { ReadsAllRows S.Store tx.old tx.new result LastTrades }
@@ -125,7 +128,8 @@ pub fn last_trade_rows<S: Alter>(tx: &mut Transaction<'_, S>) -> Result<Vec<Row>
     )
 }
 
-/// Returns all rows of CHARGE, sorted by key, ascending. Changes nothing. Fails with `Store` only.
+/// Returns all rows of CHARGE, sorted by key, ascending. If the function returns a value, the
+/// database was open and is unchanged. Fails with `Store` only.
 pub fn charge_rows<S: Alter>(tx: &mut Transaction<'_, S>) -> Result<Vec<Row>, Fault>
     ensures same_reference { tx.new.conn.ghost_name ≡ tx.old.conn.ghost_name }
     ensures step { ReadsAllRows S.Store tx.old tx.new result Charges }
@@ -138,8 +142,8 @@ pub fn charge_rows<S: Alter>(tx: &mut Transaction<'_, S>) -> Result<Vec<Row>, Fa
     )
 }
 
-/// Returns all rows of COMMISSION_RATE, sorted by key, ascending. Changes nothing. Fails with
-/// `Store` only.
+/// Returns all rows of COMMISSION_RATE, sorted by key, ascending. If the function returns a value,
+/// the database was open and is unchanged. Fails with `Store` only.
 pub fn band_rows<S: Alter>(tx: &mut Transaction<'_, S>) -> Result<Vec<Row>, Fault>
     ensures same_reference { tx.new.conn.ghost_name ≡ tx.old.conn.ghost_name }
     ensures step { ReadsAllRows S.Store tx.old tx.new result Bands }
@@ -153,7 +157,8 @@ pub fn band_rows<S: Alter>(tx: &mut Transaction<'_, S>) -> Result<Vec<Row>, Faul
     )
 }
 
-/// Returns all rows of TAXRATE, sorted by key, ascending. Changes nothing. Fails with `Store` only.
+/// Returns all rows of TAXRATE, sorted by key, ascending. If the function returns a value, the
+/// database was open and is unchanged. Fails with `Store` only.
 pub fn tax_rate_rows<S: Alter>(tx: &mut Transaction<'_, S>) -> Result<Vec<Row>, Fault>
     ensures same_reference { tx.new.conn.ghost_name ≡ tx.old.conn.ghost_name }
     ensures step { ReadsAllRows S.Store tx.old tx.new result TaxRates }
@@ -166,8 +171,8 @@ pub fn tax_rate_rows<S: Alter>(tx: &mut Transaction<'_, S>) -> Result<Vec<Row>, 
     )
 }
 
-/// Returns all rows of CUSTOMER_TAXRATE, sorted by key, ascending. Changes nothing. Fails with
-/// `Store` only.
+/// Returns all rows of CUSTOMER_TAXRATE, sorted by key, ascending. If the function returns a value,
+/// the database was open and is unchanged. Fails with `Store` only.
 pub fn customer_tax_rows<S: Alter>(tx: &mut Transaction<'_, S>) -> Result<Vec<Row>, Fault>
     ensures same_reference { tx.new.conn.ghost_name ≡ tx.old.conn.ghost_name }
     ensures step { ReadsAllRows S.Store tx.old tx.new result CustomerTaxes }
@@ -180,7 +185,8 @@ pub fn customer_tax_rows<S: Alter>(tx: &mut Transaction<'_, S>) -> Result<Vec<Ro
     )
 }
 
-/// Returns all rows of TRADE, sorted by key, ascending. Changes nothing. Fails with `Store` only.
+/// Returns all rows of TRADE, sorted by key, ascending. If the function returns a value, the
+/// database was open and is unchanged. Fails with `Store` only.
 pub fn trade_rows<S: Alter>(tx: &mut Transaction<'_, S>) -> Result<Vec<Row>, Fault>
     ensures same_reference { tx.new.conn.ghost_name ≡ tx.old.conn.ghost_name }
     ensures step { ReadsAllRows S.Store tx.old tx.new result Trades }
@@ -195,8 +201,8 @@ pub fn trade_rows<S: Alter>(tx: &mut Transaction<'_, S>) -> Result<Vec<Row>, Fau
     )
 }
 
-/// Returns all rows of TRADE_HISTORY, sorted by key, ascending. Changes nothing. Fails with `Store`
-/// only.
+/// Returns all rows of TRADE_HISTORY, sorted by key, ascending. If the function returns a value,
+/// the database was open and is unchanged. Fails with `Store` only.
 pub fn history_rows<S: Alter>(tx: &mut Transaction<'_, S>) -> Result<Vec<Row>, Fault>
     ensures same_reference { tx.new.conn.ghost_name ≡ tx.old.conn.ghost_name }
     ensures step { ReadsAllRows S.Store tx.old tx.new result TradeHistory }
@@ -209,8 +215,8 @@ pub fn history_rows<S: Alter>(tx: &mut Transaction<'_, S>) -> Result<Vec<Row>, F
     )
 }
 
-/// Returns all rows of TRADE_REQUEST, sorted by key, ascending. Changes nothing. Fails with `Store`
-/// only.
+/// Returns all rows of TRADE_REQUEST, sorted by key, ascending. If the function returns a value,
+/// the database was open and is unchanged. Fails with `Store` only.
 pub fn request_rows<S: Alter>(tx: &mut Transaction<'_, S>) -> Result<Vec<Row>, Fault>
     ensures same_reference { tx.new.conn.ghost_name ≡ tx.old.conn.ghost_name }
     ensures step { ReadsAllRows S.Store tx.old tx.new result Requests }
@@ -224,7 +230,8 @@ pub fn request_rows<S: Alter>(tx: &mut Transaction<'_, S>) -> Result<Vec<Row>, F
     )
 }
 
-/// Returns all rows of HOLDING, sorted by key, ascending. Changes nothing. Fails with `Store` only.
+/// Returns all rows of HOLDING, sorted by key, ascending. If the function returns a value, the
+/// database was open and is unchanged. Fails with `Store` only.
 pub fn holding_rows<S: Alter>(tx: &mut Transaction<'_, S>) -> Result<Vec<Row>, Fault>
     ensures same_reference { tx.new.conn.ghost_name ≡ tx.old.conn.ghost_name }
     ensures step { ReadsAllRows S.Store tx.old tx.new result Holdings }
@@ -237,8 +244,8 @@ pub fn holding_rows<S: Alter>(tx: &mut Transaction<'_, S>) -> Result<Vec<Row>, F
     )
 }
 
-/// Returns all rows of HOLDING_SUMMARY, sorted by key, ascending. Changes nothing. Fails with
-/// `Store` only.
+/// Returns all rows of HOLDING_SUMMARY, sorted by key, ascending. If the function returns a value,
+/// the database was open and is unchanged. Fails with `Store` only.
 pub fn summary_rows<S: Alter>(tx: &mut Transaction<'_, S>) -> Result<Vec<Row>, Fault>
     ensures same_reference { tx.new.conn.ghost_name ≡ tx.old.conn.ghost_name }
     ensures step { ReadsAllRows S.Store tx.old tx.new result Summaries }
@@ -251,8 +258,8 @@ pub fn summary_rows<S: Alter>(tx: &mut Transaction<'_, S>) -> Result<Vec<Row>, F
     )
 }
 
-/// Returns all rows of HOLDING_HISTORY, sorted by key, ascending. Changes nothing. Fails with
-/// `Store` only.
+/// Returns all rows of HOLDING_HISTORY, sorted by key, ascending. If the function returns a value,
+/// the database was open and is unchanged. Fails with `Store` only.
 pub fn holding_history_rows<S: Alter>(tx: &mut Transaction<'_, S>) -> Result<Vec<Row>, Fault>
     ensures same_reference { tx.new.conn.ghost_name ≡ tx.old.conn.ghost_name }
     ensures step { ReadsAllRows S.Store tx.old tx.new result HoldingHistory }
@@ -266,8 +273,8 @@ pub fn holding_history_rows<S: Alter>(tx: &mut Transaction<'_, S>) -> Result<Vec
     )
 }
 
-/// Returns all rows of SETTLEMENT, sorted by key, ascending. Changes nothing. Fails with `Store`
-/// only.
+/// Returns all rows of SETTLEMENT, sorted by key, ascending. If the function returns a value, the
+/// database was open and is unchanged. Fails with `Store` only.
 pub fn settlement_rows<S: Alter>(tx: &mut Transaction<'_, S>) -> Result<Vec<Row>, Fault>
     ensures same_reference { tx.new.conn.ghost_name ≡ tx.old.conn.ghost_name }
     ensures step { ReadsAllRows S.Store tx.old tx.new result Settlements }
@@ -280,8 +287,8 @@ pub fn settlement_rows<S: Alter>(tx: &mut Transaction<'_, S>) -> Result<Vec<Row>
     )
 }
 
-/// Returns all rows of CASH_TRANSACTION, sorted by key, ascending. Changes nothing. Fails with
-/// `Store` only.
+/// Returns all rows of CASH_TRANSACTION, sorted by key, ascending. If the function returns a value,
+/// the database was open and is unchanged. Fails with `Store` only.
 pub fn cash_transaction_rows<S: Alter>(tx: &mut Transaction<'_, S>) -> Result<Vec<Row>, Fault>
     ensures same_reference { tx.new.conn.ghost_name ≡ tx.old.conn.ghost_name }
     ensures step { ReadsAllRows S.Store tx.old tx.new result CashRows }
@@ -294,8 +301,8 @@ pub fn cash_transaction_rows<S: Alter>(tx: &mut Transaction<'_, S>) -> Result<Ve
     )
 }
 
-// Returns all rows of CASH_MOVE, sorted by key, ascending. Changes nothing. Fails with `Store`
-// only.
+// Returns all rows of CASH_MOVE, sorted by key, ascending. If the function returns a value, the
+// database was open and is unchanged. Fails with `Store` only.
 fn cash_move_rows<S: Alter>(tx: &mut Transaction<'_, S>) -> Result<Vec<Row>, Fault>
     ensures same_reference { tx.new.conn.ghost_name ≡ tx.old.conn.ghost_name }
     ensures step { ReadsAllRows S.Store tx.old tx.new result CashMoves }
@@ -308,8 +315,8 @@ fn cash_move_rows<S: Alter>(tx: &mut Transaction<'_, S>) -> Result<Vec<Row>, Fau
     )
 }
 
-// Returns all rows of SETTLE_RULE, sorted by key, ascending. Changes nothing. Fails with `Store`
-// only.
+// Returns all rows of SETTLE_RULE, sorted by key, ascending. If the function returns a value, the
+// database was open and is unchanged. Fails with `Store` only.
 fn settle_rule_rows<S: Alter>(tx: &mut Transaction<'_, S>) -> Result<Vec<Row>, Fault>
     ensures same_reference { tx.new.conn.ghost_name ≡ tx.old.conn.ghost_name }
     ensures step { ReadsAllRows S.Store tx.old tx.new result SettleRules }
@@ -323,7 +330,7 @@ fn settle_rule_rows<S: Alter>(tx: &mut Transaction<'_, S>) -> Result<Vec<Row>, F
 }
 
 /// Returns all rows of CASH_MOVE, sorted by key, ascending, or no rows if `schema` lacks the table.
-/// Changes nothing. Fails with `Store` only.
+/// If the function returns a value, the database is unchanged. Fails with `Store` only.
 pub fn cash_move_rows_in_schema<S: Alter>(
     tx: &mut Transaction<'_, S>,
     alloc: Global,
@@ -340,7 +347,7 @@ pub fn cash_move_rows_in_schema<S: Alter>(
 }
 
 /// Returns all rows of SETTLE_RULE, sorted by key, ascending, or no rows if `schema` lacks the
-/// table. Changes nothing. Fails with `Store` only.
+/// table. If the function returns a value, the database is unchanged. Fails with `Store` only.
 pub fn settle_rule_rows_in_schema<S: Alter>(
     tx: &mut Transaction<'_, S>,
     alloc: Global,

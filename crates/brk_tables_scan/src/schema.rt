@@ -36,8 +36,8 @@ fn column_equals_integer(row: &Row, at: usize, wanted: i64) -> bool
     }
 }
 
-// Returns true if the row has three columns: the id 1, the number of the schema, and any value as
-// the stamp.
+// Returns true if the row has exactly three columns: the id 1, the number of the schema, and any
+// value as the stamp.
 #[tactic(auto, using(crate::proofs::Firsts::is_row, crate::proofs::Firsts::not_three, crate::proofs::Firsts::not_id, crate::proofs::Firsts::not_schema))]
 fn is_desk_row_of_schema(schema: Schema, row: &Row) -> bool
     ensures if_true { IsTrue result → IsDeskRowOfSchema (abstract_schema schema) row.now }
@@ -67,9 +67,9 @@ fn has_one_desk_row_of_schema(schema: Schema, rows: &[Row]) -> bool
 /// the id 1 and the number of the schema. If the function returns a value, the database was open
 /// and is unchanged.
 ///
-/// Fails with `Store` only. The result is specified only if the tables with these names and
-/// columns, if all exist, are defined as a desk defines them
-/// (`TablesWithSchemaNamesAreDeskTables`).
+/// Fails with `Store` only, also if a statement of the check does not compile for another reason
+/// than a missing table. The result is specified only if the tables with these names and columns,
+/// if all exist, are defined as a desk defines them (`TablesWithSchemaNamesAreDeskTables`).
 pub fn database_has_schema<S: Alter>(
     tx: &mut Transaction<'_, S>,
     schema: Schema,

@@ -7,16 +7,17 @@ use Rattle.brk_model.specs.Tables.{Tables}
 use Rattle.brk_sql.specs.Model.{WritesTables, ReadsTables}
 use Rattle.brk_tables_schema.specs.Desk.{DeskTable, RecordOfTable, desk_tables, rows_of_table}
 
--- If the call succeeds, it changes the rows of a desk's tables from `t` to `f t`, for all `t`, and
--- no other table, unless a foreign key of that table changes or deletes its rows. It commits
--- nothing. Nothing is said of the tables if the disk assumption fails, outside a transaction, or if
--- the database does not contain all tables of a desk.
+-- Under the disk assumption and within a transaction: if the call succeeds, it changes the rows of
+-- a desk's tables from `t` to `f t`, for all `t`, and no other table, unless a foreign key of that
+-- table changes or deletes its rows. This is vacuous if the database does not contain all tables of
+-- a desk in schema 3. Under the disk assumption the call commits nothing.
 abbrev pub WritesDeskTables : {S V E : Type 0} → Ghosts S → Transaction S → Transaction S → Result V E → (Tables → Tables) → Type 0
 WritesDeskTables g old new result f = WritesTables desk_tables g old new result f
 
--- If the call succeeds, it changes nothing, and `Told` relates the returned value to the rows of a
--- desk's tables. Nothing is said of them if the disk assumption fails, outside a transaction, or if
--- the database does not contain all tables of a desk.
+-- Under the disk assumption and within a transaction: if the call succeeds, the database was open
+-- and is unchanged, and `Told` relates the returned value to the rows of a desk's tables. The last
+-- part is vacuous if the database does not contain all tables of a desk in schema 3. Under the disk
+-- assumption the call commits nothing.
 abbrev pub ReadsDeskTables : {S V E : Type 0} → Ghosts S → Transaction S → Transaction S → Result V E → (V → Tables → Type 0) → Type 0
 ReadsDeskTables g old new result Told = ReadsTables desk_tables g old new result Told
 
@@ -30,18 +31,20 @@ IsFirstMatch w of is o t = option_map of o ≡ find is (rows_of_table w t)
 abbrev pub AreMatchingRows : {X : Type 0} (w : DeskTable) → (X → RecordOfTable w) → (RecordOfTable w → Bool) → Vec X → Tables → Type 0
 AreMatchingRows w of is all t = map of all.items ≡ filter is (rows_of_table w t)
 
--- If the call succeeds, it changes nothing and returns the first record of the table `w` that
--- passes the test `is`, or `None` if no record passes; `of` converts a returned value to a record
--- of the table. Nothing is said of the result if the disk assumption fails, outside a transaction,
--- or if the database does not contain all tables of a desk.
+-- Under the disk assumption and within a transaction: if the call succeeds, the database was open
+-- and is unchanged, and the call returns the first record of the table `w` that passes the test
+-- `is`, or `None` if no record passes; `of` converts a returned value to a record of the table. The
+-- part on the result is vacuous if the database does not contain all tables of a desk in schema 3.
+-- Under the disk assumption the call commits nothing.
 abbrev pub ReadsFirstMatch : {S X E : Type 0} → Ghosts S → Transaction S → Transaction S → Result (Option X) E → (w : DeskTable) → (X → RecordOfTable w)
     → (RecordOfTable w → Bool) → Type 0
 ReadsFirstMatch g old new result w of is = ReadsDeskTables g old new result (IsFirstMatch w of is)
 
--- If the call succeeds, it changes nothing and returns all records of the table `w` that pass the
--- test `is`, sorted by the key of the table; `of` converts a returned value to a record of the
--- table. Nothing is said of the result if the disk assumption fails, outside a transaction, or if
--- the database does not contain all tables of a desk.
+-- Under the disk assumption and within a transaction: if the call succeeds, the database was open
+-- and is unchanged, and the call returns all records of the table `w` that pass the test `is`,
+-- sorted by the key of the table, ascending; `of` converts a returned value to a record of the
+-- table. The part on the result is vacuous if the database does not contain all tables of a desk in
+-- schema 3. Under the disk assumption the call commits nothing.
 abbrev pub ReadsMatchingRows : {S X E : Type 0} → Ghosts S → Transaction S → Transaction S → Result (Vec X) E → (w : DeskTable) → (X → RecordOfTable w)
     → (RecordOfTable w → Bool) → Type 0
 ReadsMatchingRows g old new result w of is = ReadsDeskTables g old new result (AreMatchingRows w of is)

@@ -16,7 +16,8 @@ use sqlite::{Alter, Row, Transaction};
 use sqlite_value::value::ValueRef;
 
 /// Executes the statement `text`, which creates a table or changes rows, with the parameters
-/// `params`. Fails with `Store` only, for any error of the database, such as a broken constraint.
+/// `params`. Commits nothing. Fails with `Store` only, for any error of the database, such as a
+/// broken constraint; the database is then unchanged or the transaction is rolled back.
 pub fn execute_statement<S: Alter>(
     tx: &mut Transaction<'_, S>,
     text: &str,
@@ -33,7 +34,9 @@ pub fn execute_statement<S: Alter>(
 }
 
 /// Returns the rows that the statement `text`, which must have no RETURNING clause, selects with
-/// the parameters `params`, in the order of its result. Changes nothing. Fails with `Store` only.
+/// the parameters `params`, in the order of its result. If the function returns a value, the
+/// database was open and is unchanged. Fails with `Store` only; the database is then unchanged or
+/// the transaction is rolled back. Commits nothing.
 pub fn select_rows<S: Alter>(
     tx: &mut Transaction<'_, S>,
     text: &str,
@@ -50,9 +53,11 @@ pub fn select_rows<S: Alter>(
     }
 }
 
-/// Returns true if the statement `text` compiles, and false if it names a table that does not
-/// exist. The database is unchanged. Fails with `Store` only, also if the statement does not
-/// compile for another reason.
+/// Returns true if the statement `text` compiles, and false if it does not, because a table that it
+/// names does not exist. The statement is not executed. If the function returns a value, the
+/// database was open and is unchanged. Fails with `Store` only, also if the statement does not
+/// compile for another reason; the database is then unchanged or the transaction is rolled back.
+/// Commits nothing.
 pub fn statement_compiles<S: Alter>(tx: &mut Transaction<'_, S>, text: &str) -> Result<bool, Fault>
     ensures same_reference { tx.new.conn.ghost_name ≡ tx.old.conn.ghost_name }
     ensures step { IsConnectionStep S.Store tx.old tx.new result (λ has a b. IsTrue a.is_open × (b.now ≡ a.now)
@@ -65,8 +70,10 @@ pub fn statement_compiles<S: Alter>(tx: &mut Transaction<'_, S>, text: &str) -> 
     }
 }
 
-/// Returns true if the columns of the result of the statement `text` are exactly `names`, in order.
-/// The database is unchanged. Fails with `Store` only, also if the statement does not compile.
+/// Returns true if the columns of the result of the statement `text` have exactly the names
+/// `names`, in order. The statement is not executed. If the function returns a value, the database
+/// was open and is unchanged. Fails with `Store` only, also if the statement does not compile; the
+/// database is then unchanged or the transaction is rolled back. Commits nothing.
 pub fn statement_has_columns<S: Alter>(
     tx: &mut Transaction<'_, S>,
     text: &str,

@@ -35,7 +35,7 @@ impl<T: Drop> From<AllocFailed<T>> for DecodeError {
     ghost from_gives = { λ _ decode_error. decode_error ≡ Refused };
 
     /// Converts to `Memory` the error of a failed allocation, which contains the value to be
-    /// stored.
+    /// stored, and drops this value.
     fn from(_: AllocFailed<T>) -> DecodeError {
         DecodeError::Memory
     }

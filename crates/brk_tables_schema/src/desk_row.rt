@@ -19,7 +19,7 @@ use brk_money::{Fault, Stamp};
 use sqlite::{Alter, Row, Transaction};
 
 /// Sets the stamp of the last accepted command (D_LAST), in milliseconds since 1970-01-01 UTC.
-/// Fails with `Store` only.
+/// Changes nothing if DESK has no row with the id 1. Fails with `Store` only.
 pub fn set_last_stamp<S: Alter>(tx: &mut Transaction<'_, S>, stamp: Stamp) -> Result<(), Fault>
     ensures same_reference { tx.new.conn.ghost_name ≡ tx.old.conn.ghost_name }
     ensures step { WritesDeskTables S.Store tx.old tx.new result (tables_with_last_stamp stamp) }
@@ -32,9 +32,9 @@ pub fn set_last_stamp<S: Alter>(tx: &mut Transaction<'_, S>, stamp: Stamp) -> Re
     )
 }
 
-// Decodes the stamp of the last accepted command from a row of DESK with the number of `schema`, or
-// returns `None` if the row has no stamp. Fails with `Form`, only if the row is malformed or has
-// another schema number, or with `Memory`.
+// Decodes the stamp of the last accepted command from a row of DESK with the id 1 and the number of
+// `schema`, or returns `None` if the row has no stamp. Fails with `Form`, only if the row is
+// malformed or has another id or another schema number, or with `Memory`.
 fn last_stamp_in_desk_row(schema: Schema, row: &Row) -> Result<Option<Stamp>, DecodeError>
     ensures value { IfOk result (λ last. map desk_row_cells (desk_rows (abstract_schema schema) last) ≡ row.now ∷ []) }
     ensures form { result ≡ Err Formless → passes_all_cell_checks (desk_column_cell_checks (abstract_schema schema)) row.now ≡ false }
@@ -47,8 +47,8 @@ fn last_stamp_in_desk_row(schema: Schema, row: &Row) -> Result<Option<Stamp>, De
 }
 
 /// Decodes the stamp of the last accepted command from all rows of DESK, or returns `None` if the
-/// row has no stamp. Fails with `Form`, only if there is not exactly one well-formed row with the
-/// number of `schema`, or with `Memory`.
+/// row has no stamp. Fails with `Form`, only if there is not exactly one row, well-formed, with the
+/// id 1 and the number of `schema`, or with `Memory`.
 pub fn last_stamp_in_desk_rows(schema: Schema, rows: &[Row]) -> Result<Option<Stamp>, DecodeError>
     ensures value { IfOk result (λ last. map desk_row_cells (desk_rows (abstract_schema schema) last) ≡ rows.now) }
     ensures form { result ≡ Err Formless → has_one_valid_desk_row (abstract_schema schema) rows.now ≡ false }
@@ -60,8 +60,8 @@ pub fn last_stamp_in_desk_rows(schema: Schema, rows: &[Row]) -> Result<Option<St
 }
 
 // Decodes the stamp of the last accepted command from all rows of DESK, or returns `None` if the
-// row has no stamp. Fails with `Store` only, if there is not exactly one well-formed row with the
-// number of schema 3 or memory runs out.
+// row has no stamp. Fails with `Store` only, if there is not exactly one row, well-formed, with the
+// id 1 and the number of schema 3, or if memory runs out.
 fn last_stamp_in_third_schema_rows(rows: &[Row]) -> Result<Option<Stamp>, Fault>
     ensures value { IfOk result (λ last. map desk_row_cells (desk_rows third_schema last) ≡ rows.now) }
     ensures fault { OnErr result (result ≡ Err Store) }
@@ -70,8 +70,9 @@ fn last_stamp_in_third_schema_rows(rows: &[Row]) -> Result<Option<Stamp>, Fault>
 }
 
 /// Returns the stamp of the last accepted command (D_LAST), in milliseconds since 1970-01-01 UTC,
-/// or `None` if none is stored. Changes nothing. Fails with `Store` only, also if DESK does not
-/// have exactly one well-formed row with the number of schema 3, or if memory runs out.
+/// or `None` if none is stored. Changes nothing if it succeeds. Fails with `Store` only, also if
+/// DESK does not have exactly one row, well-formed, with the id 1 and the number of schema 3, or if
+/// memory runs out.
 pub fn last_stamp<S: Alter>(tx: &mut Transaction<'_, S>) -> Result<Option<Stamp>, Fault>
     ensures same_reference { tx.new.conn.ghost_name ≡ tx.old.conn.ghost_name }
     ensures step { ReadsDeskTables S.Store tx.old tx.new result (λ last t. last ≡ t.last) }

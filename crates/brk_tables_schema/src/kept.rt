@@ -58,8 +58,8 @@ impl Record for Kept {
     }
 }
 
-/// Returns the row of KEPT with the key `key`, or `None` if there is none. Changes nothing. Fails
-/// with `Store` only, also if the row is malformed or memory runs out.
+/// Returns the row of KEPT with the key `key`, or `None` if there is none. Changes nothing if it
+/// succeeds. Fails with `Store` only, also if the row is malformed or memory runs out.
 pub fn kept_row_by_key<S: Alter>(
     tx: &mut Transaction<'_, S>,
     key: &Key,

@@ -30,7 +30,8 @@ fn skipped_rows_as_parameter<'a>(skipped: u32) -> ValueRef<'a>
 
 /// Returns a page of the lots of an account in a security: at most 16 lots after the first
 /// `skipped`, sorted by the stamp of their opening and then by trade, the oldest first. Changes
-/// nothing if it succeeds. Fails with `Memory` or `Store`.
+/// nothing if it succeeds. Fails with `Memory` or `Store` only; with `Store` also if a row is
+/// malformed.
 pub fn page_of_lots_oldest_first<S: Alter>(
     tx: &mut Transaction<'_, S>,
     alloc: Global,
@@ -57,7 +58,8 @@ pub fn page_of_lots_oldest_first<S: Alter>(
 
 /// Returns a page of the lots of an account in a security: at most 16 lots after the first
 /// `skipped`, sorted by the stamp of their opening and then by trade, the newest first. Changes
-/// nothing if it succeeds. Fails with `Memory` or `Store`.
+/// nothing if it succeeds. Fails with `Memory` or `Store` only; with `Store` also if a row is
+/// malformed.
 pub fn page_of_lots_newest_first<S: Alter>(
     tx: &mut Transaction<'_, S>,
     alloc: Global,
@@ -86,7 +88,7 @@ pub fn page_of_lots_newest_first<S: Alter>(
 
 /// Returns the rows of HOLDING_SUMMARY of an account (its number of shares in each security),
 /// sorted by symbol, ascending. Changes nothing if it succeeds. Fails with `Memory` or `Store`
-/// only.
+/// only; with `Store` also if a row is malformed.
 pub fn holding_summaries_of_account<S: Alter>(
     tx: &mut Transaction<'_, S>,
     alloc: Global,
@@ -105,7 +107,8 @@ pub fn holding_summaries_of_account<S: Alter>(
 }
 
 /// Returns the row of HOLDING_SUMMARY of an account and a security (its number of shares in total),
-/// or `None` if there is none. Changes nothing if it succeeds. Fails with `Store` only.
+/// or `None` if there is none. Changes nothing if it succeeds. Fails with `Store` only, also if the
+/// row is malformed or memory runs out.
 pub fn holding_summary_by_account_and_symbol<S: Alter>(
     tx: &mut Transaction<'_, S>,
     account: Id,

@@ -37,7 +37,8 @@ pub fn set_last_trade<S: Alter>(
 }
 
 /// Returns the last trade on the market of the security with the symbol `symbol`, or `None` if
-/// there is none. Changes nothing if it succeeds. Fails with `Store` only.
+/// there is none. Changes nothing if it succeeds. Fails with `Store` only, also if the row is
+/// malformed or memory runs out.
 pub fn last_trade_by_symbol<S: Alter>(
     tx: &mut Transaction<'_, S>,
     symbol: &Symbol,

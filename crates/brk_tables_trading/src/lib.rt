@@ -2,8 +2,12 @@
 //! cover history, requests, last trades, lots and their changes, summaries, settlements, balances,
 //! broker totals and text updates.
 //!
-//! Each function is called within an open transaction. An error of the `sqlite` crate and a
-//! malformed row are reported as the fault `Store`.
+//! Each function is called within an open transaction, and commits nothing. An error of the
+//! `sqlite` crate, also if this crate runs out of memory, and a malformed row are reported as the
+//! fault `Store`; the database is then unchanged or the transaction is rolled back. A write changes
+//! the table that its comment names, and another table only if a foreign key of that other table
+//! changes or deletes rows. No clause states the effect of a call on the tables, or the value that
+//! it returns, outside a transaction or in a database without all tables of a desk.
 #![tactic(auto)]
 
 pub mod balances;

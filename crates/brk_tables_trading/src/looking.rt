@@ -18,7 +18,7 @@ use std::alloc::Global;
 
 /// Returns the ten most recent trades of an account, or all if it has fewer, sorted by the stamp of
 /// their last status change and then by id, the most recent first. Changes nothing if it succeeds.
-/// Fails with `Memory` or `Store`.
+/// Fails with `Memory` or `Store` only; with `Store` also if a row is malformed.
 pub fn last_ten_trades_of_account<S: Alter>(
     tx: &mut Transaction<'_, S>,
     alloc: Global,
@@ -41,7 +41,7 @@ pub fn last_ten_trades_of_account<S: Alter>(
 
 /// Returns the fifty most recent trades of an account, or all if it has fewer, sorted by the stamp
 /// of their last status change and then by id, the most recent first. Changes nothing if it
-/// succeeds. Fails with `Memory` or `Store`.
+/// succeeds. Fails with `Memory` or `Store` only; with `Store` also if a row is malformed.
 pub fn last_fifty_trades_of_account<S: Alter>(
     tx: &mut Transaction<'_, S>,
     alloc: Global,
@@ -64,7 +64,7 @@ pub fn last_fifty_trades_of_account<S: Alter>(
 
 /// Returns the rows of TRADE_HISTORY of a trade: the statuses that it reached and their stamps,
 /// sorted by the code of the status, ascending. Changes nothing if it succeeds. Fails with `Memory`
-/// or `Store`.
+/// or `Store` only; with `Store` also if a row is malformed.
 pub fn history_of_trade<S: Alter>(
     tx: &mut Transaction<'_, S>,
     alloc: Global,

@@ -53,7 +53,8 @@ pub fn add_trade<S: Alter>(tx: &mut Transaction<'_, S>, trade: &TradeRow) -> Res
 }
 
 /// Sets the status of a trade (T_ST_ID) and the stamp at which the trade reached it (T_DTS).
-/// Changes nothing if the trade does not exist. Fails with `Store` only.
+/// Inserts no row of TRADE_HISTORY. Changes nothing if the trade does not exist. Fails with `Store`
+/// only.
 pub fn set_trade_status<S: Alter>(
     tx: &mut Transaction<'_, S>,
     id: Id,
@@ -76,8 +77,8 @@ pub fn set_trade_status<S: Alter>(
 }
 
 /// Sets the status of a trade to completed, its stamp to `stamp`, its price per share, and its
-/// commission and tax, all three in cents. Changes nothing if the trade does not exist. Fails with
-/// `Store` only.
+/// commission and tax, all three in cents. Inserts no row of TRADE_HISTORY. Changes nothing if the
+/// trade does not exist. Fails with `Store` only.
 pub fn complete_trade<S: Alter>(
     tx: &mut Transaction<'_, S>,
     trade: Id,
@@ -105,7 +106,7 @@ pub fn complete_trade<S: Alter>(
 }
 
 /// Returns the trade with the id `id`, or `None` if there is none. Changes nothing if it succeeds.
-/// Fails with `Store` only.
+/// Fails with `Store` only, also if the row is malformed or memory runs out.
 pub fn trade_by_id<S: Alter>(tx: &mut Transaction<'_, S>, id: Id) -> Result<Option<TradeRow>, Fault>
     ensures same_reference { tx.new.conn.ghost_name ≡ tx.old.conn.ghost_name }
     ensures step { ReadsFirstMatch S.Store tx.old tx.new result Trades abstract_trade_row (λ r. r.id == id) }
@@ -122,7 +123,7 @@ pub fn trade_by_id<S: Alter>(tx: &mut Transaction<'_, S>, id: Id) -> Result<Opti
 }
 
 /// Returns the greatest id of a trade, or `None` if there is no trade. Changes nothing if it
-/// succeeds. Fails with `Store` only.
+/// succeeds. Fails with `Store` only, also if the row is malformed or memory runs out.
 pub fn greatest_trade_id<S: Alter>(tx: &mut Transaction<'_, S>) -> Result<Option<Id>, Fault>
     ensures same_reference { tx.new.conn.ghost_name ≡ tx.old.conn.ghost_name }
     ensures step { ReadsDeskTables S.Store tx.old tx.new result (λ o t. o ≡ option_map (λ r. r.id) (slice_get (reverse t.trades) 0)) }
@@ -133,7 +134,7 @@ pub fn greatest_trade_id<S: Alter>(tx: &mut Transaction<'_, S>) -> Result<Option
 }
 
 /// Returns the trades with the status submitted, sorted by id, ascending. Changes nothing if it
-/// succeeds. Fails with `Memory` or `Store`.
+/// succeeds. Fails with `Memory` or `Store` only; with `Store` also if a row is malformed.
 pub fn submitted_trades<S: Alter>(
     tx: &mut Transaction<'_, S>,
     alloc: Global,

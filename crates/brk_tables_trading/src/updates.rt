@@ -23,7 +23,8 @@ use std::alloc::Global;
 
 /// Of the trades of an account that were completed from the stamp `first` to `last`, both included,
 /// returns the twenty oldest, or all if there are fewer, sorted by stamp and then by id, ascending.
-/// Changes nothing if it succeeds. Fails with `Memory` or `Store`.
+/// Changes nothing if it succeeds. Fails with `Memory` or `Store` only; with `Store` also if a row
+/// is malformed.
 pub fn first_twenty_completed_trades_of_account<S: Alter>(
     tx: &mut Transaction<'_, S>,
     alloc: Global,
@@ -54,7 +55,8 @@ pub fn first_twenty_completed_trades_of_account<S: Alter>(
 
 /// Of the cash trades of a symbol that were completed from the stamp `first` to `last`, both
 /// included, returns the twenty oldest, or all if there are fewer, sorted by stamp and then by id,
-/// ascending. Changes nothing if it succeeds. Fails with `Memory` or `Store`.
+/// ascending. Changes nothing if it succeeds. Fails with `Memory` or `Store` only; with `Store`
+/// also if a row is malformed.
 pub fn first_twenty_completed_cash_trades_of_symbol<S: Alter>(
     tx: &mut Transaction<'_, S>,
     alloc: Global,
@@ -85,7 +87,7 @@ pub fn first_twenty_completed_cash_trades_of_symbol<S: Alter>(
 }
 
 /// Returns the settlement of a trade, or `None` if it has none. Changes nothing if it succeeds.
-/// Fails with `Store` only.
+/// Fails with `Store` only, also if the row is malformed or memory runs out.
 pub fn settlement_by_trade<S: Alter>(
     tx: &mut Transaction<'_, S>,
     trade: Id,

@@ -46,7 +46,9 @@ pub record PreservesTablesOutside (In : DeskTable → Type 0) (tree : DeskTable 
 
 -- The database `new` contains the tables of schema 3 with the rows `t`. Each table of `old` that is
 -- at no tree `before w` of a table `w` of the schema `desk_before` is unchanged, unless a foreign
--- key of this table changes or deletes its rows (`PreservesTablesOutside`).
+-- key of this table changes or deletes its rows (`PreservesTablesOutside`); it is at no tree of a
+-- table of schema 3 in `new`. A tree at which no foreign key changes or deletes rows in `old` has
+-- no such foreign key in `new`.
 pub record HasUpgradedTables (desk_before : Schema) (before : DeskTable → ℕ) (t : Tables) (old new : Database) : Type 0 where
   pub tree : DeskTable → ℕ
   pub rows : HasTables desk_tables t tree new
@@ -58,8 +60,8 @@ pub record HasUpgradedTables (desk_before : Schema) (before : DeskTable → ℕ)
 
 -- If the database `old` contains the tables of `schema` with the rows `t`, and no table that a
 -- later schema adds, `new` contains the tables of schema 3 with the rows `t`. Other tables are
--- unchanged, unless a foreign key of their own writes their rows (`HasUpgradedTables`). Vacuous
--- otherwise.
+-- unchanged, unless a foreign key of their own changes or deletes their rows (`HasUpgradedTables`).
+-- Vacuous otherwise.
 abbrev pub AddsTablesOfLaterSchemas : Schema → Database → Database → Type 0
 AddsTablesOfLaterSchemas schema old new =
     (t : Tables) (tree : DeskTable → ℕ) → HasSelectedTables (desk_tables_of_schema schema) (IsTableOfSchema schema) t tree old
@@ -68,7 +70,7 @@ AddsTablesOfLaterSchemas schema old new =
 -- If the database `old` contains the tables of `schema` with the rows `t`, and no table that a
 -- later schema adds, `new` contains the tables of schema 3 with the upgraded rows
 -- (`tables_upgraded_from_schema`). Other tables are unchanged, unless a foreign key of their own
--- writes their rows (`HasUpgradedTables`). Vacuous otherwise.
+-- changes or deletes their rows (`HasUpgradedTables`). Vacuous otherwise.
 abbrev pub UpgradesTables : Schema → Database → Database → Type 0
 UpgradesTables schema old new =
     (t : Tables) (tree : DeskTable → ℕ) → HasSelectedTables (desk_tables_of_schema schema) (IsTableOfSchema schema) t tree old

@@ -14,7 +14,8 @@ use sqlite::{Alter, Transaction};
 
 // Inserts the cash row of a trade (a row of CASH_TRANSACTION) into CASH_MOVE under the number `id`,
 // with the account of the trade. Fails with `Memory` or `Store` only; with `Store` also if the
-// number or a cash row of the trade exists, or if the trade does not exist.
+// number or a cash row of the trade exists, if the trade does not exist, or if the id of its
+// account is malformed. Inserts no row if it fails.
 fn add_numbered_cash_row<S: Alter>(
     tx: &mut Transaction<'_, S>,
     id: MoveId,
@@ -40,8 +41,9 @@ fn add_numbered_cash_row<S: Alter>(
 
 /// Inserts rows of CASH_TRANSACTION into CASH_MOVE, in order, numbered from 1, with the accounts of
 /// their trades. Fails with `Memory` or `Store` only; with `Store` also if one of the numbers
-/// exists or exceeds the greatest `MoveId`, or if one of the trades does not exist or has a cash
-/// row.
+/// exists or exceeds the greatest `MoveId`, or if one of the trades does not exist, has a cash row
+/// or has a malformed account id. After an error, the rows before the one that failed may be
+/// inserted in the transaction.
 pub fn add_numbered_cash_rows<S: Alter>(
     tx: &mut Transaction<'_, S>,
     rows: &[CashRow],

@@ -15,8 +15,8 @@ use brk_tables_schema::values::id_as_parameter;
 use sqlite::{Alter, Transaction};
 use std::alloc::Global;
 
-/// Returns all rows of CASH_TRANSACTION, sorted by trade, ascending. Changes nothing. Fails with
-/// `Memory` or `Store`.
+/// Returns all rows of CASH_TRANSACTION, sorted by trade, ascending. Changes nothing if it
+/// succeeds. Fails with `Memory` or `Store` only; with `Store` also if a row is malformed.
 pub fn all_cash_transactions<S: Alter>(
     tx: &mut Transaction<'_, S>,
     alloc: Global,
@@ -33,8 +33,8 @@ pub fn all_cash_transactions<S: Alter>(
     decode_rows(alloc, &rows)
 }
 
-/// Returns the id of the account of a trade, or `None` if the trade does not exist. Changes
-/// nothing. Fails with `Store` only.
+/// Returns the id of the account of a trade, or `None` if the trade does not exist. Changes nothing
+/// if it succeeds. Fails with `Store` only, also if the id is malformed or memory runs out.
 pub fn account_id_of_trade<S: Alter>(
     tx: &mut Transaction<'_, S>,
     trade: Id,

@@ -17,7 +17,7 @@ use sqlite::{Alter, Transaction};
 use std::alloc::Global;
 
 /// Returns the brokers with the name `name`, sorted by id, ascending. Changes nothing if it
-/// succeeds. Fails with `Memory` or `Store`.
+/// succeeds. Fails with `Memory` or `Store` only; with `Store` also if a row is malformed.
 pub fn brokers_with_name<S: Alter>(
     tx: &mut Transaction<'_, S>,
     alloc: Global,
@@ -36,7 +36,8 @@ pub fn brokers_with_name<S: Alter>(
 }
 
 /// Returns all requests of pending trades (TRADE_REQUEST), sorted by trade, ascending. Changes
-/// nothing if it succeeds. Fails with `Memory` or `Store`.
+/// nothing if it succeeds. Fails with `Memory` or `Store` only; with `Store` also if a row is
+/// malformed.
 pub fn all_requests<S: Alter>(
     tx: &mut Transaction<'_, S>,
     alloc: Global,
@@ -54,7 +55,7 @@ pub fn all_requests<S: Alter>(
 }
 
 /// Returns the ids of the accounts of a broker, ascending. Changes nothing if it succeeds. Fails
-/// with `Memory` or `Store`.
+/// with `Memory` or `Store` only; with `Store` also if a row is malformed.
 pub fn account_ids_of_broker<S: Alter>(
     tx: &mut Transaction<'_, S>,
     alloc: Global,

@@ -17,7 +17,7 @@ use std::alloc::Global;
 
 /// Returns the ids of the completed trades of an account in a security, the oldest first: sorted by
 /// the stamp of completion, then by id. Changes nothing if it succeeds. Fails with `Memory` or
-/// `Store`.
+/// `Store` only; with `Store` also if a row is malformed.
 pub fn completed_trade_ids_of_holding<S: Alter>(
     tx: &mut Transaction<'_, S>,
     alloc: Global,

@@ -2,8 +2,11 @@
 //! stamp, the completed trades of a holding, lot changes, brokers by name, all requests, and the
 //! accounts of a broker.
 //!
-//! Each function is called within an open transaction. An error of the `sqlite` crate and a
-//! malformed row are reported as the fault `Store`.
+//! Each function is called within an open transaction, and commits nothing. An error of the
+//! `sqlite` crate, also if this crate runs out of memory, and a malformed row are reported as the
+//! fault `Store`; the database is then unchanged or the transaction is rolled back. No clause
+//! states the effect of a call on the tables, or the value that it returns, outside a transaction
+//! or in a database without all tables of a desk.
 #![tactic(auto)]
 
 pub mod brokers;

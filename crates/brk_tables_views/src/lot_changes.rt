@@ -15,7 +15,7 @@ use sqlite::{Alter, Transaction};
 use std::alloc::Global;
 
 /// Returns the changes that a trade made to lots, sorted by lot, ascending. Changes nothing if it
-/// succeeds. Fails with `Memory` or `Store`.
+/// succeeds. Fails with `Memory` or `Store` only; with `Store` also if a row is malformed.
 pub fn lot_changes_by_trade<S: Alter>(
     tx: &mut Transaction<'_, S>,
     alloc: Global,
@@ -34,7 +34,8 @@ pub fn lot_changes_by_trade<S: Alter>(
 }
 
 /// Returns all changes of the lot that the trade `lot` opened, sorted by the trade that made the
-/// change, ascending. Changes nothing if it succeeds. Fails with `Memory` or `Store`.
+/// change, ascending. Changes nothing if it succeeds. Fails with `Memory` or `Store` only; with
+/// `Store` also if a row is malformed.
 pub fn lot_changes_of_lot<S: Alter>(
     tx: &mut Transaction<'_, S>,
     alloc: Global,

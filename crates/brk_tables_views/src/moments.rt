@@ -19,7 +19,8 @@ use std::alloc::Global;
 
 /// Of the trades of an account whose last status change has a stamp from `first` to `last`, both
 /// included, returns the twenty oldest, or all if there are fewer, sorted by this stamp and then by
-/// id, ascending. Changes nothing if it succeeds. Fails with `Memory` or `Store`.
+/// id, ascending. Changes nothing if it succeeds. Fails with `Memory` or `Store` only; with `Store`
+/// also if a row is malformed.
 pub fn first_twenty_trades_of_account<S: Alter>(
     tx: &mut Transaction<'_, S>,
     alloc: Global,
@@ -49,7 +50,8 @@ pub fn first_twenty_trades_of_account<S: Alter>(
 
 /// Of the trades in a security whose last status change has a stamp from `first` to `last`, both
 /// included, returns the twenty oldest, or all if there are fewer, sorted by this stamp and then by
-/// id, ascending. Changes nothing if it succeeds. Fails with `Memory` or `Store`.
+/// id, ascending. Changes nothing if it succeeds. Fails with `Memory` or `Store` only; with `Store`
+/// also if a row is malformed.
 pub fn first_twenty_trades_of_symbol<S: Alter>(
     tx: &mut Transaction<'_, S>,
     alloc: Global,
@@ -79,7 +81,8 @@ pub fn first_twenty_trades_of_symbol<S: Alter>(
 
 /// Of the trades of an account whose last status change has a stamp of at least `first`, returns
 /// the oldest, and of several with this stamp the one with the least id, or `None` if there is
-/// none. Changes nothing if it succeeds. Fails with `Store` only.
+/// none. Changes nothing if it succeeds. Fails with `Store` only, also if the row is malformed or
+/// memory runs out.
 pub fn first_trade_of_account_from_stamp<S: Alter>(
     tx: &mut Transaction<'_, S>,
     account: Id,

@@ -1,5 +1,5 @@
 -- The list of rows that each walk passes, in its order. Each sort key ends with the key of the row,
--- so no two rows have equal sort keys.
+-- so no two rows of a table have equal sort keys.
 use Rattle.std.specs.Prelude.{ℕ, Bool, ◌==◌, ◌&&◌, List, [], ◌∷◌, filter}
 use Rattle.brk_model.specs.Limits.{is_in_range}
 use Rattle.brk_model.specs.Keys.{KeyPart, number, word, rows_sorted_by_key}

@@ -15,8 +15,10 @@ use sqlite::{Alter, Connection};
 /// Passes the cash rows of an account with stamps from `from` to `to`, both included, to the
 /// visitor, sorted by stamp and then by number, ascending.
 ///
-/// Stops at the first error and returns it: `Failed` with `Memory` or `Store`, or `Cause` with the
-/// visitor's error. Returns `Ok` only after the last row. Writes nothing.
+/// Stops at the first error and returns it: `Failed` with `Memory`, or with `Store`, also if a row
+/// is malformed, or `Cause` with the visitor's error. The visitor has then taken a prefix of the
+/// rows, possibly none. Returns `Ok` only after the last row. Writes nothing. The list of the rows
+/// is specified only if the database contains all tables of a desk in schema 3.
 ///
 /// Requires that `conn` is in no transaction and that the visitor is ready to take records; both
 /// hold also after the walk. A crash after the walk exposes only states that a crash before it

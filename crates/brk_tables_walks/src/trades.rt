@@ -15,8 +15,10 @@ use sqlite::{Alter, Connection};
 /// Passes the completed trades of all accounts to the visitor, sorted by the stamp of completion
 /// and then by id, both ascending.
 ///
-/// Stops at the first error and returns it: `Failed` with `Memory` or `Store`, or `Cause` with the
-/// visitor's error. Returns `Ok` only after the last trade. Writes nothing.
+/// Stops at the first error and returns it: `Failed` with `Memory`, or with `Store`, also if a row
+/// is malformed, or `Cause` with the visitor's error. The visitor has then taken a prefix of the
+/// trades, possibly none. Returns `Ok` only after the last trade. Writes nothing. The list of the
+/// trades is specified only if the database contains all tables of a desk in schema 3.
 ///
 /// Requires that `conn` is in no transaction and that the visitor is ready to take records; both
 /// hold also after the walk. A crash after the walk exposes only states that a crash before it
