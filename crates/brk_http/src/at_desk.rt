@@ -66,7 +66,8 @@ impl<S: Alter> Service for DeskService<S> {
     }
 
     /// Executes a command at the clock reading `now` by `Desk::call`, under its key or without one,
-    /// and returns its answer. Fails with `Memory` or `Store` only.
+    /// and returns its answer. Fails with `Memory` or `Store` only. A fault changes nothing in a
+    /// store that is still open; a crash after it may find the command committed.
     fn call(
         desk: &mut Desk<S>,
         alloc: Global,
@@ -78,12 +79,12 @@ impl<S: Alter> Service for DeskService<S> {
     }
 
     /// Executes a query by `Desk::ask`, and returns its view or its refusal. Fails with `Memory` or
-    /// `Store` only.
+    /// `Store` only. If the database is still open, it is unchanged, whatever the result.
     fn ask(desk: &mut Desk<S>, alloc: Global, query: &Query) -> Planned<View> {
         desk.ask(alloc, query)
     }
 
-    /// Returns the fields of a reply, in order. Fails only if memory runs out.
+    /// Returns the fields of the line of a reply, in order. Fails only if memory runs out.
     fn reply_fields(alloc: Global, reply: &Reply) -> Result<Vec<String>, AllocError> {
         match line_text(alloc, reply) {
             Ok(line) => fields_between_commas(alloc, line.as_str()),
