@@ -19,7 +19,8 @@ use std::io::ErrorKind;
 pub type FileDesk = Store<FileStore<File>>;
 
 // Closes the files of a connection. At `Ok`, under the disk assumption, the database file contains
-// the last commit even without its log. Fails with `Store` only; the files are then dropped.
+// the last commit even without its log, and a crash exposes only this commit. Fails with `Store`
+// only; the files are then dropped, and a part of the committed data may be only in the log.
 fn close_connection(conn: Connection<FileStore<File>>) -> Result<(), Fault>
     ensures closed { OnOk result (HasLastCommitInFile conn) }
     ensures fault { OnErr result (result ≡ Err fault.Store) }
@@ -34,8 +35,9 @@ fn close_connection(conn: Connection<FileStore<File>>) -> Result<(), Fault>
 }
 
 /// Closes the file of a desk. At `Ok`, under the disk assumption, the database file contains the
-/// last commit even without its log; before that, a part of the committed data may be only in the
-/// log beside it. Fails with `Store` only.
+/// last commit even without its log, and a crash exposes only this commit; before that, a part of
+/// the committed data may be only in the log beside it. Fails with `Store` only; the file is then
+/// dropped, and a part may still be only in the log.
 pub fn close_desk_file(store: FileDesk) -> Result<(), Fault>
     ensures closed { OnOk result (HasLastCommitInFile store) }
     ensures fault { OnErr result (result ≡ Err fault.Store) }
@@ -90,7 +92,7 @@ fn adopt_or_close_connection(
 /// Opens the desk in the file at `path`, and upgrades a file of an older schema. Creates a desk if
 /// the file is missing or empty or has no table of a desk. Fails with `Damaged` and the first
 /// condition that fails if the file has a table of a desk and does not pass the audit, or with
-/// `Memory` or `Store`.
+/// `Memory` or `Store`; a new desk may then have been created.
 ///
 /// A new desk is closed and opened again, so that its tables are in the file itself, and a file
 /// that then loses its log is never treated as a new one.
