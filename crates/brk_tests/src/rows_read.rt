@@ -185,9 +185,9 @@ fn is_sale_complete_within_calls(
     Ok(seen.lines.ends_with(b"end,2,0,0\n"))
 }
 
-// Returns the least number of calls of the database file with which the sale of one share of an
-// account completes, or 8,192 if it does not complete with fewer. Supposes that the sale completes
-// with each greater number too. Fails if memory runs out.
+// Returns the least number of calls of the database file, from 1 on, with which the sale of one
+// share of an account completes, or 8,192 if it does not complete with fewer. Supposes that the
+// sale completes with each greater number too. Fails if memory runs out.
 fn least_calls_of_sale(alloc: Global, held: &Held, account: u64) -> Result<u64, Fail> {
     let mut most = 0u64;
     for bit in [4_096, 2_048, 1_024, 512, 256, 128, 64, 32, 16, 8, 4, 2, 1] {
