@@ -59,7 +59,7 @@ impl<S: Alter> Rows for DeskRows<S> {
 
     /// Executes a command under its key at the clock reading `now`, by `Desk::call`, and returns
     /// its answer. Fails with `Memory` or `Store`. A fault changes nothing in a store that is still
-    /// open; a crash after it may find the command committed.
+    /// open; after a fault that closed the store, a crash may expose the command as committed.
     fn call(
         desk: &mut Desk<S>,
         alloc: Global,

@@ -40,9 +40,9 @@ use std::io::{Read, Write};
 /// `Memory` or `Store`. The changes of the decided rows remain. To continue, retry the batch under
 /// its name.
 ///
-/// If a crash before the batch exposes only the tables of the desk, a crash after it exposes only
-/// the tables after the decided rows or, after a fault of the desk, perhaps those with the next row
-/// committed too.
+/// If a crash before the batch exposes only the tables that the desk then has, a crash after it
+/// exposes only the tables after the decided rows or, after a fault of the desk, perhaps those with
+/// the next row committed too.
 pub fn run_batch<R: Read + Drop, W: Write, C: Clock, S: Alter>(
     alloc: Global,
     reader: R,
