@@ -67,7 +67,8 @@ impl<S: Alter> Service for DeskService<S> {
 
     /// Executes a command at the clock reading `now` by `Desk::call`, under its key or without one,
     /// and returns its answer. Fails with `Memory` or `Store` only. A fault changes nothing in a
-    /// store that is still open; a crash after it may find the command committed.
+    /// store that is still open; after a fault that closed the store, a crash may expose the
+    /// command as committed.
     fn call(
         desk: &mut Desk<S>,
         alloc: Global,
@@ -84,7 +85,7 @@ impl<S: Alter> Service for DeskService<S> {
         desk.ask(alloc, query)
     }
 
-    /// Returns the fields of the line of a reply, in order. Fails only if memory runs out.
+    /// Returns the fields of a reply, in order. Fails only if memory runs out.
     fn reply_fields(alloc: Global, reply: &Reply) -> Result<Vec<String>, AllocError> {
         match line_text(alloc, reply) {
             Ok(line) => fields_between_commas(alloc, line.as_str()),
