@@ -59,7 +59,8 @@ fn open_connection(rt: &HostRuntime, path: &str) -> Result<Connection<FileStore<
 
 // Audits the database of a connection by the conditions of its own schema and, if it passes,
 // returns it as a store, upgraded to schema 3. Fails with the connection and the fault: `Damaged`
-// with the first condition that fails, `Memory` or `Store`.
+// with the first condition that fails, `Memory` or `Store`; a database that is still open is then
+// unchanged.
 fn adopt_connection<S: Alter>(
     alloc: Global,
     conn: Connection<S>,
@@ -96,6 +97,9 @@ fn adopt_or_close_connection(
 ///
 /// A new desk is closed and opened again, so that its tables are in the file itself, and a file
 /// that then loses its log is never treated as a new one.
+///
+/// At `Ok`, under the premise of `Store::adopt`, a crash exposes only the tables of the returned
+/// store.
 pub fn open_or_create_desk_file(rt: &HostRuntime, path: &str) -> Result<FileDesk, Fault>
     ensures opened { OpenOrCreatePost result }
     ensures represented { IfOk result (λ store. RepresentsRowsOfFile over_files store) }
@@ -127,6 +131,9 @@ fn is_missing_or_empty(rt: &HostRuntime, path: &str) -> bool {
 /// Opens the desk in the file at `path`, and upgrades a file of an older schema. Creates no desk.
 /// Fails with `Damaged(Schema)` if the file is missing or empty, with `Damaged` and the first
 /// condition that fails if it does not pass the audit, or with `Memory` or `Store`.
+///
+/// At `Ok`, under the premise of `Store::adopt`, a crash exposes only the tables of the returned
+/// store.
 pub fn open_desk_file(rt: &HostRuntime, path: &str) -> Result<FileDesk, Fault>
     ensures opened { OpenPost result }
     ensures represented { IfOk result (λ store. RepresentsRowsOfFile over_files store) }
