@@ -8,7 +8,7 @@ use std::io::Write;
 
 /// Writes the statement of an account of a desk, from the day `from` to the day `to`, both
 /// included, to `output`. Returns `Done`, or `Report` with the refusal or the fault. After any
-/// other outcome than `Done` a prefix of the text is written, perhaps empty or all of it. If the
+/// other outcome than `Done` a prefix of the output is written, perhaps empty or all of it. If the
 /// database is still open, it is unchanged.
 pub(crate) fn execute_statement_job<S: Alter, W: Write>(
     alloc: Global,
