@@ -18,8 +18,8 @@ pub fn append_refusal_line(out: &mut String, refusal: Refusal) -> Result<(), Out
     Ok(())
 }
 
-// Appends the fields of a record as an output line, with escapes and separated by bars. A record
-// without fields appends an empty line. Fails only if memory runs out.
+// Appends the fields of a record as an output line, with escapes and separated by bars. For a
+// record without fields, appends an empty line. Fails only if memory runs out.
 fn append_record_line(out: &mut String, record: &[String]) -> Result<(), OutOfMemory> {
     let mut sign = "> ";
     for field in record {
