@@ -78,11 +78,11 @@ pub(crate) fn write_open_lot_lines<W: Write, S: Alter>(
 }
 
 /// Writes a line for each completed trade of a broker's accounts, sorted by the stamp of
-/// completion, ascending, with the running total of the commissions, in cents. Returns the number
-/// of trades. Fails with `Desk` if a read fails, memory runs out, or the total or the number
-/// overflows, or with `Write`. After `Desk` only whole lines are written, perhaps none or all;
-/// after `Write` whole lines and a prefix of the next one, perhaps all of it. If the database is
-/// still open, it is unchanged, whatever the result.
+/// completion, ascending, with the running total of the commissions. Returns the number of trades.
+/// Fails with `Desk` if a read fails, memory runs out, or the total or the number overflows, or
+/// with `Write`. After `Desk` only whole lines are written, perhaps none or all; after `Write`
+/// whole lines and a prefix of the next one, perhaps all of it. If the database is still open, it
+/// is unchanged, whatever the result.
 pub(crate) fn write_trade_commission_lines<W: Write, S: Alter>(
     alloc: Global,
     desk: &mut Desk<S>,
