@@ -1,5 +1,6 @@
 //! The commands of transcripts, each of which appends its output lines to the replay, and the
-//! database or desk on which they work.
+//! database or desk on which they work. A function that fails may have appended a part of its
+//! lines.
 
 use crate::failed::OutOfMemory;
 use crate::files::execute_file_command;

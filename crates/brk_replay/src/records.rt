@@ -1,4 +1,5 @@
-//! The records that transcripts show: those of views and the rows of all tables.
+//! The records that transcripts show: those of views and the rows of all tables. A function that
+//! fails may have appended a part of its lines.
 
 use crate::failed::OutOfMemory;
 use crate::replay::{Piece, append_escaped_bytes, append_output_line, append_written_bytes};
