@@ -17,8 +17,8 @@ fn optional_file_argument<'a>(alloc: Global) -> Arg<'a> {
     )
 }
 
-// Returns the required argument `--db` for the path of a desk's file. It does not check that the
-// file exists.
+// Returns the required argument `--db` for the path of a desk's file. The parser does not check
+// that the file exists.
 fn required_file_argument<'a>(alloc: Global) -> Arg<'a> {
     Arg::new(alloc, "db")
         .long("db")
@@ -39,8 +39,8 @@ fn timestamp_argument<'a>(alloc: Global) -> Arg<'a> {
         )
 }
 
-// Returns a required argument for a day, with this name and this help text. It accepts any text:
-// `parse_day_argument` checks it.
+// Returns a required argument for a day, with this name and this help text. The parser accepts any
+// text; `parse_day_argument` checks it later.
 fn day_argument<'a>(alloc: Global, name: &'static str, help: &'static str) -> Arg<'a> {
     Arg::new(alloc, name)
         .long(name)
@@ -191,7 +191,8 @@ fn add_subcommand<'a>(
 }
 
 // Returns the command `brk` with its version and without subcommands. Its arguments must name one
-// of the subcommands that are added to it later. Fails only if memory runs out.
+// of the subcommands that are added to it later; without arguments, parsing fails with the help of
+// `brk` as the error text. Fails only if memory runs out.
 fn program_command<'a>(alloc: Global) -> Result<Command<'a>, AllocError> {
     Command::new(alloc, "brk")
         .version(VERSION)

@@ -33,8 +33,8 @@ fn execute_command_line(rt: &HostRuntime) -> Ending {
     }
 }
 
-// Runs the program: executes its job, writes the error line of the outcome to standard error, and
-// returns the exit status.
+// Runs the program: executes its job, writes the error line of the outcome, if it has one, to
+// standard error, and returns the exit status. A failure to write this line is ignored.
 fn main(rt: HostRuntime) -> ExitCode {
     let ending = execute_command_line(&rt);
     let mut errors = rt.stderr();

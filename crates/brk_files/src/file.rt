@@ -19,7 +19,8 @@ use std::io::ErrorKind;
 pub type FileDesk = Store<FileStore<File>>;
 
 // Closes the files of a connection. At `Ok`, under the disk assumption, the database file contains
-// the last commit even without its log. Fails with `Store` only; the files are then dropped.
+// the last commit even without its log, and a crash exposes only this commit. Fails with `Store`
+// only; the files are then dropped, and a part of the committed data may be only in the log.
 fn close_connection(conn: Connection<FileStore<File>>) -> Result<(), Fault>
     ensures closed { OnOk result (HasLastCommitInFile conn) }
     ensures fault { OnErr result (result ≡ Err fault.Store) }
@@ -34,8 +35,9 @@ fn close_connection(conn: Connection<FileStore<File>>) -> Result<(), Fault>
 }
 
 /// Closes the file of a desk. At `Ok`, under the disk assumption, the database file contains the
-/// last commit even without its log; before that, a part of the committed data may be only in the
-/// log beside it. Fails with `Store` only.
+/// last commit even without its log, and a crash exposes only this commit; before that, a part of
+/// the committed data may be only in the log beside it. Fails with `Store` only; the file is then
+/// dropped, and a part may still be only in the log.
 pub fn close_desk_file(store: FileDesk) -> Result<(), Fault>
     ensures closed { OnOk result (HasLastCommitInFile store) }
     ensures fault { OnErr result (result ≡ Err fault.Store) }
@@ -57,7 +59,8 @@ fn open_connection(rt: &HostRuntime, path: &str) -> Result<Connection<FileStore<
 
 // Audits the database of a connection by the conditions of its own schema and, if it passes,
 // returns it as a store, upgraded to schema 3. Fails with the connection and the fault: `Damaged`
-// with the first condition that fails, `Memory` or `Store`.
+// with the first condition that fails, `Memory` or `Store`; a database that is still open is then
+// unchanged.
 fn adopt_connection<S: Alter>(
     alloc: Global,
     conn: Connection<S>,
@@ -90,10 +93,13 @@ fn adopt_or_close_connection(
 /// Opens the desk in the file at `path`, and upgrades a file of an older schema. Creates a desk if
 /// the file is missing or empty or has no table of a desk. Fails with `Damaged` and the first
 /// condition that fails if the file has a table of a desk and does not pass the audit, or with
-/// `Memory` or `Store`.
+/// `Memory` or `Store`; a new desk may then have been created.
 ///
 /// A new desk is closed and opened again, so that its tables are in the file itself, and a file
 /// that then loses its log is never treated as a new one.
+///
+/// At `Ok`, under the premise of `Store::adopt`, a crash exposes only the tables of the returned
+/// store.
 pub fn open_or_create_desk_file(rt: &HostRuntime, path: &str) -> Result<FileDesk, Fault>
     ensures opened { OpenOrCreatePost result }
     ensures represented { IfOk result (λ store. RepresentsRowsOfFile over_files store) }
@@ -125,6 +131,9 @@ fn is_missing_or_empty(rt: &HostRuntime, path: &str) -> bool {
 /// Opens the desk in the file at `path`, and upgrades a file of an older schema. Creates no desk.
 /// Fails with `Damaged(Schema)` if the file is missing or empty, with `Damaged` and the first
 /// condition that fails if it does not pass the audit, or with `Memory` or `Store`.
+///
+/// At `Ok`, under the premise of `Store::adopt`, a crash exposes only the tables of the returned
+/// store.
 pub fn open_desk_file(rt: &HostRuntime, path: &str) -> Result<FileDesk, Fault>
     ensures opened { OpenPost result }
     ensures represented { IfOk result (λ store. RepresentsRowsOfFile over_files store) }

@@ -66,7 +66,9 @@ impl<S: Alter> Service for DeskService<S> {
     }
 
     /// Executes a command at the clock reading `now` by `Desk::call`, under its key or without one,
-    /// and returns its answer. Fails with `Memory` or `Store` only.
+    /// and returns its answer. Fails with `Memory` or `Store` only. A fault changes nothing in a
+    /// store that is still open; after a fault that closed the store, a crash may expose the
+    /// command as committed.
     fn call(
         desk: &mut Desk<S>,
         alloc: Global,
@@ -78,7 +80,7 @@ impl<S: Alter> Service for DeskService<S> {
     }
 
     /// Executes a query by `Desk::ask`, and returns its view or its refusal. Fails with `Memory` or
-    /// `Store` only.
+    /// `Store` only. If the database is still open, it is unchanged, whatever the result.
     fn ask(desk: &mut Desk<S>, alloc: Global, query: &Query) -> Planned<View> {
         desk.ask(alloc, query)
     }

@@ -24,17 +24,17 @@ const DRAIN_TIMEOUT_MILLISECONDS: u64 = 250;
 // The greatest number of reads after the last reply.
 const MAXIMUM_DRAIN_READS: u32 = 128;
 
-// Sets the time limits of a socket: each read or write that waits for more than 30 seconds fails.
-// Fails if a limit cannot be set.
+// Sets the time limits of a socket: after `Ok` each read or write that waits for more than 30
+// seconds fails. Fails if a limit cannot be set; the limit of reads may then be set.
 fn set_socket_time_limits(stream: &TcpStream) -> io::Result<()> {
     stream.set_read_timeout(Some(Duration::from_secs(STREAM_TIMEOUT_SECONDS)))?;
     stream.set_write_timeout(Some(Duration::from_secs(STREAM_TIMEOUT_SECONDS)))
 }
 
-// Shuts down the writing side of a socket, and then reads and drops the bytes that still arrive,
-// until the peer closes its side or after 128 reads. This keeps the kernel from dropping the last
-// reply. Fails if the shutdown fails, the time limit of the reads, 250 ms, cannot be set, or a read
-// fails.
+// Shuts down the writing side of a socket, and then reads and drops bytes until the peer closes its
+// side or after 128 reads. A reset that loses the last reply is then less likely. Fails if the
+// shutdown fails, the time limit of 250 ms for each read cannot be set, or a read fails or waits
+// longer.
 fn drain_before_close(stream: &TcpStream) -> io::Result<()> {
     stream.shutdown(Shutdown::Write)?;
     stream.set_read_timeout(Some(Duration::from_millis(DRAIN_TIMEOUT_MILLISECONDS)))?;

@@ -18,6 +18,9 @@ use std::net::TcpStream;
 /// Fails with `Stream` at the first stream that ended because memory ran out, and with `Net` at the
 /// first accept that failed for another reason than that the peer broke off. No stream is accepted
 /// after a fault.
+///
+/// Whatever the result, the desk changes only by a sequence of its calls, for which the promises of
+/// `Desk::run` hold, also for a crash.
 pub fn serve_on<L: Listener<Stream = TcpStream>, C: Clock, S: Alter>(
     alloc: Global,
     listener: &mut L,

@@ -38,6 +38,9 @@ use std::io::{Read, Write};
 /// For any reader the contract limits the number of requests and of calls. It specifies the
 /// requests and the replies only for a reader whose content is specified; the content of a socket
 /// is not.
+///
+/// The desk changes only by a sequence of its calls, for which the promises of `Desk::run` hold,
+/// also for a crash.
 pub fn serve_stream<R: Read + Drop, W: Write, C: Clock, S: Alter>(
     alloc: Global,
     reader: R,

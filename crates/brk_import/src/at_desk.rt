@@ -58,7 +58,8 @@ impl<S: Alter> Rows for DeskRows<S> {
     }
 
     /// Executes a command under its key at the clock reading `now`, by `Desk::call`, and returns
-    /// its answer. Fails with `Memory` or `Store`.
+    /// its answer. Fails with `Memory` or `Store`. A fault changes nothing in a store that is still
+    /// open; after a fault that closed the store, a crash may expose the command as committed.
     fn call(
         desk: &mut Desk<S>,
         alloc: Global,

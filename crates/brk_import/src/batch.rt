@@ -37,8 +37,12 @@ use std::io::{Read, Write};
 ///
 /// A fault ends the batch and is returned with the number of decided rows: `BadHeader`, `NoEnd` or
 /// `BadEnd`, if the header or the end record is missing or wrong; `Read` or `Write`; or `Desk` with
-/// `Memory` or `Store`. The changes of the decided rows remain. After a fault of the desk, a crash
-/// may also expose the next row as committed: retry the batch under its name.
+/// `Memory` or `Store`. The changes of the decided rows remain. To continue, retry the batch under
+/// its name.
+///
+/// If a crash before the batch exposes only the tables that the desk then has, a crash after it
+/// exposes only the tables after the decided rows or, after a fault of the desk, perhaps those with
+/// the next row committed too.
 pub fn run_batch<R: Read + Drop, W: Write, C: Clock, S: Alter>(
     alloc: Global,
     reader: R,

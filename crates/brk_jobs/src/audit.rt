@@ -2,8 +2,8 @@ use brk_exit::Ending;
 use brk_io::write_all_bytes;
 use std::io::Write;
 
-/// Writes `ok` and a line feed, the output of an audit that passed, to `output`. Returns `Done`, or
-/// `Output` if the writer fails.
+/// Writes `ok` and a line feed, the output of an audit that passed, to `output`. Returns `Done`,
+/// or, after a prefix of these bytes, perhaps all, `Output` if the writer fails.
 pub(crate) fn write_audit_ok<W: Write>(output: &mut W) -> Ending {
     match write_all_bytes(output, b"ok\n") {
         Ok(()) => Ending::Done,

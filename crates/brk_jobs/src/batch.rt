@@ -8,7 +8,8 @@ use std::io::{Read, Write};
 
 /// Executes a batch from `input` on a desk, and writes its lines to `output`. Each clock reading is
 /// `at`, or a reading of the machine's clock if `at` is `None`. Returns `Done`, also if rows were
-/// refused, or `Batch` with the fault if a fault ended the batch.
+/// refused, or `Batch` with the fault if a fault ended the batch. The changes of the decided rows
+/// remain.
 pub(crate) fn execute_batch_job<R: Read + Drop, W: Write, S: Alter>(
     rt: &HostRuntime,
     at: Option<Stamp>,

@@ -11,7 +11,8 @@ use std::io::Write;
 /// Parses `words` as a request for the explanation of a trade, an account, a holding or a broker,
 /// and writes this explanation of a desk to `output`. Returns `Done`, `Report` with the refusal or
 /// the fault, `ClosedPipe` if the reader of the output closed its pipe, or `Open(Memory)` if memory
-/// runs out before the desk is read.
+/// runs out before the desk is read. After any other outcome than `Done` a prefix of the output is
+/// written, perhaps empty or all of it. If the database is still open, it is unchanged.
 pub(crate) fn execute_explain_job<S: Alter, W: Write>(
     alloc: Global,
     desk: &mut Desk<S>,

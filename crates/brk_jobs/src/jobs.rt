@@ -6,8 +6,8 @@ use brk_files as file;
 use brk_io::write_all_bytes;
 use std::io::{Read, Write};
 
-// Writes a help text or the version text to `output`. Returns `Usage` with the text, or `Output` if
-// the writer fails.
+// Writes a help text or the version text to `output`. Returns `Usage` with the text, or, after a
+// prefix of the text, perhaps all of it, `Output` if the writer fails.
 fn write_help_text<W: Write>(text: String, output: &mut W) -> Ending {
     match write_all_bytes(output, text.as_bytes()) {
         Ok(()) => Ending::Usage(UsageFault::Help(text)),

@@ -35,8 +35,8 @@ impl<'a, W> PipeWriter<'a, W> {
 }
 
 impl<W: Write> Write for PipeWriter<'_, W> {
-    /// Writes the bytes to the other writer, returns its result, and records it if the error is
-    /// that the pipe is closed.
+    /// Writes the bytes to the other writer and returns the result of this write. If it failed
+    /// because the pipe is closed, records that.
     fn write(&mut self, bytes: &[u8]) -> io::Result<usize> {
         let written = self.output.write(bytes);
         if let Err(error) = &written {

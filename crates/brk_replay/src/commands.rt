@@ -1,5 +1,6 @@
 //! The commands of transcripts, each of which appends its output lines to the replay, and the
-//! database or desk on which they work.
+//! database or desk on which they work. A function that fails may have appended a part of its
+//! lines.
 
 use crate::failed::OutOfMemory;
 use crate::files::execute_file_command;
@@ -64,7 +65,8 @@ impl Place {
 
 /// Adopts the database of a connection, which upgrades an older schema. Returns its desk and `Ok`
 /// if the adoption succeeds, and otherwise the database without a desk and the fault: `Damaged`
-/// with the first condition that fails, `Memory` or `Store`.
+/// with the first condition that fails, `Memory` or `Store`. A database that is still open is
+/// unchanged after a fault.
 pub fn adopt_database(alloc: Global, conn: Connection<MemStore>) -> (Place, Result<(), Fault>) {
     match Store::adopt(alloc, conn) {
         Ok(store) => (Place::Open(Desk::new(store)), Ok(())),
@@ -247,10 +249,10 @@ fn append_audit_result(out: &mut String, audited: Result<(), Fault>) -> Result<(
     }
 }
 
-// Audits the open desk, or the open database by adopting it, appends the result (`ok`, `damaged`
-// and the condition that fails, or `! fault`), and returns what was open. A database remains
-// without a desk. If nothing is open, appends nothing and returns `Nothing`. Fails only if memory
-// runs out.
+// Audits the open desk, or the open database by adopting it, which upgrades an older schema.
+// Appends the result (`ok`, `damaged` and the condition that fails, or `! fault`), and returns the
+// open desk or, without a desk, the open database. If nothing is open, appends nothing and returns
+// `Nothing`. Fails only if memory runs out.
 fn execute_audit_command(
     alloc: Global,
     out: &mut String,
@@ -278,10 +280,10 @@ fn database_without_desk(place: Place) -> Place {
     }
 }
 
-// Adopts the open database, or the database of the open desk, appends the result (`ok`, `damaged`
-// and the condition that fails, or `! fault`), and returns its desk, or the database if the
-// adoption failed. If nothing is open, appends nothing and returns `Nothing`. Fails only if memory
-// runs out.
+// Adopts the open database, or the database of the open desk, which upgrades an older schema.
+// Appends the result (`ok`, `damaged` and the condition that fails, or `! fault`), and returns its
+// desk, or the database if the adoption failed. If nothing is open, appends nothing and returns
+// `Nothing`. Fails only if memory runs out.
 fn execute_adopt_command(
     alloc: Global,
     out: &mut String,
@@ -335,9 +337,10 @@ fn execute_sql_command(
     }
 }
 
-// Appends the rows of all tables of the open database as output lines, adopts the database again
-// without appending the result, and returns its desk, or the database if the adoption failed. If
-// nothing is open, appends nothing and returns `Nothing`. Fails only if memory runs out.
+// Appends the rows of all tables of the open database as output lines. Then adopts the database,
+// which upgrades an older schema, without appending the result, and returns its desk, or the
+// database if the adoption failed. If nothing is open, appends nothing and returns `Nothing`. Fails
+// only if memory runs out.
 fn execute_tables_command(
     alloc: Global,
     out: &mut String,

@@ -1,5 +1,6 @@
 //! The commands of transcripts over files: the program `brk` with its arguments, and changes that
-//! another program makes in a file.
+//! another program makes in a file. A function that fails may have appended a part of its lines. A
+//! change that fails may have changed a part of its file.
 
 use crate::failed::OutOfMemory;
 use crate::replay::append_lines_after_mark;

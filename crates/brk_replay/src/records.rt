@@ -1,4 +1,5 @@
-//! The records that transcripts show: those of views and the rows of all tables.
+//! The records that transcripts show: those of views and the rows of all tables. A function that
+//! fails may have appended a part of its lines.
 
 use crate::failed::OutOfMemory;
 use crate::replay::{Piece, append_escaped_bytes, append_output_line, append_written_bytes};
@@ -18,8 +19,8 @@ pub fn append_refusal_line(out: &mut String, refusal: Refusal) -> Result<(), Out
     Ok(())
 }
 
-// Appends the fields of a record as an output line, with escapes and separated by bars. A record
-// without fields appends an empty line. Fails only if memory runs out.
+// Appends the fields of a record as an output line, with escapes and separated by bars. For a
+// record without fields, appends an empty line. Fails only if memory runs out.
 fn append_record_line(out: &mut String, record: &[String]) -> Result<(), OutOfMemory> {
     let mut sign = "> ";
     for field in record {

@@ -1,4 +1,5 @@
-//! The lines of transcripts: their escapes, and the replay line by line.
+//! The lines of transcripts: their escapes, and the replay line by line. A function that fails may
+//! have appended a part of its lines.
 
 use crate::commands::{Place, execute_command};
 use crate::failed::OutOfMemory;

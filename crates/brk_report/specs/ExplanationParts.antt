@@ -21,8 +21,9 @@ abbrev pub WritesCountedLines : List Text → ℕ → Option Text → Option Tex
 WritesCountedLines lines n old new (Ok count) = Appends old new (text_of_lines lines) × (count ≡ n)
 WritesCountedLines lines n old new (Err e) = FailsWithinFirstLines lines old new e
 
--- The lines of the cash rows of `account`, sorted by stamp, ascending, each with the balance after
--- it; the balance before the first one is `opening`, in cents.
+-- The lines of the cash rows of `account` with stamps from 1970-01-01 to 9999-12-31, both included,
+-- sorted by stamp, ascending, each with the balance after it; the balance before the first one is
+-- `opening`, in cents.
 abbrev pub account_cash_lines : Tables → ℕ → ℤ → List Text
 account_cash_lines t account opening = cash_posting_lines opening (account_cash_rows_by_stamp t account)
 

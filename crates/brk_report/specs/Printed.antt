@@ -32,8 +32,8 @@ field_name_records query = names_as_records (field_names_of_view query)
 abbrev pub csv_text : View → Text
 csv_text records = flat_map (row_text default_writer) records
 
--- The bytes of the records as one line of JSON: the body of the HTTP reply to the query, and a line
--- feed.
+-- The bytes of the records as one line of JSON: an object whose only member, `view`, is the list of
+-- the records, and a line feed. The body of an HTTP reply to a query has the same form.
 abbrev pub json_line_text : View → Text
 json_line_text records = json_records_object (codes "view") records ++ 10 ∷ []
 

@@ -105,8 +105,7 @@ fn expect_rows_read_by_sales<S: Alter>(
 
 // Checks, in a store in the database of a connection, that each sale of `SALES` touches the wanted
 // number of lots and reads the wanted number of rows, with the first and with the last lots first.
-// Fails if not, and if the store cannot be set up (`store_with_forty_lots`), without a connection
-// too.
+// Fails if not, without a connection, and if the store cannot be set up (`store_with_forty_lots`).
 fn expect_rows_read_in_database<S: Alter + Drop>(
     alloc: Global,
     conn: Option<Connection<S>>,
@@ -163,9 +162,9 @@ fn batch_of_one_sale(alloc: Global, account: u64, shares: u64) -> Result<String,
     )?)
 }
 
-// Returns true if a desk in the files `held` completes the sale of `shares` shares of an account if
-// its database file accepts `calls` calls and fails at each later call. The desk caches one page of
-// the file, and reads each other page from the file. Fails if memory runs out.
+// Returns true if a desk in the files `held`, whose database file accepts `calls` calls and fails
+// at each later call, completes the sale of `shares` shares of an account. The desk caches one page
+// of the file, and reads each other page from the file. Fails if memory runs out.
 fn is_sale_complete_within_calls(
     alloc: Global,
     held: &Held,
@@ -185,9 +184,9 @@ fn is_sale_complete_within_calls(
     Ok(seen.lines.ends_with(b"end,2,0,0\n"))
 }
 
-// Returns the least number of calls of the database file with which the sale of one share of an
-// account completes, or 8,192 if it does not complete with fewer. Supposes that the sale completes
-// with each greater number too. Fails if memory runs out.
+// Returns the least number of calls of the database file, from 1 on, with which the sale of one
+// share of an account completes, or 8,192 if it does not complete with fewer. Supposes that the
+// sale completes with each greater number too. Fails if memory runs out.
 fn least_calls_of_sale(alloc: Global, held: &Held, account: u64) -> Result<u64, Fail> {
     let mut most = 0u64;
     for bit in [4_096, 2_048, 1_024, 512, 256, 128, 64, 32, 16, 8, 4, 2, 1] {

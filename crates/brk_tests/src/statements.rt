@@ -344,8 +344,8 @@ fn record_cash_rows<S: Alter>(
 }
 
 // Checks, for each walk of `CASH` over the cash rows of account 100 on a desk in the database of a
-// connection, that its rows and its result are the wanted ones. Fails if not, and if the desk
-// cannot be set up (`desk_with_trades`), without a connection too.
+// connection, that its rows and its result are the wanted ones. Fails if not, without a connection,
+// and if the desk cannot be set up (`desk_with_trades`).
 fn expect_cash_row_walks<S: Alter + Drop>(
     alloc: Global,
     conn: Option<Connection<S>>,
@@ -408,8 +408,8 @@ fn record_lots<S: Alter>(
 }
 
 // Checks, for each walk of `LOTS` over the lots of an account on a desk in the database of a
-// connection, that its lots and its result are the wanted ones. Fails if not, and if the desk
-// cannot be set up (`desk_with_trades`), without a connection too.
+// connection, that its lots and its result are the wanted ones. Fails if not, without a connection,
+// and if the desk cannot be set up (`desk_with_trades`).
 fn expect_lot_walks<S: Alter + Drop>(
     alloc: Global,
     conn: Option<Connection<S>>,

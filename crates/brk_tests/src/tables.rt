@@ -1,4 +1,5 @@
-//! The rows of the tables of a desk as text.
+//! The rows of the tables of a desk as text. A function that returns `None` may have appended a
+//! part.
 
 use crate::desks::expect_lines;
 use brk_import::brk_desk::brk_store::Store;

@@ -105,8 +105,8 @@ impl Rows for Last {
     }
 
     // Executes the command: stores the timestamp `now` and returns it as the reply (`Put`), returns
-    // the stored reply `5,CNCL` (`Repeat`), or refuses with 14, `accounts` (`Refuse`). Fails with
-    // `Store` for `Break`, and with `Memory` if memory runs out.
+    // the stored reply `5,CNCL` (`Repeat`), or refuses with 14, `accounts` (`Refuse`). Only `Put`
+    // changes the desk. Fails with `Store` for `Break`, and with `Memory` if memory runs out.
     fn call(
         desk: &mut Last,
         alloc: Global,

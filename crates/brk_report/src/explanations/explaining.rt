@@ -24,11 +24,11 @@ use std::alloc::Global;
 use std::io::Write;
 
 // Writes the explanation of the trade with the id. Fails with `Refused` (`NoTrade`) if the trade
-// does not exist, before it writes anything; with `Desk` if a read fails, memory runs out, a row
-// that another row names does not exist, a completed trade has no price or no settlement, the tax
-// rates of the customer total more than the greatest tax rate, or an amount, a number of shares or
-// a number of cash rows overflows or exceeds its limit; and with `Write` if the writer fails. If
-// the database is still open, it is unchanged.
+// does not exist, or with `Desk` if a read fails, memory runs out, a row that another row requires
+// does not exist, a completed trade has no price, the tax rates of the customer total more than the
+// greatest tax rate, or an amount, a number of shares or a number of cash rows overflows or exceeds
+// its limit; nothing is then written. Fails with `Write` after a prefix of the text, perhaps all of
+// it. If the database is still open, it is unchanged, whatever the result.
 fn write_trade_explanation<W: Write, S: Alter>(
     alloc: Global,
     desk: &mut Desk<S>,
@@ -48,8 +48,10 @@ fn write_trade_explanation<W: Write, S: Alter>(
 
 // Writes all lines of the explanation of an account, from its row and holdings in `details` and
 // from its cash rows and lots, which the function reads. Fails with `Desk` if a read fails, memory
-// runs out, or an amount or a number of rows overflows, and with `Write` if the writer fails. If
-// the database is still open, it is unchanged.
+// runs out, or an amount or a number of rows overflows, or with `Write`. After `Desk` only whole
+// lines are written, perhaps none and never the last one; after `Write` whole lines and a prefix of
+// the next one, perhaps all of it. If the database is still open, it is unchanged, whatever the
+// result.
 fn write_account_lines<W: Write, S: Alter>(
     alloc: Global,
     desk: &mut Desk<S>,
@@ -73,10 +75,12 @@ fn write_account_lines<W: Write, S: Alter>(
     )
 }
 
-// Writes the explanation of the account with the id. Fails with `Refused` (`NoAccount`) if the
-// account does not exist, before it writes anything; with `Desk` if a read fails, memory runs out,
-// a held symbol has no last price, or an amount or a number of rows overflows; and with `Write` if
-// the writer fails. If the database is still open, it is unchanged.
+// Writes the explanation of the account with the id. Fails with `Refused` (`NoAccount`) and nothing
+// written if the account does not exist; with `Desk` if a read fails, memory runs out, a held
+// symbol has no last price, or an amount or a number of rows overflows; or with `Write`. After
+// `Desk` only whole lines are written, perhaps none and never the last one; after `Write` whole
+// lines and a prefix of the next one, perhaps all of it. If the database is still open, it is
+// unchanged, whatever the result.
 fn write_account_explanation<W: Write, S: Alter>(
     alloc: Global,
     desk: &mut Desk<S>,
@@ -94,12 +98,12 @@ fn write_account_explanation<W: Write, S: Alter>(
     Ok(())
 }
 
-// Writes the explanation of the holding of an account in a security. Fails with `Refused`
-// (`NoAccount`) if the account does not exist, or (`NoSecurity`) if only the security does not
-// exist, before it writes anything; with `Desk` if a read fails, memory runs out, the security has
-// no last price, a trade that changed a lot does not exist, a completed trade has no price, or an
-// amount or a quantity overflows; and with `Write` if the writer fails. If the database is still
-// open, it is unchanged.
+// Writes the explanation of the holding of an account in a security. Fails with `Refused` if the
+// account does not exist (`NoAccount`) or only the security does not exist (`NoSecurity`), or with
+// `Desk` if a read fails, memory runs out, the security has no last price, a trade that changed a
+// lot does not exist, a trade has no price, or an amount, a quantity or a number of lots or of
+// their changes overflows; nothing is then written. Fails with `Write` after a prefix of the text,
+// perhaps all of it. If the database is still open, it is unchanged, whatever the result.
 fn write_holding_explanation<W: Write, S: Alter>(
     alloc: Global,
     desk: &mut Desk<S>,
@@ -122,7 +126,9 @@ fn write_holding_explanation<W: Write, S: Alter>(
 // Writes all lines of the explanation of a broker, from its row and number of accounts in `details`
 // and from the completed trades of its accounts, which the function reads. Fails with `Desk` if a
 // read fails, memory runs out, or the sum of the commissions or the number of the trades overflows,
-// and with `Write` if the writer fails. If the database is still open, it is unchanged.
+// or with `Write`. After `Desk` only whole lines are written, perhaps none and never the last one;
+// after `Write` whole lines and a prefix of the next one, perhaps all of it. If the database is
+// still open, it is unchanged, whatever the result.
 fn write_broker_lines<W: Write, S: Alter>(
     alloc: Global,
     desk: &mut Desk<S>,
@@ -144,10 +150,12 @@ fn write_broker_lines<W: Write, S: Alter>(
     )
 }
 
-// Writes the explanation of the broker with the id. Fails with `Refused` (`NoBroker`) if the broker
-// does not exist, before it writes anything; with `Desk` if a read fails, memory runs out, or the
-// sum of the commissions or the number of the trades overflows; and with `Write` if the writer
-// fails. If the database is still open, it is unchanged.
+// Writes the explanation of the broker with the id. Fails with `Refused` (`NoBroker`) and nothing
+// written if the broker does not exist; with `Desk` if a read fails, memory runs out, or the sum of
+// the commissions or the number of the trades overflows; or with `Write`. After `Desk` only whole
+// lines are written, perhaps none and never the last one; after `Write` whole lines and a prefix of
+// the next one, perhaps all of it. If the database is still open, it is unchanged, whatever the
+// result.
 fn write_broker_explanation<W: Write, S: Alter>(
     alloc: Global,
     desk: &mut Desk<S>,
@@ -172,11 +180,11 @@ fn write_broker_explanation<W: Write, S: Alter>(
 /// for the trade, 1 (`NoAccount`) for the account, also of a holding, 4 (`NoSecurity`) for the
 /// security of a holding whose account exists, and 3 (`NoBroker`) for the broker. Fails with
 /// `Desk(Memory)` or `Desk(Store)`; `Desk(Store)` may also mean that a row that another row
-/// requires does not exist, that a completed trade has no price, that the tax rates of a customer
-/// total more than the greatest tax rate, or that an amount, a number of shares or a number of rows
-/// overflows or exceeds its limit. After `Desk` only whole lines are written, from the first on and
-/// never the last one. After `Write` whole lines are written, from the first on, and a prefix of
-/// the next one, perhaps empty or all of it.
+/// requires does not exist, that a security has no last price, that a completed trade has no price,
+/// that the tax rates of a customer total more than the greatest tax rate, or that an amount, a
+/// number of shares or a number of rows overflows or exceeds its limit. After `Desk` only whole
+/// lines are written, from the first on, perhaps none and never the last one. After `Write` whole
+/// lines are written, from the first on, and a prefix of the next one, perhaps empty or all of it.
 ///
 /// A crash after the call exposes only states that a crash before the call could expose.
 pub fn write_explanation<W: Write, S: Alter>(

@@ -20,8 +20,9 @@ use std::io::Write;
 /// Writes a line for each cash row of an account with a stamp from 1970-01-01 to 9999-12-31, both
 /// included, sorted by stamp, ascending, with the balance after it; the balance before the first
 /// one is `opening`, in cents. Returns the number of these cash rows. Fails with `Desk` if a read
-/// fails, memory runs out, or a balance or the number overflows, and with `Write` if the writer
-/// fails. If the database is still open, it is unchanged.
+/// fails, memory runs out, or a balance or the number overflows, or with `Write`. After `Desk` only
+/// whole lines are written, perhaps none or all; after `Write` whole lines and a prefix of the next
+/// one, perhaps all of it. If the database is still open, it is unchanged, whatever the result.
 pub(crate) fn write_cash_posting_lines<W: Write, S: Alter>(
     alloc: Global,
     desk: &mut Desk<S>,
@@ -50,8 +51,9 @@ pub(crate) fn write_cash_posting_lines<W: Write, S: Alter>(
 
 /// Writes a line for each lot of an account, sorted by symbol, then by opening stamp, both
 /// ascending, and returns the number of lots. Fails with `Desk` if a read fails, memory runs out or
-/// the number overflows, and with `Write` if the writer fails. If the database is still open, it is
-/// unchanged.
+/// the number overflows, or with `Write`. After `Desk` only whole lines are written, perhaps none
+/// or all; after `Write` whole lines and a prefix of the next one, perhaps all of it. If the
+/// database is still open, it is unchanged, whatever the result.
 pub(crate) fn write_open_lot_lines<W: Write, S: Alter>(
     alloc: Global,
     desk: &mut Desk<S>,
@@ -77,8 +79,10 @@ pub(crate) fn write_open_lot_lines<W: Write, S: Alter>(
 
 /// Writes a line for each completed trade of a broker's accounts, sorted by the stamp of
 /// completion, ascending, with the running total of the commissions. Returns the number of trades.
-/// Fails with `Desk` if a read fails, memory runs out, or the total or the number overflows, and
-/// with `Write` if the writer fails. If the database is still open, it is unchanged.
+/// Fails with `Desk` if a read fails, memory runs out, or the total or the number overflows, or
+/// with `Write`. After `Desk` only whole lines are written, perhaps none or all; after `Write`
+/// whole lines and a prefix of the next one, perhaps all of it. If the database is still open, it
+/// is unchanged, whatever the result.
 pub(crate) fn write_trade_commission_lines<W: Write, S: Alter>(
     alloc: Global,
     desk: &mut Desk<S>,

@@ -19,6 +19,8 @@ use std::io::Write;
 
 /// Writes the first three lines of a statement: the title with the id `account`, the name of the
 /// account, and the first day `from` and the last day `to`. Fails with `Desk(Memory)` or `Write`.
+/// After `Desk` only whole lines are written, perhaps none and never the last one; after `Write`
+/// whole lines and a prefix of the next one, perhaps all of it.
 pub(crate) fn write_header_lines<W: Write>(
     alloc: Global,
     account: Id,
@@ -39,7 +41,9 @@ pub(crate) fn write_header_lines<W: Write>(
 /// day `to`, both included, and the line of the closing amount, which is the opening amount plus
 /// the amounts of the rows with a line, in cents; `from` must not be after `to`. Returns the number
 /// of these rows. If the database is still open, it is unchanged. Fails with `Desk` if a read
-/// fails, memory runs out, or an amount or the number overflows, or with `Write`.
+/// fails, memory runs out, or an amount or the number overflows, or with `Write`. After `Desk` only
+/// whole lines are written, perhaps none and never the last one; after `Write` whole lines and a
+/// prefix of the next one, perhaps all of it.
 pub(crate) fn write_cash_and_closing_lines<W: Write, S: Alter>(
     alloc: Global,
     desk: &mut Desk<S>,
@@ -63,7 +67,8 @@ pub(crate) fn write_cash_and_closing_lines<W: Write, S: Alter>(
 /// Writes a line for each lot of an account, the line of the market value `holdings`, in cents, and
 /// the line of the numbers of cash rows, `cash`, and of lots. If the database is still open, it is
 /// unchanged. Fails with `Desk` if a read fails, memory runs out or the number of lots overflows,
-/// or with `Write`.
+/// or with `Write`. After `Desk` only whole lines are written, perhaps none and never the last one;
+/// after `Write` whole lines and a prefix of the next one, perhaps all of it.
 pub(crate) fn write_lot_and_total_lines<W: Write, S: Alter>(
     alloc: Global,
     desk: &mut Desk<S>,

@@ -21,7 +21,9 @@ use std::io::Write;
 // first of these lines the line of the opening amount, which is the total of the earlier rows.
 // Returns the total, the number of the rows with a line, and whether the line of the opening amount
 // is written. If the database is still open, it is unchanged. Fails with `Desk` if a read fails,
-// memory runs out, or the number or the sum overflows, or with `Write`.
+// memory runs out, or the number or the sum overflows, or with `Write`. After `Desk` only whole
+// lines are written, perhaps none or all; after `Write` whole lines and a prefix of the next one,
+// perhaps all of it.
 fn write_cash_walk_lines<W: Write, S: Alter>(
     alloc: Global,
     desk: &mut Desk<S>,
@@ -57,7 +59,8 @@ fn write_cash_walk_lines<W: Write, S: Alter>(
 /// the day `to`, both included; `from` must not be after `to`. Returns the number of the rows with
 /// a line, and `opening` plus the amounts of all cash rows up to the day `to`, in cents. If the
 /// database is still open, it is unchanged. Fails with `Desk` if a read fails, memory runs out, or
-/// the number or the sum overflows, or with `Write`.
+/// the number or the sum overflows, or with `Write`. After `Desk` only whole lines are written,
+/// perhaps none or all; after `Write` whole lines and a prefix of the next one, perhaps all of it.
 pub(crate) fn write_opening_and_cash_lines<W: Write, S: Alter>(
     alloc: Global,
     desk: &mut Desk<S>,
@@ -88,7 +91,9 @@ pub(crate) fn write_opening_and_cash_lines<W: Write, S: Alter>(
 
 /// Writes a line for each lot of an account, sorted by symbol, then by opening stamp, both
 /// ascending, and returns the number of lots. If the database is still open, it is unchanged. Fails
-/// with `Desk` if a read fails, memory runs out or the number overflows, or with `Write`.
+/// with `Desk` if a read fails, memory runs out or the number overflows, or with `Write`. After
+/// `Desk` only whole lines are written, perhaps none or all; after `Write` whole lines and a prefix
+/// of the next one, perhaps all of it.
 pub(crate) fn write_lot_lines<W: Write, S: Alter>(
     alloc: Global,
     desk: &mut Desk<S>,

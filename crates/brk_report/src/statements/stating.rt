@@ -19,7 +19,9 @@ pub type StatementFault = ReportFault;
 // Writes all lines of the statement of an account from the day `from` to the day `to`, both
 // included; `from` must not be after `to`. `head` has the name, the opening balance and the market
 // value of the account. If the database is still open, it is unchanged. Fails with `Desk` if a read
-// fails, memory runs out, or a sum or a number of rows overflows, or with `Write`.
+// fails, memory runs out, or a sum or a number of rows overflows, or with `Write`. After `Desk`
+// only whole lines are written, perhaps none and never the last one; after `Write` whole lines and
+// a prefix of the next one, perhaps all of it.
 fn write_statement_lines<W: Write, S: Alter>(
     alloc: Global,
     desk: &mut Desk<S>,
@@ -50,9 +52,11 @@ fn write_statement_lines<W: Write, S: Alter>(
 /// Fails with `Refused` 18 if `from` is after `to`, otherwise with `Refused` 1 if the account does
 /// not exist; nothing is then written. Fails with `Desk(Memory)` or `Desk(Store)`; `Desk(Store)`
 /// may also mean that a held symbol has no last price, or that a sum or a number of rows overflows.
-/// After `Desk` only whole lines are written, from the first on and never the last one. After
-/// `Write` whole lines are written, from the first on, and a prefix of the next one, perhaps empty
-/// or all of it.
+/// After `Desk` only whole lines are written, from the first on, perhaps none and never the last
+/// one. After `Write` whole lines are written, from the first on, and a prefix of the next one,
+/// perhaps empty or all of it.
+///
+/// A crash after the call exposes only states that a crash before the call could expose.
 pub fn statement<W: Write, S: Alter>(
     alloc: Global,
     desk: &mut Desk<S>,

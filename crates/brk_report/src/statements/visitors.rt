@@ -59,7 +59,8 @@ fn is_before_stamp(item: &MoveRow, first: Stamp) -> bool
 }
 
 /// Writes the line of the opening amount `opening`, in cents, or nothing if `is_written` is true.
-/// Fails with `Desk(Memory)` or `Write`.
+/// Fails with `Desk(Memory)` and nothing written, or with `Write` after a prefix of the line,
+/// perhaps all of it.
 pub(crate) fn write_opening_line_unless_written<W: Write>(
     alloc: Global,
     is_written: bool,
@@ -75,8 +76,8 @@ pub(crate) fn write_opening_line_unless_written<W: Write>(
 }
 
 // Writes the line of the opening amount, which is the total of `moved`, unless `moved` records that
-// this line is written, and then the line of the cash row `item`. Fails with `Desk(Memory)` or
-// `Write`.
+// this line is written, and then the line of the cash row `item`. Fails with `Desk(Memory)` before
+// the first of these lines or between them, or with `Write` after a prefix of them, perhaps all.
 fn write_opening_and_row_lines<W: Write>(
     alloc: Global,
     moved: CashProgress,
@@ -113,9 +114,10 @@ impl<R: Line, W: Write> Visitor<R, LinesFault> for LineWriter<'_, W> {
 
     ghost stops = { λ p r e q. FailsWithinLines (R.line r ∷ []) (W.contents p.writer.now) (W.contents q.writer.now) e };
 
-    /// Writes the line of the record and counts the record. Fails with `Desk` and the fault of
-    /// formatting the line, `Memory` or `Store`, with `Desk(Store)` if the count overflows, or with
-    /// `Write`.
+    /// Writes the line of the record, then counts the record. Fails with `Desk` and the fault of
+    /// formatting the line, `Memory` or `Store`, or with `Desk(Store)` if the count overflows;
+    /// nothing is then written. Fails with `Write` after a prefix of the line, perhaps all of it.
+    /// The count is unchanged after an error.
     fn visit(&mut self, item: &R) -> Result<(), LinesFault> {
         let Some(count) = self.count.checked_add(1) else {
             return Err(LinesFault::Desk(Fault::Store));
@@ -182,10 +184,12 @@ impl<W: Write> Visitor<MoveRow, LinesFault> for CashLineWriter<'_, W> {
     ghost stops = { λ p r e q. FailsWithinFirstLines (lines_of_cash_row (nat_lt r.stamp p.first) p.moved (abstract_move_row r))
         (W.contents p.writer.now) (W.contents q.writer.now) e };
 
-    /// Adds the amount of the cash row to the total. If the row is not before the first stamp, also
-    /// writes its line, after the line of the opening amount unless this was written before, and
-    /// counts the row. Fails with `Desk(Memory)`, with `Desk(Store)` if the total or the count
-    /// overflows, or with `Write`.
+    /// Adds the amount of the cash row to the total. If the row is not before the first stamp,
+    /// first writes its line, after the line of the opening amount unless this was written before,
+    /// and also counts the row. Fails with `Desk(Store)` and nothing written if the total or the
+    /// count overflows, with `Desk(Memory)` and nothing or only the line of the opening amount
+    /// written, or with `Write` after a prefix of the lines, perhaps all. The total, the count and
+    /// the note that the opening amount is written are unchanged after an error.
     fn visit(&mut self, item: &MoveRow) -> Result<(), LinesFault> {
         let total = total_plus_amount(self.moved.total, item.amount)?;
         if is_before_stamp(item, self.first) {

@@ -92,8 +92,8 @@ fn execute_query_and_write_view<W: Write, S: Alter>(
 /// first if `form.heads` is true and all its records have the same fields.
 ///
 /// Fails with `Refused` and the refusal of the parser if the texts are no query: 18, 20 for more
-/// than 20 ids or names, or 7, 8 or 9 for a field of an order; otherwise with `Refused` and the
-/// refusal of the query, if the desk refuses it; or with `Desk(Memory)` or `Desk(Store)`.
+/// than 20 different ids or names, or 7, 8 or 9 for a field of an order; otherwise with `Refused`
+/// and the refusal of the query, if the desk refuses it; or with `Desk(Memory)` or `Desk(Store)`.
 /// `Desk(Store)` may also mean that a row that another row requires does not exist, that a lot has
 /// no shares, or that a sum overflows or exceeds its limit. In these cases nothing is written.
 /// Fails with `Write` after a prefix of the text, perhaps empty or all of it. If the database is

@@ -188,8 +188,8 @@ fn tables_or_empty<S: Alter>(alloc: Global, conn: &mut Connection<S>) -> String 
     }
 }
 
-/// Reads all tables in the database of a connection, creates or adopts the desk there, performs the
-/// task `task` with the input `input`, audits the desk, reads the tables again, and returns the
+/// Reads all tables in the database of a connection, creates or adopts its desk, performs the task
+/// `task` with the input `input`, audits the desk, reads the tables again, and returns the
 /// connection. Records what is observed in `seen`. Performs nothing after the first reading if the
 /// desk is neither created nor adopted.
 pub fn observe_task_of_desk<S: Alter + Drop>(

@@ -225,7 +225,8 @@ pub fn run_batch_until_crash(
     )
 }
 
-/// Returns the files of a new desk after the batch `SET`. Fails if memory runs out.
+/// Returns the files of a new desk after the batch `SET`. Does not check that the desk was created
+/// or that the batch completed. Fails if memory runs out while the files are set up or copied.
 pub fn files_with_reference_data(alloc: Global) -> Result<Held, Fail> {
     let Sent { held, .. } = run_batch_until_crash(
         alloc,

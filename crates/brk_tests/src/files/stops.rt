@@ -192,7 +192,8 @@ fn crash_and_retry_batch(
 
 // Checks that the lines until the crash are a prefix of the lines `whole` of the batch, that a run
 // without a crash has exactly the lines `whole` and the tables `last`, and that the retry has the
-// lines `rest` and the tables `last`. The audits after both complete runs must pass.
+// lines `rest` and the tables `last`. The audits after both complete runs must pass. Fails if not
+// all of this is so.
 fn expect_lines_and_tables(
     stop: MachineCrash,
     twice: &CrashAndRetry,
@@ -217,7 +218,8 @@ fn expect_lines_and_tables(
 
 // Checks that the tables after the crash contain the rows with a written line, or one row more, and
 // that the retry completes the batch: it has the stored replies to these rows, accepts the others,
-// and has the last of `tables`, which are the tables after each number of rows.
+// and has the last of `tables`, which are the tables after each number of rows. Fails if not all of
+// this is so, or if memory runs out.
 fn expect_retry_completes(
     alloc: Global,
     stop: MachineCrash,
