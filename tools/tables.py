@@ -1162,7 +1162,7 @@ pub fn {rows_name(d)}_in_schema<S: Alter>(
     schema: Schema,
 ) -> Result<Vec<Row>, Fault>
     {SAME_REFERENCE}
-    ensures step {{ ReadsRowsIfPresent S.Store tx.old tx.new result (abstract_schema schema) {d[2]} }}
+    ensures step {{ ReadsRowsIfInSchema S.Store tx.old tx.new result (abstract_schema schema) {d[2]} }}
     {STORE_FAULT}
 {{
     if !schema.{LATER[d[0]]}() {{
@@ -1180,7 +1180,7 @@ ghost use Rattle.std.specs.Prelude.{{◌≡◌, Err, OnErr}};
 ghost use Rattle.brk_money.specs.declared.fault.Fault.TheVariants.{{Store}};
 ghost use Rattle.brk_tables_schema.specs.Desk.{{{WHICHES}}};
 ghost use Rattle.brk_changes.specs.Schemas.{{abstract_schema}};
-ghost use Rattle.brk_tables_scan.specs.Whole.{{ReadsRowsIfPresent, ReadsAllRows}};
+ghost use Rattle.brk_tables_scan.specs.Whole.{{ReadsRowsIfInSchema, ReadsAllRows}};
 
 use brk_changes::Schema;
 use brk_money::Fault;
@@ -1304,7 +1304,7 @@ use Rattle.sqlite_value.specs.Order.{{Row}}
 use Rattle.sqlite.specs.State.{{State}}
 use Rattle.brk_tables_schema.specs.Desk.{{DeskTable, {WHICHES}}}
 use Rattle.brk_model.specs.Schemas.{{Schema}}
-use Rattle.brk_tables_scan.specs.Whole.{{ShowsAllRows, ShowsRowsIfPresent}}
+use Rattle.brk_tables_scan.specs.Whole.{{ShowsAllRows, ShowsRowsIfInSchema}}
 
 {''.join(raw_record(word, tables) for word, _, _, tables in groups())}
 -- The raw rows of all tables of a desk.
@@ -1333,11 +1333,11 @@ Shows{word}Tables raw = ShowsFourTables {' '.join(d[2] for d in tables)} {' '.jo
 """
     out += f"""
 -- The reads changed nothing, and the raw rows are all rows of CASH_MOVE and SETTLE_RULE, or none of
--- a table that the schema `desk` does not have (`ShowsRowsIfPresent`). The clause on a table is
+-- a table that the schema `desk` does not have (`ShowsRowsIfInSchema`). The clause on a table is
 -- vacuous if the database does not define it as a desk does.
 pub record ShowsLaterSchemaTables (desk : Schema) (raw : LaterSchemaRows) (old new : State) : Type 0 where
   pub same : new.now ≡ old.now
-{chr(10).join(f'  pub {raw_field(d)} : ShowsRowsIfPresent desk {d[2]} raw.{raw_field(d)} old.now' for d in groups()[-1][3])}
+{chr(10).join(f'  pub {raw_field(d)} : ShowsRowsIfInSchema desk {d[2]} raw.{raw_field(d)} old.now' for d in groups()[-1][3])}
 
 -- The raw rows of one table in `raw`, the raw rows of all tables.
 abbrev pub raw_rows_of_table : RawSheets → DeskTable → List Row
@@ -1378,7 +1378,7 @@ def reads_group(word, field, tables):
     false = f'If it is false, the flag `old` before the decoding was false{counted.get(word, " or a row is malformed")}.'
     true = f'If the flag `new` after the decoding is true, the typed rows `sheets` are the decoded rows{but_texts}.'
     opened = '' if word == 'LaterSchema' else ' from an open database'
-    shows = '`ShowsRowsIfPresent`' if word == 'LaterSchema' else '`ShowsAllRows`'
+    shows = '`ShowsRowsIfInSchema`' if word == 'LaterSchema' else '`ShowsAllRows`'
     told = f'The reads return all rows of {named(tables)}{opened}{none} ({shows}), and change nothing. {true} {false} The clause on the rows of a table is vacuous if the database does not define it as a desk does.'
     return f"""
 {remark(told)}
@@ -1405,7 +1405,7 @@ use Rattle.brk_tables_schema.specs.Cells.{{{', '.join(d[0] + '_cells' for d in D
 use Rattle.brk_tables_schema.specs.Desk.{{DeskTable, desk_rows, rule_rows, encoded_row, rows_of_table_in_schema}}
 use Rattle.brk_tables_schema.specs.Formed.{{passes_all_cell_checks, {forms}}}
 use Rattle.brk_tables_scan.specs.KeptKeys.{{AreKeysOfRawRows, keys_of_kept_rows, tables_with_whole_kept_rows}}
-use Rattle.brk_tables_scan.specs.Whole.{{ShowsRowsIfPresent}}
+use Rattle.brk_tables_scan.specs.Whole.{{ShowsRowsIfInSchema}}
 use Rattle.brk_tables_scan.specs.Raw.{{{', '.join(f'{word}Rows' for word, _, _ in GROUPS)}, RawSheets, raw_rows_of_table, IsUnchangedAndOpen, {', '.join(f'Shows{word}Tables' for word, _, _ in GROUPS)}}}
 {declared('Sheets')}
 """
@@ -1438,7 +1438,7 @@ pub record ContinuesDecoding (old new are_well_formed : Bool) (Decodes : Type 0)
   pub form : new ≡ false → (old ≡ false) ⊎ (are_well_formed ≡ false)
 {''.join(reads_group(word, field, tables) for word, field, _, tables in groups())}
 -- The reads return all rows of each table of the schema `desk`, and none of other tables
--- (`ShowsRowsIfPresent`). The database was open, and the reads changed nothing. If the flag `new`
+-- (`ShowsRowsIfInSchema`). The database was open, and the reads changed nothing. If the flag `new`
 -- after the decoding is true, the typed rows `sheets` are the decoded rows, but for the texts of
 -- KEPT. If it is false, the flag `old` before the decoding was false or the rows are malformed
 -- (`are_raw_sheets_well_formed`). The clause on the rows of a table is vacuous if the database does
@@ -1446,7 +1446,7 @@ pub record ContinuesDecoding (old new are_well_formed : Bool) (Decodes : Type 0)
 pub record ReadsAndDecodesDeskTables (desk : Schema) (old new : Bool) (sheets : Sheets) (a b : State) : Type 0 where
   pub raw : RawSheets
   pub stays : IsUnchangedAndOpen a b
-  pub shown : (w : DeskTable) → ShowsRowsIfPresent desk w (raw_rows_of_table raw w) a.now
+  pub shown : (w : DeskTable) → ShowsRowsIfInSchema desk w (raw_rows_of_table raw w) a.now
   pub decoded : ContinuesDecoding old new (are_raw_sheets_well_formed desk raw) (DecodesSheets desk sheets raw)
 """
     save('crates/brk_tables_scan/specs/Decoded.antt', out)

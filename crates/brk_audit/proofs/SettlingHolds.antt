@@ -7,7 +7,7 @@ use Rattle.brk_money.specs.declared.fault.Condition.TheVariants as condition
 use Rattle.brk_model.specs.Derived.{due_day_of_completion_stamp}
 use Rattle.brk_model.specs.Audit.{ConditionHolds}
 use Rattle.brk_model.specs.Tables.{MoveRow, Tables, TradeRow}
-use Rattle.brk_model.specs.Form.{lacks_rows_of_later_schemas, satisfies_form_condition}
+use Rattle.brk_model.specs.Form.{has_rows_only_in_tables_of_schema, satisfies_form_condition}
 use Rattle.std.proofs.lemmas.Bool.{and_parts, eqb-true}
 use Rattle.brk_book_theorems.proofs.Same.{All-of, map-same}
 use Rattle.brk_audit_theorems.proofs.Parts.{KeyParts, key_parts}
@@ -49,7 +49,7 @@ no_moves : (rows : List MoveRow) → (length rows == 0) ≡ true → rows ≡ []
 no_moves [] e = refl
 no_moves (r ∷ rows) e = let l : length (r ∷ rows) ≡ 0 = eqb-true (length (r ∷ rows)) 0 e in absurd (omega (arith, l))
 
-fitting : (schema : Schema) (t : Tables) → lacks_rows_of_later_schemas schema t ≡ true → schema.has_cash_move_table ≡ false → t.moves ≡ []
+fitting : (schema : Schema) (t : Tables) → has_rows_only_in_tables_of_schema schema t ≡ true → schema.has_cash_move_table ≡ false → t.moves ≡ []
 fitting schema t f n =
     no_moves t.moves (ap (λ b. b || (length t.moves == 0)) (sym n) ∙ (and_parts (schema.has_cash_move_table || (length t.moves == 0)) (schema.has_settle_rule_table || is_none t.rule) f).0)
 

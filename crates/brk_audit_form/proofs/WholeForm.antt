@@ -9,7 +9,7 @@ use Rattle.brk_money.specs.Moments.{greatest_day, greatest_stamp}
 use Rattle.brk_model.specs.Limits.{greatest_id}
 use Rattle.brk_model.specs.Lists.{all_distinct}
 use Rattle.brk_model.specs.Schemas.{Schema}
-use Rattle.brk_model.specs.Form.{satisfies_form_condition, has_tables_sorted_by_unique_key, has_disjoint_bands, are_equal_number_lists, has_distinct_tax_ids, is_within_customer_limits, is_well_formed_cash_transaction_row, is_well_formed_cash_move_row, trade_ids_of_cash_rows, lacks_rows_of_later_schemas}
+use Rattle.brk_model.specs.Form.{satisfies_form_condition, has_tables_sorted_by_unique_key, has_disjoint_bands, are_equal_number_lists, has_distinct_tax_ids, is_within_customer_limits, is_well_formed_cash_transaction_row, is_well_formed_cash_move_row, trade_ids_of_cash_rows, has_rows_only_in_tables_of_schema}
 use Rattle.brk_ref.specs.Records.{abstract_customer, abstract_band}
 use Rattle.brk_changes.specs.Rows.{abstract_trade_row, abstract_cash_row, abstract_move_row}
 use Rattle.brk_changes.specs.Sheets.{abstract_sheets}
@@ -57,7 +57,7 @@ plain_rests schema s =
     are_equal_number_lists (map (λ row. row.id) s.trades.items) (range_with_len 1 (length s.trades.items)) ∷
     nat_le (length (filter (λ r. is_none r.trade) s.moves.items)) greatest_id ∷
     option_map_or (λ day. nat_le day greatest_day) s.rule true ∷
-    lacks_rows_of_later_schemas schema (abstract_sheets s) ∷ []
+    has_rows_only_in_tables_of_schema schema (abstract_sheets s) ∷ []
 
 forth : (schema : Schema) (s : Sheets) → passes_nonallocating_form_checks schema s ≡ true → Hold (rests s) → satisfies_form_condition schema (abstract_sheets s) ≡ true
 forth schema s plain h =

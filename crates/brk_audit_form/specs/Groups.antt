@@ -11,7 +11,7 @@ use Rattle.brk_model.specs.Form.{is_well_formed_kept_row, is_well_formed_broker_
 use Rattle.brk_model.specs.Form.{is_well_formed_permission_row, is_well_formed_security_row, is_well_formed_last_trade_row, is_well_formed_charge_row}
 use Rattle.brk_model.specs.Form.{is_well_formed_band_row, is_well_formed_tax_rate_row, is_well_formed_customer_tax_row, is_well_formed_trade_row}
 use Rattle.brk_model.specs.Form.{is_well_formed_history_row, is_well_formed_request_row, is_well_formed_holding_row, is_well_formed_summary_row}
-use Rattle.brk_model.specs.Form.{is_well_formed_holding_history_row, is_well_formed_settlement_row, lacks_rows_of_later_schemas, is_last_stamp_in_calendar}
+use Rattle.brk_model.specs.Form.{is_well_formed_holding_history_row, is_well_formed_settlement_row, has_rows_only_in_tables_of_schema, is_last_stamp_in_calendar}
 use Rattle.brk_model.specs.Form.{is_settlement_day_in_calendar}
 use Rattle.brk_ref.specs.Records.{abstract_account_row, abstract_broker_row, abstract_customer}
 use Rattle.brk_ref.specs.Records.{abstract_permission, abstract_security_row, kept_row_with_empty_texts}
@@ -91,4 +91,4 @@ passes_nonallocating_form_checks schema s =
     && has_disjoint_bands (map abstract_band s.bands.items)
     && are_equal_number_lists (map (λ row. row.id) s.trades.items) (range_with_len 1 (length s.trades.items))
     && nat_le (length (filter (λ r. is_none r.trade) s.moves.items)) greatest_id && is_settlement_day_in_calendar s.rule
-    && lacks_rows_of_later_schemas schema (abstract_sheets s)
+    && has_rows_only_in_tables_of_schema schema (abstract_sheets s)

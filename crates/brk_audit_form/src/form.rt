@@ -2,7 +2,7 @@ ghost use Rattle.std.specs.Prelude.{◌≡◌, ◌↔◌, true, IfErr, IfOk, IsT
 ghost use Rattle.brk_money.specs.declared.fault.Condition.TheVariants.{Form};
 ghost use Rattle.brk_money.specs.declared.fault.Fault.TheVariants.{Memory};
 ghost use Rattle.brk_model.specs.Audit.{ConditionHolds};
-ghost use Rattle.brk_model.specs.Form.{is_last_stamp_in_calendar, is_settlement_day_in_calendar, lacks_rows_of_later_schemas};
+ghost use Rattle.brk_model.specs.Form.{is_last_stamp_in_calendar, is_settlement_day_in_calendar, has_rows_only_in_tables_of_schema};
 ghost use Rattle.brk_changes.specs.Schemas.{abstract_schema};
 ghost use Rattle.brk_changes.specs.Sheets.{abstract_sheets};
 ghost use Rattle.brk_audit_form.specs.Groups.{passes_nonallocating_form_checks};
@@ -44,7 +44,7 @@ fn is_valid_settlement_day(rule: Option<Day>) -> bool
 // Returns true if the rows have no part that the schema lacks: no rows of CASH_MOVE in a schema
 // without this table, and no settlement day in a schema without SETTLE_RULE.
 fn has_no_rows_of_later_schemas(schema: Schema, sheets: &Sheets) -> bool
-    ensures { result ≡ lacks_rows_of_later_schemas (abstract_schema schema) (abstract_sheets sheets.now) }
+    ensures { result ≡ has_rows_only_in_tables_of_schema (abstract_schema schema) (abstract_sheets sheets.now) }
 {
     (schema.has_cash_move_table() || sheets.moves.is_empty())
         && (schema.has_settle_rule_table() || sheets.rule.is_none())

@@ -27,7 +27,7 @@ pub fn passing_rows_are_tables_of_their_base()
 /// describe this base with reference records and stored replies sorted by key, and that the tables
 /// of the described base equal its tables. Its tables satisfy the condition `Status`, and, if they
 /// satisfy the condition `Form` of schema 3, pass the audit of schema 3.
-pub fn tables_of_valid_base_pass_the_audit()
+pub fn well_formed_tables_pass_the_audit()
     ensures base { (base : Base) → BooksInvariant base → HasValidHistories base → base_of_tables (sheets base) ≡ base_sorted_by_keys base }
     ensures tables { (base : Base) → BooksInvariant base → HasValidHistories base → sheets (base_of_tables (sheets base)) ≡ sheets base }
     ensures passes { (base : Base) → BooksInvariant base → HasValidHistories base → IsTrue (satisfies_form_condition third_schema (sheets base))

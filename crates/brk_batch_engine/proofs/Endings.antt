@@ -17,7 +17,7 @@ use Rattle.brk_model.specs.Input.{HasExactlyRecords, BeginsWithRecords, IsEndRec
 use Rattle.brk_model.specs.Lines.{answer_line, batch_end_line, answer_lines_from}
 use Rattle.brk_model.specs.Run.{IsCallFault}
 use Rattle.brk_batch_engine.specs.Answers.{RowFailsWith}
-use Rattle.brk_batch_engine.specs.Batch.{IsBatchResult, BeginsWithWholeBatch, NextRowFails, BatchFailsWith, BoundsBatchCrashStates, BatchProgress}
+use Rattle.brk_batch_engine.specs.Batch.{IsBatchResult, BeginsWithWholeBatch, DeskFaultEndsBatchAtNextRow, BatchFailsWith, BoundsBatchCrashStates, BatchProgress}
 use Rattle.brk_batch_engine.specs.Script.{RowCallRelation}
 use Rattle.brk_io.specs.Span.{IsUnchangedEnvironment, EnvironmentChange}
 use Rattle.brk_batch_engine.specs.Counts.{end_line_with_counts}
@@ -172,7 +172,7 @@ abbrev pub failed_row : {S X C R : Type 0} (form : Fields → ReadResult X) (ste
     (moment : ℕ) (command : X) → form now.row ≡ Ok command → gives now.later moment later → IsCallFault f → Appends start.old new (answer_lines_from 1 p.answers)
     → ((text : Option Text) (before : List Fields) → IsReaderAfterRecords rem text before now.reader → IsReaderAfterRecords rem text (before ++ (next ∷ [])) reader)
     → IsReaderAfterRecords rem text (batch_header start.name ∷ []) start.reader
-    → NextRowFails form step gives text (change_from_start start now later new) (record { rows = now.settled; kind = kinds.Desk f })
+    → DeskFaultEndsBatchAtNextRow form step gives text (change_from_start start now later new) (record { rows = now.settled; kind = kinds.Desk f })
 failed_row form step gives rem start now later new text p next reader f moment command formed given may wrote found h = record {
   cause = f;
   kind = refl;

@@ -19,7 +19,7 @@ use Rattle.brk_batch_engine.specs.Answers.{RepresentsDurably}
 use Rattle.brk_batch_engine.specs.Batch.{BatchPost}
 use Rattle.brk_batch_engine.specs.Counts.{counts_with_answer, end_line_with_counts}
 use Rattle.brk_batch_engine.specs.Parts.{EndRecordFailsWith}
-use Rattle.brk_batch_engine.specs.RowSteps.{FirstRowEndsBatchWith, NextRecordEndsBatchWith, ReadsOneRecord, RowEndsBatchWith, RowIsDecidedAndWritten}
+use Rattle.brk_batch_engine.specs.RowSteps.{FirstReadEndsBatchWith, NextReadEndsBatchWith, ReadsOneRecord, RowEndsBatchWith, RowIsDecidedAndWritten}
 use Rattle.brk_batch_engine.specs.Script.{RowCallRelation}
 use Rattle.brk_batch_engine.specs.declared.counts.Counts.{Counts}
 use Rattle.brk_batch_engine.proofs.Endings.{answer_failed, answer_left, end_failed, ended_well, failed_asked, no_rows, nothing_read, read_failed, row_cut_off, tell_failed, turns_over, untouched}
@@ -31,7 +31,7 @@ module _ {D S X C R : Type 0} (meets_disk_assumption : D → Type 0) (represents
     (step : RowStep S X) (gives : C → ℕ → C → Type 0) (rem : R → Option Text) where
   -- no first row was read
   pub first_row_ended : (desk : D) (name : Text) (clock : C) (old : Option Text) (reader : Reader R) (fault : BatchFault) (text : Option Text) → IsBatchName name
-      → FirstRowEndsBatchWith rem reader fault → IsReaderAfterRecords rem text (batch_header name ∷ []) reader
+      → FirstReadEndsBatchWith rem reader fault → IsReaderAfterRecords rem text (batch_header name ∷ []) reader
       → BatchPost meets_disk_assumption represents crash_exposes_only acts form step gives text desk desk (record { clock = clock; later = clock; old = old; new = old }) (Err fault)
   first_row_ended desk name clock old reader fault text named (inl none) h =
       rw none.0 (comes_at_once meets_disk_assumption represents crash_exposes_only acts form step gives desk text clock old old (Err (record { rows = 0; kind = kinds.NoEnd })) tt
@@ -72,7 +72,7 @@ module _ {D S X C R : Type 0} (meets_disk_assumption : D → Type 0) (represents
         turns_over form other gives rem (start_with_base head base) (position_with_base place after) mid text count all (decided other base after turns) wrote h)
 
     -- no record after the row was read
-    pub next_record_ended : (new : Option Text) (fault : BatchFault) (text : Option Text) → ¬ (IsEndRecord place.row) → NextRecordEndsBatchWith rem place.reader place.settled mid new fault
+    pub next_record_ended : (new : Option Text) (fault : BatchFault) (text : Option Text) → ¬ (IsEndRecord place.row) → NextReadEndsBatchWith rem place.reader place.settled mid new fault
         → IsReaderAfterRecords rem text (batch_header head.name ∷ []) head.reader
         → BatchPost meets_disk_assumption represents crash_exposes_only acts form step gives text first desk (record { clock = head.clock; later = place.later; old = head.old; new = new }) (Err fault)
     next_record_ended new fault text row_only (inl failed) h =

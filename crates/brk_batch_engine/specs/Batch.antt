@@ -143,7 +143,7 @@ IsBatchResult form step gives text span (Err fault) = BatchFailsWith form step g
 -- The batch ended with the fault `cause` of the desk, `Memory` or `Store`, at the row after the
 -- decided rows. This row has a record after it and is a command, for which the clock was read once,
 -- and exactly the lines of the decided rows were written.
-pub record NextRowFails {S X C : Type 0} (form : Fields → ReadResult X) (step : RowStep S X) (gives : C → ℕ → C → Type 0)
+pub record DeskFaultEndsBatchAtNextRow {S X C : Type 0} (form : Fields → ReadResult X) (step : RowStep S X) (gives : C → ℕ → C → Type 0)
     (text : Option Text) (span : EnvironmentChange S C) (fault : BatchFault) : Type 0 where
   -- The fault of the desk, which is `Memory` or `Store`.
   pub cause : Fault
@@ -191,7 +191,7 @@ abbrev pub BatchMatchesFailedScript : {X C : Type 0} → (Fields → ReadResult 
 BatchMatchesFailedScript form gives text script outside (Ok counts) = ⊥
 BatchMatchesFailedScript {X = X} form gives text script outside (Err fault) =
     (answers : List Answer) × (calls : RowCalls X)
-    × (failed : NextRowFails form recording_step gives text (environment_change_with_bases (answers, []) ([], calls) outside) fault)
+    × (failed : DeskFaultEndsBatchAtNextRow form recording_step gives text (environment_change_with_bases (answers, []) ([], calls) outside) fault)
     × (script.0 ≡ calls ++ ((failed.moment, (failed.command, record { batch = failed.stopped.name; row = fault.rows + 1 })) ∷ []))
     × (script.1 ≡ map Did answers ++ (Failed failed.cause ∷ []))
 
@@ -222,12 +222,12 @@ BatchRefinesModel {S = S} meets_disk_assumption represents form step gives text 
     meets_disk_assumption last → (base : S) → represents first base
     → (after : S) × represents last after × IsBatchResult form step gives text (environment_change_with_bases base after outside) result
 
--- The call of the row after the decided rows failed (`NextRowFails`), and a crash exposes only the
+-- The call of the row after the decided rows failed (`DeskFaultEndsBatchAtNextRow`), and a crash exposes only the
 -- base after the decided rows, or the base after the command of this row.
 pub record CrashMayCommitFailedRow {D S X C : Type 0} (form : Fields → ReadResult X) (step : RowStep S X) (gives : C → ℕ → C → Type 0)
     (crash_exposes_only : D → S → S → Type 0)
     (text : Option Text) (span : EnvironmentChange S C) (last : D) (fault : BatchFault) : Type 0 where
-  pub failed : NextRowFails form step gives text span fault
+  pub failed : DeskFaultEndsBatchAtNextRow form step gives text span fault
   pub may : crash_exposes_only last span.after (step span.after failed.moment failed.command (record { batch = failed.stopped.name; row = fault.rows + 1 })).1
 
 -- A crash after the batch exposes only the base after it; or, only if the batch ended with a fault,

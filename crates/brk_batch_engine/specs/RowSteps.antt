@@ -49,8 +49,8 @@ IsReadFault kind = (kind ≡ kinds.Read) ⊎ (kind ≡ kinds.Desk Memory)
 -- The batch ended with `fault` at the read of the first record after the header, before any row was
 -- decided: either with `NoEnd`, and then no record is left, or with a fault of reading
 -- (`IsReadFault`).
-abbrev pub FirstRowEndsBatchWith : {R : Type 0} → (R → Option Text) → Reader R → BatchFault → Type 0
-FirstRowEndsBatchWith rem reader fault =
+abbrev pub FirstReadEndsBatchWith : {R : Type 0} → (R → Option Text) → Reader R → BatchFault → Type 0
+FirstReadEndsBatchWith rem reader fault =
     ((fault ≡ record { rows = 0; kind = kinds.NoEnd }) × HasNoRecordLeft rem reader)
     ⊎ ((kind : FaultKind) × (fault ≡ record { rows = 0; kind = kind }) × IsReadFault kind)
 
@@ -58,8 +58,8 @@ FirstRowEndsBatchWith rem reader fault =
 -- fault is one of reading (`IsReadFault`), the row is not decided, and nothing was written; or no
 -- record is left, the row is decided and refused with `BadText`, and its line was written or
 -- writing it failed (`LastRowEndsBatchWith`).
-abbrev pub NextRecordEndsBatchWith : {R : Type 0} → (R → Option Text) → Reader R → ℕ → Option Text → Option Text → BatchFault → Type 0
-NextRecordEndsBatchWith rem reader settled old new fault =
+abbrev pub NextReadEndsBatchWith : {R : Type 0} → (R → Option Text) → Reader R → ℕ → Option Text → Option Text → BatchFault → Type 0
+NextReadEndsBatchWith rem reader settled old new fault =
     ((kind : FaultKind) × (fault ≡ record { rows = settled; kind = kind }) × IsReadFault kind × (new ≡ old))
     ⊎ ((kind : FaultKind) × (fault ≡ record { rows = settled + 1; kind = kind }) × HasNoRecordLeft rem reader
     × LastRowEndsBatchWith old new (answer_line (settled + 1) (Refused BadText)) kind)

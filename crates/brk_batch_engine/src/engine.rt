@@ -11,7 +11,7 @@ ghost use Rattle.brk_batch_engine.specs.Batch.{BatchPost, BatchRefinesModel, IsB
 ghost use Rattle.brk_batch_engine.specs.Counts.{end_line_with_counts};
 ghost use Rattle.brk_batch_engine.specs.Parts.{LastRowEndsBatchWith, EndRecordFailsWith, HeaderReadFailsWith, LineWriteFailsWith};
 ghost use Rattle.brk_batch_engine.specs.Reading.{IsBatchReader, ReaderIsAfterRecords};
-ghost use Rattle.brk_batch_engine.specs.RowSteps.{FirstRowEndsBatchWith, NextRecordEndsBatchWith, ReadsOneRecord, RowEndsBatchWith, RowIsDecidedAndWritten};
+ghost use Rattle.brk_batch_engine.specs.RowSteps.{FirstReadEndsBatchWith, NextReadEndsBatchWith, ReadsOneRecord, RowEndsBatchWith, RowIsDecidedAndWritten};
 
 use crate::answer::execute_row;
 use crate::counts::Counts;
@@ -137,11 +137,14 @@ fn read_batch_name<R: Read>(alloc: Global, records: &mut Reader<R>) -> Result<Ba
 //
 // Fails with `NoEnd` if no record is left, `Read` if the reader fails, or `Desk(Memory)`; no row is
 // then decided.
-fn read_record_after_header<R: Read>(records: &mut Reader<R>, row: &mut ByteRecord) -> Result<(), BatchFault>
+fn read_record_after_header<R: Read>(
+    records: &mut Reader<R>,
+    row: &mut ByteRecord,
+) -> Result<(), BatchFault>
     requires { IsBatchReader records.old }
     ensures setup { OnOk result (IsBatchReader records.new) }
     ensures read { OnOk result (ReadsOneRecord R.remaining records.old records.new (fields_of row.new)) }
-    ensures err { IfErr result (FirstRowEndsBatchWith R.remaining records.old) }
+    ensures err { IfErr result (FirstReadEndsBatchWith R.remaining records.old) }
 {
     let has_first = match read_record(records, row) {
         Ok(found) => found,
@@ -175,7 +178,7 @@ fn read_record_after_row<R: Read, W: Write, D: Rows>(
     ensures setup { OnOk result (IsBatchReader records.new) }
     ensures read { OnOk result (ReadsOneRecord R.remaining records.old records.new (fields_of after.new)) }
     ensures unwritten { OnOk result (W.contents writer.new ≡ W.contents writer.old) }
-    ensures err { IfErr result (NextRecordEndsBatchWith R.remaining records.old settled (W.contents writer.old) (W.contents writer.new)) }
+    ensures err { IfErr result (NextReadEndsBatchWith R.remaining records.old settled (W.contents writer.old) (W.contents writer.new)) }
 {
     let has_next = match read_record(records, after) {
         Ok(found) => found,

@@ -1,7 +1,7 @@
 -- The tables after an order.
 use Rattle.std.proofs.Common.{◌≡◌, ℕ, ◌+◌, Bool, true, false, not, cond, [], ◌∷◌, ◌++◌, refl, sym, subst, ◌∙◌, ap, map, filter, length, arith}
 use Rattle.std.specs.Prelude.{flat_map}
-use Rattle.brk_money.specs.OrderTypes.{trade_type_of_order}
+use Rattle.brk_money.specs.OrderTypes.{trade_type_of_order_type}
 use Rattle.brk_money.specs.Kinds.{is_same_trade_status, is_market_type}
 use Rattle.brk_money.specs.declared.status.Status.TheVariants.{Completed, Submitted, Pending}
 use Rattle.brk_money.specs.declared.trade_type.TradeType.{TradeType}
@@ -37,17 +37,17 @@ rows_ordered base stamp o waits = tables_after_order (trade_row (trade_of_order 
 
 -- an order completes nothing
 pub ordered_done : (base : Base) (stamp : ℕ) (o : Order) → completed_trades (base_after_order base stamp o) ≡ completed_trades base
-ordered_done base stamp o = filter-not_one is_completed base.trades (trade_of_order base stamp o) [] (first_not_completed (trade_type_of_order o.order_type)) ∙ append_nil (filter is_completed base.trades)
+ordered_done base stamp o = filter-not_one is_completed base.trades (trade_of_order base stamp o) [] (first_not_completed (trade_type_of_order_type o.order_type)) ∙ append_nil (filter is_completed base.trades)
 
-pub ordered_rows : (base : Base) (stamp : ℕ) (o : Order) → TradesAreNumberedFrom 1 base.trades → sheets (base_after_order base stamp o) ≡ rows_ordered base stamp o (not (is_market_type (trade_type_of_order o.order_type)))
+pub ordered_rows : (base : Base) (stamp : ℕ) (o : Order) → TradesAreNumberedFrom 1 base.trades → sheets (base_after_order base stamp o) ≡ rows_ordered base stamp o (not (is_market_type (trade_type_of_order_type o.order_type)))
 unfolding tables_of_base_in_schema tables_sorted_by_key shares_of_position holding_summary_quantity balance_of_account trade_count_of_broker commission_total_of_broker
-ordered_rows base stamp o n = by_market (is_market_type (trade_type_of_order o.order_type)) refl
+ordered_rows base stamp o n = by_market (is_market_type (trade_type_of_order_type o.order_type)) refl
   where
     t : Trade
     t = trade_of_order base stamp o
 
     row : HistoryRow
-    row = history_row_of_status (length base.trades + 1) (first_status (trade_type_of_order o.order_type)) stamp
+    row = history_row_of_status (length base.trades + 1) (first_status (trade_type_of_order_type o.order_type)) stamp
 
     Rows : Bool → Type 0
     Rows b = sheets (base_after_order base stamp o) ≡ rows_ordered base stamp o (not b)
@@ -65,7 +65,7 @@ ordered_rows base stamp o n = by_market (is_market_type (trade_type_of_order o.o
     history = ap (rows_sorted_by_key history_key) (flat_map-append history_rows base.trades (t ∷ []))
         ∙ by_key-append history_key (flat_map history_rows base.trades) row (history_of_others row base.trades others)
 
-    by_market : (b : Bool) → is_market_type (trade_type_of_order o.order_type) ≡ b → Rows (is_market_type (trade_type_of_order o.order_type))
+    by_market : (b : Bool) → is_market_type (trade_type_of_order_type o.order_type) ≡ b → Rows (is_market_type (trade_type_of_order_type o.order_type))
     by_market true e =
         let waits : has_last_status Pending t ≡ false = ap (λ b. is_same_trade_status (cond b Submitted Pending) Pending) e in
         let left = filter-not_one (has_last_status Pending) base.trades t [] waits ∙ append_nil (pending_trades base.trades) in

@@ -4,7 +4,7 @@ use Rattle.std.specs.Prelude.{find, is_some, option_map}
 use Rattle.std.specs.Option.{option_map_or}
 use Rattle.std.specs.List.{AllByRecursion}
 use Rattle.std.proofs.lemmas.Bool.{eqb-false, eqb-true, eq-eqb}
-use Rattle.brk_lots.specs.Books.{deal_quantity_sum, realised_gain_sum, lot_cost_basis, lot_quantity_sum, purchases_minus_sales}
+use Rattle.brk_lots.specs.Books.{deal_quantity_sum, realised_gain_sum, lot_cost_basis, lot_quantity_sum, purchase_value_minus_sale_value}
 use Rattle.brk_lots.specs.Chains.{IsLotHistory, changes_of_lot}
 use Rattle.brk_lots.specs.Deals.{AreDistinctAscendingDeals, IsLaterDealOfOtherTrade}
 use Rattle.brk_lots.specs.Lots.{abstract_lot, shares_of_lots}
@@ -71,7 +71,7 @@ pub quantities_sum : (base : Base) (account : ℕ) (symbol : Text) → BooksInva
 quantities_sum base account symbol books = quantities_add_up (deals_of_position (completed_trades base) account symbol) (lots_of_position (sheets base) account symbol) (shares_spelled base account symbol books)
 
 pub costs_sum : (base : Base) (account : ℕ) (symbol : Text) → BooksInvariant base
-    → lot_cost_basis (lots_of_position (sheets base) account symbol) ≡ realised_gain_sum (deals_of_position (completed_trades base) account symbol) [] +ℤ purchases_minus_sales (deals_of_position (completed_trades base) account symbol)
+    → lot_cost_basis (lots_of_position (sheets base) account symbol) ≡ realised_gain_sum (deals_of_position (completed_trades base) account symbol) [] +ℤ purchase_value_minus_sale_value (deals_of_position (completed_trades base) account symbol)
 costs_sum base account symbol books = costs_add_up (deals_of_position (completed_trades base) account symbol) (lots_of_position (sheets base) account symbol) (shares_spelled base account symbol books)
 
 pub lot_lives : (base : Base) (account : ℕ) (symbol : Text) (lot : ℕ) → BooksInvariant base

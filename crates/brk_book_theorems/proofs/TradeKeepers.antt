@@ -3,7 +3,7 @@ use Rattle.std.proofs.Common.{◌≡◌, ℕ, ◌+◌, ◌==◌, false, List, []
 use Rattle.std.specs.Prelude.{is_some, nat_lt}
 use Rattle.std.specs.List.{AllByRecursion, list_any}
 use Rattle.std.proofs.lemmas.Bool.{ltb-false}
-use Rattle.brk_money.specs.OrderTypes.{trade_type_of_order}
+use Rattle.brk_money.specs.OrderTypes.{trade_type_of_order_type}
 use Rattle.brk_money.specs.declared.status.Status.TheVariants.{Completed, Submitted, Canceled}
 use Rattle.brk_model.specs.Limits.{greatest_amount}
 use Rattle.brk_model.specs.Records.{Security, Trade}
@@ -43,7 +43,7 @@ books_order base now o k e =
         securities = All-append (SecurityOfTradeExists base) base.trades (t ∷ []) k.securities (not_not (is_some (security_with_symbol base o.symbol)) p.1.0, tt);
         numbered = numbered_more 1 base.trades t (next_number (length base.trades)) k.numbered;
         ways = All-append HasOneStatusChangeIfPending base.trades (t ∷ []) k.ways ((λ waits. tt), tt);
-        completions = All-append HasNoCompletionIfSubmitted base.trades (t ∷ []) k.completions (first_mark t (record { stamp = stamp_of_next_command base now; status = first_status (trade_type_of_order o.order_type) }) refl (first_not_completed (trade_type_of_order o.order_type)), tt);
+        completions = All-append HasNoCompletionIfSubmitted base.trades (t ∷ []) k.completions (first_mark t (record { stamp = stamp_of_next_command base now; status = first_status (trade_type_of_order_type o.order_type) }) refl (first_not_completed (trade_type_of_order_type o.order_type)), tt);
       };
       times = subst (CompletionBooksInvariant (Some (stamp_of_next_command base now))) (sym (ordered_done base (stamp_of_next_command base now) o)) (later_times base now (in_time base now (PlaceOrder o) e) k.times);
       movements = movements_beside (sym (ordered_done base (stamp_of_next_command base now) o)) (movements_later base now k.movements);

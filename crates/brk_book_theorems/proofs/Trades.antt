@@ -3,7 +3,7 @@ use Rattle.std.proofs.Common.{◌≡◌, ℕ, ◌==◌, true, false, not, List, 
 use Rattle.std.specs.Prelude.{is_some}
 use Rattle.std.specs.Option.{option_map_or}
 use Rattle.std.specs.List.{AllByRecursion}
-use Rattle.brk_money.specs.OrderTypes.{trade_type_of_order}
+use Rattle.brk_money.specs.OrderTypes.{trade_type_of_order_type}
 use Rattle.brk_money.specs.Kinds.{is_market_type}
 use Rattle.brk_money.specs.declared.refusal.Refusal.TheVariants.{NoTrade}
 use Rattle.brk_money.specs.declared.status.Status.TheVariants.{Pending, Canceled}
@@ -36,7 +36,7 @@ pub whole : (after : Base) (stamp : ℕ) (t : Tables) → sheets after ≡ t →
 whole after stamp t e = last_set after stamp ∙ ap (tables_with_last_stamp stamp) e
 
 pub step_order : (base : Base) (now : ℕ) (o : Order)
-    → HasTableEffect base now (PlaceOrder o) (tables_after_order (trade_row (trade_of_order base (stamp_of_next_command base now) o)) (not (is_market_type (trade_type_of_order o.order_type))) (broker_id_of_account base o.account))
+    → HasTableEffect base now (PlaceOrder o) (tables_after_order (trade_row (trade_of_order base (stamp_of_next_command base now) o)) (not (is_market_type (trade_type_of_order_type o.order_type))) (broker_id_of_account base o.account))
 unfolding base_after_command_unstamped
 step_order base now o books e =
     whole (base_after_order base (stamp_of_next_command base now) o) (stamp_of_next_command base now) _ (ordered_rows base (stamp_of_next_command base now) o books.numbered)

@@ -3,7 +3,7 @@
 ghost use Rattle.std.specs.Prelude.{◌≡◌, ℕ, List, None, Some, not};
 ghost use Rattle.std.specs.List.{AllByRecursion};
 ghost use Rattle.brk_money.specs.Kinds.{is_market_type};
-ghost use Rattle.brk_money.specs.OrderTypes.{trade_type_of_order};
+ghost use Rattle.brk_money.specs.OrderTypes.{trade_type_of_order_type};
 ghost use Rattle.brk_model.specs.Base.{Base, broker_id_of_account, completed_trades, empty_base, trade_with_id};
 ghost use Rattle.brk_model.specs.Commands.{AddAccount, AddBand, AddBroker, AddCharge, AddCustomer, AddCustomerTax, AddPermission};
 ghost use Rattle.brk_model.specs.Commands.{AddSecurity, AddTaxRate, CancelTrade, Command, CompleteTrade, DepositCash, FeedTicks};
@@ -59,7 +59,7 @@ pub fn orders_change_only_their_rows()
     ensures { (base : Base) (now : ℕ) (o : Order)
         → HasTableEffect base now (PlaceOrder o)
         (tables_after_order (trade_row (trade_of_order base (stamp_of_next_command base now) o))
-        (not (is_market_type (trade_type_of_order o.order_type))) (broker_id_of_account base o.account)) }
+        (not (is_market_type (trade_type_of_order_type o.order_type))) (broker_id_of_account base o.account)) }
 {}
 
 /// Proves, if the base satisfies the books invariant, that an accepted cancel sets the status of

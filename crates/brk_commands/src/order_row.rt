@@ -4,7 +4,7 @@
 ghost use Rattle.std.specs.Prelude.{◌≡◌, ◌∷◌, ◌++◌, [], IfOk, OnOk, codes, drop, string_bytes, take};
 ghost use Rattle.std.specs.List.{join_with_byte};
 ghost use Rattle.std.specs.Option.{option_map_or};
-ghost use Rattle.brk_money.specs.OrderTypes.{price_of_order};
+ghost use Rattle.brk_money.specs.OrderTypes.{price_of_order_type};
 ghost use Rattle.brk_model.specs.Commands.{CancelTrade, FeedTicks, PlaceOrder};
 ghost use Rattle.brk_model.specs.Rows as model;
 ghost use Rattle.brk_orders.specs.Records.{abstract_order, completion_command, abstract_tick, abstract_ticks};
@@ -48,7 +48,7 @@ fn first_order_fields_text(alloc: Global, order: &Order) -> Result<String, Alloc
 // no price. Fails if memory runs out. A part of this text may then be appended.
 fn append_price_field(row: &mut String, order_type: OrderType) -> Result<(), AllocError>
     ensures { OnOk result (string_bytes row.new
-        ≡ string_bytes row.old ++ fields_after_separators 31 (option_map_or model.nonnegative_cents_text (price_of_order order_type) [] ∷ [])) }
+        ≡ string_bytes row.old ++ fields_after_separators 31 (option_map_or model.nonnegative_cents_text (price_of_order_type order_type) [] ∷ [])) }
 {
     match order_type.price() {
         Some(price) => write!(row, "\x1f{price}"),

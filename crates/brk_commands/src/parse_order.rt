@@ -1,6 +1,6 @@
 ghost use Rattle.std.specs.Prelude.{◌≡◌, ◌∷◌, ◌++◌, IfOk, OnErr, Err};
 ghost use Rattle.brk_model.specs.Commands.{CancelTrade, FeedTicks, PlaceOrder};
-ghost use Rattle.brk_model.specs.Parse.{order_row_parsers, parse_by_first_field, read_and_wrap, read_canceled_trade_id, read_feed};
+ghost use Rattle.brk_model.specs.Parse.{order_row_parsers, parse_by_first_field, read_and_wrap, read_id_of_trade_to_cancel, read_feed};
 ghost use Rattle.brk_model.specs.Parse.{read_order, read_result_command, result_row_parsers, update_row_parsers, movement_and_settlement_day_row_parsers};
 ghost use Rattle.brk_money.specs.declared.fault.Fault.TheVariants.{Memory};
 ghost use Rattle.brk_ref.specs.Fields.{ParsesAs, texts_of_fields};
@@ -9,7 +9,9 @@ ghost use Rattle.brk_commands.specs.Commands.{abstract_command};
 use crate::command::Command;
 use crate::parse_update::parse_update_or_movement_command;
 use brk_money::{Planned, Refusal};
-use brk_orders::{parse_canceled_trade_id, parse_completion, parse_market_feed, parse_trade_order};
+use brk_orders::{
+    parse_completion, parse_id_of_trade_to_cancel, parse_market_feed, parse_trade_order,
+};
 use std::alloc::Global;
 
 // Parses the command of an order from the fields ACCOUNT, TYPE, SYMBOL, QTY, PRICE, CASH, END,
@@ -43,9 +45,9 @@ fn parse_feed_command(alloc: Global, fields: &[&[u8]]) -> Planned<Command>
 // Parses the command that cancels a trade from the one field TRADE of a row. Refuses a malformed
 // id, or a wrong number of fields, with `BadText`.
 fn parse_cancel_command(fields: &[&[u8]]) -> Result<Command, Refusal>
-    ensures { ParsesAs abstract_command result (read_and_wrap CancelTrade read_canceled_trade_id (texts_of_fields fields.now)) }
+    ensures { ParsesAs abstract_command result (read_and_wrap CancelTrade read_id_of_trade_to_cancel (texts_of_fields fields.now)) }
 {
-    match parse_canceled_trade_id(fields) {
+    match parse_id_of_trade_to_cancel(fields) {
         Ok(trade) => Ok(Command::Cancel(trade)),
         Err(refusal) => Err(refusal),
     }

@@ -42,7 +42,7 @@ fn parse_cash_type_update_command(fields: &[&[u8]]) -> Result<Command, Refusal>
 // Parses the command that updates cash texts from the fields SYMBOL, FROM and TO of a row. Refuses
 // malformed fields, or a wrong number of them, with `BadText`. FROM may be later than TO. Fails
 // with `Memory` only.
-fn parse_cash_text_update_command(alloc: Global, fields: &[&[u8]]) -> Planned<Command>
+fn parse_cash_name_update_command(alloc: Global, fields: &[&[u8]]) -> Planned<Command>
     ensures read { IfOk result (λ read. ParsesAs abstract_command read (read_cash_name_update (texts_of_fields fields.now))) }
     ensures fault { OnErr result (result ≡ Err Memory) }
 {
@@ -72,7 +72,7 @@ pub(crate) fn parse_update_or_movement_command(
         return Ok(parse_cash_type_update_command(fields));
     }
     if kind == b"uptext".as_slice() {
-        return parse_cash_text_update_command(alloc, fields);
+        return parse_cash_name_update_command(alloc, fields);
     }
     Ok(parse_movement_or_settlement_day(kind, fields))
 }

@@ -48,7 +48,7 @@ fn cash_type_update_row_text(alloc: Global, account: Id, span: Span) -> Result<S
 // Returns the row that updates the cash texts of a symbol's trades between two stamps, as it is
 // stored under a key: `uptext`, the symbol and the two stamps, in milliseconds since 1970-01-01
 // UTC, joined by byte 31. Fails if memory runs out.
-fn cash_text_update_row_text(
+fn cash_name_update_row_text(
     alloc: Global,
     symbol: &Symbol,
     span: Span,
@@ -71,6 +71,6 @@ pub fn update_row_text(alloc: Global, update: &Update) -> Result<String, AllocEr
     match update {
         Update::Executors(trades) => executor_update_row_text(alloc, trades.ids()),
         Update::CashTypes { account, span } => cash_type_update_row_text(alloc, *account, *span),
-        Update::CashNames { symbol, span } => cash_text_update_row_text(alloc, symbol, *span),
+        Update::CashNames { symbol, span } => cash_name_update_row_text(alloc, symbol, *span),
     }
 }

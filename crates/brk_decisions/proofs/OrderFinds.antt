@@ -10,7 +10,7 @@ use Rattle.brk_model.specs.Lists.{total_by}
 use Rattle.brk_model.specs.PositionView.{market_value_of_account_row}
 use Rattle.brk_model.specs.Records.{Customer}
 use Rattle.brk_model.specs.Tables.{AccountRow, LastTradeRow, Tables}
-use Rattle.brk_money.specs.OrderTypes.{trade_type_of_order}
+use Rattle.brk_money.specs.OrderTypes.{trade_type_of_order_type}
 use Rattle.brk_money.specs.declared.refusal.Refusal.TheVariants.{NoAccount}
 use Rattle.brk_orders.specs.declared.order.Order.{Order}
 use Rattle.brk_model.specs.Orders.{is_customer_or_has_permission}
@@ -67,9 +67,9 @@ all_found t order a c tested amounts k x y there = record {
   last_price = λ p. x.last_price;
   is_permitted = λ p. if_customer t order.account a c there k
       (λ c. tested.is_permitted ≡ is_customer_or_has_permission c (permission_list_for_tax_id t order.account order.executor.tax_id) (abstract_executor order.executor)) x.is_permitted;
-  charge = λ p. if_customer t order.account a c there k (λ c. tested.charge ≡ charge_of_type_and_tier t (trade_type_of_order order.order_type) c.tier) x.charge;
+  charge = λ p. if_customer t order.account a c there k (λ c. tested.charge ≡ charge_of_type_and_tier t (trade_type_of_order_type order.order_type) c.tier) x.charge;
   rate = λ p. if_customer t order.account a c there k
-      (λ c. IfSome (security_row_with_symbol t order.symbol) (λ s. tested.rate ≡ option_map (λ b. b.rate) (commission_band_of_quantity t c.tier (trade_type_of_order order.order_type) s.exchange order.qty))) x.rate;
+      (λ c. IfSome (security_row_with_symbol t order.symbol) (λ s. tested.rate ≡ option_map (λ b. b.rate) (commission_band_of_quantity t c.tier (trade_type_of_order_type order.order_type) s.exchange order.qty))) x.rate;
   rates = λ p. if_account t order.account a c there k (λ a. amounts.rates ≡ customer_tax_rate_sum t a.customer) y.rates;
   assets = λ p. if_account t order.account a c there k (λ a. amounts.assets ≡ a.balance +ℤ market_value_of_account_row t a) y.held.assets_total;
   summary = λ p. y.held.shares_held

@@ -4,7 +4,7 @@ use Rattle.brk_model.specs.Joins.{account_row_with_id, last_price_in_tables, sec
 use Rattle.brk_model.specs.Lists.{total_by}
 use Rattle.brk_model.specs.Orders.{is_customer_or_has_permission}
 use Rattle.brk_model.specs.Tables.{SummaryRow, Tables}
-use Rattle.brk_money.specs.OrderTypes.{trade_type_of_order}
+use Rattle.brk_money.specs.OrderTypes.{trade_type_of_order_type}
 use Rattle.brk_money.specs.Spelling.{Text}
 use Rattle.brk_changes.specs.Rows.{abstract_summary_row}
 use Rattle.brk_orders.specs.declared.order.Order.{Order}
@@ -32,9 +32,9 @@ pub record CustomerOrderFactsMatchTables (t : Tables) (order : Order) (customer 
   pub is_permitted : tested.is_permitted
       ≡ is_customer_or_has_permission (abstract_customer customer) (permission_list_for_tax_id t order.account order.executor.tax_id)
       (abstract_executor order.executor)
-  pub charge : tested.charge ≡ charge_of_type_and_tier t (trade_type_of_order order.order_type) customer.tier
+  pub charge : tested.charge ≡ charge_of_type_and_tier t (trade_type_of_order_type order.order_type) customer.tier
   pub rate : IfSome (security_row_with_symbol t order.symbol) (λ s. tested.rate
-      ≡ option_map (λ b. b.rate) (commission_band_of_quantity t customer.tier (trade_type_of_order order.order_type) s.exchange order.qty))
+      ≡ option_map (λ b. b.rate) (commission_band_of_quantity t customer.tier (trade_type_of_order_type order.order_type) s.exchange order.qty))
 
 -- `assets` is the balance in the row `account` plus the market value of the account's holdings in
 -- the tables `t`, in cents, and `shares` its number of shares of the security with the symbol

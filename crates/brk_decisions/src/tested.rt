@@ -1,7 +1,7 @@
 //! Reads of the facts that the checks of an order test, if its account exists.
 
 ghost use Rattle.std.specs.Prelude.{◌≡◌, IfErr, IfSome, option_map};
-ghost use Rattle.brk_money.specs.OrderTypes.{trade_type_of_order};
+ghost use Rattle.brk_money.specs.OrderTypes.{trade_type_of_order_type};
 ghost use Rattle.brk_book_theorems.specs.OrderReads.{charge_of_type_and_tier, last_price_of_symbol};
 ghost use Rattle.brk_book_theorems.specs.TradeReads.{commission_band_of_quantity, permission_list_for_tax_id};
 ghost use Rattle.brk_decisions.specs.OrderFactReads.{CustomerOrderFactsMatchTables};
@@ -38,10 +38,7 @@ pub struct OrderCheckFacts {
 
 // Returns the last price of a symbol on the market, in cents, or `None` if the symbol has no last
 // trade. If the database is still open, it is unchanged. Fails with `Memory` or `Store` only.
-fn read_last_price<S: Alter>(
-    store: &mut Store<S>,
-    symbol: &Symbol,
-) -> Result<Option<Price>, Fault>
+fn read_last_price<S: Alter>(store: &mut Store<S>, symbol: &Symbol) -> Result<Option<Price>, Fault>
     ensures read { ReadPost S.Store store.old store.new result (λ price t. price ≡ last_price_of_symbol t symbol.now) }
     ensures fault { IfErr result IsCallFault }
 {
@@ -116,7 +113,7 @@ fn read_commission_rate_of_order<S: Alter>(
 ) -> Result<Option<Rate>, Fault>
     ensures read { ReadPost S.Store store.old store.new result (λ rate t.
         IfSome (security_row_with_symbol t order.now.symbol) (λ s. rate
-        ≡ option_map (λ b. b.rate) (commission_band_of_quantity t tier (trade_type_of_order order.now.order_type) s.exchange order.now.qty))) }
+        ≡ option_map (λ b. b.rate) (commission_band_of_quantity t tier (trade_type_of_order_type order.now.order_type) s.exchange order.now.qty))) }
     ensures fault { IfErr result IsCallFault }
 {
     match store.security(&order.symbol)? {

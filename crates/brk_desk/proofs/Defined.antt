@@ -33,7 +33,7 @@ module _ (a : Schema) (t : Tables) (db : Database) (has : HasDeskTablesInSchema 
     sound = alike.sound;
     shaped = λ w of at table named found. alike.shaped w (is_of w at named) at table named found;
     apart = λ v w p q i j tree m n. alike.apart v w (is_of v i (named_at v i tree m)) (is_of w j (named_at w j tree n)) i j tree m n;
-    calm = λ w of at tree s. alike.calm w (is_of w at (named_at w at tree s)) at tree s;
+    keys_write_nothing = λ w of at tree s. alike.keys_write_nothing w (is_of w at (named_at w at tree s)) at tree s;
     keyed = λ w of at tree s. alike.keyed w (is_of w at (named_at w at tree s)) at tree s;
   }
 

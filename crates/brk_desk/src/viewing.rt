@@ -30,11 +30,7 @@ use std::alloc::Global;
 // if the account's customer or one of the customer's taxes does not exist, the tax rates total more
 // than the greatest rate, a held symbol has no last price, a sum overflows, a lot that was read has
 // no shares, or the number of lots read exceeds 32 bits.
-fn view_of_estimate<S: Alter>(
-    alloc: Global,
-    store: &mut Store<S>,
-    order: &Order,
-) -> Planned<View>
+fn view_of_estimate<S: Alter>(alloc: Global, store: &mut Store<S>, order: &Order) -> Planned<View>
     ensures read { ReadPost S.Store store.old store.new result (AnswersQueryAsModel (EstimateOf (abstract_order order.now))) }
     ensures fault { IfErr result IsCallFault }
 {
@@ -52,7 +48,11 @@ fn view_of_estimate<S: Alter>(
 // not exist, a lot that was read has no shares, the number of lots read exceeds 32 bits, or a sum
 // overflows or exceeds its limit. If the database is still open, it is unchanged, whatever the
 // result.
-pub(crate) fn view_of_query<S: Alter>(alloc: Global, store: &mut Store<S>, query: &Query) -> Planned<View>
+pub(crate) fn view_of_query<S: Alter>(
+    alloc: Global,
+    store: &mut Store<S>,
+    query: &Query,
+) -> Planned<View>
     ensures read { ReadPost S.Store store.old store.new result (AnswersQueryAsModel (abstract_query query.now)) }
     ensures fault { IfErr result IsCallFault }
 {

@@ -101,8 +101,8 @@ fn cash_or_margin_text(is_cash: bool) -> &'static str
 
 // Returns the text `last in first out` if `is_lifo` is true, otherwise the text
 // `first in first out`.
-fn closing_order_words(is_lifo: bool) -> &'static str
-    ensures { result.now ≡ lines.closing_order_words is_lifo }
+fn lot_closing_sequence_text(is_lifo: bool) -> &'static str
+    ensures { result.now ≡ lines.lot_closing_sequence_text is_lifo }
 {
     if is_lifo {
         "last in first out"
@@ -133,7 +133,11 @@ fn put_order_terms_lines(
         "Settles by",
         cash_or_margin_text(trade.is_cash).as_bytes(),
     )?;
-    put_labeled_text_line(out, "Closes", closing_order_words(trade.is_lifo).as_bytes())?;
+    put_labeled_text_line(
+        out,
+        "Closes",
+        lot_closing_sequence_text(trade.is_lifo).as_bytes(),
+    )?;
     Ok(())
 }
 

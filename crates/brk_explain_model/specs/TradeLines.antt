@@ -24,8 +24,8 @@ use Rattle.brk_explain_model.specs.Trades.{shares_of_closing, total_closed_share
 
 -- The text for the order in which a trade closes lots: `last in first out` if `is_lifo`, otherwise
 -- `first in first out`.
-abbrev pub closing_order_words : Bool → Text
-closing_order_words is_lifo = if is_lifo then codes "last in first out" else codes "first in first out"
+abbrev pub lot_closing_sequence_text : Bool → Text
+lot_closing_sequence_text is_lifo = if is_lifo then codes "last in first out" else codes "first in first out"
 
 -- The line of the status change `row`: the word `Status`, its timestamp, and the code and the name
 -- of the status.
@@ -68,7 +68,7 @@ order_terms_lines o =
     ∷ labeled_number (codes "Shares") o.trade.qty
     ∷ labeled_amount (codes "Price asked") (pos o.trade.bid)
     ∷ labeled_text (codes "Settles by") (cash_or_margin_word o.trade.is_cash)
-    ∷ labeled_text (codes "Closes") (closing_order_words o.trade.is_lifo)
+    ∷ labeled_text (codes "Closes") (lot_closing_sequence_text o.trade.is_lifo)
     ∷ []
 
 -- The lines of the title, the parties, the terms of the order, and each status change of the trade.

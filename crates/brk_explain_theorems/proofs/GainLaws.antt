@@ -17,7 +17,7 @@ use Rattle.brk_model.specs.Shares.{Deal, Share, lot_quantity, opened_share, repl
 use Rattle.brk_model.specs.Sheets.{sheets}
 use Rattle.brk_model.specs.Tables.{HoldingHistoryRow, Tables, TradeRow, trade_row}
 use Rattle.brk_lots.specs.HistoryRows.{has_quantity_change, changing_rows_of_lot, lot_history_rows_per_deal, touch_of_row}
-use Rattle.brk_lots.specs.Books.{realised_gain_sum, lot_cost_basis, purchases_minus_sales}
+use Rattle.brk_lots.specs.Books.{realised_gain_sum, lot_cost_basis, purchase_value_minus_sale_value}
 use Rattle.brk_lots.specs.Chains.{ShrinksTowardZero, IsLotHistory}
 use Rattle.brk_lots.specs.declared.lot.Lot.{Lot}
 use Rattle.brk_explain_model.specs.Holdings.{LotChange, LotDetails, realised_gain_of_change, remaining_cost_of_lot, remaining_cost_of_lots, completed_trades_in_symbol, realised_gain_in_symbol, remaining_quantity_of_lot, recorded_lot_change, realised_gain_of_lot, lot_with_later_changes, lots_opened_in_symbol, total_purchase_value, total_sale_value, signed_quantity_of_trade, signed_value_of_trade}
@@ -328,7 +328,7 @@ both_signs {X = X} f (x ∷ xs) = by_test (int_lt (pos 0) (f x)) (int_lt (f x) (
     by_test false false e g ih = ih ∙ sym (no_more (total_by f xs)) ∙ ap (λ z. z +ℤ total_by f xs) (zero (f x) e g)
 
 traded_are : (base : Base) (account : ℕ) (symbol : Text) → BooksInvariant base
-    → total_purchase_value (completed_trades_in_symbol (sheets base) account symbol) +ℤ total_sale_value (completed_trades_in_symbol (sheets base) account symbol) ≡ purchases_minus_sales (deals_of_position (completed_trades base) account symbol)
+    → total_purchase_value (completed_trades_in_symbol (sheets base) account symbol) +ℤ total_sale_value (completed_trades_in_symbol (sheets base) account symbol) ≡ purchase_value_minus_sale_value (deals_of_position (completed_trades base) account symbol)
 traded_are base account symbol books =
     both_signs signed_value_of_trade (completed_trades_in_symbol (sheets base) account symbol) ∙ ap (total_by signed_value_of_trade) (done_are base account symbol books)
     ∙ total-map signed_value_of_trade trade_row W

@@ -10,7 +10,7 @@ use Rattle.brk_money.specs.declared.fault.Fault.{Fault}
 use Rattle.brk_money.specs.declared.fault.Fault.TheVariants as fault
 use Rattle.brk_store.specs.Holds.{CreatePost}
 use Rattle.brk_files.specs.Files.{IsNewConnectionToFile, HasLastCommitInFile}
-use Rattle.brk_files.specs.Opening.{IsAdoptionResult, FollowsRefusedCreation, HasNewDeskOrDeskTable, OpenPost, OpenOrCreatePost}
+use Rattle.brk_files.specs.Opening.{IsAdoptionResult, FollowsFailedCreation, HasNewDeskOrDeskTable, OpenPost, OpenOrCreatePost}
 
 no_damage : (c : Condition) → fault.Damaged c ≡ fault.Store → ⊥
 no_damage c is = cc
@@ -30,7 +30,7 @@ module _ {D : Type 0} {g : Ghosts D} where
 
   -- A creation that fails with `Damaged` fails with `NotEmpty`.
   pub refused_taken : (first conn : Held (FileStore D g)) (found : Fault) (c : Condition) → found ≡ fault.Damaged c → (found ≡ fault.Store) ⊎ (found ≡ fault.Damaged condition.NotEmpty)
-      → IsNewConnectionToFile first → CreatePost over_files first conn (Err found) → FollowsRefusedCreation conn
+      → IsNewConnectionToFile first → CreatePost over_files first conn (Err found) → FollowsFailedCreation conn
   refused_taken first conn found c is (inl store) began refused = absurd (no_damage c (sym is ∙ store))
   refused_taken first conn found c is (inr taken) began refused = record {
     first = first;

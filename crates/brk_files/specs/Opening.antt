@@ -29,7 +29,7 @@ pub record FollowsCreationOfDesk {D : Type 0} {g : Ghosts D} (conn : Held (FileS
 
 -- The creation of a desk over a new connection failed with `Damaged(NotEmpty)`, the fault for a
 -- database that has one of the tables of a desk, and `conn` is the connection after it.
-pub record FollowsRefusedCreation {D : Type 0} {g : Ghosts D} (conn : Held (FileStore D g)) : Type 0 where
+pub record FollowsFailedCreation {D : Type 0} {g : Ghosts D} (conn : Held (FileStore D g)) : Type 0 where
   pub first : Held (FileStore D g)
   pub began : IsNewConnectionToFile first
   pub refused : CreatePost over_files first conn (Err (fault.Damaged condition.NotEmpty))
@@ -47,7 +47,7 @@ OpenPost (Err fault.Store) = Unit {0}
 -- The connection `conn` is to a newly created desk, which was closed and opened again, or to a
 -- database in which the creation of a desk failed because it has one of the tables of a desk.
 abbrev pub HasNewDeskOrDeskTable : {D : Type 0} {g : Ghosts D} → Held (FileStore D g) → Type 0
-HasNewDeskOrDeskTable conn = FollowsCreationOfDesk conn ⊎ FollowsRefusedCreation conn
+HasNewDeskOrDeskTable conn = FollowsCreationOfDesk conn ⊎ FollowsFailedCreation conn
 
 -- The postcondition of opening a desk that is created if there is none. `Ok` and `Damaged`: the
 -- result is the result of adopting the database of a connection to a newly created desk, or to a

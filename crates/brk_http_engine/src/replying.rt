@@ -75,7 +75,7 @@ fn status_of_response<R, V>(response: &ServiceResponse<R, V>) -> StatusCode
 
 // Returns true if the response is the problem `NotAllowed`: the method of the request is not POST,
 // and the reply names the allowed method.
-fn is_method_refusal<R, V>(response: &ServiceResponse<R, V>) -> bool
+fn is_method_not_allowed<R, V>(response: &ServiceResponse<R, V>) -> bool
     ensures { (reply : R → model.Reply) (shown : V → queries.View) → result ≡ is_method_not_allowed (response_in_model reply shown response.now) }
 {
     match response {
@@ -252,7 +252,7 @@ pub fn reply_text<D: Service>(
     reply_bytes(
         alloc,
         status_of_response(response),
-        is_method_refusal(response),
+        is_method_not_allowed(response),
         closes,
         body.as_str(),
     )

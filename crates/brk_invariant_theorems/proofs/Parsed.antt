@@ -3,7 +3,7 @@ use Rattle.std.proofs.Common.{◌≡◌, ℕ, Bool, true, false, cond, List, [],
 use Rattle.std.specs.Prelude.{◌&&◌, ⊤, IfSome, Ok, Err, IfOk, bytes_eq, find, length, nat_le}
 use Rattle.std.specs.List.{AllByRecursion}
 use Rattle.brk_money.specs.Spelling.{Text, cents_of_text, decimal_number_of_text, day_of_text, is_within_amount_limit}
-use Rattle.brk_money.specs.OrderTypes.{price_of_order}
+use Rattle.brk_money.specs.OrderTypes.{price_of_order_type}
 use Rattle.brk_money.specs.declared.order_type.OrderType.{OrderType}
 use Rattle.brk_money.specs.declared.order_type.OrderType.TheVariants as asked
 use Rattle.brk_money.specs.declared.refusal.Refusal.{Refusal}
@@ -18,7 +18,7 @@ use Rattle.brk_model.specs.Records.{Account, Band, Broker, Charge, Customer, Exe
 use Rattle.brk_model.specs.Commands.{Command, Listing, Order, Tick, AddBroker, AddCustomer, AddAccount, AddPermission, AddSecurity, AddCharge, AddBand, AddTaxRate, AddCustomerTax, PlaceOrder, FeedTicks, CancelTrade, CompleteTrade, ChangeExecutors, ChangeCashTypes, ChangeCashNames, DepositCash, WithdrawCash, SetOneDay}
 use Rattle.brk_model.specs.Form.{is_well_formed_charge_row, is_well_formed_customer_row, is_id, is_price, is_quantity_in_schema, is_tier, is_well_formed_tax_rate_row, has_well_formed_permission_texts}
 use Rattle.brk_model.specs.Forms.{ReadResult, ◌⊛◌, is_acl, is_exchange, is_name, is_symbol, is_tax_id, order_type_with_price, market_type_if_price_is_empty, refusal_of_unknown_type_by_price_text, priced_order_type, read_acl, read_cash_or_margin, read_charge_amount, read_commission_rate, read_lifo_or_fifo, read_exchange, read_id, value_if_valid, read_distinct_ids, read_name, read_number_in_range, read_opening_balance, read_order_type, read_price, read_quantity, read_tax_rate_number, read_stamp, read_symbol, read_tax_id, read_tax_status, read_valid_text, read_tier, read_trade_type, one_to_twenty_elements, check_read_value, trade_type_with_code, nonnegative_amount, read_movement_amount, read_day}
-use Rattle.brk_model.specs.Parse.{NamedParser, bounds_if_ascending, parse_row, read_account, read_commission_band, read_quantity_bounds, read_broker, read_with_parser, read_canceled_trade_id, read_charge, read_customer, read_customer_tax, read_executor, read_feed, read_order, read_permission, read_result_command, read_listing, read_tax_rate, read_ticks, read_cash_type_update, read_cash_name_update, row_parsers, read_movement_command, read_settlement_day}
+use Rattle.brk_model.specs.Parse.{NamedParser, bounds_if_ascending, parse_row, read_account, read_commission_band, read_quantity_bounds, read_broker, read_with_parser, read_id_of_trade_to_cancel, read_charge, read_customer, read_customer_tax, read_executor, read_feed, read_order, read_permission, read_result_command, read_listing, read_tax_rate, read_ticks, read_cash_type_update, read_cash_name_update, row_parsers, read_movement_command, read_settlement_day}
 use Rattle.brk_book_theorems.proofs.Same.{find-All}
 use Rattle.brk_invariant_theorems.specs.Sound.{is_well_formed_account, is_well_formed_broker}
 use Rattle.brk_invariant_theorems.specs.InForm.{MeetsAuditFormats, OrderMeetsAuditFormats, TickMeetsAuditFormats, is_well_formed_band, is_well_formed_listing, is_movement_amount}
@@ -189,20 +189,20 @@ tax_rate_on (id ∷ name ∷ rate ∷ []) =
     (λ i i' n n' r r'. and3 (is_id i) (is_name n) (nat_le r greatest_tax_rate) i' n' r') (on_id id)) (on_text is_name name)) (on_tax rate)
 tax_rate_on _ = tt
 
-without_price_on : (t : OrderType) (text : Text) → IfSome (price_of_order t) (λ n. is_price n ≡ true) → IfOk (market_type_if_price_is_empty t text) (λ o. IfSome (price_of_order o) (λ n. is_price n ≡ true))
+without_price_on : (t : OrderType) (text : Text) → IfSome (price_of_order_type t) (λ n. is_price n ≡ true) → IfOk (market_type_if_price_is_empty t text) (λ o. IfSome (price_of_order_type o) (λ n. is_price n ≡ true))
 without_price_on t [] h = h
 without_price_on t (c ∷ text) h = tt
 
-with_price_on : (f : ℕ → OrderType) (text : Text) → ((n : ℕ) → is_price n ≡ true → IfSome (price_of_order (f n)) (λ n. is_price n ≡ true))
-    → IfOk (priced_order_type f text) (λ o. IfSome (price_of_order o) (λ n. is_price n ≡ true))
-with_price_on f text h = on_apply (λ n. is_price n ≡ true) (λ o. IfSome (price_of_order o) (λ n. is_price n ≡ true)) (Ok f) (read_price text) h (on_price text)
+with_price_on : (f : ℕ → OrderType) (text : Text) → ((n : ℕ) → is_price n ≡ true → IfSome (price_of_order_type (f n)) (λ n. is_price n ≡ true))
+    → IfOk (priced_order_type f text) (λ o. IfSome (price_of_order_type o) (λ n. is_price n ≡ true))
+with_price_on f text h = on_apply (λ n. is_price n ≡ true) (λ o. IfSome (price_of_order_type o) (λ n. is_price n ≡ true)) (Ok f) (read_price text) h (on_price text)
 
-without_type_on : (text : Text) → IfOk (refusal_of_unknown_type_by_price_text text) (λ o. IfSome (price_of_order o) (λ n. is_price n ≡ true))
+without_type_on : (text : Text) → IfOk (refusal_of_unknown_type_by_price_text text) (λ o. IfSome (price_of_order_type o) (λ n. is_price n ≡ true))
 without_type_on [] = tt
 without_type_on (c ∷ text) =
-    on_apply (λ n. is_price n ≡ true) (λ o. IfSome (price_of_order o) (λ n. is_price n ≡ true)) (Err BadType) (read_price (c ∷ text)) tt (on_price (c ∷ text))
+    on_apply (λ n. is_price n ≡ true) (λ o. IfSome (price_of_order_type o) (λ n. is_price n ≡ true)) (Err BadType) (read_price (c ∷ text)) tt (on_price (c ∷ text))
 
-known_type_on : (kind : Option TradeType) (text : Text) → IfOk (order_type_with_price kind text) (λ o. IfSome (price_of_order o) (λ n. is_price n ≡ true))
+known_type_on : (kind : Option TradeType) (text : Text) → IfOk (order_type_with_price kind text) (λ o. IfSome (price_of_order_type o) (λ n. is_price n ≡ true))
 known_type_on None text = without_type_on text
 known_type_on (Some MarketBuy) text = without_price_on asked.MarketBuy text tt
 known_type_on (Some MarketSell) text = without_price_on asked.MarketSell text tt
@@ -210,7 +210,7 @@ known_type_on (Some StopLoss) text = with_price_on (λ n. asked.StopLoss n) text
 known_type_on (Some LimitSell) text = with_price_on (λ n. asked.LimitSell n) text (λ n h. h)
 known_type_on (Some LimitBuy) text = with_price_on (λ n. asked.LimitBuy n) text (λ n h. h)
 
-order_type_on : (kind price : Text) → IfOk (read_order_type kind price) (λ o. IfSome (price_of_order o) (λ n. is_price n ≡ true))
+order_type_on : (kind price : Text) → IfOk (read_order_type kind price) (λ o. IfSome (price_of_order_type o) (λ n. is_price n ≡ true))
 order_type_on kind price = known_type_on (trade_type_with_code kind) price
 
 order_on : (fields : List Text) → IfOk (read_order fields) (λ x. OrderMeetsAuditFormats x)
@@ -219,10 +219,10 @@ order_on (account ∷ kind ∷ symbol ∷ qty ∷ price ∷ cash ∷ end ∷ fir
     on_apply (λ e. ⊤) P (Ok (λ a s q t c l e. record { account = a; order_type = t; symbol = s; qty = q; is_cash = c; is_lifo = l; executor = e }) ⊛ read_id account ⊛ read_symbol symbol ⊛ read_quantity qty ⊛ read_order_type kind price ⊛ read_cash_or_margin cash ⊛ read_lifo_or_fifo end) (read_executor first last tax_id)
     (on_apply (λ l. ⊤) (λ z. (e : Executor) → ⊤ → P (z e)) (Ok (λ a s q t c l e. record { account = a; order_type = t; symbol = s; qty = q; is_cash = c; is_lifo = l; executor = e }) ⊛ read_id account ⊛ read_symbol symbol ⊛ read_quantity qty ⊛ read_order_type kind price ⊛ read_cash_or_margin cash) (read_lifo_or_fifo end)
     (on_apply (λ c. ⊤) (λ z. (l : Bool) → ⊤ → (e : Executor) → ⊤ → P (z l e)) (Ok (λ a s q t c l e. record { account = a; order_type = t; symbol = s; qty = q; is_cash = c; is_lifo = l; executor = e }) ⊛ read_id account ⊛ read_symbol symbol ⊛ read_quantity qty ⊛ read_order_type kind price) (read_cash_or_margin cash)
-    (on_apply (λ t. IfSome (price_of_order t) (λ n. is_price n ≡ true)) (λ z. (c : Bool) → ⊤ → (l : Bool) → ⊤ → (e : Executor) → ⊤ → P (z c l e)) (Ok (λ a s q t c l e. record { account = a; order_type = t; symbol = s; qty = q; is_cash = c; is_lifo = l; executor = e }) ⊛ read_id account ⊛ read_symbol symbol ⊛ read_quantity qty) (read_order_type kind price)
-    (on_apply (λ q. is_quantity_in_schema third_schema q ≡ true) (λ z. (t : OrderType) → IfSome (price_of_order t) (λ n. is_price n ≡ true) → (c : Bool) → ⊤ → (l : Bool) → ⊤ → (e : Executor) → ⊤ → P (z t c l e)) (Ok (λ a s q t c l e. record { account = a; order_type = t; symbol = s; qty = q; is_cash = c; is_lifo = l; executor = e }) ⊛ read_id account ⊛ read_symbol symbol) (read_quantity qty)
-    (on_apply (λ s. ⊤) (λ z. (q : ℕ) → is_quantity_in_schema third_schema q ≡ true → (t : OrderType) → IfSome (price_of_order t) (λ n. is_price n ≡ true) → (c : Bool) → ⊤ → (l : Bool) → ⊤ → (e : Executor) → ⊤ → P (z q t c l e)) (Ok (λ a s q t c l e. record { account = a; order_type = t; symbol = s; qty = q; is_cash = c; is_lifo = l; executor = e }) ⊛ read_id account) (read_symbol symbol)
-    (on_apply (λ a. ⊤) (λ z. (s : Text) → ⊤ → (q : ℕ) → is_quantity_in_schema third_schema q ≡ true → (t : OrderType) → IfSome (price_of_order t) (λ n. is_price n ≡ true) → (c : Bool) → ⊤ → (l : Bool) → ⊤ → (e : Executor) → ⊤ → P (z s q t c l e)) (Ok (λ a s q t c l e. record { account = a; order_type = t; symbol = s; qty = q; is_cash = c; is_lifo = l; executor = e })) (read_id account)
+    (on_apply (λ t. IfSome (price_of_order_type t) (λ n. is_price n ≡ true)) (λ z. (c : Bool) → ⊤ → (l : Bool) → ⊤ → (e : Executor) → ⊤ → P (z c l e)) (Ok (λ a s q t c l e. record { account = a; order_type = t; symbol = s; qty = q; is_cash = c; is_lifo = l; executor = e }) ⊛ read_id account ⊛ read_symbol symbol ⊛ read_quantity qty) (read_order_type kind price)
+    (on_apply (λ q. is_quantity_in_schema third_schema q ≡ true) (λ z. (t : OrderType) → IfSome (price_of_order_type t) (λ n. is_price n ≡ true) → (c : Bool) → ⊤ → (l : Bool) → ⊤ → (e : Executor) → ⊤ → P (z t c l e)) (Ok (λ a s q t c l e. record { account = a; order_type = t; symbol = s; qty = q; is_cash = c; is_lifo = l; executor = e }) ⊛ read_id account ⊛ read_symbol symbol) (read_quantity qty)
+    (on_apply (λ s. ⊤) (λ z. (q : ℕ) → is_quantity_in_schema third_schema q ≡ true → (t : OrderType) → IfSome (price_of_order_type t) (λ n. is_price n ≡ true) → (c : Bool) → ⊤ → (l : Bool) → ⊤ → (e : Executor) → ⊤ → P (z q t c l e)) (Ok (λ a s q t c l e. record { account = a; order_type = t; symbol = s; qty = q; is_cash = c; is_lifo = l; executor = e }) ⊛ read_id account) (read_symbol symbol)
+    (on_apply (λ a. ⊤) (λ z. (s : Text) → ⊤ → (q : ℕ) → is_quantity_in_schema third_schema q ≡ true → (t : OrderType) → IfSome (price_of_order_type t) (λ n. is_price n ≡ true) → (c : Bool) → ⊤ → (l : Bool) → ⊤ → (e : Executor) → ⊤ → P (z s q t c l e)) (Ok (λ a s q t c l e. record { account = a; order_type = t; symbol = s; qty = q; is_cash = c; is_lifo = l; executor = e })) (read_id account)
     (λ a a' s s' q q' t t' c c' l l' e e'. record { qty = q'; price = t' }) (on_any (read_id account))) (on_any (read_symbol symbol))) (on_qty qty)) (order_type_on kind price)) (on_any (read_cash_or_margin cash))) (on_any (read_lifo_or_fifo end))) (on_any (read_executor first last tax_id))
 order_on _ = tt
 
@@ -323,7 +323,7 @@ all_readers = (
                     (
                       (λ fs. as_on FeedTicks (λ ticks. AllByRecursion TickMeetsAuditFormats ticks) (read_feed fs) (λ ticks e. e) (feed_on fs)),
                       (
-                        (λ fs. as_on CancelTrade (λ x. ⊤) (read_canceled_trade_id fs) (λ x e. tt) (on_any (read_canceled_trade_id fs))),
+                        (λ fs. as_on CancelTrade (λ x. ⊤) (read_id_of_trade_to_cancel fs) (λ x e. tt) (on_any (read_id_of_trade_to_cancel fs))),
                         (
                           result_on,
                           (

@@ -6,7 +6,7 @@ use Rattle.std.specs.List.{AllByRecursion}
 use Rattle.std.specs.Option.{option_map_or}
 use Rattle.std.proofs.lemmas.Bool.{and_from, and_parts, eqb-true, eq-eqb, le-leb, or_left, or_right}
 use Rattle.std.proofs.lemmas.List.Sums.{sum_by-cons}
-use Rattle.brk_money.specs.OrderTypes.{trade_type_of_order, price_of_order}
+use Rattle.brk_money.specs.OrderTypes.{trade_type_of_order_type, price_of_order_type}
 use Rattle.brk_money.specs.Spelling.{Text}
 use Rattle.brk_money.specs.Moments.{day_of, greatest_day}
 use Rattle.brk_money.specs.Kinds.{is_market_type, is_same_trade_status, side_of_trade_type}
@@ -21,7 +21,7 @@ use Rattle.brk_model.specs.Records.{Account, Charge, StatusChange, Security, Tra
 use Rattle.brk_model.specs.Base.{Base, broker_id_in_accounts, charge_for_type_and_tier, completed_trades, has_last_status, is_completed, last_price, trade_with_status_change, last_status_stamp_of_trade, opening_balance_in_accounts, security_with_symbol, tier_of_account, trade_with_id}
 use Rattle.brk_model.specs.Derived.{settlement_amount, balance_of_account, commission_total_of_broker, holding_summary_quantity, postings_to_account, posting_of_movement, postings, due_day_of_completion_stamp}
 use Rattle.brk_model.specs.Commands.{Order, Tick, PlaceOrder, FeedTicks, CancelTrade, ChangeExecutors, ChangeCashTypes, ChangeCashNames}
-use Rattle.brk_model.specs.Orders.{estimate, first_status, trade_of_order, requested_price}
+use Rattle.brk_model.specs.Orders.{estimate, first_status, trade_of_order, bid_price_of_order}
 use Rattle.brk_model.specs.Feed.{is_triggered_by_tick, security_after_tick, base_after_tick, base_after_ticks}
 use Rattle.brk_model.specs.Results.{cash_row_name}
 use Rattle.brk_model.specs.Shares.{signed_by_side}
@@ -76,10 +76,10 @@ sound_moved c ss ts k f m h e =
 -- ---- an order
 
 charge_within : (base : Base) (o : Order) → AllByRecursion (λ c. is_well_formed_charge_row c ≡ true) base.charges
-    → nat_le (option_map_or (λ c. c.amount) (charge_for_type_and_tier base (trade_type_of_order o.order_type) (tier_of_account base o.account)) 0) greatest_charge ≡ true
-charge_within base o h = by_charge (charge_for_type_and_tier base (trade_type_of_order o.order_type) (tier_of_account base o.account)) refl
+    → nat_le (option_map_or (λ c. c.amount) (charge_for_type_and_tier base (trade_type_of_order_type o.order_type) (tier_of_account base o.account)) 0) greatest_charge ≡ true
+charge_within base o h = by_charge (charge_for_type_and_tier base (trade_type_of_order_type o.order_type) (tier_of_account base o.account)) refl
   where
-    by_charge : (c : Option Charge) → charge_for_type_and_tier base (trade_type_of_order o.order_type) (tier_of_account base o.account) ≡ c → nat_le (option_map_or (λ c. c.amount) c 0) greatest_charge ≡ true
+    by_charge : (c : Option Charge) → charge_for_type_and_tier base (trade_type_of_order_type o.order_type) (tier_of_account base o.account) ≡ c → nat_le (option_map_or (λ c. c.amount) c 0) greatest_charge ≡ true
     by_charge None e = le-leb 0 greatest_charge (omega arith)
     by_charge (Some c) e = (and_parts (is_tier c.tier) (nat_le c.amount greatest_charge) (find-All (λ c. is_well_formed_charge_row c ≡ true) _ base.charges c h e)).1
 
@@ -90,15 +90,15 @@ last_is_price base symbol h known =
     ap (λ o. is_price (option_map_or (λ s. s.last_price) o 0)) s.1
     ∙ (parts5 (is_symbol s.0.symbol) (is_name s.0.name) (is_exchange s.0.exchange) (is_name s.0.sector) (is_price s.0.last_price) f).4
 
-requested_is_price : (base : Base) (o : Order) → IfSome (price_of_order o.order_type) (λ p. is_price p ≡ true) → is_price (last_price base o.symbol) ≡ true → is_price (requested_price base o) ≡ true
-requested_is_price base o form last = by_price (price_of_order o.order_type) form
+requested_is_price : (base : Base) (o : Order) → IfSome (price_of_order_type o.order_type) (λ p. is_price p ≡ true) → is_price (last_price base o.symbol) ≡ true → is_price (bid_price_of_order base o) ≡ true
+requested_is_price base o form last = by_price (price_of_order_type o.order_type) form
   where
     by_price : (p : Option ℕ) → IfSome p (λ p. is_price p ≡ true) → is_price (unwrap_or p (last_price base o.symbol)) ≡ true
     by_price None f = last
     by_price (Some p) f = f
 
-first_way : (o : Order) → is_valid_status_sequence (first_status (trade_type_of_order o.order_type) ∷ []) ≡ true
-first_way o = by_market (is_market_type (trade_type_of_order o.order_type))
+first_way : (o : Order) → is_valid_status_sequence (first_status (trade_type_of_order_type o.order_type) ∷ []) ≡ true
+first_way o = by_market (is_market_type (trade_type_of_order_type o.order_type))
   where
     by_market : (b : Bool) → is_valid_status_sequence (cond b Submitted Pending ∷ []) ≡ true
     by_market true = refl
@@ -113,9 +113,9 @@ ordered_sound : (base : Base) (stamp : ℕ) (o : Order) (ts : List Trade) → is
 unfolding estimate
 ordered_sound base stamp o ts number k form known =
     let u : Trade = trade_of_order base stamp o in
-    let now : is_completed u ≡ false = first_not_completed (trade_type_of_order o.order_type) in
+    let now : is_completed u ≡ false = first_not_completed (trade_type_of_order_type o.order_type) in
     let bid : is_price u.bid ≡ true = requested_is_price base o form.price (last_is_price base o.symbol k.securities known) in
-    let c : u.commission ≤ 10 ^ 14 = commission_within base o.account (trade_type_of_order o.order_type) o.symbol o.qty u.bid k.bands (qty_low o.qty form.qty) (price_low u.bid bid) in
+    let c : u.commission ≤ 10 ^ 14 = commission_within base o.account (trade_type_of_order_type o.order_type) o.symbol o.qty u.bid k.bands (qty_low o.qty form.qty) (price_low u.bid bid) in
     record {
       alone = record {
         fields = and6 (is_id u.id) (is_quantity_in_schema third_schema u.qty) (is_price u.bid) (nat_le u.charge greatest_charge) (nat_le u.commission greatest_amount) (nat_le 0 greatest_amount) number form.qty bid

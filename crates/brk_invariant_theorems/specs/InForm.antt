@@ -1,6 +1,6 @@
 -- The formats of a command's fields and of a key that an audit needs. A command of typed values
 -- meets them; not every command that meets them is well-formed (`IsWellFormedCommand`).
-use Rattle.brk_money.specs.OrderTypes.{price_of_order}
+use Rattle.brk_money.specs.OrderTypes.{price_of_order_type}
 use Rattle.brk_money.specs.Moments.{greatest_day}
 use Rattle.std.specs.Prelude.{◌≡◌, ⊤, ℕ, ◌&&◌, Bool, true, nat_le, IfSome}
 use Rattle.std.specs.List.{AllByRecursion}
@@ -30,7 +30,7 @@ is_well_formed_band b = has_well_formed_tier_exchange_and_bounds third_schema b 
 -- has one, is from 1 cent to the greatest price.
 pub record OrderMeetsAuditFormats (o : Order) : Type 0 where
   pub qty : is_quantity_in_schema third_schema o.qty ≡ true
-  pub price : IfSome (price_of_order o.order_type) (λ p. is_price p ≡ true)
+  pub price : IfSome (price_of_order_type o.order_type) (λ p. is_price p ≡ true)
 
 -- The price of the tick is from 1 cent to the greatest price. Its symbol and its quantity are not
 -- checked.

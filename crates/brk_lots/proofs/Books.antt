@@ -12,7 +12,7 @@ use Rattle.brk_model.specs.Shares.{Share, Deal, signed_by_side, net_share_count,
 use Rattle.brk_lots.specs.declared.lot.Lot.{Lot}
 use Rattle.brk_lots.specs.Lots.{side_of_qty, share_of_lot, shares_of_lots, list_reversed_if_lifo}
 use Rattle.brk_lots.specs.Walks.{buy_value_by_side, sell_value_by_side}
-use Rattle.brk_lots.specs.Books.{lot_quantity_sum, lot_cost_basis, share_cost_basis, deal_quantity_sum, realised_gain_sum, purchases_minus_sales}
+use Rattle.brk_lots.specs.Books.{lot_quantity_sum, lot_cost_basis, share_cost_basis, deal_quantity_sum, realised_gain_sum, purchase_value_minus_sale_value}
 use Rattle.brk_lots.proofs.Runs.{cost, without, cost_run, signed_back}
 use Rattle.brk_lots.proofs.Ends.{all_join, cost_parts}
 use Rattle.brk_lots.proofs.Counts.{OneSide, net_of, owes, all_run}
@@ -152,7 +152,7 @@ net_after s (d ∷ ds) us h =
     let a = side_after s d us h in
     omega (arith, ints, net_after a.0 ds (shares_after_deal us d) a.1, net_after_one s d us h)
 
-cost_after : (s : Side) (ds : List Deal) (us : List Share) → OneSide s us → share_cost_basis (fold shares_after_deal us ds) ≡ share_cost_basis us +ℤ (realised_gain_sum ds us +ℤ purchases_minus_sales ds)
+cost_after : (s : Side) (ds : List Deal) (us : List Share) → OneSide s us → share_cost_basis (fold shares_after_deal us ds) ≡ share_cost_basis us +ℤ (realised_gain_sum ds us +ℤ purchase_value_minus_sale_value ds)
 unfolding total_by
 cost_after s [] us h = omega (arith, ints)
 cost_after s (d ∷ ds) us h =
@@ -191,6 +191,6 @@ pub quantities_add_up : (ds : List Deal) (ls : List Lot) → shares_of_lots ls �
 unfolding total_by
 quantities_add_up ds ls e = lots_net ls ∙ ap net_share_count e ∙ net_after Buy ds [] tt ∙ omega (arith, ints)
 
-pub costs_add_up : (ds : List Deal) (ls : List Lot) → shares_of_lots ls ≡ replay ds → lot_cost_basis ls ≡ realised_gain_sum ds [] +ℤ purchases_minus_sales ds
+pub costs_add_up : (ds : List Deal) (ls : List Lot) → shares_of_lots ls ≡ replay ds → lot_cost_basis ls ≡ realised_gain_sum ds [] +ℤ purchase_value_minus_sale_value ds
 unfolding total_by
 costs_add_up ds ls e = lots_worth ls ∙ ap share_cost_basis e ∙ cost_after Buy ds [] tt ∙ omega (arith, ints)

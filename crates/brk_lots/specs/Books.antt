@@ -24,8 +24,8 @@ deal_quantity_sum ds = total_by (λ d. signed_by_side d.side d.qty) ds
 
 -- The value of all purchases minus the value of all sales, in cents. The value of a deal is its
 -- quantity times its price.
-abbrev pub purchases_minus_sales : List Deal → ℤ
-purchases_minus_sales ds = total_by (λ d. signed_by_side d.side (d.qty * d.price)) ds
+abbrev pub purchase_value_minus_sale_value : List Deal → ℤ
+purchase_value_minus_sale_value ds = total_by (λ d. signed_by_side d.side (d.qty * d.price)) ds
 
 -- The sum, in cents, of the realised gains of the deals, which are applied in sequence to the
 -- position with the shares `us`.

@@ -6,7 +6,7 @@ ghost use Rattle.brk_money.specs.declared.side.Side.{Side};
 ghost use Rattle.brk_model.specs.Shares.{Deal, replay, lot_quantity, lots_of_shares, lot_touches_of_deal, touches_of_existing_lots};
 ghost use Rattle.brk_model.specs.Shares.{opened_shares, shares_after_deal, closed_share_count_of_deal, signed_by_side};
 ghost use Rattle.brk_lots.specs.declared.lot.Lot.{Lot};
-ghost use Rattle.brk_lots.specs.Books.{deal_quantity_sum, realised_gain_sum, lot_cost_basis, lot_quantity_sum, purchases_minus_sales};
+ghost use Rattle.brk_lots.specs.Books.{deal_quantity_sum, realised_gain_sum, lot_cost_basis, lot_quantity_sum, purchase_value_minus_sale_value};
 ghost use Rattle.brk_lots.specs.Chains.{IsLotHistory, opening_touch, changes_of_lot};
 ghost use Rattle.brk_lots.specs.Deals.{AreDistinctAscendingDeals};
 ghost use Rattle.brk_lots.specs.Lots.{shares_of_lots, abstract_lot};
@@ -20,7 +20,7 @@ pub fn replayed_lots_match_their_deals()
     ensures one_side { (deals : List Deal) → (side : Side) × AllByRecursion (λ u. u.side ≡ side) (replay deals) }
     ensures quantities { (deals : List Deal) (ls : List Lot) → shares_of_lots ls ≡ replay deals → lot_quantity_sum ls ≡ deal_quantity_sum deals }
     ensures costs { (deals : List Deal) (ls : List Lot) → shares_of_lots ls ≡ replay deals
-        → lot_cost_basis ls ≡ realised_gain_sum deals [] +ℤ purchases_minus_sales deals }
+        → lot_cost_basis ls ≡ realised_gain_sum deals [] +ℤ purchase_value_minus_sale_value deals }
 {}
 
 /// Proves for deals of distinct trades with strictly ascending stamps, applied from the empty

@@ -325,8 +325,8 @@ trade_ids_of_cash_rows rows = flat_map (λ r. option_to_list r.trade) rows
 
 -- True if, of the tables CASH_MOVE and SETTLE_RULE, those that the schema `schema` lacks have no
 -- rows.
-abbrev pub lacks_rows_of_later_schemas : Schema → Tables → Bool
-lacks_rows_of_later_schemas schema t = (schema.has_cash_move_table || (length t.moves == 0)) && (schema.has_settle_rule_table || is_none t.rule)
+abbrev pub has_rows_only_in_tables_of_schema : Schema → Tables → Bool
+has_rows_only_in_tables_of_schema schema t = (schema.has_cash_move_table || (length t.moves == 0)) && (schema.has_settle_rule_table || is_none t.rule)
 
 -- True if no two bands of the list overlap (`bands_overlap`).
 abbrev pub has_disjoint_bands : List Band → Bool
@@ -417,7 +417,7 @@ satisfies_form_condition schema t =
     && list_all (is_well_formed_cash_move_row t) t.moves && all_distinct (trade_ids_of_cash_rows t.moves)
     && nat_le (length (filter (λ r. is_none r.trade) t.moves)) greatest_id
     && is_settlement_day_in_calendar t.rule
-    && lacks_rows_of_later_schemas schema t
+    && has_rows_only_in_tables_of_schema schema t
 
 -- True if the texts of K_ROW, K_LINE, T_EXEC_NAME, CT_NAME and CM_NAME in the tables `t` are UTF-8.
 abbrev pub has_utf8_texts : Tables → Bool

@@ -6,7 +6,7 @@ use Rattle.std.specs.Option.{option_map_or}
 use Rattle.brk_money.specs.Spelling.{Text}
 use Rattle.brk_money.specs.Amounts.{commission, tax}
 use Rattle.brk_money.specs.Kinds.{side_of_trade_type, is_market_type}
-use Rattle.brk_money.specs.OrderTypes.{trade_type_of_order, price_of_order}
+use Rattle.brk_money.specs.OrderTypes.{trade_type_of_order_type, price_of_order_type}
 use Rattle.brk_money.specs.declared.status.Status.{Status}
 use Rattle.brk_money.specs.declared.status.Status.TheVariants.{Submitted, Pending}
 use Rattle.brk_money.specs.declared.trade_type.TradeType.{TradeType}
@@ -37,8 +37,8 @@ may_order_for_account base account e =
 
 -- The price, in cents, that the order `o` asks for, or the last price of its security if its type
 -- has no price (Trade-Order, frame 3); 0 if that security does not exist.
-abbrev pub requested_price : Base → Order → ℕ
-requested_price base o = unwrap_or (price_of_order o.order_type) (last_price base o.symbol)
+abbrev pub bid_price_of_order : Base → Order → ℕ
+bid_price_of_order base o = unwrap_or (price_of_order_type o.order_type) (last_price base o.symbol)
 
 -- The commission, in cents, of the account `account` on `qty` shares of `symbol` at `price`, for
 -- the trade type `kind`; none if no commission band applies.
@@ -57,9 +57,9 @@ tax_on_deal base account d shares =
 abbrev pub deal_of_order : Base → Order → Deal
 deal_of_order base o = record {
   trade = length base.trades + 1;
-  side = side_of_trade_type (trade_type_of_order o.order_type);
+  side = side_of_trade_type (trade_type_of_order_type o.order_type);
   qty = o.qty;
-  price = requested_price base o;
+  price = bid_price_of_order base o;
   stamp = 0;
   is_lifo = o.is_lifo;
 }
@@ -74,12 +74,12 @@ assets_of_account base account =
 -- commission is 0 if no band applies, and the charge is 0 if there is none for the type and tier.
 abbrev pub estimate_against_shares : List Share → Base → Order → Estimate
 estimate_against_shares shares base o = record {
-  price = requested_price base o;
+  price = bid_price_of_order base o;
   buy_value = buy_value (deal_of_order base o) shares;
   sell_value = sell_value (deal_of_order base o) shares;
   tax = tax_on_deal base o.account (deal_of_order base o) shares;
-  commission = unwrap_or (commission_by_band base o.account (trade_type_of_order o.order_type) o.symbol o.qty (requested_price base o)) 0;
-  charge = option_map_or (λ c. c.amount) (charge_for_type_and_tier base (trade_type_of_order o.order_type) (tier_of_account base o.account)) 0;
+  commission = unwrap_or (commission_by_band base o.account (trade_type_of_order_type o.order_type) o.symbol o.qty (bid_price_of_order base o)) 0;
+  charge = option_map_or (λ c. c.amount) (charge_for_type_and_tier base (trade_type_of_order_type o.order_type) (tier_of_account base o.account)) 0;
   assets = assets_of_account base o.account;
 }
 
@@ -104,10 +104,10 @@ abbrev pub trade_of_order : Base → ℕ → Order → Trade
 trade_of_order base stamp o = record {
   id = length base.trades + 1;
   account = o.account;
-  kind = trade_type_of_order o.order_type;
+  kind = trade_type_of_order_type o.order_type;
   symbol = o.symbol;
   qty = o.qty;
-  bid = requested_price base o;
+  bid = bid_price_of_order base o;
   is_cash = o.is_cash;
   is_lifo = o.is_lifo;
   executor = executor_name o.executor;
@@ -115,7 +115,7 @@ trade_of_order base stamp o = record {
   commission = (estimate base o).commission;
   tax = 0;
   price = None;
-  marks = record { stamp = stamp; status = first_status (trade_type_of_order o.order_type) } ∷ [];
+  marks = record { stamp = stamp; status = first_status (trade_type_of_order_type o.order_type) } ∷ [];
   cash_type = [];
   cash_name = [];
 }
@@ -127,4 +127,4 @@ base_after_order base stamp o = record base { trades = base.trades ++ trade_of_o
 -- The reply to the order `o` that is accepted at `stamp`: the stamp, the trade's id, its first
 -- status and the estimate.
 abbrev pub reply_to_order : Base → ℕ → Order → Reply
-reply_to_order base stamp o = Ordered stamp (length base.trades + 1) (first_status (trade_type_of_order o.order_type)) (estimate base o)
+reply_to_order base stamp o = Ordered stamp (length base.trades + 1) (first_status (trade_type_of_order_type o.order_type)) (estimate base o)

@@ -119,9 +119,9 @@ abbrev pub read_feed : List Text → ReadResult (List Tick)
 read_feed fields = check_read_value one_to_twenty_elements (read_ticks fields)
 
 -- The id of the trade to cancel that exactly one field parses as, otherwise the refusal `BadText`.
-abbrev pub read_canceled_trade_id : List Text → ReadResult ℕ
-read_canceled_trade_id (trade ∷ []) = read_id trade
-read_canceled_trade_id _ = Err BadText
+abbrev pub read_id_of_trade_to_cancel : List Text → ReadResult ℕ
+read_id_of_trade_to_cancel (trade ∷ []) = read_id trade
+read_id_of_trade_to_cancel _ = Err BadText
 
 -- The command `CompleteTrade` that two fields parse as (trade, price), or the refusal of a
 -- malformed field; the refusal `BadText` if there are fewer or more fields.
@@ -191,7 +191,7 @@ abbrev pub order_row_parsers : List (NamedParser Command)
 order_row_parsers =
     (codes "order", read_and_wrap PlaceOrder read_order)
     ∷ (codes "feed", read_and_wrap FeedTicks read_feed)
-    ∷ (codes "cancel", read_and_wrap CancelTrade read_canceled_trade_id) ∷ []
+    ∷ (codes "cancel", read_and_wrap CancelTrade read_id_of_trade_to_cancel) ∷ []
 
 -- The parser of the row kind for results with the word of the kind, as a list of one.
 abbrev pub result_row_parsers : List (NamedParser Command)

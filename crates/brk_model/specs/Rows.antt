@@ -4,7 +4,7 @@ use Rattle.std.specs.List.{join_with_byte}
 use Rattle.std.specs.Option.{option_map_or}
 use Rattle.brk_money.specs.Spelling.{Text, cents_text, day_text}
 use Rattle.brk_money.specs.Kinds.{trade_type_code, trade_status_code, tax_status_number}
-use Rattle.brk_money.specs.OrderTypes.{trade_type_of_order, price_of_order}
+use Rattle.brk_money.specs.OrderTypes.{trade_type_of_order_type, price_of_order_type}
 use Rattle.brk_model.specs.Commands.{Command, Order, Tick, Estimate, Completion, Reply, Booked, Ordered, Ticked, CanceledTrade, CompletedTrade, Changed}
 use Rattle.brk_model.specs.Commands.{MovedCash, AddBroker, AddCustomer, AddAccount, AddPermission, AddSecurity, AddCharge, AddBand, AddTaxRate, AddCustomerTax}
 use Rattle.brk_model.specs.Commands.{PlaceOrder, FeedTicks, CancelTrade, CompleteTrade, ChangeExecutors, ChangeCashTypes, ChangeCashNames, DepositCash}
@@ -28,8 +28,8 @@ lifo_or_fifo_word is_lifo = if is_lifo then codes "lifo" else codes "fifo"
 -- price is empty if the type has no price.
 abbrev pub order_fields : Order → List Text
 order_fields o =
-    decimal o.account ∷ trade_type_code (trade_type_of_order o.order_type) ∷ o.symbol ∷ decimal o.qty
-    ∷ option_map_or nonnegative_cents_text (price_of_order o.order_type) [] ∷ cash_or_margin_word o.is_cash ∷ lifo_or_fifo_word o.is_lifo
+    decimal o.account ∷ trade_type_code (trade_type_of_order_type o.order_type) ∷ o.symbol ∷ decimal o.qty
+    ∷ option_map_or nonnegative_cents_text (price_of_order_type o.order_type) [] ∷ cash_or_margin_word o.is_cash ∷ lifo_or_fifo_word o.is_lifo
     ∷ o.executor.first_name ∷ o.executor.last_name ∷ o.executor.tax_id ∷ []
 
 -- The three fields of a tick: symbol, price and quantity.

@@ -8,7 +8,7 @@ use Rattle.std.specs.Option.{option_map_or}
 use Rattle.brk_money.specs.Spelling.{Text}
 use Rattle.brk_money.specs.Moments.{day_of, greatest_day, greatest_stamp, unlimited_stamp_after}
 use Rattle.brk_money.specs.Kinds.{is_same_trade_type}
-use Rattle.brk_money.specs.OrderTypes.{trade_type_of_order}
+use Rattle.brk_money.specs.OrderTypes.{trade_type_of_order_type}
 use Rattle.brk_money.specs.declared.refusal.Refusal.{Refusal}
 use Rattle.brk_money.specs.declared.refusal.Refusal.TheVariants.{BadQty, NoAccount, NoCustomer, NoBroker, NoSecurity, NoTrade, NoTax, WrongStatus, NotPermitted}
 use Rattle.brk_money.specs.declared.refusal.Refusal.TheVariants.{Exists, Overlap, TaxSum, NoCharge, NoRate, Range, ClockEnd, TooEarly}
@@ -71,12 +71,12 @@ bands_overlap b c =
 -- The check that refuses with `NoCharge` if `base` has no charge for the type of the order `o` and
 -- the tier of its customer.
 abbrev pub charge_exists_check : Base → Order → RefusalCheck
-charge_exists_check base o = (is_none (charge_for_type_and_tier base (trade_type_of_order o.order_type) (tier_of_account base o.account)), NoCharge)
+charge_exists_check base o = (is_none (charge_for_type_and_tier base (trade_type_of_order_type o.order_type) (tier_of_account base o.account)), NoCharge)
 
 -- The check that refuses with `NoRate` if no commission band of `base` applies to the order `o`.
 abbrev pub commission_band_exists_check : Base → Order → RefusalCheck
 commission_band_exists_check base o = (
-  is_none (commission_band_for_quantity base (tier_of_account base o.account) (trade_type_of_order o.order_type)
+  is_none (commission_band_for_quantity base (tier_of_account base o.account) (trade_type_of_order_type o.order_type)
       (exchange_of_security base o.symbol) o.qty),
   NoRate,
 )

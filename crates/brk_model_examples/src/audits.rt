@@ -21,7 +21,7 @@ ghost use Rattle.brk_model_examples.specs.Bought.{tables_with_settlement_day_aft
 /// schema, and those with the cash row in CASH_TRANSACTION that of the first. With a settlement day
 /// after the completion, or with a deposit, the tables after the first purchase pass the audit of
 /// the third schema, and with a withdrawal that of the second.
-pub fn tables_of_a_base_pass_audit()
+pub fn tables_after_purchase_pass_audit()
     ensures third { IsAuditResult third_schema tables_after_first_purchase None }
     ensures second { IsAuditResult second_schema tables_after_first_purchase None }
     ensures first { IsAuditResult first_schema first_schema_tables_after_purchase None }

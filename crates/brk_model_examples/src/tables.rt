@@ -27,7 +27,7 @@ pub fn tables_equal_sheets_of_base()
 /// equal those in the third. The tables in the first schema satisfy the audit condition `Form` and
 /// describe the base that the tables in the third schema describe. With all cash rows merged into
 /// CASH_MOVE, the tables in either older schema are those in the third.
-pub fn older_schema_tables_are_upgraded()
+pub fn older_cash_rows_are_merged()
     ensures first { sheets_in_schema first_schema base_after_first_purchase ≡ first_schema_tables_after_purchase }
     ensures first_form { satisfies_form_condition first_schema first_schema_tables_after_purchase ≡ true }
     ensures first_base { base_of_tables first_schema_tables_after_purchase ≡ base_of_tables tables_after_first_purchase }

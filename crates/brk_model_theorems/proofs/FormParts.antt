@@ -8,7 +8,7 @@ use Rattle.brk_model.specs.Limits.{greatest_id}
 use Rattle.brk_model.specs.Lists.{all_distinct}
 use Rattle.brk_model.specs.Schemas.{Schema}
 use Rattle.brk_model.specs.Tables.{Tables}
-use Rattle.brk_model.specs.Form.{is_well_formed_kept_row, is_well_formed_broker_row, is_well_formed_customer_row, is_within_customer_limits, is_well_formed_account_row, is_well_formed_permission_row, is_well_formed_security_row, is_well_formed_last_trade_row, is_well_formed_charge_row, is_well_formed_band_row, has_disjoint_bands, is_well_formed_tax_rate_row, is_well_formed_customer_tax_row, is_well_formed_trade_row, are_equal_number_lists, is_well_formed_history_row, is_well_formed_request_row, is_well_formed_holding_row, is_well_formed_summary_row, is_well_formed_holding_history_row, is_well_formed_settlement_row, is_well_formed_cash_transaction_row, is_well_formed_cash_move_row, trade_ids_of_cash_rows, lacks_rows_of_later_schemas, has_tables_sorted_by_unique_key, satisfies_form_condition, has_distinct_tax_ids, is_sorted_by_unique_key}
+use Rattle.brk_model.specs.Form.{is_well_formed_kept_row, is_well_formed_broker_row, is_well_formed_customer_row, is_within_customer_limits, is_well_formed_account_row, is_well_formed_permission_row, is_well_formed_security_row, is_well_formed_last_trade_row, is_well_formed_charge_row, is_well_formed_band_row, has_disjoint_bands, is_well_formed_tax_rate_row, is_well_formed_customer_tax_row, is_well_formed_trade_row, are_equal_number_lists, is_well_formed_history_row, is_well_formed_request_row, is_well_formed_holding_row, is_well_formed_summary_row, is_well_formed_holding_history_row, is_well_formed_settlement_row, is_well_formed_cash_transaction_row, is_well_formed_cash_move_row, trade_ids_of_cash_rows, has_rows_only_in_tables_of_schema, has_tables_sorted_by_unique_key, satisfies_form_condition, has_distinct_tax_ids, is_sorted_by_unique_key}
 use Rattle.brk_model.specs.Keys.{kept_key, broker_key, customer_key, account_key, permission_key, security_key, last_trade_key, charge_key, band_key, tax_rate_key, customer_tax_key, trade_key, history_key, request_key, holding_key, summary_key, holding_history_key, settlement_key, cash_transaction_key, cash_move_key}
 use Rattle.brk_model_theorems.specs.FormParts.{SatisfiesFormParts, HasSortedTables}
 use Rattle.brk_model_theorems.proofs.Conjunctions.{parts, whole}
@@ -46,7 +46,7 @@ forms schema t =
     all_distinct (trade_ids_of_cash_rows t.moves) ∷
     nat_le (length (filter (λ r. is_none r.trade) t.moves)) greatest_id ∷
     option_map_or (λ day. nat_le day greatest_day) t.rule true ∷
-    lacks_rows_of_later_schemas schema t ∷ []
+    has_rows_only_in_tables_of_schema schema t ∷ []
 
 pub form_parts : (schema : Schema) (t : Tables) → satisfies_form_condition schema t ≡ true → SatisfiesFormParts schema t
 unfolding satisfies_form_condition

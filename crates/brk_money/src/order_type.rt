@@ -1,5 +1,5 @@
 ghost use Rattle.std.specs.Prelude.{◌≡◌};
-ghost use Rattle.brk_money.specs.OrderTypes.{trade_type_of_order, price_of_order};
+ghost use Rattle.brk_money.specs.OrderTypes.{trade_type_of_order_type, price_of_order_type};
 
 use crate::price::Price;
 use crate::trade_type::TradeType;
@@ -18,7 +18,7 @@ pub enum OrderType {
 impl OrderType {
     /// Returns the type of the trade that the order creates.
     pub fn kind(self) -> TradeType
-        ensures { result ≡ trade_type_of_order self }
+        ensures { result ≡ trade_type_of_order_type self }
     {
         match self {
             OrderType::MarketBuy => TradeType::MarketBuy,
@@ -31,7 +31,7 @@ impl OrderType {
 
     /// Returns the price per share that the order asks for, or `None` for a market type.
     pub fn price(self) -> Option<Price>
-        ensures { result ≡ price_of_order self }
+        ensures { result ≡ price_of_order_type self }
     {
         match self {
             OrderType::MarketBuy | OrderType::MarketSell => None,

@@ -5,12 +5,12 @@ use Rattle.std.specs.Prelude.{Ok, Err}
 use Rattle.brk_money.specs.declared.refusal.Refusal.TheVariants.{BadText}
 use Rattle.brk_model.specs.Commands.{Command, CompleteTrade}
 use Rattle.brk_model.specs.Forms.{◌⊛◌, read_movement_amount, read_id, read_price}
-use Rattle.brk_model.specs.Parse.{read_canceled_trade_id, read_movement_command, read_settlement_day, read_order, read_result_command}
+use Rattle.brk_model.specs.Parse.{read_id_of_trade_to_cancel, read_movement_command, read_settlement_day, read_order, read_result_command}
 use Rattle.brk_ref.specs.Fields.{texts_of_fields}
 use Rattle.brk_ref.proofs.Applied.{text_left, text_right}
 
 -- a cancel has one field
-pub not_cancel : (fields : List (Bor (List ℕ))) → (length fields ≡ 1 → ⊥) → read_canceled_trade_id (texts_of_fields fields) ≡ Err BadText
+pub not_cancel : (fields : List (Bor (List ℕ))) → (length fields ≡ 1 → ⊥) → read_id_of_trade_to_cancel (texts_of_fields fields) ≡ Err BadText
 not_cancel [] h = refl
 not_cancel (a ∷ []) h = absurd (h refl)
 not_cancel (a ∷ b ∷ rest) h = refl

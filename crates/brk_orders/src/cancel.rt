@@ -1,4 +1,4 @@
-ghost use Rattle.brk_model.specs.Parse.{read_canceled_trade_id};
+ghost use Rattle.brk_model.specs.Parse.{read_id_of_trade_to_cancel};
 ghost use Rattle.brk_ref.specs.Fields.{ParsesAs, texts_of_fields};
 
 use brk_money::{Id, Refusal};
@@ -8,8 +8,8 @@ use brk_ref::parse_id;
 ///
 /// Refuses with `BadText` (18) if there is not exactly one field, or if the field is not an id.
 /// Never allocates.
-pub fn parse_canceled_trade_id(fields: &[&[u8]]) -> Result<Id, Refusal>
-    ensures { ParsesAs (λ trade. trade) result (read_canceled_trade_id (texts_of_fields fields.now)) }
+pub fn parse_id_of_trade_to_cancel(fields: &[&[u8]]) -> Result<Id, Refusal>
+    ensures { ParsesAs (λ trade. trade) result (read_id_of_trade_to_cancel (texts_of_fields fields.now)) }
 {
     let [trade] = fields else {
         return Err(Refusal::BadText);

@@ -13,7 +13,7 @@ pub mod tick;
 pub mod trade_ids;
 pub mod update;
 
-pub use cancel::parse_canceled_trade_id;
+pub use cancel::parse_id_of_trade_to_cancel;
 pub use completion::{Completion, parse_completion};
 pub use feed::{Feed, parse_market_feed};
 pub use movement::{Direction, Movement, parse_cash_movement};

@@ -7,7 +7,7 @@ use Rattle.brk_money.specs.declared.status.Status.{Status}
 use Rattle.brk_money.specs.declared.status.Status.TheVariants.{Pending, Canceled}
 use Rattle.brk_model.specs.Tests.{RefusalCheck, first_refusal}
 use Rattle.brk_plans.specs.Reference.{later_stamp_check}
-use Rattle.brk_plans.specs.Waiting.{row_changes_of_pending_trade}
+use Rattle.brk_plans.specs.Waiting.{row_changes_of_status_after_pending}
 use Rattle.brk_changes.specs.declared.change.Change.{Change}
 use Rattle.brk_changes.specs.declared.change.Change.TheVariants.{SetLastStamp}
 use Rattle.brk_plans.specs.declared.plan.Plan.{Plan}
@@ -22,7 +22,7 @@ cancel_checks (Some status) = (not (is_same_trade_status status Pending), WrongS
 -- The row changes of a cancel of `trade` at `stamp`: the trade changes from pending to canceled,
 -- and the last stamp is set to `stamp`.
 abbrev pub row_changes_of_cancel : ℕ → ℕ → List Change
-row_changes_of_cancel trade stamp = row_changes_of_pending_trade trade Canceled stamp ++ SetLastStamp stamp ∷ []
+row_changes_of_cancel trade stamp = row_changes_of_status_after_pending trade Canceled stamp ++ SetLastStamp stamp ∷ []
 
 -- `plan` cancels `trade`, whose status is `found`, at the stamp of the command, where `last` is the
 -- stamp of the last accepted command and `now` the clock reading. The trade passes its checks, a

@@ -14,7 +14,7 @@ use Rattle.brk_model.specs.Tests.{RefusalCheck, first_refusal}
 use Rattle.brk_orders.specs.declared.tick.Tick.{Tick}
 use Rattle.brk_ref.specs.declared.last_trade.LastTrade.{LastTrade}
 use Rattle.brk_plans.specs.Reference.{later_stamp_check}
-use Rattle.brk_plans.specs.Waiting.{row_changes_of_pending_trade}
+use Rattle.brk_plans.specs.Waiting.{row_changes_of_status_after_pending}
 use Rattle.brk_changes.specs.declared.change.Change.{Change}
 use Rattle.brk_changes.specs.declared.change.Change.TheVariants.{SetLastTrade, SetLastStamp}
 use Rattle.brk_plans.specs.declared.plan.Plan.{Plan}
@@ -94,7 +94,7 @@ states_after_ticks stamp ticks quotes = fold (states_after_tick stamp) quotes ti
 
 -- The row changes by which each of `trades` changes from pending to submitted at `stamp`.
 abbrev pub row_changes_of_submissions : ℕ → List ℕ → List Change
-row_changes_of_submissions stamp trades = flat_map (λ trade. row_changes_of_pending_trade trade Submitted stamp) trades
+row_changes_of_submissions stamp trades = flat_map (λ trade. row_changes_of_status_after_pending trade Submitted stamp) trades
 
 -- The row changes of `tick` at `stamp` on the state `quote` of its symbol: the last trade is set,
 -- and the triggered trades are submitted.

@@ -6,6 +6,6 @@ use Rattle.brk_changes.specs.declared.change.Change.TheVariants.{SetStatus, AddH
 
 -- The row changes by which the pending trade `trade` changes to `status` at `stamp`: its status and
 -- its stamp are set, a TRADE_HISTORY row is added, and its request is deleted.
-abbrev pub row_changes_of_pending_trade : ℕ → Status → ℕ → List Change
-row_changes_of_pending_trade trade status stamp =
+abbrev pub row_changes_of_status_after_pending : ℕ → Status → ℕ → List Change
+row_changes_of_status_after_pending trade status stamp =
     SetStatus trade status stamp ∷ AddHistory (record { trade = trade; status = status; stamp = stamp }) ∷ RemoveRequest trade ∷ []

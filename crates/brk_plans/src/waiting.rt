@@ -1,6 +1,6 @@
 ghost use Rattle.std.specs.Prelude.{◌≡◌, ◌++◌, OnOk, OnErr, Err};
 ghost use Rattle.brk_money.specs.declared.fault.Fault.TheVariants.{Memory};
-ghost use Rattle.brk_plans.specs.Waiting.{row_changes_of_pending_trade};
+ghost use Rattle.brk_plans.specs.Waiting.{row_changes_of_status_after_pending};
 
 use brk_changes::{Change, HistoryRow};
 use brk_money::{Fault, Id, Stamp, Status};
@@ -14,7 +14,7 @@ pub(crate) fn append_pending_trade_changes(
     stamp: Stamp,
     changes: &mut Vec<Change>,
 ) -> Result<(), Fault>
-    ensures changes { OnOk result (changes.new.items ≡ changes.old.items ++ row_changes_of_pending_trade trade status stamp) }
+    ensures changes { OnOk result (changes.new.items ≡ changes.old.items ++ row_changes_of_status_after_pending trade status stamp) }
     ensures fault { OnErr result (result ≡ Err Memory) }
 {
     let row = HistoryRow {

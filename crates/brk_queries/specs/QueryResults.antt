@@ -31,13 +31,13 @@ EqualsModelQueryResult query seen t = (base : Base) → BooksInvariant base → 
 -- and if it is for recent trades, these trades. For any other query only the kind is stated.
 -- Vacuous if `seen` is a refusal, and if `t` are not the tables of a base that satisfies the books
 -- invariant and the audit invariant.
-abbrev pub ViewHasSelectedRows : Query → Result View Refusal → Tables → Type 0
-ViewHasSelectedRows query seen t = IfOk seen (λ view. (base : Base) → BooksInvariant base → AuditInvariant base → t ≡ sheets base → HasRowsOfQuery query view t)
+abbrev pub ViewHasRowsOfQuery : Query → Result View Refusal → Tables → Type 0
+ViewHasRowsOfQuery query seen t = IfOk seen (λ view. (base : Base) → BooksInvariant base → AuditInvariant base → t ≡ sheets base → HasRowsOfQuery query view t)
 
 -- The result `seen` of `query` equals the result of the model, as records of texts or a refusal
 -- (`EqualsModelQueryResult`), and a view satisfies `HasRowsOfQuery` with the tables `t`: it is of
--- the kind of `query` and, only for the queries that `ViewHasSelectedRows` names, has the selected
+-- the kind of `query` and, only for the queries that `ViewHasRowsOfQuery` names, has the selected
 -- rows. Vacuous if `t` are not the tables of a base that satisfies the books invariant and the
 -- audit invariant.
 abbrev pub AnswersQueryAsModel : Query → Result View Refusal → Tables → Type 0
-AnswersQueryAsModel query seen t = EqualsModelQueryResult query seen t × ViewHasSelectedRows query seen t
+AnswersQueryAsModel query seen t = EqualsModelQueryResult query seen t × ViewHasRowsOfQuery query seen t

@@ -13,8 +13,8 @@ use brk_money::{Fault, Id, Planned, Refusal};
 use brk_orders::Span;
 use brk_ref::Symbol;
 use brk_store::Store;
-use brk_update_decisions::read_trades_by_ids;
 use brk_trade::TradeRow;
+use brk_update_decisions::read_trades_by_ids;
 use brk_view::{
     LookedUp, NamedTrades, View, create_looked_up_trade, lookup_account, lookup_ids, lookup_symbol,
     sort_trades_oldest_first,

@@ -16,10 +16,7 @@ use std::alloc::Global;
 /// that of the model if the tables are those of a base that satisfies the books invariant and the
 /// audit invariant. If the database is still open, it is unchanged. Fails with `Memory` or `Store`
 /// only.
-pub fn view_of_submitted_trades<S: Alter>(
-    alloc: Global,
-    store: &mut Store<S>,
-) -> Planned<View>
+pub fn view_of_submitted_trades<S: Alter>(alloc: Global, store: &mut Store<S>) -> Planned<View>
     ensures read { ReadPost S.Store store.old store.new result (AnswersQueryAsModel SubmittedTrades) }
     ensures fault { IfErr result IsCallFault }
 {

@@ -419,7 +419,7 @@ fn execute_memory_command(
 
 // Executes a command over files, given by its first word `verb`, the rest of its line `words` and
 // its input lines `pieces`, and appends its output lines. Fails only if memory runs out.
-fn execute_command_on_files(
+fn execute_file_command_with_lines(
     rt: &HostRuntime,
     out: &mut String,
     verb: &str,
@@ -445,7 +445,7 @@ pub fn execute_command(
     let (verb, words) = command.split_once(' ').unwrap_or((command, ""));
     match verb {
         "$" | "write" | "copy" | "cut" | "change" => {
-            match execute_command_on_files(rt, out, verb, words, pieces) {
+            match execute_file_command_with_lines(rt, out, verb, words, pieces) {
                 Ok(()) => Ok(place),
                 Err(failed) => Err(failed),
             }

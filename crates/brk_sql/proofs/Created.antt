@@ -112,27 +112,27 @@ all_from P (x ∷ xs) f = (f x (inl refl), all_from P xs (λ y h. f y (inr h)))
 record Comes (old new : Database) (shape : ℕ → Table) : Type 0 where
   tree : ℕ
   at : ℕ
-  stands : IsTableAt new.schema (shape tree) at
+  is_table : IsTableAt new.schema (shape tree) at
   empty : new.trees tree ≡ []
   kept : (table : Table) (place : ℕ) → IsTableAt old.schema table place → IsTableAt new.schema table place
   rows : AllByRecursion (λ t. new.trees t.tree ≡ old.trees t.tree) old.schema.tables
   apart : AllByRecursion (λ t. t.tree ≢ tree) old.schema.tables
   more : List Table
   tables : new.schema.tables ≡ old.schema.tables ++ more
-  inert : list_all has_no_writing_foreign_keys more ≡ true
+  added_keys_write_nothing : list_all has_no_writing_foreign_keys more ≡ true
 
 obeyed : (old new : Database) (shape : ℕ → Table) → Comes old new shape → IsDatabase new → CreatesTableOfShape old new shape
 obeyed old new shape h sound = record {
   tree = h.tree;
   at = h.at;
-  stands = h.stands;
+  is_table = h.is_table;
   empty = h.empty;
   keeps_positions = h.kept;
   rows = h.rows;
   apart = h.apart;
   more = h.more;
   tables = h.tables;
-  inert = h.inert;
+  added_keys_write_nothing = h.added_keys_write_nothing;
   sound = sound;
 }
 
@@ -147,14 +147,14 @@ module _ (text : List ℕ) (shape : ℕ → Table) (defined : table_defined_by t
       record {
         tree = next_tree schema;
         at = length schema.tables;
-        stands = subst (λ t. IsTableAt after t (length schema.tables)) (moved (next_tree schema)) (comes schema after table own (subst (λ (t : Table). is_used schema t.name ≡ false) same made.free) tables);
+        is_table = subst (λ t. IsTableAt after t (length schema.tables)) (moved (next_tree schema)) (comes schema after table own (subst (λ (t : Table). is_used schema t.name ≡ false) same made.free) tables);
         empty = made.empty;
         kept = λ other place h. stays schema after (table ∷ []) tables other place h;
         rows = made.others;
         apart = all_from (λ t. t.tree ≢ next_tree schema) schema.tables (λ t has same. omega (arith, table_below schema t has, same));
         more = table ∷ [];
         tables = tables;
-        inert = rw still;
+        added_keys_write_nothing = rw still;
       }
 
 all_left : {X : Type 0} (P : X → Type 0) (xs ys : List X) → AllByRecursion P (xs ++ ys) → AllByRecursion P xs
@@ -186,15 +186,15 @@ makes_more text shape placed old mid new one table tables idle made =
     record {
       tree = one.tree;
       at = one.at;
-      stands = stays mid.schema new.schema _ more (shape one.tree) one.at one.stands;
-      empty = subst (λ n. new.trees n ≡ mid.trees n) (placed one.tree) (all_at (λ t. new.trees t.tree ≡ mid.trees t.tree) mid.schema.tables one.at (shape one.tree) one.stands.found made.others) ∙ one.empty;
+      is_table = stays mid.schema new.schema _ more (shape one.tree) one.at one.is_table;
+      empty = subst (λ n. new.trees n ≡ mid.trees n) (placed one.tree) (all_at (λ t. new.trees t.tree ≡ mid.trees t.tree) mid.schema.tables one.at (shape one.tree) one.is_table.found made.others) ∙ one.empty;
       kept = λ other place h. stays mid.schema new.schema _ more other place (one.kept other place h);
       rows = kept_twice old.trees mid.trees new.trees old.schema.tables one.rows
           (all_left (λ t. new.trees t.tree ≡ mid.trees t.tree) old.schema.tables (table ∷ []) (subst (λ all. KeepsRows all mid.trees new.trees) tables made.others));
       apart = one.apart;
       more = one.more ++ (record made.table { tree = next_tree mid.schema }) ∷ [];
       tables = more ∙ ap (λ (l : List Table). l ++ (record made.table { tree = next_tree mid.schema }) ∷ []) one.tables ∙ append_assoc old.schema.tables one.more _;
-      inert = joined has_no_writing_foreign_keys one.more _ one.inert (idle made.table made.defined);
+      added_keys_write_nothing = joined has_no_writing_foreign_keys one.more _ one.added_keys_write_nothing (idle made.table made.defined);
     }
 
 module _ (text : List ℕ) (shape : ℕ → Table) (defined : table_defined_by text ≡ Ok (shape 0)) (moved : (tree : ℕ) → record (shape 0) { tree = tree } ≡ shape tree) (placed : (tree : ℕ) → (shape tree).tree ≡ tree)

@@ -27,10 +27,10 @@ calm_of_apart [] tree apart = refl
 calm_of_apart (t ∷ tables) tree apart = rw (ne_eqb t.tree tree apart.0, calm_of_apart tables tree apart.1)
 
 pub still_calm : {shape : ℕ → Table} (old new : Database) → CreatesTableOfShape old new shape → (tree : ℕ) → HasNoWritingForeignKeysAt old.schema tree → HasNoWritingForeignKeysAt new.schema tree
-still_calm old new m tree calm = rw (m.tables) (all_join (has_no_writing_foreign_keys_if_at tree) old.schema.tables m.more calm (calm_of_inert tree m.more m.inert))
+still_calm old new m tree keys_write_nothing = rw (m.tables) (all_join (has_no_writing_foreign_keys_if_at tree) old.schema.tables m.more keys_write_nothing (calm_of_inert tree m.more m.added_keys_write_nothing))
 
 pub new_calm : {shape : ℕ → Table} (old new : Database) (m : CreatesTableOfShape old new shape) → HasNoWritingForeignKeysAt new.schema m.tree
-new_calm old new m = rw (m.tables) (all_join (has_no_writing_foreign_keys_if_at m.tree) old.schema.tables m.more (calm_of_apart old.schema.tables m.tree m.apart) (calm_of_inert m.tree m.more m.inert))
+new_calm old new m = rw (m.tables) (all_join (has_no_writing_foreign_keys_if_at m.tree) old.schema.tables m.more (calm_of_apart old.schema.tables m.tree m.apart) (calm_of_inert m.tree m.more m.added_keys_write_nothing))
 
 pub all_left : {X : Type 0} (P : X → Type 0) (xs ys : List X) → AllByRecursion P (xs ++ ys) → AllByRecursion P xs
 all_left P [] ys all = tt
@@ -52,9 +52,9 @@ chosen (inr b) x y = y
 pub record Part {W T : Type 0} (desk : ProgramTables W T) (In : W → Type 0) (old new : Database) : Type 0 where
   pub tree : W → ℕ
   pub place : W → ℕ
-  pub stands : (w : W) → In w → IsTableAt new.schema (desk.shape w (tree w)) (place w)
+  pub is_table : (w : W) → In w → IsTableAt new.schema (desk.shape w (tree w)) (place w)
   pub apart : (v w : W) → In v → In w → tree v ≡ tree w → v ≡ w
-  pub calm : (w : W) → In w → HasNoWritingForeignKeysAt new.schema (tree w)
+  pub keys_write_nothing : (w : W) → In w → HasNoWritingForeignKeysAt new.schema (tree w)
   pub empty : (w : W) → In w → new.trees (tree w) ≡ []
   pub more : List Table
   pub tables : new.schema.tables ≡ old.schema.tables ++ more
@@ -66,9 +66,9 @@ module _ {W T : Type 0} (desk : ProgramTables W T) where
   part_none db = record {
     tree = λ _. 0;
     place = λ _. 0;
-    stands = λ w h. absurd h;
+    is_table = λ w h. absurd h;
     apart = λ v w h. absurd h;
-    calm = λ w h. absurd h;
+    keys_write_nothing = λ w h. absurd h;
     empty = λ w h. absurd h;
     more = [];
     tables = sym (Rattle.std.proofs.Common.append-nil db.schema.tables);
@@ -78,18 +78,18 @@ module _ {W T : Type 0} (desk : ProgramTables W T) where
 
   module _ (In : W → Type 0) (old mid new : Database) (p : Part desk In old mid) (w : W) (is : (v : W) → (v ≡ w) ⊎ (v ≢ w)) (m : CreatesTableOfShape mid new (desk.shape w)) where
     found_tree : (v : W) (h : In v) → p.tree v ≢ m.tree
-    found_tree v h = subst (λ n. n ≢ m.tree) (desk.placed v (p.tree v)) (all_at (λ t. t.tree ≢ m.tree) mid.schema.tables (p.place v) (desk.shape v (p.tree v)) (p.stands v h).found m.apart)
+    found_tree v h = subst (λ n. n ≢ m.tree) (desk.placed v (p.tree v)) (all_at (λ t. t.tree ≢ m.tree) mid.schema.tables (p.place v) (desk.shape v (p.tree v)) (p.is_table v h).found m.apart)
 
     same_tree : (v : W) → In v → new.trees (p.tree v) ≡ mid.trees (p.tree v)
-    same_tree v h = subst (λ n. new.trees n ≡ mid.trees n) (desk.placed v (p.tree v)) (all_at (λ t. new.trees t.tree ≡ mid.trees t.tree) mid.schema.tables (p.place v) (desk.shape v (p.tree v)) (p.stands v h).found m.rows)
+    same_tree v h = subst (λ n. new.trees n ≡ mid.trees n) (desk.placed v (p.tree v)) (all_at (λ t. new.trees t.tree ≡ mid.trees t.tree) mid.schema.tables (p.place v) (desk.shape v (p.tree v)) (p.is_table v h).found m.rows)
 
     pub part_more : Part desk (λ v. (v ≡ w) ⊎ In v) old new
     part_more = record {
       tree = λ v. chosen (is v) m.tree (p.tree v);
       place = λ v. chosen (is v) m.at (p.place v);
-      stands = λ v h. stood v (is v) h;
+      is_table = λ v h. stood v (is v) h;
       apart = λ v u h k. parted v u (is v) (is u) h k;
-      calm = λ v h. calmed v (is v) h;
+      keys_write_nothing = λ v h. calmed v (is v) h;
       empty = λ v h. emptied v (is v) h;
       more = p.more ++ m.more;
       tables = m.tables ∙ ap (λ l. l ++ m.more) p.tables ∙ Rattle.std.proofs.Common.append_assoc old.schema.tables p.more m.more;
@@ -98,9 +98,9 @@ module _ {W T : Type 0} (desk : ProgramTables W T) where
     }
       where
         stood : (v : W) (s : (v ≡ w) ⊎ (v ≢ w)) → (v ≡ w) ⊎ In v → IsTableAt new.schema (desk.shape v (chosen s m.tree (p.tree v))) (chosen s m.at (p.place v))
-        stood v (inl e) h = subst (λ u. IsTableAt new.schema (desk.shape u m.tree) m.at) (sym e) m.stands
+        stood v (inl e) h = subst (λ u. IsTableAt new.schema (desk.shape u m.tree) m.at) (sym e) m.is_table
         stood v (inr ne) (inl e) = absurd (ne e)
-        stood v (inr ne) (inr h) = m.keeps_positions _ _ (p.stands v h)
+        stood v (inr ne) (inr h) = m.keeps_positions _ _ (p.is_table v h)
 
         parted : (v u : W) (s : (v ≡ w) ⊎ (v ≢ w)) (r : (u ≡ w) ⊎ (u ≢ w)) → (v ≡ w) ⊎ In v → (u ≡ w) ⊎ In u → chosen s m.tree (p.tree v) ≡ chosen r m.tree (p.tree u) → v ≡ u
         parted v u (inl e) (inl f) h k same = e ∙ sym f
@@ -115,7 +115,7 @@ module _ {W T : Type 0} (desk : ProgramTables W T) where
         calmed : (v : W) (s : (v ≡ w) ⊎ (v ≢ w)) → (v ≡ w) ⊎ In v → HasNoWritingForeignKeysAt new.schema (chosen s m.tree (p.tree v))
         calmed v (inl e) h = new_calm mid new m
         calmed v (inr ne) (inl e) = absurd (ne e)
-        calmed v (inr ne) (inr h) = still_calm mid new m (p.tree v) (p.calm v h)
+        calmed v (inr ne) (inr h) = still_calm mid new m (p.tree v) (p.keys_write_nothing v h)
 
         freshened : (v : W) (s : (v ≡ w) ⊎ (v ≢ w)) → (v ≡ w) ⊎ In v → AllByRecursion (λ t. t.tree ≢ chosen s m.tree (p.tree v)) old.schema.tables
         freshened v (inl e) h = all_left (λ t. t.tree ≢ m.tree) old.schema.tables p.more (subst (AllByRecursion (λ t. t.tree ≢ m.tree)) p.tables m.apart)
@@ -146,9 +146,9 @@ module _ {W T : Type 0} (desk : ProgramTables W T) where
     tree = p.tree;
     tables = record {
       place = p.place;
-      stands = λ w. p.stands w (all w);
+      is_table = λ w. p.is_table w (all w);
       apart = λ v w. p.apart v w (all v) (all w);
-      calm = λ w. p.calm w (all w);
+      keys_write_nothing = λ w. p.keys_write_nothing w (all w);
       sound = sound;
       rows = λ w. subst (λ xs. Rattle.brk_sql.specs.Rows.TreeHoldsRecords (desk.shape w (p.tree w)) (desk.encode w) (desk.order w) xs (new.trees (p.tree w))) (sym (none w)) (none_held (desk.shape w (p.tree w)) (desk.encode w) (desk.order w) _ (p.empty w (all w)));
     };

@@ -20,10 +20,10 @@ pub record Grows (old new : Database) : Type 0 where
   pub more : List Table
   pub tables : new.schema.tables ≡ old.schema.tables ++ more
   pub rows : AllByRecursion (λ t. new.trees t.tree ≡ old.trees t.tree) old.schema.tables
-  pub calm : (tree : ℕ) → HasNoWritingForeignKeysAt old.schema tree → HasNoWritingForeignKeysAt new.schema tree
+  pub keys_write_nothing : (tree : ℕ) → HasNoWritingForeignKeysAt old.schema tree → HasNoWritingForeignKeysAt new.schema tree
 
 pub grows_none : (db : Database) → Grows db db
-grows_none db = record { more = []; tables = sym (append-nil db.schema.tables); rows = all_from _ db.schema.tables (λ t there. refl); calm = λ tree calm. calm }
+grows_none db = record { more = []; tables = sym (append-nil db.schema.tables); rows = all_from _ db.schema.tables (λ t there. refl); keys_write_nothing = λ tree keys_write_nothing. keys_write_nothing }
 
 pub grows_then : (a b c : Database) → Grows a b → Grows b c → Grows a c
 grows_then a b c p q = record {
@@ -32,11 +32,11 @@ grows_then a b c p q = record {
   rows = all_from _ a.schema.tables (λ t there.
       all_has (λ t. c.trees t.tree ≡ b.trees t.tree) a.schema.tables t (all_left (λ t. c.trees t.tree ≡ b.trees t.tree) a.schema.tables p.more (subst (AllByRecursion (λ t. c.trees t.tree ≡ b.trees t.tree)) p.tables q.rows)) there
       ∙ all_has (λ t. b.trees t.tree ≡ a.trees t.tree) a.schema.tables t p.rows there);
-  calm = λ tree calm. q.calm tree (p.calm tree calm);
+  keys_write_nothing = λ tree keys_write_nothing. q.keys_write_nothing tree (p.keys_write_nothing tree keys_write_nothing);
 }
 
 pub grows_made : {shape : ℕ → Table} (old new : Database) → CreatesTableOfShape old new shape → Grows old new
-grows_made old new m = record { more = m.more; tables = m.tables; rows = m.rows; calm = still_calm old new m }
+grows_made old new m = record { more = m.more; tables = m.tables; rows = m.rows; keys_write_nothing = still_calm old new m }
 
 module _ {W T : Type 0} (desk : ProgramTables W T) (t : T) where
   -- those of Out are there, at the trees where they were, or at trees that no table had
@@ -61,19 +61,19 @@ module _ {W T : Type 0} (desk : ProgramTables W T) (t : T) where
 
   module _ (In : W → Type 0) (tree : W → ℕ) (old new : Database) (h : HasSelectedTables desk In t tree old) (w : W) (is : (v : W) → (v ≡ w) ⊎ (v ≢ w)) (none : desk.list w t ≡ []) (m : CreatesTableOfShape old new (desk.shape w)) where
     found_tree : (v : W) → In v → tree v ≢ m.tree
-    found_tree v there = subst (λ n. n ≢ m.tree) (desk.placed v (tree v)) (all_at (λ t. t.tree ≢ m.tree) old.schema.tables (h.place v) (desk.shape v (tree v)) (h.stands v there).found m.apart)
+    found_tree v there = subst (λ n. n ≢ m.tree) (desk.placed v (tree v)) (all_at (λ t. t.tree ≢ m.tree) old.schema.tables (h.place v) (desk.shape v (tree v)) (h.is_table v there).found m.apart)
 
     same_tree : (v : W) → In v → new.trees (tree v) ≡ old.trees (tree v)
-    same_tree v there = subst (λ n. new.trees n ≡ old.trees n) (desk.placed v (tree v)) (all_at (λ t. new.trees t.tree ≡ old.trees t.tree) old.schema.tables (h.place v) (desk.shape v (tree v)) (h.stands v there).found m.rows)
+    same_tree v there = subst (λ n. new.trees n ≡ old.trees n) (desk.placed v (tree v)) (all_at (λ t. new.trees t.tree ≡ old.trees t.tree) old.schema.tables (h.place v) (desk.shape v (tree v)) (h.is_table v there).found m.rows)
 
     pub grown_one : Grown In (OrIn desk w In) tree old new
     grown_one = record {
       to = λ v. chosen (is v) m.tree (tree v);
       has = record {
         place = λ v. chosen (is v) m.at (h.place v);
-        stands = λ v k. stood v (is v) k;
+        is_table = λ v k. stood v (is v) k;
         apart = λ v u j k. parted v u (is v) (is u) j k;
-        calm = λ v k. calmed v (is v) k;
+        keys_write_nothing = λ v k. calmed v (is v) k;
         sound = m.sound;
         rows = λ v k. held v (is v) k;
       };
@@ -82,9 +82,9 @@ module _ {W T : Type 0} (desk : ProgramTables W T) (t : T) where
     }
       where
         stood : (v : W) (s : (v ≡ w) ⊎ (v ≢ w)) → (v ≡ w) ⊎ In v → IsTableAt new.schema (desk.shape v (chosen s m.tree (tree v))) (chosen s m.at (h.place v))
-        stood v (inl e) k = subst (λ u. IsTableAt new.schema (desk.shape u m.tree) m.at) (sym e) m.stands
+        stood v (inl e) k = subst (λ u. IsTableAt new.schema (desk.shape u m.tree) m.at) (sym e) m.is_table
         stood v (inr ne) (inl e) = absurd (ne e)
-        stood v (inr ne) (inr k) = m.keeps_positions _ _ (h.stands v k)
+        stood v (inr ne) (inr k) = m.keeps_positions _ _ (h.is_table v k)
 
         parted : (v u : W) (s : (v ≡ w) ⊎ (v ≢ w)) (r : (u ≡ w) ⊎ (u ≢ w)) → (v ≡ w) ⊎ In v → (u ≡ w) ⊎ In u → chosen s m.tree (tree v) ≡ chosen r m.tree (tree u) → v ≡ u
         parted v u (inl e) (inl f) j k same = e ∙ sym f
@@ -99,7 +99,7 @@ module _ {W T : Type 0} (desk : ProgramTables W T) (t : T) where
         calmed : (v : W) (s : (v ≡ w) ⊎ (v ≢ w)) → (v ≡ w) ⊎ In v → HasNoWritingForeignKeysAt new.schema (chosen s m.tree (tree v))
         calmed v (inl e) k = new_calm old new m
         calmed v (inr ne) (inl e) = absurd (ne e)
-        calmed v (inr ne) (inr k) = still_calm old new m (tree v) (h.calm v k)
+        calmed v (inr ne) (inr k) = still_calm old new m (tree v) (h.keys_write_nothing v k)
 
         held : (v : W) (s : (v ≡ w) ⊎ (v ≢ w)) → (v ≡ w) ⊎ In v
             → TreeHoldsRecords (desk.shape v (chosen s m.tree (tree v))) (desk.encode v) (desk.order v) (desk.list v t) (new.trees (chosen s m.tree (tree v)))
@@ -126,9 +126,9 @@ module _ {W T : Type 0} (desk : ProgramTables W T) (t : T) where
   pub all_there : (In : W → Type 0) (tree : W → ℕ) (db : Database) → ((w : W) → In w) → HasSelectedTables desk In t tree db → HasTables desk t tree db
   all_there In tree db all h = record {
     place = h.place;
-    stands = λ w. h.stands w (all w);
+    is_table = λ w. h.is_table w (all w);
     apart = λ v w. h.apart v w (all v) (all w);
-    calm = λ w. h.calm w (all w);
+    keys_write_nothing = λ w. h.keys_write_nothing w (all w);
     sound = h.sound;
     rows = λ w. h.rows w (all w);
   }
@@ -136,9 +136,9 @@ module _ {W T : Type 0} (desk : ProgramTables W T) (t : T) where
   pub some_there : (In : W → Type 0) (tree : W → ℕ) (db : Database) → HasTables desk t tree db → HasSelectedTables desk In t tree db
   some_there In tree db h = record {
     place = h.place;
-    stands = λ w _. h.stands w;
+    is_table = λ w _. h.is_table w;
     apart = λ v w _ _. h.apart v w;
-    calm = λ w _. h.calm w;
+    keys_write_nothing = λ w _. h.keys_write_nothing w;
     sound = h.sound;
     rows = λ w _. h.rows w;
   }

@@ -84,16 +84,16 @@ module _ {W T : Type 0} (desk : ProgramTables W T) (w : W) (text : List ℕ) (pa
   pub tells_rising : ((x y : desk.Item w) → C x y ≡ desk.order w x y) → TablesSatisfy desk (λ t. rows ≡ paged (map show (filter q (desk.list w t)))) old.now
   tells_rising is = λ t tree h.
       reads_rising (desk.shape w (tree w)) (desk.encode w) (desk.order w) (desk.list w t) (old.now.trees (tree w)) (h.rows w) _ params terms project order rows
-      (picks Null (tree w) terms project order paging old.now.trees params rows ((answers (h.place w) (tree w) (h.stands w)).answer Null)) q (same (tree w)) show (shows (tree w)) C (sorts (tree w)) total is
+      (picks Null (tree w) terms project order paging old.now.trees params rows ((answers (h.place w) (tree w) (h.is_table w)).answer Null)) q (same (tree w)) show (shows (tree w)) C (sorts (tree w)) total is
 
   -- ORDER BY the key DESC
   pub tells_falling : ((x y : desk.Item w) → C x y ≡ desk.order w y x) → TablesSatisfy desk (λ t. rows ≡ paged (map show (reverse (filter q (desk.list w t))))) old.now
   tells_falling is = λ t tree h.
       reads_falling (desk.shape w (tree w)) (desk.encode w) (desk.order w) (desk.list w t) (old.now.trees (tree w)) (h.rows w) _ params terms project order rows
-      (picks Null (tree w) terms project order paging old.now.trees params rows ((answers (h.place w) (tree w) (h.stands w)).answer Null)) q (same (tree w)) show (shows (tree w)) C (sorts (tree w)) total is
+      (picks Null (tree w) terms project order paging old.now.trees params rows ((answers (h.place w) (tree w) (h.is_table w)).answer Null)) q (same (tree w)) show (shows (tree w)) C (sorts (tree w)) total is
 
   -- ORDER BY other columns and then the key
   pub tells_sorted : ((x y : desk.Item w) → is_eq (C x y) ≡ true → is_eq (desk.order w x y) ≡ true) → TablesSatisfy desk (λ t. rows ≡ paged (map show (sort_by C (filter q (desk.list w t))))) old.now
   tells_sorted ties = λ t tree h.
       reads_sorted (desk.shape w (tree w)) (desk.encode w) (desk.order w) (desk.list w t) (old.now.trees (tree w)) (h.rows w) _ params terms project order rows
-      (picks Null (tree w) terms project order paging old.now.trees params rows ((answers (h.place w) (tree w) (h.stands w)).answer Null)) q (same (tree w)) show (shows (tree w)) C (sorts (tree w)) total ties
+      (picks Null (tree w) terms project order paging old.now.trees params rows ((answers (h.place w) (tree w) (h.is_table w)).answer Null)) q (same (tree w)) show (shows (tree w)) C (sorts (tree w)) total ties

@@ -80,24 +80,24 @@ module _ (tree : ℕ) where
   -- the works of a table whose foreign keys don't act
   works_calm : (schema : Schema) (depth at : ℕ) (olds news : List Row) (child : Table) (refs : List Reference) → list_all (λ ref. not (foreign_key_writes_rows ref)) refs ≡ true
       → AllByRecursion Spares (filter_map (work_for schema Enforced depth at olds news child) refs)
-  works_calm schema depth at olds news child [] calm = tt
-  works_calm schema depth at olds news child (ref ∷ refs) calm =
-      let both = split (not (foreign_key_writes_rows ref)) (list_all (λ ref. not (foreign_key_writes_rows ref)) refs) calm in
+  works_calm schema depth at olds news child [] keys_write_nothing = tt
+  works_calm schema depth at olds news child (ref ∷ refs) keys_write_nothing =
+      let both = split (not (foreign_key_writes_rows ref)) (list_all (λ ref. not (foreign_key_writes_rows ref)) refs) keys_write_nothing in
       one_work depth at (pairs olds news) child ref (deed_for Enforced (length news == 0) ref) (parent_key schema.tables ref) _ (λ d e. inr (only_refuses (length news == 0) ref both.0 d e))
       (works_calm schema depth at olds news child refs both.1)
 
   works_in : (schema : Schema) (depth at : ℕ) (olds news : List Row) (tables : List Table) → list_all (has_no_writing_foreign_keys_if_at tree) tables ≡ true
       → AllByRecursion Spares (flat_map (λ child. filter_map (work_for schema Enforced depth at olds news child) child.references) tables)
-  works_in schema depth at olds news [] calm = tt
-  works_in schema depth at olds news (child ∷ tables) calm =
-      let both = split (has_no_writing_foreign_keys_if_at tree child) (list_all (has_no_writing_foreign_keys_if_at tree) tables) calm in
+  works_in schema depth at olds news [] keys_write_nothing = tt
+  works_in schema depth at olds news (child ∷ tables) keys_write_nothing =
+      let both = split (has_no_writing_foreign_keys_if_at tree child) (list_all (has_no_writing_foreign_keys_if_at tree) tables) keys_write_nothing in
       all_join _ _ (go (child.tree == tree) refl both.0) (works_in schema depth at olds news tables both.1)
     where
       go : (b : Bool) → (child.tree == tree) ≡ b → (not b || list_all (λ ref. not (foreign_key_writes_rows ref)) child.references) ≡ true → AllByRecursion Spares (filter_map (work_for schema Enforced depth at olds news child) child.references)
       go true e off = works_calm schema depth at olds news child child.references off
       go false e off = works_apart schema depth at olds news child (λ same. absurd (let f = sym (eq-eqb child.tree tree same) ∙ e in cc)) child.references
 
-  module _ (schema : Schema) (calm : HasNoWritingForeignKeysAt schema tree) (table : Table) (listed : Has schema.tables table) (is : table.tree ≡ tree) where
+  module _ (schema : Schema) (keys_write_nothing : HasNoWritingForeignKeysAt schema tree) (table : Table) (listed : Has schema.tables table) (is : table.tree ≡ tree) where
     step : (db next : Trees) (edit : Edit) → edit.table.tree ≢ tree → Applies schema Enforced db edit next → next tree ≡ db tree
     step db next edit apart h = subst (λ n. next n ≡ db n) is (all_has (λ t. t.tree ≢ edit.table.tree → next t.tree ≡ db t.tree) schema.tables table h.tables listed (λ e. apart (sym e ∙ is)))
 
@@ -112,7 +112,7 @@ module _ (tree : ℕ) where
         goes below w edit same low apart (inl off) more = absurd (let e = off.2 in cc)
         goes below w edit same low apart (inr (inl big)) more = absurd (let e = big.3 in cc)
         goes below w edit same low apart (inr (inr went)) more =
-            more went.0 next _ (all_join below _ low (works_in schema (w.depth + 1) edit.table.tree (taken_by db edit) edit.news schema.tables calm)) went.2
+            more went.0 next _ (all_join below _ low (works_in schema (w.depth + 1) edit.table.tree (taken_by db edit) edit.news schema.tables keys_write_nothing)) went.2
             ∙ step db went.0 edit (λ e. apart (ap (λ (t : Table). t.tree) (sym same) ∙ e)) went.1
 
         on_ids : (below : List Work) (w : Work) (ids : List ℤ) → AllByRecursion Spares below → Spares w → ActsOn schema Enforced (Leads schema Enforced n) db w below (Ok next) ids → Later → next tree ≡ db tree
@@ -131,14 +131,14 @@ module _ (tree : ℕ) where
     keeps_ours db next edit apart (inl off) = absurd (let e = off.2 in cc)
     keeps_ours db next edit apart (inr (inl big)) = absurd (let e = big.3 in cc)
     keeps_ours db next edit apart (inr (inr went)) =
-        spared went.2.0 went.0 next _ (works_in schema 0 edit.table.tree (taken_by db edit) edit.news schema.tables calm) went.2.1 ∙ step db went.0 edit apart went.1
+        spared went.2.0 went.0 next _ (works_in schema 0 edit.table.tree (taken_by db edit) edit.news schema.tables keys_write_nothing) went.2.1 ∙ step db went.0 edit apart went.1
 
     -- and the table that is written has what the statement itself wrote
     pub writes_ours : (db next : Trees) (edit : Edit) → edit.table.tree ≡ tree → Writes schema Enforced db edit (Ok next) → (mid : Trees) × Applies schema Enforced db edit mid × (next tree ≡ mid tree)
     writes_ours db next edit same (inl off) = absurd (let e = off.2 in cc)
     writes_ours db next edit same (inr (inl big)) = absurd (let e = big.3 in cc)
     writes_ours db next edit same (inr (inr went)) =
-        (went.0, went.1, spared went.2.0 went.0 next _ (works_in schema 0 edit.table.tree (taken_by db edit) edit.news schema.tables calm) went.2.1)
+        (went.0, went.1, spared went.2.0 went.0 next _ (works_in schema 0 edit.table.tree (taken_by db edit) edit.news schema.tables keys_write_nothing) went.2.1)
 
 -- ---- the tables of others, from one statement to the next
 
@@ -148,12 +148,12 @@ module _ {W : Type 0} (tree : W → ℕ) where
   Keeps old new k = ((w : W) → k.tree ≢ tree w) → HasNoWritingForeignKeysAt old.schema k.tree → new.trees k.tree ≡ old.trees k.tree
 
   pub spares_itself : (db : Database) → PreservesUnrelatedTables tree db db
-  spares_itself db = record { schema = refl; rows = all_from (Keeps db db) db.schema.tables (λ k there apart calm. refl) }
+  spares_itself db = record { schema = refl; rows = all_from (Keeps db db) db.schema.tables (λ k there apart keys_write_nothing. refl) }
 
   pub spares_then : (a b c : Database) → PreservesUnrelatedTables tree a b → PreservesUnrelatedTables tree b c → PreservesUnrelatedTables tree a c
   spares_then a b c first next = record {
     schema = next.schema ∙ first.schema;
-    rows = all_from (Keeps a c) a.schema.tables (λ k there apart calm.
-        all_has (Keeps b c) b.schema.tables k next.rows (subst (λ (s : Schema). Has s.tables k) (sym first.schema) there) apart (subst (λ (s : Schema). HasNoWritingForeignKeysAt s k.tree) (sym first.schema) calm)
-        ∙ all_has (Keeps a b) a.schema.tables k first.rows there apart calm);
+    rows = all_from (Keeps a c) a.schema.tables (λ k there apart keys_write_nothing.
+        all_has (Keeps b c) b.schema.tables k next.rows (subst (λ (s : Schema). Has s.tables k) (sym first.schema) there) apart (subst (λ (s : Schema). HasNoWritingForeignKeysAt s k.tree) (sym first.schema) keys_write_nothing)
+        ∙ all_has (Keeps a b) a.schema.tables k first.rows there apart keys_write_nothing);
   }

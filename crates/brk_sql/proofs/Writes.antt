@@ -114,9 +114,9 @@ module _ {W T : Type 0} (desk : ProgramTables W T) (w : W) (place : Place desk w
       let back = sym schema in (
         record {
           place = h.place;
-          stands = λ v. subst (λ s. IsTableAt s (desk.shape v (tree v)) (h.place v)) back (h.stands v);
+          is_table = λ v. subst (λ s. IsTableAt s (desk.shape v (tree v)) (h.place v)) back (h.is_table v);
           apart = h.apart;
-          calm = λ v. subst (λ s. HasNoWritingForeignKeysAt s (tree v)) back (h.calm v);
+          keys_write_nothing = λ v. subst (λ s. HasNoWritingForeignKeysAt s (tree v)) back (h.keys_write_nothing v);
           sound = sound;
           rows = λ v. elim (place.split v) [
             | inl same ↦ subst (λ v. TreeHoldsRecords (desk.shape v (tree v)) (desk.encode v) (desk.order v) (desk.list v u) (new.trees (tree v))) (sym same)
@@ -125,7 +125,7 @@ module _ {W T : Type 0} (desk : ProgramTables W T) (w : W) (place : Place desk w
                 (subst (TreeHoldsRecords (desk.shape v (tree v)) (desk.encode v) (desk.order v) (desk.list v t)) (sym (others v other)) (h.rows v))
           ];
         },
-        record { schema = schema; rows = all_from _ old.schema.tables (λ k there apart calm. leaves k there (apart w) calm) },
+        record { schema = schema; rows = all_from _ old.schema.tables (λ k there apart keys_write_nothing. leaves k there (apart w) keys_write_nothing) },
       )
     where
       others : (v : W) → v ≢ w → new.trees (tree v) ≡ old.trees (tree v)
@@ -133,7 +133,7 @@ module _ {W T : Type 0} (desk : ProgramTables W T) (w : W) (place : Place desk w
           let table = desk.shape v (tree v) in
           let at : table.tree ≡ tree v = desk.placed v (tree v) in
           subst (λ n. new.trees n ≡ old.trees n) at
-          (leaves table (has_got old.schema.tables (h.place v) table (h.stands v).found) (λ same. other (h.apart v w (sym at ∙ same))) (subst (HasNoWritingForeignKeysAt old.schema) (sym at) (h.calm v)))
+          (leaves table (has_got old.schema.tables (h.place v) table (h.is_table v).found) (λ same. other (h.apart v w (sym at ∙ same))) (subst (HasNoWritingForeignKeysAt old.schema) (sym at) (h.keys_write_nothing v)))
 
   -- ---- a step on this table, and all that it sets off
 
@@ -142,11 +142,11 @@ module _ {W T : Type 0} (desk : ProgramTables W T) (w : W) (place : Place desk w
     at_tree = ap (λ (k : Table). k.tree) is ∙ desk.placed w (tree w)
 
     pub step_leaves : (k : Table) → Has old.schema.tables k → Leaves tree old new k
-    step_leaves k there apart calm = keeps_ours k.tree old.schema calm k there refl old.trees new.trees e (λ same. apart (sym same ∙ at_tree)) writes
+    step_leaves k there apart keys_write_nothing = keeps_ours k.tree old.schema keys_write_nothing k there refl old.trees new.trees e (λ same. apart (sym same ∙ at_tree)) writes
 
     pub step_this : (new.trees (tree w) ≡ edited old.trees e) × (are_fresh (left_by old.trees e) e.news ≡ true)
     step_this =
-        let o = writes_ours (tree w) old.schema (h.calm w) (shape (tree w)) (has_got old.schema.tables (h.place w) (shape (tree w)) (h.stands w).found) (desk.placed w (tree w)) old.trees new.trees e at_tree writes in
+        let o = writes_ours (tree w) old.schema (h.keys_write_nothing w) (shape (tree w)) (has_got old.schema.tables (h.place w) (shape (tree w)) (h.is_table w).found) (desk.placed w (tree w)) old.trees new.trees e at_tree writes in
         (o.2 ∙ ap o.0 (sym at_tree) ∙ o.1.rows, o.1.fresh)
 
   -- ---- DELETE
@@ -162,7 +162,7 @@ module _ {W T : Type 0} (desk : ProgramTables W T) (w : W) (place : Place desk w
         let at = desk.placed w (tree w) in
         let db = old.now.trees in
         let rows = db (tree w) in
-        let it = took text params old new p (h.place w) table (h.stands w).found _ (either old.now.schema (h.place w) (tree w) (h.stands w)) count ran in
+        let it = took text params old new p (h.place w) table (h.is_table w).found _ (either old.now.schema (h.place w) (tree w) (h.is_table w)) count ran in
         let e : Edit = edit_of db table (ids_of it.1.0) Given 0 [] in
         let step = step_this t tree old.now new.now h e refl it.1.2 in
         let k = picks Null (tree w) terms project [] whole_page db params it.1.0 (it.1.1.answer Null) in
@@ -188,7 +188,7 @@ module _ {W T : Type 0} (desk : ProgramTables W T) (w : W) (place : Place desk w
         let db = old.now.trees in
         let rows = db (tree w) in
         let test = passes params terms in
-        let it = altered text params old new p (h.place w) table (h.stands w).found _ (either old.now.schema (h.place w) (tree w) (h.stands w)) count ran in
+        let it = altered text params old new p (h.place w) table (h.is_table w).found _ (either old.now.schema (h.place w) (tree w) (h.is_table w)) count ran in
         let read = it.1.0 in
         let e : Edit = edit_of db table (ids_of read) Given 1 read in
         let step = step_this t tree old.now new.now h e refl it.1.2 in
@@ -219,7 +219,7 @@ module _ {W T : Type 0} (desk : ProgramTables W T) (w : W) (place : Place desk w
       → (old new : State) (count : ℕ) → Executes text params old new (Ok count) → (t : T) (tree : W → ℕ) → HasTables desk t tree old.now
       → (new.now.schema ≡ old.now.schema) × AllByRecursion (λ k. k.tree ≢ tree w → new.now.trees k.tree ≡ old.now.trees k.tree) old.now.schema.tables
   inserts_alone text params p terms width is old new count ran t tree h =
-      let it = inserted text params old new p (h.place w) (shape (tree w)) (h.stands w).found (place.uncounted (tree w)) terms width (is old.now.schema (h.place w) (tree w) (h.stands w)) count ran in
+      let it = inserted text params old new p (h.place w) (shape (tree w)) (h.is_table w).found (place.uncounted (tree w)) terms width (is old.now.schema (h.place w) (tree w) (h.is_table w)) count ran in
       (it.0, subst (λ n. AllByRecursion (λ k. k.tree ≢ n → new.now.trees k.tree ≡ old.now.trees k.tree) old.now.schema.tables) (desk.placed w (tree w)) it.1.tables)
 
   -- ---- INSERT .. VALUES of one row
@@ -234,7 +234,7 @@ module _ {W T : Type 0} (desk : ProgramTables W T) (w : W) (place : Place desk w
       let at = desk.placed w (tree w) in
       let db = old.now.trees in
       let rows = db (tree w) in
-      let it = inserted text params old new p (h.place w) table (h.stands w).found (place.uncounted (tree w)) terms width (is old.now.schema (h.place w) (tree w) (h.stands w)) count ran in
+      let it = inserted text params old new p (h.place w) table (h.is_table w).found (place.uncounted (tree w)) terms width (is old.now.schema (h.place w) (tree w) (h.is_table w)) count ran in
       let e : Edit = edit_of db table [] Chosen 0 (source ∷ []) in
       let a = subst (λ ss. Rattle.sqlite_rules.specs.Edit.Applies old.now.schema Enforced db (edit_of db table [] Chosen 0 ss) new.now.trees) (one (tree w)) it.1 in
       let comer : Row = with_rowid Chosen rows (cast_row table source) in
@@ -248,11 +248,11 @@ module _ {W T : Type 0} (desk : ProgramTables W T) (w : W) (place : Place desk w
         | inl by_rowid ↦ absent_rowid table (desk.encode w) (desk.order w) (desk.list w t) rows held comer x (shows (tree w) rows) free (by_rowid (tree w))
         | inr by_key ↦ absent_unique table (desk.encode w) (desk.order w) (desk.list w t) rows held comer x (shows (tree w) rows) free _ by_key.key (by_key.tied (tree w))
             (λ r s hr hs apart.
-            unique_rows new.now (h.place w) table by_key.key it.2 (subst (λ s. slice_get s.tables (h.place w) ≡ Some table) (sym it.0) (h.stands w).found) (by_key.first (tree w)) r s
+            unique_rows new.now (h.place w) table by_key.key it.2 (subst (λ s. slice_get s.tables (h.place w) ≡ Some table) (sym it.0) (h.is_table w).found) (by_key.first (tree w)) r s
             (subst (λ l. Has l r) (sym (ap new.now.trees at ∙ those)) hr) (subst (λ l. Has l s) (sym (ap new.now.trees at ∙ those)) hs) apart) whole
       ] in
       framed t _ tree old.now new.now h it.0
-      (λ k there apart calm. all_has (λ k. k.tree ≢ table.tree → new.now.trees k.tree ≡ db k.tree) old.now.schema.tables k a.tables there (λ same. apart (same ∙ at)))
+      (λ k there apart keys_write_nothing. all_has (λ k. k.tree ≢ table.tree → new.now.trees k.tree ≡ db k.tree) old.now.schema.tables k a.tables there (λ same. apart (same ∙ at)))
       (subst (TreeHoldsRecords table (desk.encode w) (desk.order w) (insert_sorted (desk.order w) x (desk.list w t))) (sym those)
       (held_with table (desk.encode w) (desk.order w) place.total comer x (shows (tree w) rows) whole (desk.list w t) rows free absent held)) it.2
     where

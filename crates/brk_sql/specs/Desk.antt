@@ -116,7 +116,7 @@ has_no_writing_foreign_keys t = list_all (λ ref. not (foreign_key_writes_rows r
 pub record CreatesTableOfShape (old new : Database) (shape : ℕ → Table) : Type 0 where
   pub tree : ℕ
   pub at : ℕ
-  pub stands : IsTableAt new.schema (shape tree) at
+  pub is_table : IsTableAt new.schema (shape tree) at
   pub empty : new.trees tree ≡ []
   pub keeps_positions : (table : Table) (place : ℕ) → IsTableAt old.schema table place → IsTableAt new.schema table place
   pub rows : AllByRecursion (λ t. new.trees t.tree ≡ old.trees t.tree) old.schema.tables
@@ -125,7 +125,7 @@ pub record CreatesTableOfShape (old new : Database) (shape : ℕ → Table) : Ty
   -- The added tables, whose foreign keys write no rows.
   pub more : List Table
   pub tables : new.schema.tables ≡ old.schema.tables ++ more
-  pub inert : list_all has_no_writing_foreign_keys more ≡ true
+  pub added_keys_write_nothing : list_all has_no_writing_foreign_keys more ≡ true
   pub sound : IsDatabase new
 
 -- The database `new` results from `old` if the tables with these definitions are created one after
@@ -154,9 +154,9 @@ pub record ProgramTables (W T : Type 0) : Type 1 where
 -- database satisfies `IsDatabase` and may contain other tables.
 pub record HasTables {W T : Type 0} (desk : ProgramTables W T) (t : T) (tree : W → ℕ) (db : Database) : Type 0 where
   pub place : W → ℕ
-  pub stands : (w : W) → IsTableAt db.schema (desk.shape w (tree w)) (place w)
+  pub is_table : (w : W) → IsTableAt db.schema (desk.shape w (tree w)) (place w)
   pub apart : (v w : W) → tree v ≡ tree w → v ≡ w
-  pub calm : (w : W) → HasNoWritingForeignKeysAt db.schema (tree w)
+  pub keys_write_nothing : (w : W) → HasNoWritingForeignKeysAt db.schema (tree w)
   -- The trees list the schema and obey it, so reopening the database finds the same schema.
   pub sound : IsDatabase db
   pub rows : (w : W) → TreeHoldsRecords (desk.shape w (tree w)) (desk.encode w) (desk.order w) (desk.list w t) (db.trees (tree w))
@@ -166,9 +166,9 @@ pub record HasTables {W T : Type 0} (desk : ProgramTables W T) (t : T) (tree : W
 -- deletes rows at these trees. The database satisfies `IsDatabase` and may contain other tables.
 pub record HasSelectedTables {W T : Type 0} (desk : ProgramTables W T) (In : W → Type 0) (t : T) (tree : W → ℕ) (db : Database) : Type 0 where
   pub place : W → ℕ
-  pub stands : (w : W) → In w → IsTableAt db.schema (desk.shape w (tree w)) (place w)
+  pub is_table : (w : W) → In w → IsTableAt db.schema (desk.shape w (tree w)) (place w)
   pub apart : (v w : W) → In v → In w → tree v ≡ tree w → v ≡ w
-  pub calm : (w : W) → In w → HasNoWritingForeignKeysAt db.schema (tree w)
+  pub keys_write_nothing : (w : W) → In w → HasNoWritingForeignKeysAt db.schema (tree w)
   pub sound : IsDatabase db
   pub rows : (w : W) → In w → TreeHoldsRecords (desk.shape w (tree w)) (desk.encode w) (desk.order w) (desk.list w t) (db.trees (tree w))
 

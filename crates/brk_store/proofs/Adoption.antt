@@ -75,7 +75,7 @@ made_upgraded schema a b made defined =
 -- where nothing is written each table stands as it did
 strangers_stay : (In : DeskTable → Type 0) (tree : DeskTable → ℕ) (a b : Database) → b ≡ a → PreservesTablesOutside In tree a b
 strangers_stay In tree a b same =
-    subst (λ d. PreservesTablesOutside In tree a d) (sym same) (record { more = []; tables = sym (append-nil a.schema.tables); rows = all_stay (λ k none calm. refl) a.schema.tables })
+    subst (λ d. PreservesTablesOutside In tree a d) (sym same) (record { more = []; tables = sym (append-nil a.schema.tables); rows = all_stay (λ k none keys_write_nothing. refl) a.schema.tables })
   where
     all_stay : ((k : Table) → ((w : DeskTable) → In w → k.tree ≢ tree w) → HasNoWritingForeignKeysAt a.schema k.tree → a.trees k.tree ≡ a.trees k.tree) → (ks : List Table)
         → AllByRecursion (λ k. ((w : DeskTable) → In w → k.tree ≢ tree w) → HasNoWritingForeignKeysAt a.schema k.tree → a.trees k.tree ≡ a.trees k.tree) ks

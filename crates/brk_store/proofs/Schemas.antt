@@ -38,7 +38,7 @@ narrowed schema db m = record {
   sound = m.sound;
   shaped = λ w of. m.shaped w (of_third w);
   apart = λ v w a b. m.apart v w (of_third v) (of_third w);
-  calm = λ w of. m.calm w (of_third w);
+  keys_write_nothing = λ w of. m.keys_write_nothing w (of_third w);
   keyed = λ w of. m.keyed w (of_third w);
 }
 
@@ -68,9 +68,9 @@ said_alike a b rows h k = let e = sym h.1 ∙ k.1 in cc
 
 pub one_desk : (a b : known.Schema) (t : Tables) (db : Database) → DatabaseHasSchema (abstract_schema a) db → HasDeskTablesInSchema (abstract_schema b) t db → a ≡ b
 one_desk a b t db there has =
-    let stands = has.1.stands TheDesk refl in
+    let is_table = has.1.is_table TheDesk refl in
     same_schema a b
-    (said_alike (abstract_schema a) (abstract_schema b) _ (there.row (has.1.place TheDesk) (has.0 TheDesk) stands) ((desk_is_there (abstract_schema b) t db has).row (has.1.place TheDesk) (has.0 TheDesk) stands))
+    (said_alike (abstract_schema a) (abstract_schema b) _ (there.row (has.1.place TheDesk) (has.0 TheDesk) is_table) ((desk_is_there (abstract_schema b) t db has).row (has.1.place TheDesk) (has.0 TheDesk) is_table))
 
 -- where its tables are there as a desk makes them
 pub two_desks : (b : known.Schema) (db : Database) → TablesWithSchemaNamesAreDeskTables third_schema db → DatabaseHasSchema third_schema db → DatabaseHasSchema (abstract_schema b) db → Third ≡ b
@@ -78,8 +78,8 @@ two_desks b db defined there other =
     let alike = defined there.tables in
     let first = there.tables.0 in
     let shaped : first.1 ≡ desk_row_table first.1.tree = alike.shaped TheDesk refl first.0 first.1 first.2.named first.2.found in
-    let stands : IsTableAt db.schema (desk_row_table first.1.tree) first.0 = record { named = first.2.named; found = first.2.found ∙ ap Some shaped } in
-    same_schema Third b (said_alike third_schema (abstract_schema b) _ (there.row first.0 first.1.tree stands) (other.row first.0 first.1.tree stands))
+    let is_table : IsTableAt db.schema (desk_row_table first.1.tree) first.0 = record { named = first.2.named; found = first.2.found ∙ ap Some shaped } in
+    same_schema Third b (said_alike third_schema (abstract_schema b) _ (there.row first.0 first.1.tree is_table) (other.row first.0 first.1.tree is_table))
 
 -- only the third has the settlement day
 pub third_has_rule : (schema : known.Schema) → (abstract_schema schema).has_settle_rule_table ≡ true → schema ≡ Third

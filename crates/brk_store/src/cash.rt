@@ -57,7 +57,7 @@ impl<S: Alter> Store<S> {
     // Returns true if there are at least `GREATEST_MOVEMENT_COUNT` deposits and withdrawals, which
     // are the cash rows without a trade. The query steps over these rows, so its time grows with
     // their number. If the database is still open, it is unchanged. Fails with `Store` only.
-    fn has_maximum_movements_by_count(&mut self) -> Result<bool, Fault>
+    fn has_greatest_movement_count(&mut self) -> Result<bool, Fault>
         ensures read { ReadPost S.Store self.old self.new result (λ all t. all ≡ nat_le greatest_id (length (filter (λ r. is_none r.trade) t.moves))) }
         ensures fault { OnErr result (result ≡ Err fault.Store) }
     {
@@ -98,7 +98,7 @@ impl<S: Alter> Store<S> {
         if next.get() < GREATEST_MOVEMENT_COUNT {
             return Ok((next, false));
         }
-        let has_all_movements = self.has_maximum_movements_by_count()?;
+        let has_all_movements = self.has_greatest_movement_count()?;
         Ok((next, has_all_movements))
     }
 }

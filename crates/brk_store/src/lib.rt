@@ -29,4 +29,6 @@ pub mod walks;
 pub use brk_tables_walks::{Visitor, WalkError};
 pub use pages::{LotPages, Page, Pages};
 pub use store::Store;
-pub use valuation::{ValuedSummaries, read_holdings_value, read_valued_summaries, require_last_price};
+pub use valuation::{
+    ValuedSummaries, read_holdings_value, read_valued_summaries, require_last_price,
+};

@@ -28,10 +28,7 @@ pub struct ValuedSummaries {
 /// Returns the last price of a symbol on the market, in cents. If the database is still open, it is
 /// unchanged. Fails with `Memory` or `Store` only; with `Store` also if the symbol has no last
 /// trade.
-pub fn require_last_price<S: Alter>(
-    store: &mut Store<S>,
-    symbol: &Symbol,
-) -> Result<Price, Fault>
+pub fn require_last_price<S: Alter>(store: &mut Store<S>, symbol: &Symbol) -> Result<Price, Fault>
     ensures read { ReadPost S.Store store.old store.new result (λ price t. price ≡ last_price_in_tables t symbol.now) }
     ensures fault { IfErr result IsCallFault }
 {

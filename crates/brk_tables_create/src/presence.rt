@@ -75,22 +75,22 @@ pub fn has_some_desk_table<S: Alter>(tx: &mut Transaction<'_, S>) -> Result<bool
     has_any_of_tables(tx, &TABLES_OF_THIRD_SCHEMA)
 }
 
-// Returns true if a table with the name of each table of `there` exists, and none with the name of
+// Returns true if a table with the name of each table of `present` exists, and none with the name of
 // a table of `absent`. If the function returns a value, the database is unchanged. Fails with
 // `Store` only (`table_exists`).
-fn has_tables_and_lacks_absent<S: Alter>(
+fn has_present_and_no_absent_tables<S: Alter>(
     tx: &mut Transaction<'_, S>,
-    there: &[Table],
+    present: &[Table],
     absent: &[Table],
 ) -> Result<bool, Fault>
     ensures same_reference { tx.new.conn.ghost_name ≡ tx.old.conn.ghost_name }
     ensures step { IsConnectionStep S.Store tx.old tx.new result (λ has a b. (b.now ≡ a.now)
         × (has
-        ≡ (list_all (λ table. has_table_named a.now.schema (specified_table table)) there.now
+        ≡ (list_all (λ table. has_table_named a.now.schema (specified_table table)) present.now
         && not (list_any (λ table. has_table_named a.now.schema (specified_table table)) absent.now)))) }
     ensures fault { OnErr result (result ≡ Err Store) }
 {
-    if !has_each_of_tables(tx, there)? {
+    if !has_each_of_tables(tx, present)? {
         return Ok(false);
     }
     Ok(!has_any_of_tables(tx, absent)?)
@@ -109,17 +109,17 @@ fn has_exactly_tables_of_schema<S: Alter>(
     ensures fault { OnErr result (result ≡ Err Store) }
 {
     match schema {
-        Schema::First => has_tables_and_lacks_absent(
+        Schema::First => has_present_and_no_absent_tables(
             tx,
             &TABLES_OF_FIRST_SCHEMA,
             &ADDED_AFTER_FIRST,
         ),
-        Schema::Second => has_tables_and_lacks_absent(
+        Schema::Second => has_present_and_no_absent_tables(
             tx,
             &TABLES_OF_SECOND_SCHEMA,
             &ADDED_AFTER_SECOND,
         ),
-        Schema::Third => has_tables_and_lacks_absent(tx, &TABLES_OF_THIRD_SCHEMA, &[]),
+        Schema::Third => has_present_and_no_absent_tables(tx, &TABLES_OF_THIRD_SCHEMA, &[]),
     }
 }
 

@@ -8,7 +8,7 @@ use Rattle.brk_money.specs.declared.fault.Fault.{Fault}
 use Rattle.brk_sql.specs.Model.{IsTransactionStep}
 use Rattle.brk_sql.proofs.Inside.{step_then, step_read, step_weaker}
 use Rattle.brk_tables_schema.specs.Desk.{DeskTable, TheDesk, KeptRows, Brokers, Customers, Accounts, Permissions, Securities, LastTrades, Charges, Bands, TaxRates, CustomerTaxes, Trades, TradeHistory, Requests, Holdings, Summaries, HoldingHistory, Settlements, CashRows, CashMoves, SettleRules, schema_has_table}
-use Rattle.brk_tables_scan.specs.Whole.{ShowsAllRows, ShowsRowsIfPresent}
+use Rattle.brk_tables_scan.specs.Whole.{ShowsAllRows, ShowsRowsIfInSchema}
 use Rattle.brk_tables_scan.specs.Raw.{RawSheets, IsUnchangedAndOpen, raw_rows_of_table}
 use Rattle.brk_tables_scan.specs.Decoded.{ReadsDeskAndCustomerTables, ReadsAccountAndSecurityTables, ReadsChargeAndRateTables, ReadsTradeAndHoldingTables, ReadsSummaryAndSettlementTables, ReadsLaterSchemaTables, ReadsAndDecodesDeskTables, DecodesSheets, DecodesDeskAndCustomerTables, DecodesAccountAndSecurityTables, DecodesChargeAndRateTables, DecodesTradeAndHoldingTables, DecodesSummaryAndSettlementTables, DecodesLaterSchemaTables, are_desk_and_customer_rows_well_formed, are_account_and_security_rows_well_formed, are_charge_and_rate_rows_well_formed, are_trade_and_holding_rows_well_formed, are_summary_and_settlement_rows_well_formed, are_later_schema_rows_well_formed}
 use Rattle.brk_tables_scan.specs.declared.all_tables.DeskAndCustomerSheets.{DeskAndCustomerSheets}
@@ -30,7 +30,7 @@ module _ (desk : Schema) (a b c d e f g : State) (n0 n1 n2 n3 n4 n5 n6 : Bool) (
     raw = record { first = in_first.raw; accounts = in_accounts.raw; rates = in_rates.raw; trades = in_trades.raw; last = in_last.raw; later = in_later.raw }
 
     -- one that each schema has
-    each : (w : DeskTable) → schema_has_table desk w ≡ true → ShowsAllRows w (raw_rows_of_table raw w) a.now → ShowsRowsIfPresent desk w (raw_rows_of_table raw w) a.now
+    each : (w : DeskTable) → schema_has_table desk w ≡ true → ShowsAllRows w (raw_rows_of_table raw w) a.now → ShowsRowsIfInSchema desk w (raw_rows_of_table raw w) a.now
     each w of all = (λ _. all, λ off. absurd (let e = sym of ∙ off in cc))
 
     ab : IsUnchangedAndOpen a b
@@ -48,10 +48,10 @@ module _ (desk : Schema) (a b c d e f g : State) (n0 n1 n2 n3 n4 n5 n6 : Bool) (
     af : IsUnchangedAndOpen a f
     af = stays_then a e f ae in_last.shown.stays
 
-    before : (w : DeskTable) (rows : List Row) → ShowsRowsIfPresent desk w rows f.now → ShowsRowsIfPresent desk w rows a.now
-    before w rows = subst (ShowsRowsIfPresent desk w rows) af.1
+    before : (w : DeskTable) (rows : List Row) → ShowsRowsIfInSchema desk w rows f.now → ShowsRowsIfInSchema desk w rows a.now
+    before w rows = subst (ShowsRowsIfInSchema desk w rows) af.1
 
-    shows : (w : DeskTable) → ShowsRowsIfPresent desk w (raw_rows_of_table raw w) a.now
+    shows : (w : DeskTable) → ShowsRowsIfInSchema desk w (raw_rows_of_table raw w) a.now
     shows TheDesk = each TheDesk refl in_first.shown.one
     shows KeptRows = each KeptRows refl in_first.shown.two
     shows Brokers = each Brokers refl in_first.shown.three

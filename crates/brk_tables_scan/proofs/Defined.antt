@@ -43,14 +43,14 @@ module _ (desk : Schema) (t : Tables) (db : Database) (has : HasDeskTablesInSche
   abbrev tree : DeskTable → ℕ
   tree = has.0
 
-  stands : (w : DeskTable) → IsTableOfSchema desk w → IsTableAt db.schema (table_definition_at_tree w (tree w)) (has.1.place w)
-  stands w of = has.1.stands w of
+  is_table : (w : DeskTable) → IsTableOfSchema desk w → IsTableAt db.schema (table_definition_at_tree w (tree w)) (has.1.place w)
+  is_table w of = has.1.is_table w of
 
   -- whatever is found by its name is the desk's
   found_table : (w : DeskTable) → IsTableOfSchema desk w → (at : ℕ) (table : Table) → table_named db.schema (table_name w) ≡ Some at → slice_get db.schema.tables at ≡ Some table → table ≡ table_definition_at_tree w (tree w)
   found_table w of at table named found =
-      let e : at ≡ has.1.place w = some_same at (has.1.place w) (sym named ∙ ap (λ n. table_named db.schema n.name) (names_alike w 0 (tree w)) ∙ (stands w of).named) in
-      some_same table (table_definition_at_tree w (tree w)) (sym found ∙ ap (slice_get db.schema.tables) e ∙ (stands w of).found)
+      let e : at ≡ has.1.place w = some_same at (has.1.place w) (sym named ∙ ap (λ n. table_named db.schema n.name) (names_alike w 0 (tree w)) ∙ (is_table w of).named) in
+      some_same table (table_definition_at_tree w (tree w)) (sym found ∙ ap (slice_get db.schema.tables) e ∙ (is_table w of).found)
 
   at_its_tree : (w : DeskTable) → IsTableOfSchema desk w → (at n : ℕ) → IsTableAt db.schema (table_definition_at_tree w n) at → n ≡ tree w
   at_its_tree w of at n s =
@@ -62,8 +62,8 @@ module _ (desk : Schema) (t : Tables) (db : Database) (has : HasDeskTablesInSche
     has.1.place w,
     table_definition_at_tree w (tree w),
     record {
-      named = ap (λ n. table_named db.schema n.name) (names_alike w 0 (tree w)) ∙ (stands w of).named;
-      found = (stands w of).found;
+      named = ap (λ n. table_named db.schema n.name) (names_alike w 0 (tree w)) ∙ (is_table w of).named;
+      found = (is_table w of).found;
       columns = ap (λ n. n.columns) (names_alike w (tree w) 0);
     },
   )
@@ -95,6 +95,6 @@ module _ (desk : Schema) (t : Tables) (db : Database) (has : HasDeskTablesInSche
         let n : tree w ≡ table.tree = sym (ap (λ (u : Table). u.tree) e ∙ table_definition_has_tree w (tree w)) in
         e ∙ ap (table_definition_at_tree w) n;
     apart = λ v w a b i j n p q. has.1.apart v w a b (sym (at_its_tree v a i n p) ∙ at_its_tree w b j n q);
-    calm = λ w of at n s. subst (HasNoWritingForeignKeysAt db.schema) (sym (at_its_tree w of at n s)) (has.1.calm w of);
+    keys_write_nothing = λ w of at n s. subst (HasNoWritingForeignKeysAt db.schema) (sym (at_its_tree w of at n s)) (has.1.keys_write_nothing w of);
     keyed = λ w of at n s. let rows = has.1.rows w of in subst (λ k. HasDistinctRowids (db.trees k)) (sym (at_its_tree w of at n s)) (record { keyed = rows.keyed; apart = rows.apart });
   }

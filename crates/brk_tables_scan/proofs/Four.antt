@@ -8,7 +8,7 @@ use Rattle.brk_sql.specs.Model.{IsTransactionStep}
 use Rattle.brk_sql.proofs.Inside.{step_then, step_read}
 use Rattle.brk_model.specs.Schemas.{Schema}
 use Rattle.brk_tables_schema.specs.Desk.{DeskTable, CashMoves, SettleRules}
-use Rattle.brk_tables_scan.specs.Whole.{ShowsAllRows, ShowsRowsIfPresent}
+use Rattle.brk_tables_scan.specs.Whole.{ShowsAllRows, ShowsRowsIfInSchema}
 use Rattle.brk_tables_scan.specs.Raw.{ShowsFourTables, ShowsLaterSchemaTables, IsUnchangedAndOpen}
 
 abbrev pub Shown : DeskTable → Vec Row → State → State → Type 0
@@ -37,7 +37,7 @@ module _ (first second third fourth : DeskTable) (a b c d e : State) (r s t u : 
       made (λ w is p. let same : v ≡ w = cc in subst (λ w. made w a e) same (makes (record { stays = p.0; one = p.1; two = p.2; three = p.3; four = p.4 }))) all
 
 abbrev pub ShownIfPresent : Schema → DeskTable → Vec Row → State → State → Type 0
-ShownIfPresent desk w rows a b = (b.now ≡ a.now) × ShowsRowsIfPresent desk w rows.items a.now
+ShownIfPresent desk w rows a b = (b.now ≡ a.now) × ShowsRowsIfInSchema desk w rows.items a.now
 
 module _ (desk : Schema) (a b c : State) (r s : Vec Row)
     (one : IsTransactionStep {V = Vec Row} {E = Fault} a b (Ok r) (λ rows x y. ShownIfPresent desk CashMoves rows x y)) (two : IsTransactionStep {V = Vec Row} {E = Fault} b c (Ok s) (λ rows x y. ShownIfPresent desk SettleRules rows x y)) where
@@ -45,5 +45,5 @@ module _ (desk : Schema) (a b c : State) (r s : Vec Row)
   shows_later {V} {F} v made makes =
       let both : Vec Row → State → State → Type 0 = λ rows x y. ShowsLaterSchemaTables desk (record { moves = r.items; rule = rows.items }) x y in
       let all = step_then a b c r (Ok s) (λ rows x y. ShownIfPresent desk CashMoves rows x y) (λ rows x y. ShownIfPresent desk SettleRules rows x y) both
-      (λ rows p q. record { same = q.0 ∙ p.0; moves = p.1; rule = subst (ShowsRowsIfPresent desk SettleRules rows.items) p.0 q.1 }) one two in
+      (λ rows p q. record { same = q.0 ∙ p.0; moves = p.1; rule = subst (ShowsRowsIfInSchema desk SettleRules rows.items) p.0 q.1 }) one two in
       step_read a c s (Ok v) both made (λ w is p. let same : v ≡ w = cc in subst (λ w. made w a c) same (makes p)) all

@@ -21,7 +21,7 @@ use Rattle.brk_changes.specs.Schemas.{abstract_schema}
 use Rattle.brk_tables_schema.specs.Desk.{DeskTable, all_tables, table_name, table_definition_at_tree, tables_in_schema}
 use Rattle.brk_tables_create.specs.Made.{tables_of_later_schemas}
 use Rattle.brk_tables_create.specs.Present.{has_exact_table_names, has_table_named}
-use Rattle.brk_tables_scan.specs.Headings.{AreHeadingCheckOutcomes, heading_of_borrowed_texts, heading_of_table, select_all_text}
+use Rattle.brk_tables_scan.specs.Headings.{IsHeadingCheckOutcome, heading_of_borrowed_texts, heading_of_table, select_all_text}
 use Rattle.brk_tables_scan.specs.Schemas.{HasTableWithNames, HasTablesOfSchema, LacksTablesOfLaterSchemas, table_and_column_names}
 use Rattle.brk_tables_scan.proofs.Stars.{columns_told}
 
@@ -32,20 +32,20 @@ Told = Bor (List ℕ) × Bor (List (Bor (List ℕ)))
 
 module _ (schema : Schema) (d : Told) where
   -- all before it, and not this one
-  pub wrong_at : (all : List Told) (i : ℕ) → i < length all → AreHeadingCheckOutcomes (map heading_of_borrowed_texts (take i all)) true schema → IsResultColumnCheckOutcome (heading_of_borrowed_texts (get_or all i d)).0 (heading_of_borrowed_texts (get_or all i d)).1 false schema → AreHeadingCheckOutcomes (map heading_of_borrowed_texts all) false schema
+  pub wrong_at : (all : List Told) (i : ℕ) → i < length all → IsHeadingCheckOutcome (map heading_of_borrowed_texts (take i all)) true schema → IsResultColumnCheckOutcome (heading_of_borrowed_texts (get_or all i d)).0 (heading_of_borrowed_texts (get_or all i d)).1 false schema → IsHeadingCheckOutcome (map heading_of_borrowed_texts all) false schema
   wrong_at [] i lt before this = absurd (omega (arith, lt))
   wrong_at (t ∷ all) zero lt before this = inl (this, refl)
   wrong_at (t ∷ all) (suc i) lt (inl (other, e)) this = absurd (let f = e in cc)
   wrong_at (t ∷ all) (suc i) lt (inr (one, before)) this = inr (one, wrong_at all i (omega (arith, lt)) before this)
 
-  next_at : (all : List Told) (i : ℕ) → i < length all → AreHeadingCheckOutcomes (map heading_of_borrowed_texts (take i all)) true schema → IsResultColumnCheckOutcome (heading_of_borrowed_texts (get_or all i d)).0 (heading_of_borrowed_texts (get_or all i d)).1 true schema → AreHeadingCheckOutcomes (map heading_of_borrowed_texts (take (suc i) all)) true schema
+  next_at : (all : List Told) (i : ℕ) → i < length all → IsHeadingCheckOutcome (map heading_of_borrowed_texts (take i all)) true schema → IsResultColumnCheckOutcome (heading_of_borrowed_texts (get_or all i d)).0 (heading_of_borrowed_texts (get_or all i d)).1 true schema → IsHeadingCheckOutcome (map heading_of_borrowed_texts (take (suc i) all)) true schema
   next_at [] i lt before this = absurd (omega (arith, lt))
   next_at (t ∷ all) zero lt before this = inr (this, refl)
   next_at (t ∷ all) (suc i) lt (inl (other, e)) this = absurd (let f = e in cc)
   next_at (t ∷ all) (suc i) lt (inr (one, before)) this = inr (one, next_at all i (omega (arith, lt)) before this)
 
   -- all before it, and this one
-  pub right_at : (all : List Told) (i : ℕ) → i < length all → AreHeadingCheckOutcomes (map heading_of_borrowed_texts (take i all)) true schema → IsResultColumnCheckOutcome (heading_of_borrowed_texts (get_or all i d)).0 (heading_of_borrowed_texts (get_or all i d)).1 true schema → AreHeadingCheckOutcomes (map heading_of_borrowed_texts (take (i + 1) all)) true schema
+  pub right_at : (all : List Told) (i : ℕ) → i < length all → IsHeadingCheckOutcome (map heading_of_borrowed_texts (take i all)) true schema → IsResultColumnCheckOutcome (heading_of_borrowed_texts (get_or all i d)).0 (heading_of_borrowed_texts (get_or all i d)).1 true schema → IsHeadingCheckOutcome (map heading_of_borrowed_texts (take (i + 1) all)) true schema
   right_at all i lt before this = rw (add-one i) (next_at all i lt before this)
 
 -- ---- the tables of a schema are the first of all tables
@@ -57,11 +57,11 @@ headings_in_schema Second all is = sym (take-map heading_of_borrowed_texts 21 al
 headings_in_schema Third all is = sym (take-map heading_of_borrowed_texts 22 all) ∙ ap (take 22) is
 
 pub step_in_schema : (a b : State) (r : Result Bool Fault) (schema : known.Schema) (n : ℕ) (all : List Told)
-    → IsTransactionStep {V = Bool} {E = Fault} a b r (λ has a b. (b.now ≡ a.now) × AreHeadingCheckOutcomes (map heading_of_borrowed_texts (take n all)) has a.now.schema)
+    → IsTransactionStep {V = Bool} {E = Fault} a b r (λ has a b. (b.now ≡ a.now) × IsHeadingCheckOutcome (map heading_of_borrowed_texts (take n all)) has a.now.schema)
     → n ≡ length (tables_in_schema (abstract_schema schema)) → map heading_of_borrowed_texts all ≡ map heading_of_table all_tables
-    → IsTransactionStep {V = Bool} {E = Fault} a b r (λ has a b. (b.now ≡ a.now) × AreHeadingCheckOutcomes (map heading_of_table (tables_in_schema (abstract_schema schema))) has a.now.schema)
+    → IsTransactionStep {V = Bool} {E = Fault} a b r (λ has a b. (b.now ≡ a.now) × IsHeadingCheckOutcome (map heading_of_table (tables_in_schema (abstract_schema schema))) has a.now.schema)
 step_in_schema a b r schema n all step count is =
-    subst (λ hs. IsTransactionStep {V = Bool} {E = Fault} a b r (λ has a b. (b.now ≡ a.now) × AreHeadingCheckOutcomes hs has a.now.schema))
+    subst (λ hs. IsTransactionStep {V = Bool} {E = Fault} a b r (λ has a b. (b.now ≡ a.now) × IsHeadingCheckOutcome hs has a.now.schema))
     (ap (λ n. map heading_of_borrowed_texts (take n all)) count ∙ headings_in_schema schema all is) step
 
 -- ---- of a desk
@@ -89,7 +89,7 @@ module _ (schema : Schema) where
       let e : false ≡ true = shows.2.1 (columns_told w schema has.0 has.1 has.2.named has.2.found shows.0 shows.1 ∙ has.2.columns) in
       cc
 
-  told_by : (ws : List DeskTable) → list_all (has_table_named schema) ws ≡ true → (has : Bool) → AreHeadingCheckOutcomes (map heading_of_table ws) has schema → IsTrue has ↔ AllByRecursion (λ w. HasTableWithNames schema (table_and_column_names (table_definition_at_tree w 0))) ws
+  told_by : (ws : List DeskTable) → list_all (has_table_named schema) ws ≡ true → (has : Bool) → IsHeadingCheckOutcome (map heading_of_table ws) has schema → IsTrue has ↔ AllByRecursion (λ w. HasTableWithNames schema (table_and_column_names (table_definition_at_tree w 0))) ws
   told_by [] there has e = ((λ _. tt), (λ _. e))
   told_by (w ∷ ws) there has (inl (wrong, e)) = ((λ sure. absurd (let f = sym e ∙ sure in cc)), (λ (all : AllByRecursion (λ w. HasTableWithNames schema (table_and_column_names (table_definition_at_tree w 0))) (w ∷ ws)). absurd (columns_shown w all.0 wrong)))
   told_by (w ∷ ws) there has (inr (right, rest)) =
@@ -120,7 +120,7 @@ module _ (schema : Schema) where
   all_named (w ∷ ws) all = rw (all.0.2.named) (all_named ws all.1)
 
   module _ (desk : Desk) where
-    pub columns_tell : has_exact_table_names desk schema ≡ true → (has : Bool) → AreHeadingCheckOutcomes (map heading_of_table (tables_in_schema desk)) has schema → IsTrue has ↔ HasTablesOfSchema desk schema × LacksTablesOfLaterSchemas desk schema
+    pub columns_tell : has_exact_table_names desk schema ≡ true → (has : Bool) → IsHeadingCheckOutcome (map heading_of_table (tables_in_schema desk)) has schema → IsTrue has ↔ HasTablesOfSchema desk schema × LacksTablesOfLaterSchemas desk schema
     columns_tell there has heads =
         let p = and_parts (list_all (has_table_named schema) (tables_in_schema desk)) (not (list_any (has_table_named schema) (tables_of_later_schemas desk))) there in
         let told = told_by (tables_in_schema desk) p.0 has heads in

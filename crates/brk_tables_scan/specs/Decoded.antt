@@ -25,7 +25,7 @@ use Rattle.brk_tables_schema.specs.Formed.{holding_column_cell_checks, summary_c
 use Rattle.brk_tables_schema.specs.Formed.{settlement_column_cell_checks, cash_column_cell_checks, move_column_cell_checks}
 use Rattle.brk_tables_schema.specs.Formed.{has_at_most_one_valid_rule_row}
 use Rattle.brk_tables_scan.specs.KeptKeys.{AreKeysOfRawRows, keys_of_kept_rows, tables_with_whole_kept_rows}
-use Rattle.brk_tables_scan.specs.Whole.{ShowsRowsIfPresent}
+use Rattle.brk_tables_scan.specs.Whole.{ShowsRowsIfInSchema}
 use Rattle.brk_tables_scan.specs.Raw.{DeskAndCustomerRows, AccountAndSecurityRows, ChargeAndRateRows, TradeAndHoldingRows, SummaryAndSettlementRows}
 use Rattle.brk_tables_scan.specs.Raw.{LaterSchemaRows, RawSheets, raw_rows_of_table, IsUnchangedAndOpen, ShowsDeskAndCustomerTables}
 use Rattle.brk_tables_scan.specs.Raw.{ShowsAccountAndSecurityTables, ShowsChargeAndRateTables, ShowsTradeAndHoldingTables}
@@ -210,8 +210,8 @@ pub record ReadsSummaryAndSettlementTables (old new : Bool) (sheets : SummaryAnd
   pub decoded : ContinuesDecoding old new (are_summary_and_settlement_rows_well_formed raw) (DecodesSummaryAndSettlementTables sheets raw)
 
 -- The reads return all rows of CASH_MOVE and SETTLE_RULE, or none of a table that the schema `desk`
--- does not have (`ShowsRowsIfPresent`), and change nothing. If the flag `new` after the decoding is
--- true, the typed rows `sheets` are the decoded rows. If it is false, the flag `old` before the
+-- does not have (`ShowsRowsIfInSchema`), and change nothing. If the flag `new` after the decoding
+-- is true, the typed rows `sheets` are the decoded rows. If it is false, the flag `old` before the
 -- decoding was false, a row is malformed, or SETTLE_RULE has two rows or more. The clause on the
 -- rows of a table is vacuous if the database does not define it as a desk does.
 pub record ReadsLaterSchemaTables (desk : Schema) (old new : Bool) (sheets : LaterSchemaSheets) (a b : State) : Type 0 where
@@ -220,7 +220,7 @@ pub record ReadsLaterSchemaTables (desk : Schema) (old new : Bool) (sheets : Lat
   pub decoded : ContinuesDecoding old new (are_later_schema_rows_well_formed raw) (DecodesLaterSchemaTables sheets raw)
 
 -- The reads return all rows of each table of the schema `desk`, and none of other tables
--- (`ShowsRowsIfPresent`). The database was open, and the reads changed nothing. If the flag `new`
+-- (`ShowsRowsIfInSchema`). The database was open, and the reads changed nothing. If the flag `new`
 -- after the decoding is true, the typed rows `sheets` are the decoded rows, but for the texts of
 -- KEPT. If it is false, the flag `old` before the decoding was false or the rows are malformed
 -- (`are_raw_sheets_well_formed`). The clause on the rows of a table is vacuous if the database does
@@ -228,5 +228,5 @@ pub record ReadsLaterSchemaTables (desk : Schema) (old new : Bool) (sheets : Lat
 pub record ReadsAndDecodesDeskTables (desk : Schema) (old new : Bool) (sheets : Sheets) (a b : State) : Type 0 where
   pub raw : RawSheets
   pub stays : IsUnchangedAndOpen a b
-  pub shown : (w : DeskTable) → ShowsRowsIfPresent desk w (raw_rows_of_table raw w) a.now
+  pub shown : (w : DeskTable) → ShowsRowsIfInSchema desk w (raw_rows_of_table raw w) a.now
   pub decoded : ContinuesDecoding old new (are_raw_sheets_well_formed desk raw) (DecodesSheets desk sheets raw)

@@ -28,8 +28,8 @@ heading_of_table w = (select_all_text w, (table_and_column_names (table_definiti
 -- result has exactly the column names of its heading, in order. If `has` is false, this holds for
 -- the first statements, possibly none, and the next statement compiles, but its result does not
 -- have the column names of its heading.
-abbrev pub AreHeadingCheckOutcomes : List Heading → Bool → Schema → Type 0
-AreHeadingCheckOutcomes [] has schema = has ≡ true
-AreHeadingCheckOutcomes (h ∷ headings) has schema =
+abbrev pub IsHeadingCheckOutcome : List Heading → Bool → Schema → Type 0
+IsHeadingCheckOutcome [] has schema = has ≡ true
+IsHeadingCheckOutcome (h ∷ headings) has schema =
     (IsResultColumnCheckOutcome h.0 h.1 false schema × (has ≡ false))
-    ⊎ (IsResultColumnCheckOutcome h.0 h.1 true schema × AreHeadingCheckOutcomes headings has schema)
+    ⊎ (IsResultColumnCheckOutcome h.0 h.1 true schema × IsHeadingCheckOutcome headings has schema)

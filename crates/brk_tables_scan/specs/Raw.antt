@@ -7,7 +7,7 @@ use Rattle.brk_tables_schema.specs.Desk.{DeskTable, TheDesk, KeptRows, Brokers, 
 use Rattle.brk_tables_schema.specs.Desk.{Bands, TaxRates, CustomerTaxes, Trades, TradeHistory, Requests, Holdings, Summaries, HoldingHistory}
 use Rattle.brk_tables_schema.specs.Desk.{Settlements, CashRows, CashMoves, SettleRules}
 use Rattle.brk_model.specs.Schemas.{Schema}
-use Rattle.brk_tables_scan.specs.Whole.{ShowsAllRows, ShowsRowsIfPresent}
+use Rattle.brk_tables_scan.specs.Whole.{ShowsAllRows, ShowsRowsIfInSchema}
 
 -- The raw rows of DESK, KEPT, BROKER and CUSTOMER.
 pub record DeskAndCustomerRows : Type 0 where
@@ -103,12 +103,12 @@ abbrev pub ShowsSummaryAndSettlementTables : SummaryAndSettlementRows → State 
 ShowsSummaryAndSettlementTables raw = ShowsFourTables Summaries HoldingHistory Settlements CashRows raw.summaries raw.holding_history raw.settlements raw.cash
 
 -- The reads changed nothing, and the raw rows are all rows of CASH_MOVE and SETTLE_RULE, or none of
--- a table that the schema `desk` does not have (`ShowsRowsIfPresent`). The clause on a table is
+-- a table that the schema `desk` does not have (`ShowsRowsIfInSchema`). The clause on a table is
 -- vacuous if the database does not define it as a desk does.
 pub record ShowsLaterSchemaTables (desk : Schema) (raw : LaterSchemaRows) (old new : State) : Type 0 where
   pub same : new.now ≡ old.now
-  pub moves : ShowsRowsIfPresent desk CashMoves raw.moves old.now
-  pub rule : ShowsRowsIfPresent desk SettleRules raw.rule old.now
+  pub moves : ShowsRowsIfInSchema desk CashMoves raw.moves old.now
+  pub rule : ShowsRowsIfInSchema desk SettleRules raw.rule old.now
 
 -- The raw rows of one table in `raw`, the raw rows of all tables.
 abbrev pub raw_rows_of_table : RawSheets → DeskTable → List Row

@@ -90,7 +90,7 @@ pub record HasDeskDefinitions (desk : Schema) (db : Database) : Type 0 where
   pub apart : (v w : DeskTable) → IsTableOfSchema desk v → IsTableOfSchema desk w → (i j tree : ℕ) → IsTableAt db.schema (table_definition_at_tree v tree) i
       → IsTableAt db.schema (table_definition_at_tree w tree) j → v ≡ w
   -- No foreign key of a table at their trees changes or deletes rows.
-  pub calm : (w : DeskTable) → IsTableOfSchema desk w → (at tree : ℕ) → IsTableAt db.schema (table_definition_at_tree w tree) at
+  pub keys_write_nothing : (w : DeskTable) → IsTableOfSchema desk w → (at tree : ℕ) → IsTableAt db.schema (table_definition_at_tree w tree) at
       → HasNoWritingForeignKeysAt db.schema tree
   pub keyed : (w : DeskTable) → IsTableOfSchema desk w → (at tree : ℕ) → IsTableAt db.schema (table_definition_at_tree w tree) at
       → HasDistinctRowids (db.trees tree)

@@ -50,15 +50,15 @@ ReadsAllRows g old new result w = IsConnectionStep g old new result (λ rows a b
 -- If the schema `desk` has the table `w`, the list `rows` has all rows of this table
 -- (`ShowsAllRows`, which is vacuous if the database does not define the table as a desk does).
 -- Otherwise the list is empty.
-abbrev pub ShowsRowsIfPresent : Schema → DeskTable → List Row → Database → Type 0
-ShowsRowsIfPresent desk w rows db = (IsTableOfSchema desk w → ShowsAllRows w rows db) × (schema_has_table desk w ≡ false → rows ≡ [])
+abbrev pub ShowsRowsIfInSchema : Schema → DeskTable → List Row → Database → Type 0
+ShowsRowsIfInSchema desk w rows db = (IsTableOfSchema desk w → ShowsAllRows w rows db) × (schema_has_table desk w ≡ false → rows ≡ [])
 
 -- Under the disk assumption and within a transaction: if the call succeeds, the database is
 -- unchanged, and the call returns all rows of the table `w` (`ShowsAllRows`, which is vacuous if no
 -- table of the database is defined as a desk defines `w`), or none if the schema `desk` does not
 -- have this table. Under the disk assumption the call commits nothing.
-abbrev pub ReadsRowsIfPresent : {S E : Type 0} → Ghosts S → Transaction S → Transaction S → Result (Vec Row) E → Schema → DeskTable → Type 0
-ReadsRowsIfPresent g old new result desk w = IsConnectionStep g old new result (λ rows a b. (b.now ≡ a.now) × ShowsRowsIfPresent desk w rows.items a.now)
+abbrev pub ReadsRowsIfInSchema : {S E : Type 0} → Ghosts S → Transaction S → Transaction S → Result (Vec Row) E → Schema → DeskTable → Type 0
+ReadsRowsIfInSchema g old new result desk w = IsConnectionStep g old new result (λ rows a b. (b.now ≡ a.now) × ShowsRowsIfInSchema desk w rows.items a.now)
 
 -- The database contains the tables of the schema with the typed rows `sheets`, but for the texts of
 -- KEPT: its rows of KEPT are the typed rows `whole`, which have the keys of `sheets`.

@@ -3,7 +3,7 @@
 ghost use Rattle.std.specs.Prelude.{◌≡◌, ◌↔◌, ◌≤◌, length, map, Err, OnErr, IsTrue};
 ghost use Rattle.brk_money.specs.declared.fault.Fault.TheVariants.{Store};
 ghost use Rattle.brk_sql.specs.Model.{IsConnectionStep};
-ghost use Rattle.brk_tables_scan.specs.Headings.{AreHeadingCheckOutcomes, heading_of_borrowed_texts, heading_of_table};
+ghost use Rattle.brk_tables_scan.specs.Headings.{IsHeadingCheckOutcome, heading_of_borrowed_texts, heading_of_table};
 ghost use Rattle.brk_changes.specs.Schemas.{abstract_schema};
 ghost use Rattle.brk_tables_schema.specs.Desk.{tables_in_schema};
 ghost use Rattle.brk_tables_scan.specs.Schemas.{HasTablesOfSchema, LacksTablesOfLaterSchemas};
@@ -25,7 +25,7 @@ fn each_heading_matches<S: Alter>(
 ) -> Result<bool, Fault>
     ensures same_reference { tx.new.conn.ghost_name ≡ tx.old.conn.ghost_name }
     ensures step { IsConnectionStep S.Store tx.old tx.new result (λ has a b. (b.now ≡ a.now)
-        × AreHeadingCheckOutcomes (map heading_of_borrowed_texts headings.now) has a.now.schema) }
+        × IsHeadingCheckOutcome (map heading_of_borrowed_texts headings.now) has a.now.schema) }
     ensures fault { OnErr result (result ≡ Err Store) }
 {
     for (text, names) in headings {
@@ -55,7 +55,7 @@ fn table_count(schema: Schema) -> usize
 fn tables_have_columns<S: Alter>(tx: &mut Transaction<'_, S>, schema: Schema) -> Result<bool, Fault>
     ensures same_reference { tx.new.conn.ghost_name ≡ tx.old.conn.ghost_name }
     ensures step { IsConnectionStep S.Store tx.old tx.new result (λ has a b. (b.now ≡ a.now)
-        × AreHeadingCheckOutcomes (map heading_of_table (tables_in_schema (abstract_schema schema))) has a.now.schema) }
+        × IsHeadingCheckOutcome (map heading_of_table (tables_in_schema (abstract_schema schema))) has a.now.schema) }
     ensures fault { OnErr result (result ≡ Err Store) }
 {
     each_heading_matches(tx, &COLUMNS_OF_ALL_TABLES[..table_count(schema)])

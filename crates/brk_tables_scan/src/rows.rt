@@ -6,7 +6,7 @@ ghost use Rattle.brk_tables_schema.specs.Desk.{TheDesk, KeptRows, Brokers, Custo
 ghost use Rattle.brk_tables_schema.specs.Desk.{TaxRates, CustomerTaxes, Trades, TradeHistory, Requests, Holdings, Summaries, HoldingHistory};
 ghost use Rattle.brk_tables_schema.specs.Desk.{Settlements, CashRows, CashMoves, SettleRules};
 ghost use Rattle.brk_changes.specs.Schemas.{abstract_schema};
-ghost use Rattle.brk_tables_scan.specs.Whole.{ReadsRowsIfPresent, ReadsAllRows};
+ghost use Rattle.brk_tables_scan.specs.Whole.{ReadsRowsIfInSchema, ReadsAllRows};
 
 use brk_changes::Schema;
 use brk_money::Fault;
@@ -337,7 +337,7 @@ pub fn cash_move_rows_in_schema<S: Alter>(
     schema: Schema,
 ) -> Result<Vec<Row>, Fault>
     ensures same_reference { tx.new.conn.ghost_name ≡ tx.old.conn.ghost_name }
-    ensures step { ReadsRowsIfPresent S.Store tx.old tx.new result (abstract_schema schema) CashMoves }
+    ensures step { ReadsRowsIfInSchema S.Store tx.old tx.new result (abstract_schema schema) CashMoves }
     ensures fault { OnErr result (result ≡ Err Store) }
 {
     if !schema.has_cash_move_table() {
@@ -354,7 +354,7 @@ pub fn settle_rule_rows_in_schema<S: Alter>(
     schema: Schema,
 ) -> Result<Vec<Row>, Fault>
     ensures same_reference { tx.new.conn.ghost_name ≡ tx.old.conn.ghost_name }
-    ensures step { ReadsRowsIfPresent S.Store tx.old tx.new result (abstract_schema schema) SettleRules }
+    ensures step { ReadsRowsIfInSchema S.Store tx.old tx.new result (abstract_schema schema) SettleRules }
     ensures fault { OnErr result (result ≡ Err Store) }
 {
     if !schema.has_settle_rule_table() {

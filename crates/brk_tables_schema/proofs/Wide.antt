@@ -34,9 +34,9 @@ module _ (schema : Schema) (tree : DeskTable → ℕ) (db : Database) where
   pub widened : (t : Tables) → HasTables (desk_tables_of_schema schema) t tree db → HasTables wide (wide_of schema t) tree db
   widened t h = record {
     place = h.place;
-    stands = h.stands;
+    is_table = h.is_table;
     apart = h.apart;
-    calm = h.calm;
+    keys_write_nothing = h.keys_write_nothing;
     sound = h.sound;
     rows = λ w. subst (λ xs. TreeHoldsRecords (table_definition_at_tree w (tree w)) (encoded_row w) (ordering_by_primary_key w) xs (db.trees (tree w))) (same_lists w t) (h.rows w);
   }
@@ -46,9 +46,9 @@ module _ (schema : Schema) (tree : DeskTable → ℕ) (db : Database) where
       → HasTables wide (record { rows = rows; rules = rules; tables = t }) tree db → HasTables (desk_tables_of_schema schema) u tree db
   narrowed rows rules t u desk_is rule_is others h = record {
     place = h.place;
-    stands = h.stands;
+    is_table = h.is_table;
     apart = h.apart;
-    calm = h.calm;
+    keys_write_nothing = h.keys_write_nothing;
     sound = h.sound;
     rows = λ w. subst (λ xs. TreeHoldsRecords (table_definition_at_tree w (tree w)) (encoded_row w) (ordering_by_primary_key w) xs (db.trees (tree w))) (back w) (h.rows w);
   }

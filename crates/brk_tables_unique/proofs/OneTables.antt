@@ -116,7 +116,7 @@ alike w s r t u db m n at by h k some more =
 
 pub one_tables : (t u : Tables) → (db : Database) → HasDeskTables t db → HasDeskTables u db → t ≡ u
 one_tables t u db h k =
-    same_tables third_schema t u (λ w. alike w third_schema third_schema t u db (h.0 w) (k.0 w) (h.1.place w) (k.1.place w) (h.1.stands w) (k.1.stands w) (h.1.rows w) (k.1.rows w))
+    same_tables third_schema t u (λ w. alike w third_schema third_schema t u db (h.0 w) (k.0 w) (h.1.place w) (k.1.place w) (h.1.is_table w) (k.1.is_table w) (h.1.rows w) (k.1.rows w))
 
 -- ---- of any schema
 
@@ -126,7 +126,7 @@ by_case false f g = g refl
 
 -- where both schemas have a table
 both_alike : (w : DeskTable) (s r : Schema) (t u : Tables) (db : Database) → HasDeskTablesInSchema s t db → HasDeskTablesInSchema r u db → IsTableOfSchema s w → IsTableOfSchema r w → rows_of_table_in_schema s w t ≡ rows_of_table_in_schema r w u
-both_alike w s r t u db h k a b = alike w s r t u db (h.0 w) (k.0 w) (h.1.place w) (k.1.place w) (h.1.stands w a) (k.1.stands w b) (h.1.rows w a) (k.1.rows w b)
+both_alike w s r t u db h k a b = alike w s r t u db (h.0 w) (k.0 w) (h.1.place w) (k.1.place w) (h.1.is_table w a) (k.1.is_table w b) (h.1.rows w a) (k.1.rows w b)
 
 one_of_schema : (s : Schema) (t u : Tables) (db : Database) → HasDeskTablesInSchema s t db → HasDeskTablesInSchema s u db → t ≡ u
 one_of_schema s t u db h k = same_tables s t u each

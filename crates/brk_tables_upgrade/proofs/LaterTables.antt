@@ -65,12 +65,12 @@ module _ (desk : Schema) where
         others = record {
           more = g.grows.more;
           tables = ap (λ (s : database.Schema). s.tables) up.1.schema ∙ g.grows.tables;
-          rows = all_from _ a.schema.tables (λ k there other calm.
-              all_has (λ k. ((w : DeskTable) → k.tree ≢ g.to w) → HasNoWritingForeignKeysAt b.schema k.tree → c.trees k.tree ≡ b.trees k.tree) a.schema.tables k spared there (away k there other) (g.grows.calm k.tree calm)
+          rows = all_from _ a.schema.tables (λ k there other keys_write_nothing.
+              all_has (λ k. ((w : DeskTable) → k.tree ≢ g.to w) → HasNoWritingForeignKeysAt b.schema k.tree → c.trees k.tree ≡ b.trees k.tree) a.schema.tables k spared there (away k there other) (g.grows.keys_write_nothing k.tree keys_write_nothing)
               ∙ all_has (λ k. b.trees k.tree ≡ a.trees k.tree) a.schema.tables k g.grows.rows there);
         };
         apart = all_from _ a.schema.tables away;
-        calm = λ n calm. subst (λ s. HasNoWritingForeignKeysAt s n) (sym up.1.schema) (g.grows.calm n calm);
+        keys_write_nothing = λ n keys_write_nothing. subst (λ s. HasNoWritingForeignKeysAt s n) (sym up.1.schema) (g.grows.keys_write_nothing n keys_write_nothing);
       }
 
   -- the rows are turned
@@ -86,13 +86,13 @@ module _ (desk : Schema) where
         others = record {
           more = s.others.more;
           tables = ap (λ (s : database.Schema). s.tables) spares.schema ∙ s.others.tables;
-          rows = all_from _ a.schema.tables (λ k there other calm.
+          rows = all_from _ a.schema.tables (λ k there other keys_write_nothing.
               all_has (λ k. ((w : DeskTable) → k.tree ≢ s.tree w) → HasNoWritingForeignKeysAt c.schema k.tree → d.trees k.tree ≡ c.trees k.tree) a.schema.tables k spared there
-              (all_has (λ k. ((w : DeskTable) → IsTableOfSchema desk w → k.tree ≢ before w) → (w : DeskTable) → k.tree ≢ s.tree w) a.schema.tables k s.apart there other) (s.calm k.tree calm)
-              ∙ all_has (λ k. ((w : DeskTable) → IsTableOfSchema desk w → k.tree ≢ before w) → HasNoWritingForeignKeysAt a.schema k.tree → c.trees k.tree ≡ a.trees k.tree) a.schema.tables k s.others.rows there other calm);
+              (all_has (λ k. ((w : DeskTable) → IsTableOfSchema desk w → k.tree ≢ before w) → (w : DeskTable) → k.tree ≢ s.tree w) a.schema.tables k s.apart there other) (s.keys_write_nothing k.tree keys_write_nothing)
+              ∙ all_has (λ k. ((w : DeskTable) → IsTableOfSchema desk w → k.tree ≢ before w) → HasNoWritingForeignKeysAt a.schema k.tree → c.trees k.tree ≡ a.trees k.tree) a.schema.tables k s.others.rows there other keys_write_nothing);
         };
         apart = s.apart;
-        calm = λ n calm. subst (λ s. HasNoWritingForeignKeysAt s n) (sym spares.schema) (s.calm n calm);
+        keys_write_nothing = λ n keys_write_nothing. subst (λ s. HasNoWritingForeignKeysAt s n) (sym spares.schema) (s.keys_write_nothing n keys_write_nothing);
       }
 
   -- cash rows that are numbered stay

@@ -18,7 +18,7 @@ use Rattle.brk_tables_upgrade.specs.Upgrade.{cash_transactions_by_stamp, tables_
 use Rattle.brk_tables_upgrade.proofs.Numbered.{one_more}
 
 pub turns_none : (a : Database) → ChangesTablesBy desk_tables (λ t. t) a a
-turns_none a = λ t tree h. (h, record { schema = refl; rows = Rattle.sqlite_rules.proofs.ListLemmas.all_from _ a.schema.tables (λ k there apart calm. refl) })
+turns_none a = λ t tree h. (h, record { schema = refl; rows = Rattle.sqlite_rules.proofs.ListLemmas.all_from _ a.schema.tables (λ k there apart keys_write_nothing. refl) })
 
 pub turns_then : (f g : Tables → Tables) (a b c : Database) → ChangesTablesBy desk_tables f a b → ChangesTablesBy desk_tables g b c → ChangesTablesBy desk_tables (λ t. g (f t)) a c
 turns_then f g a b c p q = λ t tree h.

@@ -56,7 +56,7 @@ pub record HasUpgradedTables (desk_before : Schema) (before : DeskTable → ℕ)
   -- A table of `old` that is not one of the desk's is at none of the trees of schema 3's tables.
   pub apart : AllByRecursion (λ k. ((w : DeskTable) → IsTableOfSchema desk_before w → k.tree ≢ before w) → (w : DeskTable) → k.tree ≢ tree w) old.schema.tables
   -- If no foreign key of a table at a tree changes or deletes rows in `old`, none does in `new`.
-  pub calm : (tree : ℕ) → HasNoWritingForeignKeysAt old.schema tree → HasNoWritingForeignKeysAt new.schema tree
+  pub keys_write_nothing : (tree : ℕ) → HasNoWritingForeignKeysAt old.schema tree → HasNoWritingForeignKeysAt new.schema tree
 
 -- If the database `old` contains the tables of `schema` with the rows `t`, and no table that a
 -- later schema adds, `new` contains the tables of schema 3 with the rows `t`. Other tables are

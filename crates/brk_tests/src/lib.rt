@@ -52,11 +52,10 @@ pub fn run_test(rt: &HostRuntime, name: &str) -> Option<Result<(), Fail>> {
             http::streams::streams_in_pieces_get_the_same_replies(alloc),
         "a_head_has_at_most_16_384_bytes" => http::streams::a_head_has_at_most_16_384_bytes(alloc),
         "a_store_fault_is_the_last_reply" => http::streams::a_store_fault_is_the_last_reply(alloc),
-        "a_second_creation_is_refused" => made::a_second_creation_is_refused(alloc),
+        "a_second_creation_fails" => made::a_second_creation_fails(alloc),
         "creation_preserves_other_tables" => made::creation_preserves_other_tables(alloc),
-        "creation_fails_beside_a_table_name_in_other_case" => made::creation_fails_beside_a_table_name_in_other_case(
-            alloc,
-        ),
+        "creation_fails_beside_a_table_name_in_other_case" =>
+            made::creation_fails_beside_a_table_name_in_other_case(alloc),
         "a_sale_reads_only_the_pages_it_needs" => rows_read::a_sale_reads_only_the_pages_it_needs(
             alloc,
         ),

@@ -34,7 +34,7 @@ fn fault_of_second_creation<S: Alter + Drop>(
 
 /// Checks that creating a store in a database that has one already fails with `NotEmpty`, and that
 /// no transaction is open after it.
-pub fn a_second_creation_is_refused(alloc: Global) -> Result<(), Fail> {
+pub fn a_second_creation_fails(alloc: Global) -> Result<(), Fail> {
     let Some((fault, is_closed)) = fault_of_second_creation(open_in_memory(alloc))? else {
         return Err("made twice")?;
     };

@@ -364,7 +364,7 @@ const HEADERS: [&[u8]; 2] = [
 /// Checks that each batch of `WRONG_HEADERS`, whose header is missing or malformed, fails with
 /// `BadHeader` and writes nothing, and that the two correct headers of `HEADERS` are accepted.
 /// Fails if not, and if memory runs out.
-pub fn a_batch_with_a_wrong_header_is_refused(alloc: Global) -> Result<(), Fail> {
+pub fn a_wrong_header_is_a_fault(alloc: Global) -> Result<(), Fail> {
     for text in &WRONG_HEADERS {
         let wanted = batch_fault_result(0, FaultKind::BadHeader);
         expect_batch(alloc, *text, wanted, b"")?;

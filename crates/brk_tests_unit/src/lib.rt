@@ -28,9 +28,7 @@ pub fn run_test(rt: &HostRuntime, name: &str) -> Option<Result<(), Fail>> {
         "the_last_row_of_a_cut_input_is_refused" => batches::the_last_row_of_a_cut_input_is_refused(
             alloc,
         ),
-        "a_batch_with_a_wrong_header_is_refused" => batches::a_batch_with_a_wrong_header_is_refused(
-            alloc,
-        ),
+        "a_wrong_header_is_a_fault" => batches::a_wrong_header_is_a_fault(alloc),
         "a_wrong_end_record_is_a_fault" => batches::a_wrong_end_record_is_a_fault(alloc),
         "a_failed_read_ends_the_batch" => batches::a_failed_read_ends_the_batch(alloc),
         "a_failed_write_ends_the_batch" => batches::a_failed_write_ends_the_batch(alloc),
@@ -99,7 +97,7 @@ pub fn run_test(rt: &HostRuntime, name: &str) -> Option<Result<(), Fail>> {
             alloc,
         ),
         "parses_the_arguments_of_each_job" => words::parses_the_arguments_of_each_job(alloc),
-        "refuses_wrong_arguments" => words::refuses_wrong_arguments(alloc),
+        "reports_wrong_arguments" => words::reports_wrong_arguments(alloc),
         "prints_version_help_and_errors" => words::prints_version_help_and_errors(alloc),
         "prints_help_of_commands" => words::prints_help_of_commands(alloc),
         _ => return None,

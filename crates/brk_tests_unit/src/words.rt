@@ -355,7 +355,7 @@ fn expect_usage_faults(alloc: Global, faults: &[(&str, &str, &str)]) -> Result<(
 
 /// Checks that wrong arguments of a batch, a statement, an audit and serving are reported with the
 /// wanted error texts. Fails if not, and if memory runs out.
-pub fn refuses_wrong_arguments(alloc: Global) -> Result<(), Fail> {
+pub fn reports_wrong_arguments(alloc: Global) -> Result<(), Fail> {
     expect_usage_faults(alloc, &WRONG_BATCHES)?;
     expect_usage_faults(alloc, &WRONG_STATEMENTS)?;
     expect_usage_faults(alloc, &WRONG_AUDITS)?;

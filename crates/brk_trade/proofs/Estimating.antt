@@ -2,12 +2,12 @@
 use Rattle.std.proofs.Common.{◌≡◌, ℕ, ◌+◌, List, length, refl, sym, ap, ◌∙◌}
 use Rattle.std.specs.Prelude.{Option, Some, None, unwrap_or, option_map}
 use Rattle.std.specs.Option.{option_map_or}
-use Rattle.brk_money.specs.OrderTypes.{trade_type_of_order}
+use Rattle.brk_money.specs.OrderTypes.{trade_type_of_order_type}
 use Rattle.brk_money.specs.Amounts.{commission}
 use Rattle.brk_model.specs.Base.{Base, completed_trades, tier_of_account, exchange_of_security, commission_band_for_quantity, charge_for_type_and_tier}
 use Rattle.brk_model.specs.Commands.{Order}
 use Rattle.brk_model.specs.Derived.{shares_of_position}
-use Rattle.brk_model.specs.Orders.{deal_of_order, tax_on_deal, commission_by_band, requested_price, estimate_against_shares, estimate}
+use Rattle.brk_model.specs.Orders.{deal_of_order, tax_on_deal, commission_by_band, bid_price_of_order, estimate_against_shares, estimate}
 use Rattle.brk_model.specs.Shares.{Share, Deal, buy_value, sell_value}
 use Rattle.brk_plans.specs.declared.estimate.Estimate.{Estimate}
 use Rattle.brk_trade.specs.declared.estimate.Terms.{Terms}
@@ -49,10 +49,10 @@ made_upon base o us terms values h v =
     let bought : values.buy_value ≡ buy_value (deal_of_order base o) us = ap (λ (x : Values). x.buy_value) vs in
     let sold : values.sell_value ≡ sell_value (deal_of_order base o) us = ap (λ (x : Values). x.sell_value) vs in
     let taxed : tax_on_gain_at_status terms.tax_status terms.rates values ≡ tax_on_deal base o.account (deal_of_order base o) us = rw (h.tax_status, h.rates, vs) refl in
-    let rated : commission_from_terms terms ≡ unwrap_or (commission_by_band base o.account (trade_type_of_order o.order_type) o.symbol o.qty (requested_price base o)) 0 =
-    rw (h.qty, h.price) (rate_found (λ b. b.rate) (λ r. commission r o.qty (requested_price base o)) terms.rate (commission_band_for_quantity base (tier_of_account base o.account) (trade_type_of_order o.order_type) (exchange_of_security base o.symbol) o.qty) h.rate) in
-    let charged : terms.charge ≡ option_map_or (λ c. c.amount) (charge_for_type_and_tier base (trade_type_of_order o.order_type) (tier_of_account base o.account)) 0 =
-    amount_found (λ c. c.amount) terms.charge (charge_for_type_and_tier base (trade_type_of_order o.order_type) (tier_of_account base o.account)) h.charge in
+    let rated : commission_from_terms terms ≡ unwrap_or (commission_by_band base o.account (trade_type_of_order_type o.order_type) o.symbol o.qty (bid_price_of_order base o)) 0 =
+    rw (h.qty, h.price) (rate_found (λ b. b.rate) (λ r. commission r o.qty (bid_price_of_order base o)) terms.rate (commission_band_for_quantity base (tier_of_account base o.account) (trade_type_of_order_type o.order_type) (exchange_of_security base o.symbol) o.qty) h.rate) in
+    let charged : terms.charge ≡ option_map_or (λ c. c.amount) (charge_for_type_and_tier base (trade_type_of_order_type o.order_type) (tier_of_account base o.account)) 0 =
+    amount_found (λ c. c.amount) terms.charge (charge_for_type_and_tier base (trade_type_of_order_type o.order_type) (tier_of_account base o.account)) h.charge in
     rw (taxed, rated, bought, sold, charged, h.price, h.assets) refl
 
 -- upon the shares that the base has it is the estimate of the order

@@ -1,13 +1,13 @@
 -- The terms of an order, from which it is estimated.
 use Rattle.std.specs.Prelude.{◌≡◌, ℕ, ◌+◌, ◌≤◌, Bool, List, length, pos, ◌-ℤ◌, Some, option_map, if◌then◌else◌}
-use Rattle.brk_money.specs.OrderTypes.{trade_type_of_order}
+use Rattle.brk_money.specs.OrderTypes.{trade_type_of_order_type}
 use Rattle.brk_money.specs.Amounts.{commission, tax}
 use Rattle.brk_money.specs.Kinds.{side_of_trade_type}
 use Rattle.brk_money.specs.declared.tax_status.TaxStatus.{TaxStatus}
 use Rattle.brk_model.specs.Base.{Base, is_taxable_status, tax_status_in_accounts, tax_rate_sum_of_customer, customer_id_of_account}
 use Rattle.brk_model.specs.Base.{tier_of_account, exchange_of_security, commission_band_for_quantity, charge_for_type_and_tier}
 use Rattle.brk_model.specs.Commands.{Order}
-use Rattle.brk_model.specs.Orders.{requested_price, assets_of_account}
+use Rattle.brk_model.specs.Orders.{bid_price_of_order, assets_of_account}
 use Rattle.brk_trade.specs.declared.estimate.Terms.{Terms}
 use Rattle.brk_model.specs.Shares.{Deal, touches_of_existing_lots}
 use Rattle.brk_lots.specs.Lots.{shares_of_lots}
@@ -32,17 +32,17 @@ commission_from_terms terms = commission terms.rate terms.qty terms.price
 -- commission rate and the charge that apply. False if no commission rate or no charge applies. The
 -- record says nothing of `terms.held`.
 pub record AreOrderTermsInBase (base : Base) (o : Order) (terms : Terms) : Type 0 where
-  pub side : terms.side ≡ side_of_trade_type (trade_type_of_order o.order_type)
+  pub side : terms.side ≡ side_of_trade_type (trade_type_of_order_type o.order_type)
   pub qty : terms.qty ≡ o.qty
-  pub price : terms.price ≡ requested_price base o
+  pub price : terms.price ≡ bid_price_of_order base o
   pub tax_status : terms.tax_status ≡ tax_status_in_accounts base.accounts o.account
   pub rates : terms.rates ≡ tax_rate_sum_of_customer base (customer_id_of_account base o.account)
   -- The rate is that of the band that the model finds.
   pub rate : option_map (λ b. b.rate)
-      (commission_band_for_quantity base (tier_of_account base o.account) (trade_type_of_order o.order_type) (exchange_of_security base o.symbol) o.qty)
+      (commission_band_for_quantity base (tier_of_account base o.account) (trade_type_of_order_type o.order_type) (exchange_of_security base o.symbol) o.qty)
       ≡ Some terms.rate
   -- The charge is the one that the model finds.
-  pub charge : option_map (λ c. c.amount) (charge_for_type_and_tier base (trade_type_of_order o.order_type) (tier_of_account base o.account))
+  pub charge : option_map (λ c. c.amount) (charge_for_type_and_tier base (trade_type_of_order_type o.order_type) (tier_of_account base o.account))
       ≡ Some terms.charge
   pub assets : terms.assets ≡ assets_of_account base o.account
 

@@ -17,7 +17,7 @@ use Rattle.brk_model.specs.Orders as model_orders
 use Rattle.brk_model.specs.Limits.{greatest_id}
 use Rattle.brk_model.specs.Tables as tables
 use Rattle.brk_model.specs.Tests.{RefusalCheck, first_refusal}
-use Rattle.brk_money.specs.OrderTypes.{trade_type_of_order, price_of_order}
+use Rattle.brk_money.specs.OrderTypes.{trade_type_of_order_type, price_of_order_type}
 use Rattle.brk_money.specs.Kinds.{side_of_trade_type, is_market_type}
 use Rattle.brk_money.specs.Moments.{stamp_after}
 use Rattle.brk_money.specs.Spelling.{Text}
@@ -47,13 +47,13 @@ order_checks found =
 
 -- The price that `order` asks for, or `last` if it asks for none, both in cents.
 abbrev pub requested_or_last_price : Order → ℕ → ℕ
-requested_or_last_price order last = unwrap_or (price_of_order order.order_type) last
+requested_or_last_price order last = unwrap_or (price_of_order_type order.order_type) last
 
 -- The terms of `order` from the facts `found`. A number that is missing counts as 0, and a missing
 -- account as untaxed.
 abbrev pub terms_of_order : Order → OrderPlanFacts → Terms
 terms_of_order order found = record {
-  side = side_of_trade_type (trade_type_of_order order.order_type);
+  side = side_of_trade_type (trade_type_of_order_type order.order_type);
   qty = order.qty;
   price = requested_or_last_price order (unwrap_or found.last_price 0);
   tax_status = option_map_or (λ a. a.tax_status) found.account Untaxed;
@@ -104,8 +104,8 @@ abbrev pub trade_row_with_texts : Order → Terms → (trade stamp : ℕ) → (s
 trade_row_with_texts order terms trade stamp symbol executor = record {
   id = trade;
   stamp = stamp;
-  status = model_orders.first_status (trade_type_of_order order.order_type);
-  kind = trade_type_of_order order.order_type;
+  status = model_orders.first_status (trade_type_of_order_type order.order_type);
+  kind = trade_type_of_order_type order.order_type;
   is_cash = order.is_cash;
   symbol = symbol;
   qty = order.qty;
@@ -129,10 +129,10 @@ trade_row_of_order order terms trade stamp =
 -- order is a market order. `broker` is the broker of the order's account.
 abbrev pub request_row_of_order : Order → Terms → (broker trade : ℕ) → Option RequestRow
 request_row_of_order order terms broker trade =
-    if is_market_type (trade_type_of_order order.order_type) then None
+    if is_market_type (trade_type_of_order_type order.order_type) then None
     else Some (record {
       trade = trade;
-      kind = trade_type_of_order order.order_type;
+      kind = trade_type_of_order_type order.order_type;
       symbol = order.symbol;
       qty = order.qty;
       bid = terms.price;
@@ -168,7 +168,7 @@ pub record IsOrderPlan (order : Order) (found : OrderPlanFacts) (given : List Lo
       ≡ Ordered (record {
         stamp = stamp;
         trade = next_trade_id found.last_trade;
-        status = model_orders.first_status (trade_type_of_order order.order_type);
+        status = model_orders.first_status (trade_type_of_order_type order.order_type);
         estimate = estimate;
       })
   pub changes : AreOrderChanges order (terms_of_order order found) (option_map_or (λ a. a.broker) found.account 0)

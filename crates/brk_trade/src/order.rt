@@ -72,7 +72,7 @@ struct Placement {
 
 // Returns the price that the order asks for, or `last`, the last price of its security, if it asks
 // for none; both are in cents.
-fn requested_price(order: &Order, last: Price) -> Price
+fn bid_price_of_order(order: &Order, last: Price) -> Price
     ensures { result ≡ spec.requested_or_last_price order.now last }
 {
     order.order_type.price().unwrap_or(last)
@@ -104,7 +104,7 @@ fn checked_placement(order: &Order, found: &OrderPlanFacts) -> Result<Placement,
         terms: Terms {
             side: order.order_type.kind().side(),
             qty: order.qty,
-            price: requested_price(order, last),
+            price: bid_price_of_order(order, last),
             tax_status: account.tax_status,
             rates: found.rates,
             rate,

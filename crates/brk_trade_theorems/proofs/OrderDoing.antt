@@ -11,7 +11,7 @@ use Rattle.brk_model.specs.Base.{Base}
 use Rattle.brk_model.specs.Commands as model
 use Rattle.brk_model.specs.Commands.{PlaceOrder}
 use Rattle.brk_model.specs.Limits.{greatest_id}
-use Rattle.brk_model.specs.Orders.{commission_by_band, estimate, first_status, trade_of_order, requested_price}
+use Rattle.brk_model.specs.Orders.{commission_by_band, estimate, first_status, trade_of_order, bid_price_of_order}
 use Rattle.brk_model.specs.Queries.{EstimateOf}
 use Rattle.brk_model.specs.Records.{Band, Charge}
 use Rattle.brk_model.specs.Rows.{estimate_fields}
@@ -20,7 +20,7 @@ use Rattle.brk_model.specs.Step.{reply_to_command, step, value_unless_refused}
 use Rattle.brk_model.specs.Tables as tables
 use Rattle.brk_model.specs.Tables.{Tables}
 use Rattle.brk_model.specs.Tests.{first_refusal, stamp_of_next_command, refusal_of_command, checks_of_command}
-use Rattle.brk_money.specs.OrderTypes.{trade_type_of_order}
+use Rattle.brk_money.specs.OrderTypes.{trade_type_of_order_type}
 use Rattle.brk_money.specs.Amounts.{commission}
 use Rattle.brk_money.specs.Kinds.{is_market_type}
 use Rattle.brk_money.specs.Moments.{greatest_stamp, stamp_after}
@@ -120,22 +120,22 @@ row_made : (base : Base) (order : Order) (found : OrderPlanFacts) (stamp : ℕ) 
 unfolding estimate
 row_made base order found stamp f number =
     let o : model.Order = abstract_order order in
-    let price : requested_price base o ≡ (terms_of_order order found).price = sym f.terms.price in
+    let price : bid_price_of_order base o ≡ (terms_of_order order found).price = sym f.terms.price in
     let charge = amount_or _ (terms_of_order order found).charge f.terms.charge in
-    let rate : unwrap_or (commission_by_band base o.account (trade_type_of_order o.order_type) o.symbol o.qty (requested_price base o)) 0 ≡ commission (terms_of_order order found).rate order.qty (terms_of_order order found).price =
-    commission_or _ (terms_of_order order found).rate order.qty (requested_price base o) f.terms.rate ∙ ap (commission (terms_of_order order found).rate order.qty) price in
+    let rate : unwrap_or (commission_by_band base o.account (trade_type_of_order_type o.order_type) o.symbol o.qty (bid_price_of_order base o)) 0 ≡ commission (terms_of_order order found).rate order.qty (terms_of_order order found).price =
+    commission_or _ (terms_of_order order found).rate order.qty (bid_price_of_order base o) f.terms.rate ∙ ap (commission (terms_of_order order found).rate order.qty) price in
     λ i. record (tables.trade_row (trade_of_order base stamp o)) { id = sym number i + 1; bid = price i; charge = charge i; commission = rate i }
 
 -- the changes of an order are the rows that it makes
 changes_made : (order : Order) (terms : Terms) (broker trade stamp : ℕ) (row : TradeRow) (t : Tables) → abstract_trade_row row ≡ trade_row_of_order order terms trade stamp
-    → tables_after_changes (row_changes_of_order row (request_row_of_order order terms broker trade)) t ≡ tables_with_last_stamp stamp (tables_after_order (trade_row_of_order order terms trade stamp) (not (is_market_type (trade_type_of_order order.order_type))) broker t)
-changes_made order terms broker trade stamp row t e = by_market (is_market_type (trade_type_of_order order.order_type))
+    → tables_after_changes (row_changes_of_order row (request_row_of_order order terms broker trade)) t ≡ tables_with_last_stamp stamp (tables_after_order (trade_row_of_order order terms trade stamp) (not (is_market_type (trade_type_of_order_type order.order_type))) broker t)
+changes_made order terms broker trade stamp row t e = by_market (is_market_type (trade_type_of_order_type order.order_type))
   where
     r : tables.TradeRow
     r = trade_row_of_order order terms trade stamp
 
     request : RequestRow
-    request = record { trade = trade; kind = (trade_type_of_order order.order_type); symbol = order.symbol; qty = order.qty; bid = terms.price; broker = broker }
+    request = record { trade = trade; kind = (trade_type_of_order_type order.order_type); symbol = order.symbol; qty = order.qty; bid = terms.price; broker = broker }
 
     by_market : (b : Bool) → tables_after_changes (row_changes_of_order row (cond b None (Some request))) t
         ≡ tables_with_last_stamp stamp (tables_with_request_if_pending (not b) (request_row_of_pending_trade r broker) (tables_with_history_row (history_row_of_status r.id r.status r.stamp) (tables_with_trade r t)))
@@ -147,12 +147,12 @@ changes_made order terms broker trade stamp row t e = by_market (is_market_type 
 -- the rows of an order by what was found
 abbrev planned_rows : Order → OrderPlanFacts → ℕ → Tables → Tables
 planned_rows order found stamp =
-    tables_after_order (trade_row_of_order order (terms_of_order order found) (next_trade_id found.last_trade) stamp) (not (is_market_type (trade_type_of_order order.order_type)))
+    tables_after_order (trade_row_of_order order (terms_of_order order found) (next_trade_id found.last_trade) stamp) (not (is_market_type (trade_type_of_order_type order.order_type)))
     (option_map_or (λ a. a.broker) found.account 0)
 
 order_made : (base : Base) (order : Order) (found : OrderPlanFacts) (last : Option ℕ) (now stamp : ℕ) → PlanOrderPrecondition base order found last now
     → first_refusal (order_checks found ++ free_trade_id_check found.last_trade ∷ later_stamp_check last now ∷ []) ≡ None → stamp_after last now ≡ Some stamp
-    → IsAcceptedWithEffect base now (PlaceOrder (abstract_order order)) stamp (model.Ordered stamp (next_trade_id found.last_trade) (first_status (trade_type_of_order order.order_type)) (estimate base (abstract_order order))) (planned_rows order found stamp)
+    → IsAcceptedWithEffect base now (PlaceOrder (abstract_order order)) stamp (model.Ordered stamp (next_trade_id found.last_trade) (first_status (trade_type_of_order_type order.order_type)) (estimate base (abstract_order order))) (planned_rows order found stamp)
 unfolding reply_to_command
 order_made base order found last now stamp k t s =
     let o : model.Order = abstract_order order in
@@ -162,9 +162,9 @@ order_made base order found last now stamp k t s =
     let number = number_read base order found k.books k.looked_up tested in
     let f : AllFound base order found = all_found base order found k.books k.looked_up.estimate tested in
     let row = row_made base order found (stamp_of_next_command base now) f number in
-    is_done base now (PlaceOrder o) stamp (model.Ordered stamp (next_trade_id found.last_trade) (first_status (trade_type_of_order order.order_type)) (estimate base o)) (planned_rows order found) k.books e next
-    (λ i. model.Ordered (sym next i) (sym number i + 1) (first_status (trade_type_of_order order.order_type)) (estimate base o))
-    (λ books e. step_order base now o books e ∙ (λ i. tables_with_last_stamp (stamp_of_next_command base now) (tables_after_order (row i) (not (is_market_type (trade_type_of_order order.order_type))) (sym f.broker i) (sheets base))))
+    is_done base now (PlaceOrder o) stamp (model.Ordered stamp (next_trade_id found.last_trade) (first_status (trade_type_of_order_type order.order_type)) (estimate base o)) (planned_rows order found) k.books e next
+    (λ i. model.Ordered (sym next i) (sym number i + 1) (first_status (trade_type_of_order_type order.order_type)) (estimate base o))
+    (λ books e. step_order base now o books e ∙ (λ i. tables_with_last_stamp (stamp_of_next_command base now) (tables_after_order (row i) (not (is_market_type (trade_type_of_order_type order.order_type))) (sym f.broker i) (sheets base))))
     (books_order base now o)
 
 pub plan_order_does : (base : Base) (order : Order) (found : OrderPlanFacts) (given : List Lot → Type 0) (last : Option ℕ) (now : ℕ) (plan : Plan) → PlanOrderPrecondition base order found last now
@@ -177,7 +177,7 @@ plan_order_does base order found given last now plan k l p =
     ap abstract_estimate (estimate_told base order found given p.estimate k.books k.looked_up.estimate l (record { accepted = tested; estimated = p.estimated })) ∙ told_back (estimate base o) in
     record {
       steps = d.steps ∙ ap (λ reply. Ok (reply, base_after_command base now (PlaceOrder o)))
-          ((λ i. model.Ordered p.stamp (next_trade_id found.last_trade) (first_status (trade_type_of_order order.order_type)) (sym est i)) ∙ sym (ap abstract_reply p.replied));
+          ((λ i. model.Ordered p.stamp (next_trade_id found.last_trade) (first_status (trade_type_of_order_type order.order_type)) (sym est i)) ∙ sym (ap abstract_reply p.replied));
       rows = d.rows
           ∙ sym (changes_made order (terms_of_order order found) (option_map_or (λ a. a.broker) found.account 0) (next_trade_id found.last_trade) p.stamp p.changes.row
           (sheets base) p.changes.added)

@@ -15,7 +15,7 @@ use Rattle.brk_model.specs.Sheets.{sheets}
 use Rattle.brk_model.specs.Tables.{AccountRow, account_row, last_trade_row, security_row}
 use Rattle.brk_model.specs.Tests as model
 use Rattle.brk_model.specs.Tests.{RefusalCheck, first_refusal}
-use Rattle.brk_money.specs.OrderTypes.{trade_type_of_order, price_of_order}
+use Rattle.brk_money.specs.OrderTypes.{trade_type_of_order_type, price_of_order_type}
 use Rattle.brk_money.specs.declared.refusal.Refusal.{Refusal}
 use Rattle.brk_money.specs.declared.refusal.Refusal.TheVariants.{NoAccount, NoSecurity, NotPermitted, NoCharge, NoRate}
 use Rattle.brk_money.specs.declared.tax_status.TaxStatus.TheVariants.{Untaxed}
@@ -108,23 +108,23 @@ permission_read base order found books k f p =
     ∙ sym (ap (λ x. option_map_or (λ c. is_customer_or_has_permission c (filter (λ p. p.account == order.account) base.permissions) (abstract_executor order.executor)) x true) f.customer_is)
 
 charge_read : (base : Base) (order : Order) (found : OrderPlanFacts) → EstimateFactsMatchTables (sheets base) order found → OwnerFound base order.account
-    → PassesFirstOrderChecks 3 found → found.charge ≡ option_map (λ c. c.amount) (charge_for_type_and_tier base (trade_type_of_order order.order_type) (tier_of_account base order.account))
+    → PassesFirstOrderChecks 3 found → found.charge ≡ option_map (λ c. c.amount) (charge_for_type_and_tier base (trade_type_of_order_type order.order_type) (tier_of_account base order.account))
 charge_read base order found k f p =
-    of_customer base order.account (λ c. found.charge ≡ charge_of_type_and_tier (sheets base) (trade_type_of_order order.order_type) c.tier) f (k.charge p)
-    ∙ ap (option_map (λ c. c.amount)) (reads_charge base (trade_type_of_order order.order_type) f.c.tier ∙ ap (charge_for_type_and_tier base (trade_type_of_order order.order_type)) (sym (tier_found base order.account f)))
+    of_customer base order.account (λ c. found.charge ≡ charge_of_type_and_tier (sheets base) (trade_type_of_order_type order.order_type) c.tier) f (k.charge p)
+    ∙ ap (option_map (λ c. c.amount)) (reads_charge base (trade_type_of_order_type order.order_type) f.c.tier ∙ ap (charge_for_type_and_tier base (trade_type_of_order_type order.order_type)) (sym (tier_found base order.account f)))
 
 rate_read : (base : Base) (order : Order) (found : OrderPlanFacts) → BooksInvariant base → EstimateFactsMatchTables (sheets base) order found → OwnerFound base order.account
     → is_some (security_with_symbol base order.symbol) ≡ true → PassesFirstOrderChecks 4 found
-    → found.rate ≡ option_map (λ b. b.rate) (commission_band_for_quantity base (tier_of_account base order.account) (trade_type_of_order order.order_type) (exchange_of_security base order.symbol) order.qty)
+    → found.rate ≡ option_map (λ b. b.rate) (commission_band_for_quantity base (tier_of_account base order.account) (trade_type_of_order_type order.order_type) (exchange_of_security base order.symbol) order.qty)
 rate_read base order found books k f s p =
     let listed = some_of (security_with_symbol base order.symbol) s in
     let exchange : exchange_of_security base order.symbol ≡ listed.0.exchange = ap (λ x. option_map_or (λ s. s.exchange) x []) listed.1 in
     let row : security_row_with_symbol (sheets base) order.symbol ≡ Some (security_row listed.0) = reads_security base order.symbol ∙ ap (option_map security_row) listed.1 in
-    let band = subst (λ x. IfSome x (λ s. found.rate ≡ option_map (λ b. b.rate) (commission_band_of_quantity (sheets base) f.c.tier (trade_type_of_order order.order_type) s.exchange order.qty))) row
+    let band = subst (λ x. IfSome x (λ s. found.rate ≡ option_map (λ b. b.rate) (commission_band_of_quantity (sheets base) f.c.tier (trade_type_of_order_type order.order_type) s.exchange order.qty))) row
     (of_customer base order.account
-    (λ c. IfSome (security_row_with_symbol (sheets base) order.symbol) (λ s. found.rate ≡ option_map (λ b. b.rate) (commission_band_of_quantity (sheets base) c.tier (trade_type_of_order order.order_type) s.exchange order.qty))) f (k.rate p)) in
-    band ∙ ap (option_map (λ b. b.rate)) (reads_band base f.c.tier (trade_type_of_order order.order_type) listed.0.exchange order.qty books
-    ∙ (λ i. commission_band_for_quantity base (sym (tier_found base order.account f) i) (trade_type_of_order order.order_type) (sym exchange i) order.qty))
+    (λ c. IfSome (security_row_with_symbol (sheets base) order.symbol) (λ s. found.rate ≡ option_map (λ b. b.rate) (commission_band_of_quantity (sheets base) c.tier (trade_type_of_order_type order.order_type) s.exchange order.qty))) f (k.rate p)) in
+    band ∙ ap (option_map (λ b. b.rate)) (reads_band base f.c.tier (trade_type_of_order_type order.order_type) listed.0.exchange order.qty books
+    ∙ (λ i. commission_band_for_quantity base (sym (tier_found base order.account f) i) (trade_type_of_order_type order.order_type) (sym exchange i) order.qty))
 
 -- ---- the refusal
 
@@ -147,14 +147,14 @@ owned_read : (base : Base) (order : Order) (found : OrderPlanFacts) (xs ys : Lis
     → OwnerFound base order.account → is_some (security_with_symbol base order.symbol) ≡ true
     → Alike ((not found.is_permitted, NotPermitted) ∷ (is_none found.charge, NoCharge) ∷ (is_none found.rate, NoRate) ∷ xs)
     ((not (may_order_for_account base order.account (abstract_executor order.executor)), NotPermitted)
-    ∷ (is_none (charge_for_type_and_tier base (trade_type_of_order order.order_type) (tier_of_account base order.account)), NoCharge)
-    ∷ (is_none (commission_band_for_quantity base (tier_of_account base order.account) (trade_type_of_order order.order_type) (exchange_of_security base order.symbol) order.qty), NoRate) ∷ ys)
+    ∷ (is_none (charge_for_type_and_tier base (trade_type_of_order_type order.order_type) (tier_of_account base order.account)), NoCharge)
+    ∷ (is_none (commission_band_for_quantity base (tier_of_account base order.account) (trade_type_of_order_type order.order_type) (exchange_of_security base order.symbol) order.qty), NoRate) ∷ ys)
 owned_read base order found xs ys books k later a s f l =
     same_first _ _ NotPermitted _ _ (ap not (permission_read base order found books k f (passes_security found a s))) (λ p.
-    same_first _ _ NoCharge _ _ (ap is_none (charge_read base order found k f (passes_executor found a s p)) ∙ is_none-map (λ c. c.amount) (charge_for_type_and_tier base (trade_type_of_order order.order_type) (tier_of_account base order.account))) (λ c.
+    same_first _ _ NoCharge _ _ (ap is_none (charge_read base order found k f (passes_executor found a s p)) ∙ is_none-map (λ c. c.amount) (charge_for_type_and_tier base (trade_type_of_order_type order.order_type) (tier_of_account base order.account))) (λ c.
     same_first _ _ NoRate _ _
     (ap is_none (rate_read base order found books k f l (passes_charge found a s p c))
-    ∙ is_none-map (λ b. b.rate) (commission_band_for_quantity base (tier_of_account base order.account) (trade_type_of_order order.order_type) (exchange_of_security base order.symbol) order.qty))
+    ∙ is_none-map (λ b. b.rate) (commission_band_for_quantity base (tier_of_account base order.account) (trade_type_of_order_type order.order_type) (exchange_of_security base order.symbol) order.qty))
     (λ r. record { first = later (all_passed found a s p c r) })))
 
 -- an order and what else it is tested for are refused by what was found as by the base
@@ -228,7 +228,7 @@ all_found base order found books k e =
       terms = record {
         side = refl;
         qty = refl;
-        price = ap (λ n. unwrap_or (price_of_order order.order_type) n) (last_price_read base order found k one);
+        price = ap (λ n. unwrap_or (price_of_order_type order.order_type) n) (last_price_read base order found k one);
         tax_status = ap (λ o. option_map_or (λ a. a.tax_status) o Untaxed) account ∙ status_or base.accounts (postings_of_base base) (account_with_id base order.account);
         rates = rates_read base order found k f e;
         rate = sym (rate_read base order found books k f listed four) ∙ some_or found.rate rated;

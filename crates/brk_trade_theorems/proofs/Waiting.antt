@@ -24,7 +24,7 @@ use Rattle.brk_orders.specs.declared.tick.Tick.{Tick}
 use Rattle.brk_plans.specs.Feed.{price_span_of_first_symbol, span_including_price, span_including_tick}
 use Rattle.brk_plans.specs.declared.span.Span.{Span}
 use Rattle.brk_book_theorems.specs.Books.{BooksInvariant}
-use Rattle.brk_trade_theorems.specs.TradePlans.{is_bid_triggered_in_span}
+use Rattle.brk_trade_theorems.specs.TradePlans.{is_request_triggered_in_span}
 use Rattle.brk_book_theorems.specs.TradeReads.{requests_of_symbol}
 use Rattle.brk_book_theorems.proofs.LotReading.{IdsRise, numbered_rise, rise_filter}
 use Rattle.brk_book_theorems.proofs.Orders.{Ascends, Rises, one_order, permuted}
@@ -103,7 +103,7 @@ span_spans first ticks = (folded_spans first.symbol (record { lowest = first.pri
 
 -- ---- what a price within the span triggers, the span may trigger
 
-pub triggered_may : (span : Span) (kind : TradeType) (bid price : ℕ) → is_within span price → is_triggering_price kind bid price ≡ true → is_bid_triggered_in_span span kind bid ≡ true
+pub triggered_may : (span : Span) (kind : TradeType) (bid price : ℕ) → is_within span price → is_triggering_price kind bid price ≡ true → is_request_triggered_in_span span kind bid ≡ true
 triggered_may span StopLoss bid price w e = let l = w.0 in grind (arith, nat_tests)
 triggered_may span LimitSell bid price w e = let h = w.1 in grind (arith, nat_tests)
 triggered_may span LimitBuy bid price w e = let l = w.0 in grind (arith, nat_tests)
@@ -113,7 +113,7 @@ triggered_may span MarketSell bid price w e = absurd (cc)
 -- ---- three selections are all that a span may trigger
 
 abbrev pub may : Span → RequestRow → Bool
-may span r = is_bid_triggered_in_span span r.kind r.bid
+may span r = is_request_triggered_in_span span r.kind r.bid
 
 -- what the three selections bring
 abbrev pub stop_losses : Tables → Text → Span → List RequestRow
@@ -158,7 +158,7 @@ selected t symbol span =
     append_assoc [] ys zs = refl
     append_assoc (x ∷ xs) ys zs = ap (λ us. x ∷ us) (append_assoc xs ys zs)
 
-    loss_test : (s : Bool) (kind : TradeType) (bid : ℕ) → (s && is_bid_triggered_in_span span kind bid) && is_same_trade_type kind StopLoss ≡ s && (is_same_trade_type kind StopLoss && nat_le span.lowest bid)
+    loss_test : (s : Bool) (kind : TradeType) (bid : ℕ) → (s && is_request_triggered_in_span span kind bid) && is_same_trade_type kind StopLoss ≡ s && (is_same_trade_type kind StopLoss && nat_le span.lowest bid)
     loss_test false kind bid = refl
     loss_test true StopLoss bid = and_one (nat_le span.lowest bid)
     loss_test true LimitSell bid = and_none (nat_le bid span.highest)
@@ -167,7 +167,7 @@ selected t symbol span =
     loss_test true MarketSell bid = refl
 
     sell_test : (s : Bool) (kind : TradeType) (bid : ℕ)
-        → ((s && is_bid_triggered_in_span span kind bid) && not (is_same_trade_type kind StopLoss)) && is_same_trade_type kind LimitSell ≡ s && (is_same_trade_type kind LimitSell && nat_le bid span.highest)
+        → ((s && is_request_triggered_in_span span kind bid) && not (is_same_trade_type kind StopLoss)) && is_same_trade_type kind LimitSell ≡ s && (is_same_trade_type kind LimitSell && nat_le bid span.highest)
     sell_test false kind bid = refl
     sell_test true StopLoss bid = and_none (nat_le span.lowest bid && false)
     sell_test true LimitSell bid = and_one (nat_le bid span.highest && true) ∙ and_one (nat_le bid span.highest)
@@ -176,7 +176,7 @@ selected t symbol span =
     sell_test true MarketSell bid = refl
 
     buy_test : (s : Bool) (kind : TradeType) (bid : ℕ)
-        → ((s && is_bid_triggered_in_span span kind bid) && not (is_same_trade_type kind StopLoss)) && not (is_same_trade_type kind LimitSell) ≡ s && (is_same_trade_type kind LimitBuy && nat_le span.lowest bid)
+        → ((s && is_request_triggered_in_span span kind bid) && not (is_same_trade_type kind StopLoss)) && not (is_same_trade_type kind LimitSell) ≡ s && (is_same_trade_type kind LimitBuy && nat_le span.lowest bid)
     buy_test false kind bid = refl
     buy_test true StopLoss bid = and_one (nat_le span.lowest bid && false) ∙ and_none (nat_le span.lowest bid)
     buy_test true LimitSell bid = and_none (nat_le bid span.highest && true)

@@ -8,7 +8,7 @@ use Rattle.brk_model.specs.PositionView.{market_value_of_account_row}
 use Rattle.brk_model.specs.Sheets.{sheets}
 use Rattle.brk_model.specs.Tables.{AccountRow, Tables}
 use Rattle.brk_model.specs.Tests.{first_refusal}
-use Rattle.brk_money.specs.OrderTypes.{trade_type_of_order}
+use Rattle.brk_money.specs.OrderTypes.{trade_type_of_order_type}
 use Rattle.brk_money.specs.Moments.{greatest_stamp}
 use Rattle.brk_orders.specs.declared.order.Order.{Order}
 use Rattle.brk_ref.specs.Records.{abstract_executor}
@@ -51,12 +51,12 @@ pub record EstimateFactsMatchTables (t : Tables) (order : Order) (found : OrderP
   -- The charge is the one for the order's trade type and the customer's tier.
   pub charge : PassesFirstOrderChecks 3 found
       → CustomerOfAccountSatisfies t order.account (λ c.
-      found.charge ≡ charge_of_type_and_tier t (trade_type_of_order order.order_type) c.tier)
+      found.charge ≡ charge_of_type_and_tier t (trade_type_of_order_type order.order_type) c.tier)
   -- The rate is that of the commission band that contains the quantity, by the customer's tier and
   -- the security's exchange.
   pub rate : PassesFirstOrderChecks 4 found
       → CustomerOfAccountSatisfies t order.account (λ c. IfSome (security_row_with_symbol t order.symbol) (λ s.
-      found.rate ≡ option_map (λ b. b.rate) (commission_band_of_quantity t c.tier (trade_type_of_order order.order_type) s.exchange order.qty)))
+      found.rate ≡ option_map (λ b. b.rate) (commission_band_of_quantity t c.tier (trade_type_of_order_type order.order_type) s.exchange order.qty)))
   -- The tax rates are the sum of the rates of the taxes that the customer pays.
   pub rates : PassesFirstOrderChecks 5 found → IfSome (account_row_with_id t order.account) (λ a. found.rates ≡ customer_tax_rate_sum t a.customer)
   -- The assets are the balance plus the market value of the holdings.

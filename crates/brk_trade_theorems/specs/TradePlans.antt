@@ -36,12 +36,12 @@ pub record PlanCancelPrecondition (base : Base) (id : ℕ) (found : Option Statu
 -- True if a price of the span can trigger a request of this trade type with the price `bid`, in
 -- cents: for a stop loss and a limit buy if the lowest price is at most `bid`, for a limit sell if
 -- the highest price is at least `bid`. Market types are never triggered.
-abbrev pub is_bid_triggered_in_span : Span → TradeType → ℕ → Bool
-is_bid_triggered_in_span span StopLoss bid = nat_le span.lowest bid
-is_bid_triggered_in_span span LimitSell bid = nat_le bid span.highest
-is_bid_triggered_in_span span LimitBuy bid = nat_le span.lowest bid
-is_bid_triggered_in_span span MarketBuy bid = false
-is_bid_triggered_in_span span MarketSell bid = false
+abbrev pub is_request_triggered_in_span : Span → TradeType → ℕ → Bool
+is_request_triggered_in_span span StopLoss bid = nat_le span.lowest bid
+is_request_triggered_in_span span LimitSell bid = nat_le bid span.highest
+is_request_triggered_in_span span LimitBuy bid = nat_le span.lowest bid
+is_request_triggered_in_span span MarketBuy bid = false
+is_request_triggered_in_span span MarketSell bid = false
 
 -- The quote has the row of LAST_TRADE of the tick's symbol in the tables. Its requests are exactly
 -- those requests of the symbol that a price from the lowest to the highest price of `tick` and of
@@ -50,7 +50,7 @@ pub record IsQuoteOfTick (t : Tables) (tick : Tick) (ticks : List Tick) (quote :
   pub symbol : quote.last.symbol ≡ tick.symbol
   pub last_trade : last_trade_row_of_symbol t tick.symbol ≡ Some (abstract_last_trade_row quote.last)
   pub requests : IsPermutation
-      (filter (λ r. is_bid_triggered_in_span (price_span_of_first_symbol tick ticks) r.kind r.bid) (requests_of_symbol t tick.symbol))
+      (filter (λ r. is_request_triggered_in_span (price_span_of_first_symbol tick ticks) r.kind r.bid) (requests_of_symbol t tick.symbol))
       (map abstract_request_row quote.requests)
   pub order : IsNonDecreasingBy (λ (r : request.RequestRow). r.trade) quote.requests
 

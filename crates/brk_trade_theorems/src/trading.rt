@@ -31,7 +31,7 @@ pub fn refused_commands_return_their_refusal()
 /// the model does. If they pass, the model accepts the cancel with the reply `CanceledTrade`. The
 /// tables after it are those of `tables_after_cancel`, with the stamp of the cancel as the last
 /// stamp, and the base after it satisfies the books invariant.
-pub fn cancel_row_changes_implement_commands()
+pub fn cancels_change_tables_as_specified()
     ensures first { (base : Base) (now id : ℕ) → BooksInvariant base → now ≤ greatest_stamp
         → first_refusal (cancel_checks_on_trade_row (trade_row_with_id (sheets base) id) (sheets base).last now)
         ≡ refusal_of_command base now (CancelTrade id) }
@@ -47,7 +47,7 @@ pub fn cancel_row_changes_implement_commands()
 /// which lists the trades that it triggers. The tables after it are those of `tables_after_feed`,
 /// with the stamp of the feed as the last stamp, and the base after it satisfies the books
 /// invariant.
-pub fn feed_row_changes_implement_commands()
+pub fn feeds_change_tables_as_specified()
     ensures first { (base : Base) (now : ℕ) (ticks : List Tick) → BooksInvariant base → now ≤ greatest_stamp
         → first_refusal (feed_checks_on_tables (sheets base) ticks (sheets base).last now) ≡ refusal_of_command base now (FeedTicks ticks) }
     ensures done { (base : Base) (now : ℕ) (ticks : List Tick) (stamp : ℕ) → BooksInvariant base → now ≤ greatest_stamp

@@ -9,8 +9,7 @@ ghost use Rattle.brk_store.specs.ReadSequences.{ReadSequencePost};
 ghost use Rattle.brk_update_theorems.specs.Corrections.{UpdateFactsMatchTables};
 
 use crate::finding::{
-    read_trades_of_cash_name_update, read_trades_of_cash_type_update,
-    read_trades_of_executor_update,
+    read_facts_of_cash_name_update, read_facts_of_cash_type_update, read_facts_of_executor_update,
 };
 use brk_money::{Fault, Planned, Stamp};
 use brk_orders::Update;
@@ -23,7 +22,7 @@ use std::alloc::Global;
 // security that the update names does not exist. If the database is still open, it is unchanged.
 // Fails with `Memory` or `Store` only; with `Store` also if a selected trade has no settlement, in
 // an update of cash types, or no cash row, in an update of cash names.
-fn read_trades_of_update<S: Alter>(
+fn read_facts_of_update<S: Alter>(
     alloc: Global,
     store: &mut Store<S>,
     update: &Update,
@@ -32,11 +31,11 @@ fn read_trades_of_update<S: Alter>(
     ensures fault { IfErr result IsCallFault }
 {
     match update {
-        Update::Executors(trades) => read_trades_of_executor_update(alloc, store, trades),
-        Update::CashTypes { account, span } => read_trades_of_cash_type_update(
+        Update::Executors(trades) => read_facts_of_executor_update(alloc, store, trades),
+        Update::CashTypes { account, span } => read_facts_of_cash_type_update(
             alloc, store, *account, *span,
         ),
-        Update::CashNames { symbol, span } => read_trades_of_cash_name_update(
+        Update::CashNames { symbol, span } => read_facts_of_cash_name_update(
             alloc, store, symbol, *span,
         ),
     }
@@ -61,6 +60,6 @@ pub fn decide_update<S: Alter>(
     // The value is not needed: the call shows that the stamp is at most the greatest stamp.
     let _moment = now.get();
     let last = store.last_stamp()?;
-    let found = read_trades_of_update(alloc, store, update)?;
+    let found = read_facts_of_update(alloc, store, update)?;
     plan_update(alloc, update, found, last, now)
 }

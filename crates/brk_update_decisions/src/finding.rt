@@ -77,7 +77,7 @@ fn read_cash_trades_with_names<S: Alter>(
 // Returns the trades with the ids `trades`, in the order of the ids, for an update of the names of
 // their executors, or `None` if one of them does not exist. If the database is still open, it is
 // unchanged. Fails with `Memory` or `Store` only.
-pub(crate) fn read_trades_of_executor_update<S: Alter>(
+pub(crate) fn read_facts_of_executor_update<S: Alter>(
     alloc: Global,
     store: &mut Store<S>,
     trades: &TradeIds,
@@ -104,7 +104,7 @@ fn account_row_exists<S: Alter>(store: &mut Store<S>, account: Id) -> Result<boo
 // its settlement, or `None` if the account does not exist. If the database is still open, it is
 // unchanged. Fails with `Memory` or `Store` only; with `Store` also if one of the trades has no
 // settlement.
-pub(crate) fn read_trades_of_cash_type_update<S: Alter>(
+pub(crate) fn read_facts_of_cash_type_update<S: Alter>(
     alloc: Global,
     store: &mut Store<S>,
     account: Id,
@@ -140,7 +140,7 @@ fn read_security_name<S: Alter>(
 // its cash row, and the name of the security, or `None` if the security does not exist. If the
 // database is still open, it is unchanged. Fails with `Memory` or `Store` only; with `Store` also
 // if one of the trades has no cash row.
-pub(crate) fn read_trades_of_cash_name_update<S: Alter>(
+pub(crate) fn read_facts_of_cash_name_update<S: Alter>(
     alloc: Global,
     store: &mut Store<S>,
     symbol: &Symbol,

@@ -12,7 +12,7 @@ pub use lookups::{
     trades_read_by_ids_are_complete,
 };
 pub use views::{
-    sorting_tables_preserves_all_views, sorting_tables_preserves_position_view,
+    sorting_tables_preserves_account_value_view, sorting_tables_preserves_all_views,
     sorting_tables_preserves_recent_view, sorting_tables_preserves_status_view,
 };
 pub use volumes::{brokers_read_by_name_are_complete, sorting_tables_preserves_volume_view};

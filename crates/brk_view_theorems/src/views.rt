@@ -14,7 +14,7 @@ ghost use Rattle.brk_book_theorems.specs.Books.{BooksInvariant};
 /// pass a test, over the sorted tables of a base, equals that view over its unsorted tables, if the
 /// base satisfies the books invariant.
 #[tactic(auto, using(crate::proofs::Worths::same_position))]
-pub fn sorting_tables_preserves_position_view()
+pub fn sorting_tables_preserves_account_value_view()
     ensures { (base : Base) (test : Customer → Bool) → BooksInvariant base
         → customer_position_view (sheets base) test ≡ customer_position_view (tables_of_base base) test }
 {}

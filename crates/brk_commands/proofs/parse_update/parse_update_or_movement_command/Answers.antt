@@ -16,7 +16,7 @@ returns-then-eq-2-clause-read c =
 pub returns-then-eq-3-clause-read : goal.returns-then-eq-3-clause-read
 returns-then-eq-3-clause-read c =
     rw (same_text c.args.kind.now c.as_slice-3.result.now (codes "uptext") c.eq-3.result c.eq-3.ensures c.as_slice-3.ensures c.if-eq-3.true)
-    c.parse_cash_text_update_command.ensures.read
+    c.parse_cash_name_update_command.ensures.read
 
 pub returns-clause-read : goal.returns-clause-read
 returns-clause-read c =

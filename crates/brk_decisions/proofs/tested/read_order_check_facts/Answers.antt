@@ -1,6 +1,6 @@
 use Rattle.std.proofs.Common.{◌≡◌}
 use Rattle.std.specs.Prelude.{IfSome, option_map}
-use Rattle.brk_money.specs.OrderTypes.{trade_type_of_order}
+use Rattle.brk_money.specs.OrderTypes.{trade_type_of_order_type}
 use Rattle.brk_money.specs.declared.fault.Fault.{Fault}
 use Rattle.brk_model.specs.Joins.{security_row_with_symbol}
 use Rattle.brk_model.specs.Orders.{is_customer_or_has_permission}
@@ -27,7 +27,7 @@ returns-clause-read g c =
     let rate = c.in_ok-rate.rate in
     let price_read : Tables → Type 0 = λ t. last_price ≡ last_price_of_symbol t order.symbol in
     let permission_read : Tables → Type 0 = λ t. is_permitted ≡ is_customer_or_has_permission (abstract_customer customer) (permission_list_for_tax_id t order.account order.executor.tax_id) (abstract_executor order.executor) in
-    let charge_read : Tables → Type 0 = λ t. charge ≡ charge_of_type_and_tier t (trade_type_of_order order.order_type) customer.tier in
+    let charge_read : Tables → Type 0 = λ t. charge ≡ charge_of_type_and_tier t (trade_type_of_order_type order.order_type) customer.tier in
     let one =
     read_with g.S.Store old c.read_last_price.new.store c.is_executor_permitted.new.store {X = Unit {0}} {H = Fault} last_price is_permitted tt
     (λ price (t : Tables). price ≡ last_price_of_symbol t order.symbol)
@@ -36,13 +36,13 @@ returns-clause-read g c =
     c.in_ok-last_price.ensures.read c.in_ok-is_permitted.ensures.read in
     let two =
     read_with g.S.Store old c.is_executor_permitted.new.store c.read_charge_of_type_and_tier.new.store {X = Unit {0}} {H = Fault} tt charge tt
-    (λ _ t. price_read t × permission_read t) (λ charge (t : Tables). charge ≡ charge_of_type_and_tier t (trade_type_of_order order.order_type) customer.tier)
+    (λ _ t. price_read t × permission_read t) (λ charge (t : Tables). charge ≡ charge_of_type_and_tier t (trade_type_of_order_type order.order_type) customer.tier)
     (λ _ t. (price_read t × permission_read t) × charge_read t) (λ t a b. (a, b))
     one (rw c.kind.ensures at c.in_ok-charge.ensures.read) in
     let tested : OrderCheckFacts = record { last_price = last_price; is_permitted = is_permitted; charge = charge; rate = rate } in
     read_with g.S.Store old c.read_charge_of_type_and_tier.new.store c.read_commission_rate_of_order.new.store {H = Fault} tt rate tested
     (λ _ t. (price_read t × permission_read t) × charge_read t)
-    (λ rate (t : Tables). IfSome (security_row_with_symbol t order.symbol) (λ (s : SecurityRow). rate ≡ option_map (λ (b : Band). b.rate) (commission_band_of_quantity t customer.tier (trade_type_of_order order.order_type) s.exchange order.qty)))
+    (λ rate (t : Tables). IfSome (security_row_with_symbol t order.symbol) (λ (s : SecurityRow). rate ≡ option_map (λ (b : Band). b.rate) (commission_band_of_quantity t customer.tier (trade_type_of_order_type order.order_type) s.exchange order.qty)))
     (λ tested (t : Tables). CustomerOrderFactsMatchTables t order customer tested)
     (λ t k r. record { last_price = k.0.0; is_permitted = k.0.1; charge = k.1; rate = r })
     two c.in_ok-rate.ensures.read

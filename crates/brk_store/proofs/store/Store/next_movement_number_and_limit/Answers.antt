@@ -27,4 +27,4 @@ pub returns-clause-read : goal.returns-clause-read
 returns-clause-read g c =
     let next = c.in_ok-next.next in
     let all = c.in_ok-has_all_movements.has_all_movements in
-    read_with g.S.Store c.args.self.now c.next_cash_row_number.new.self c.has_maximum_movements_by_count.new.self next all (next, all) IsNext AreAll AreNextAndAll (λ t is are. (is, are)) c.in_ok-next.ensures.read c.in_ok-has_all_movements.ensures.read
+    read_with g.S.Store c.args.self.now c.next_cash_row_number.new.self c.has_greatest_movement_count.new.self next all (next, all) IsNext AreAll AreNextAndAll (λ t is are. (is, are)) c.in_ok-next.ensures.read c.in_ok-has_all_movements.ensures.read

@@ -1,5 +1,5 @@
 use Rattle.brk_trade_theorems.proofs.TradePlanning.{feed_refusal, feed_done}
-use Rattle.brk_trade_theorems.proofs.trading.feed_row_changes_implement_commands.Goals as goal
+use Rattle.brk_trade_theorems.proofs.trading.feeds_change_tables_as_specified.Goals as goal
 
 pub returns-clause-first : goal.returns-clause-first
 returns-clause-first c = feed_refusal

@@ -13,7 +13,7 @@ use Rattle.brk_update_theorems.specs.Corrections.{SettlementTextsMatchTables, Up
 use Rattle.brk_update_decisions.proofs.Found.{missing_if, present_if}
 use Rattle.std.proofs.lemmas.Result.{err_from_is_err_and}
 use Rattle.brk_store.specs.ReadSequences.{single_read_changes_nothing}
-use Rattle.brk_update_decisions.proofs.finding.read_trades_of_cash_type_update.Goals as goal
+use Rattle.brk_update_decisions.proofs.finding.read_facts_of_cash_type_update.Goals as goal
 
 pub returns-then-not-branch-clause-read : goal.returns-then-not-branch-clause-read
 returns-then-not-branch-clause-read g c =

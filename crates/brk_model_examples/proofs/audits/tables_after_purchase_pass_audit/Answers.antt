@@ -1,6 +1,6 @@
 use Rattle.std.proofs.Common.{inl, refl}
 use Rattle.brk_model_examples.proofs.OnLiterals.{model_on_literals}
-use Rattle.brk_model_examples.proofs.audits.tables_of_a_base_pass_audit.Goals as goal
+use Rattle.brk_model_examples.proofs.audits.tables_after_purchase_pass_audit.Goals as goal
 
 pub returns : goal.returns
 unfolding model_on_literals

@@ -1,6 +1,6 @@
 use Rattle.std.proofs.Common.{rules}
 use Rattle.brk_store.proofs.Ending.{read_is_over}
-use Rattle.brk_store.proofs.store.Store.has_maximum_movements_by_count.Goals as goal
+use Rattle.brk_store.proofs.store.Store.has_greatest_movement_count.Goals as goal
 
 pub returns-clause-read : goal.returns-clause-read
 returns-clause-read g c =

@@ -1,5 +1,5 @@
 use Rattle.brk_model_theorems.proofs.FreeLaws.{keeps-none, was-free, stays-free, acts}
-use Rattle.brk_model_theorems.proofs.keys.refused_row_stores_no_key.Goals as goal
+use Rattle.brk_model_theorems.proofs.keys.unused_keys_accept_rows.Goals as goal
 
 pub returns-clause-stores_nothing : goal.returns-clause-stores_nothing
 returns-clause-stores_nothing c = λ row. keeps-none row.base row.now row.command row.key row.refusal row.after row.refused

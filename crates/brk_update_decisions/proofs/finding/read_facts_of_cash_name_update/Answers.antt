@@ -13,7 +13,7 @@ use Rattle.brk_store.proofs.Retelling.{retold}
 use Rattle.brk_update_theorems.specs.Corrections.{CashTextsMatchTables, UpdateFactsMatchTables, SecurityHasName}
 use Rattle.std.proofs.lemmas.Result.{err_from_is_err_and}
 use Rattle.brk_store.specs.ReadSequences.{single_read_changes_nothing}
-use Rattle.brk_update_decisions.proofs.finding.read_trades_of_cash_name_update.Goals as goal
+use Rattle.brk_update_decisions.proofs.finding.read_facts_of_cash_name_update.Goals as goal
 
 -- the name that a look-up gave, none where there is no such security
 abbrev IsNameOf : Text → Option Text → Tables → Type 0

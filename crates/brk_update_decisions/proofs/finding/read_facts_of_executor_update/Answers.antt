@@ -10,7 +10,7 @@ use Rattle.brk_store.proofs.Sequences.{reads_retold}
 use Rattle.brk_update_theorems.specs.Corrections.{AreTradesWithIds, UpdateFactsMatchTables}
 use Rattle.brk_plans.specs.declared.corrected.TextUpdate.{TextUpdate}
 use Rattle.brk_plans.specs.declared.corrected.TextUpdate.TheVariants.{Executors}
-use Rattle.brk_update_decisions.proofs.finding.read_trades_of_executor_update.Goals as goal
+use Rattle.brk_update_decisions.proofs.finding.read_facts_of_executor_update.Goals as goal
 
 pub returns-in-Some-clause-read : goal.returns-in-Some-clause-read
 returns-in-Some-clause-read g c =

@@ -1,5 +1,5 @@
 use Rattle.brk_explain_theorems.proofs.Commissions.{broker_as_told}
-use Rattle.brk_explain_theorems.proofs.brokers.printed_broker_matches_its_totals.Goals as goal
+use Rattle.brk_explain_theorems.proofs.brokers.printed_commissions_match_broker_totals.Goals as goal
 
 pub returns : goal.returns
 returns c = broker_as_told

@@ -1,5 +1,5 @@
 use Rattle.brk_trade_theorems.proofs.TradePlanning.{cancel_refusal, cancel_done}
-use Rattle.brk_trade_theorems.proofs.trading.cancel_row_changes_implement_commands.Goals as goal
+use Rattle.brk_trade_theorems.proofs.trading.cancels_change_tables_as_specified.Goals as goal
 
 pub returns-clause-first : goal.returns-clause-first
 returns-clause-first c = cancel_refusal
