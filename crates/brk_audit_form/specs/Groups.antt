@@ -11,8 +11,8 @@ use Rattle.brk_model.specs.Form.{is_well_formed_kept_row, is_well_formed_broker_
 use Rattle.brk_model.specs.Form.{is_well_formed_permission_row, is_well_formed_security_row, is_well_formed_last_trade_row, is_well_formed_charge_row}
 use Rattle.brk_model.specs.Form.{is_well_formed_band_row, is_well_formed_tax_rate_row, is_well_formed_customer_tax_row, is_well_formed_trade_row}
 use Rattle.brk_model.specs.Form.{is_well_formed_history_row, is_well_formed_request_row, is_well_formed_holding_row, is_well_formed_summary_row}
-use Rattle.brk_model.specs.Form.{is_well_formed_holding_history_row, is_well_formed_settlement_row, has_rows_only_in_tables_of_schema, is_last_stamp_in_calendar}
-use Rattle.brk_model.specs.Form.{is_settlement_day_in_calendar}
+use Rattle.brk_model.specs.Form.{is_well_formed_holding_history_row, is_well_formed_settlement_row, has_rows_only_in_tables_of_schema}
+use Rattle.brk_model.specs.Form.{is_last_stamp_in_calendar, is_settlement_day_in_calendar}
 use Rattle.brk_ref.specs.Records.{abstract_account_row, abstract_broker_row, abstract_customer}
 use Rattle.brk_ref.specs.Records.{abstract_permission, abstract_security_row, kept_row_with_empty_texts}
 use Rattle.brk_ref.specs.Records.{abstract_last_trade_row, abstract_charge, abstract_band, abstract_tax_rate, abstract_customer_tax}

@@ -222,8 +222,8 @@ BatchRefinesModel {S = S} meets_disk_assumption represents form step gives text 
     meets_disk_assumption last → (base : S) → represents first base
     → (after : S) × represents last after × IsBatchResult form step gives text (environment_change_with_bases base after outside) result
 
--- The call of the row after the decided rows failed (`DeskFaultEndsBatchAtNextRow`), and a crash exposes only the
--- base after the decided rows, or the base after the command of this row.
+-- The call of the row after the decided rows failed (`DeskFaultEndsBatchAtNextRow`), and a crash
+-- exposes only the base after the decided rows, or the base after the command of this row.
 pub record CrashMayCommitFailedRow {D S X C : Type 0} (form : Fields → ReadResult X) (step : RowStep S X) (gives : C → ℕ → C → Type 0)
     (crash_exposes_only : D → S → S → Type 0)
     (text : Option Text) (span : EnvironmentChange S C) (last : D) (fault : BatchFault) : Type 0 where

@@ -70,6 +70,6 @@ pub record CommandPost {S : Type 0} (g : Ghosts S) (old new : Held S) (now : ℕ
   pub unchanged_if_open : HasCleanDisk (state g new) → IsTrue (state g new).is_open → IsNotDoneResult result → WasOpenAndIsUnchanged (state g old) (state g new)
   -- If the disk assumption holds after the call, it held before.
   pub clean : HasCleanDisk (state g new) → HasCleanDisk (state g old)
-  -- The command meets the formats that an audit checks, and its key is well-formed, as all values of
-  -- their types are.
+  -- The command meets the formats that an audit checks, and its key is well-formed, as all values
+  -- of their types are.
   pub well_formed : MeetsAuditFormats command × IfSome key IsWellFormedKey

@@ -75,8 +75,8 @@ pub fn has_some_desk_table<S: Alter>(tx: &mut Transaction<'_, S>) -> Result<bool
     has_any_of_tables(tx, &TABLES_OF_THIRD_SCHEMA)
 }
 
-// Returns true if a table with the name of each table of `present` exists, and none with the name of
-// a table of `absent`. If the function returns a value, the database is unchanged. Fails with
+// Returns true if a table with the name of each table of `present` exists, and none with the name
+// of a table of `absent`. If the function returns a value, the database is unchanged. Fails with
 // `Store` only (`table_exists`).
 fn has_present_and_no_absent_tables<S: Alter>(
     tx: &mut Transaction<'_, S>,
