@@ -1,4 +1,4 @@
--- The effects of a turn of a stream, in which one request is read, executed and answered, and of a
+-- The effects of an exchange of a stream, in which one request is read, executed and answered, and of a
 -- whole stream, for each way in which they end.
 --
 -- Parameters: `forms`, the parsers of rows and queries; `does base now call outcome after`, a call
@@ -49,7 +49,7 @@ pub record ExecutesRequest {B C : Type 0} (forms : RequestParsers) (does : CallR
   pub last : closes ≡ ((n + 1 == most_requests_per_stream) || request.closes || is_fault_response response)
   pub bytes : reply ≡ reply_text response closes
 
--- The turn after `n` replies completed with this result. `Ended`: no input was left, and nothing
+-- The exchange after `n` replies completed with this result. `Ended`: no input was left, and nothing
 -- changed. `Closed`: the reply was written and is the last of its stream. `Open`: the reply was
 -- written, and `left` is the rest of the input.
 abbrev pub ExchangeCompletesWith : {B C : Type 0} → RequestParsers → CallRelation B → (C → ℕ → C → Type 0) → ℕ → Text → EnvironmentChange B C → Option Text
@@ -61,10 +61,11 @@ ExchangeCompletesWith forms does gives n input span left turn.Open =
     (reply : Text) × (rest : Text) × ExchangeHasReply forms does gives n input span reply (Continues rest) × Appends span.old span.new reply
     × (left ≡ Some rest)
 
--- The turn after `n` replies failed with this fault. `Read`: nothing changed and nothing was
--- written. `Memory`: nothing was written, and either nothing changed, or the request was executed
--- or could not be read. `Write`: the request was executed or could not be read, and a prefix of its
--- reply was written, perhaps all of it.
+-- The exchange after `n` replies failed with this fault. `Read`: the desk, the clock and what was
+-- written are unchanged. `Memory`: nothing was written, and either nothing changed, or the request
+-- was executed or could not be read. `Write`: the request was executed or could not be read, and a
+-- prefix of its reply was written, perhaps all of it. The conditions on what was written are
+-- vacuous if the writer's content before is unknown.
 abbrev pub ExchangeFailsWith : {B C : Type 0} → RequestParsers → CallRelation B → (C → ℕ → C → Type 0) → ℕ → Text → EnvironmentChange B C → FaultKind → Type 0
 ExchangeFailsWith forms does gives n input span kinds.Read = IsUnchangedEnvironment span
 ExchangeFailsWith forms does gives n input span kinds.Memory =
@@ -87,7 +88,7 @@ pub record StreamCompletesWith {B C : Type 0} (forms : RequestParsers) (does : C
   pub counted : count ≡ length replies
 
 -- A fault ended the stream with the content `input`: the first `count` replies, which in the model
--- are the first replies of the stream, were written, and the next turn failed with `kind`
+-- are the first replies of the stream, were written, and the next exchange failed with `kind`
 -- (`ExchangeFailsWith`). The clock was read once for each of the timestamps `moments` of these
 -- replies.
 pub record StreamFailsWith {B C : Type 0} (forms : RequestParsers) (does : CallRelation B) (gives : C → ℕ → C → Type 0) (input : Text)
@@ -104,7 +105,7 @@ pub record StreamFailsWith {B C : Type 0} (forms : RequestParsers) (does : CallR
   -- In the model these are the first replies of the stream.
   pub begun : AreFirstReplies forms does 0 input span.base moments replies rest mid
   pub written : Appends span.old between (concat replies)
-  -- The next turn failed with this fault.
+  -- The next exchange failed with this fault.
   pub failed : ExchangeFailsWith forms does gives (length replies) rest
       (record { base = mid; after = span.after; clock = later; later = span.later; old = between; new = span.new }) kind
   pub counted : count ≡ length replies

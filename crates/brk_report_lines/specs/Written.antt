@@ -28,7 +28,9 @@ WritesLinesAndPartOfNext lines old new =
 
 -- Writing `lines` failed with this fault. `Desk`: its fault is `Memory` or `Store`, and the first
 -- lines were written whole, perhaps none and never the last one. `Write`: the first lines were
--- written whole, perhaps none, and then a prefix of the next one, perhaps empty or all of it.
+-- written whole, perhaps none, and then a prefix of the next one with its line feed, perhaps empty
+-- or all of it. Never holds if `lines` is empty. If the writer's content before is unknown, it
+-- states only the fault and that `lines` is not empty.
 abbrev pub FailsWithinLines : List Text → Option Text → Option Text → LinesFault → Type 0
 FailsWithinLines lines old new (Desk fault) = IsCallFault fault × WritesProperPrefixOfLines lines old new
 FailsWithinLines lines old new Write = WritesLinesAndPartOfNext lines old new
@@ -36,7 +38,9 @@ FailsWithinLines lines old new Write = WritesLinesAndPartOfNext lines old new
 -- Writing a longer text that begins with `lines` failed with this fault within `lines`. `Desk`: its
 -- fault is `Memory` or `Store`, and the first of `lines` were written whole, perhaps none or all of
 -- them. `Write`: the first of `lines` were written whole, perhaps none, and then a prefix of the
--- next one, perhaps empty or all of it.
+-- next one with its line feed, perhaps empty or all of it; never holds if `lines` is empty. If the
+-- writer's content before is unknown, `Desk` states only the fault, and `Write` only that `lines`
+-- is not empty.
 abbrev pub FailsWithinFirstLines : List Text → Option Text → Option Text → LinesFault → Type 0
 FailsWithinFirstLines lines old new (Desk fault) =
     IsCallFault fault × ((first : List Text) × (rest : List Text) × (first ++ rest ≡ lines) × Appends old new (text_of_lines first))

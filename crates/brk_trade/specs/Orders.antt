@@ -98,8 +98,8 @@ abbrev pub next_trade_id : Option ℕ → ℕ
 next_trade_id last = unwrap_or last 0 + 1
 
 -- The TRADE row of `order` with the terms `terms`, the id `trade`, the stamp `stamp`, the symbol
--- `symbol` and the executor's name `executor`. It has the first status of its type, no price, and
--- tax 0.
+-- `symbol` and the executor's name `executor`. It has the first status of its type, the price of
+-- the terms as its bid price, no completion price, and tax 0.
 abbrev pub trade_row_with_texts : Order → Terms → (trade stamp : ℕ) → (symbol executor : Text) → tables.TradeRow
 trade_row_with_texts order terms trade stamp symbol executor = record {
   id = trade;

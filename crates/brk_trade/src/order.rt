@@ -193,8 +193,9 @@ fn executor_name(alloc: Global, executor: &Executor) -> Result<String, AllocErro
 }
 
 // Returns the TRADE row of a new order with the terms, the commission in cents, the id, the stamp,
-// the symbol and the executor's name that are passed: in its first status, without a price, with
-// tax 0. `commission` must be the commission of the terms.
+// the symbol and the executor's name that are passed: in its first status, with the price of the
+// terms as its bid price, without a completion price, with tax 0. `commission` must be the
+// commission of the terms.
 fn create_trade_row_with_texts(
     order: &Order,
     terms: &Terms,
@@ -227,8 +228,9 @@ fn create_trade_row_with_texts(
 }
 
 // Returns the TRADE row of a new order with the terms, the commission in cents, the id and the
-// stamp that are passed: in its first status, without a price, with tax 0. `commission` must be the
-// commission of the terms. Fails if memory runs out.
+// stamp that are passed: in its first status, with the price of the terms as its bid price and the
+// full name of the order's executor, without a completion price, with tax 0. `commission` must be
+// the commission of the terms. Fails if memory runs out.
 fn create_order_trade_row(
     alloc: Global,
     order: &Order,

@@ -218,8 +218,10 @@ fn expect_lines_and_tables(
 
 // Checks that the tables after the crash contain the rows with a written line, or one row more, and
 // that the retry completes the batch: it has the stored replies to these rows, accepts the others,
-// and has the last of `tables`, which are the tables after each number of rows. Fails if not all of
-// this is so, or if memory runs out.
+// passes its audit, and has the last of `tables`, which are the tables after each number of rows.
+// Checks also that the lines until the crash are the first lines of the batch, and that a run
+// without a crash has all lines, passes its audit, and has the last of `tables`. Fails if not all
+// of this is so, or if memory runs out.
 fn expect_retry_completes(
     alloc: Global,
     stop: MachineCrash,
