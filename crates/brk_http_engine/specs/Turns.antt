@@ -1,5 +1,5 @@
--- The effects of an exchange of a stream, in which one request is read, executed and answered, and of a
--- whole stream, for each way in which they end.
+-- The effects of an exchange of a stream, in which one request is read, executed and answered, and
+-- of a whole stream, for each way in which they end.
 --
 -- Parameters: `forms`, the parsers of rows and queries; `does base now call outcome after`, a call
 -- leads from `base` to `after`; `gives clock moment later`, a reading of the clock; `n`, the number
@@ -49,9 +49,9 @@ pub record ExecutesRequest {B C : Type 0} (forms : RequestParsers) (does : CallR
   pub last : closes ≡ ((n + 1 == most_requests_per_stream) || request.closes || is_fault_response response)
   pub bytes : reply ≡ reply_text response closes
 
--- The exchange after `n` replies completed with this result. `Ended`: no input was left, and nothing
--- changed. `Closed`: the reply was written and is the last of its stream. `Open`: the reply was
--- written, and `left` is the rest of the input.
+-- The exchange after `n` replies completed with this result. `Ended`: no input was left, and
+-- nothing changed. `Closed`: the reply was written and is the last of its stream. `Open`: the reply
+-- was written, and `left` is the rest of the input.
 abbrev pub ExchangeCompletesWith : {B C : Type 0} → RequestParsers → CallRelation B → (C → ℕ → C → Type 0) → ℕ → Text → EnvironmentChange B C → Option Text
     → ExchangeResult → Type 0
 ExchangeCompletesWith forms does gives n input span left turn.Ended = ReadsFirstRequest input NoBytesLeft × IsUnchangedEnvironment span

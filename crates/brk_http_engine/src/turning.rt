@@ -25,7 +25,7 @@ use std::io::{Read, Write};
 /// The greatest number of requests that are answered on one stream.
 pub const MAXIMUM_REQUESTS: u64 = 1000;
 
-/// The result of one turn of a stream, which reads, executes and answers its next request.
+/// The result of one exchange of a stream, which reads, executes and answers its next request.
 #[derive(Clone, Copy, Debug, PartialEq, Eq)]
 pub enum ExchangeResult {
     /// The input ended before another request.
