@@ -13,8 +13,8 @@ call_limit_at_fault kinds.Read = 0
 call_limit_at_fault kinds.Write = 1
 call_limit_at_fault kinds.Memory = 1
 
--- The greatest number of calls of the desk that an exchange of a stream with this result makes: 0 if no
--- input was left, 1 after a reply, and after a fault the limit at this fault
+-- The greatest number of calls of the desk that an exchange of a stream with this result makes: 0
+-- if no input was left, 1 after a reply, and after a fault the limit at this fault
 -- (`call_limit_at_fault`).
 abbrev pub call_limit_of_turn : Result ExchangeResult FaultKind → ℕ
 call_limit_of_turn (Ok turn.Ended) = 0
